@@ -1,0 +1,11 @@
+pub mod Bytes
+pub mod Exact
+pub mod Keys
+pub mod Numbers
+pub mod Labels
+pub mod ShortTexts
+pub mod Texts
+pub mod Tags
+pub mod TagFields
+pub mod Rows
+pub mod KeyOrder

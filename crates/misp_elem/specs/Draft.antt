@@ -1,0 +1,57 @@
+-- What a body brings, as contracts see it.
+use Rattle.std.specs.Prelude.{◌≡◌, ℕ, ◌==◌, ◌-◌, List, [], ◌∷◌, length, Bool, true, false, Option, Some, None}
+use Rattle.misp_ids.specs.declared.uid.Uid.{Uid}
+use Rattle.misp_ids.specs.declared.uid.EventId.{EventId}
+use Rattle.misp_ids.specs.declared.label.Label.{Label}
+use Rattle.misp_elem.specs.declared.key.Place.{Place}
+use Rattle.misp_elem.specs.declared.key.Place.TheVariants as places
+use Rattle.misp_elem.specs.declared.content.Tag.{Tag}
+use Rattle.misp_elem.specs.declared.content.Content.{Content}
+use Rattle.misp_elem.specs.declared.draft.ReferenceDraft.{ReferenceDraft}
+use Rattle.misp_elem.specs.Key.{IsUid, IsPlaceBut, of_reference}
+use Rattle.misp_elem.specs.Row.{IsText, IsDate, IsBetween, IsOptionalUid, AreTags, IsLabel, IsLabelBut, IsContent, content_kind, text_limit}
+
+pub record DraftFields : Type 0 where
+  pub place : Place
+  pub label : Label
+  pub content : Content
+
+pub record EventDraftFields : Type 0 where
+  pub info : List ℕ
+  pub date : Option (List ℕ)
+  pub threat_level_id : ℕ
+  pub analysis : ℕ
+  pub extends_uuid : Option Uid
+  pub tags : List Tag
+
+pub record SubmissionFields : Type 0 where
+  pub event : EventId
+  pub body : Option EventDraftFields
+  pub label : Label
+  pub parts : List DraftFields
+  pub references : List ReferenceDraft
+
+-- which contents an element at this place may have
+abbrev pub fits_place : Place → ℕ → Bool
+fits_place (places.Attribute a) kind = kind == 2
+fits_place place kind = false
+
+-- an element of an event, whose content is of its place's kind
+abbrev pub IsDraft : DraftFields → Type 0
+IsDraft d = IsPlaceBut of_reference d.place × (IsLabel d.label × ((fits_place d.place (content_kind d.content) ≡ true) × IsContent d.content))
+
+-- a body without a date is not read yet
+abbrev pub HasDate : Option (List ℕ) → Type 0
+HasDate None = ⊥
+HasDate (Some date) = IsDate date
+
+abbrev pub IsEventDraft : EventDraftFields → Type 0
+IsEventDraft d = IsText 1 text_limit d.info × (HasDate d.date × (IsBetween 1 4 d.threat_level_id × (IsBetween 0 2 d.analysis × (IsOptionalUid d.extends_uuid × AreTags (text_limit - length d.info) d.tags))))
+
+-- no label of an event inherits
+abbrev pub IsLabelOf : Option EventDraftFields → Label → Type 0
+IsLabelOf None label = IsLabel label
+IsLabelOf (Some body) label = IsLabelBut (5 ∷ []) label
+
+abbrev pub IsSubmission : SubmissionFields → Type 0
+IsSubmission s = IsUid s.event.0 × IsLabelOf s.body s.label

@@ -1,0 +1,9 @@
+pub mod Key
+pub mod Parents
+pub mod Row
+pub mod Draft
+pub mod Spelling
+pub mod Reading
+pub mod KeyReading
+pub mod RowReading
+pub mod Refusal

@@ -1,0 +1,137 @@
+-- Reading rows.
+use Rattle.std.specs.Prelude.{ℕ, ◌-◌, List, [], ◌∷◌, length, take, drop, Bool, true, false, zero, suc, Result, Ok, Err, nat_lt, min, ◌==◌, if◌then◌else◌}
+use Rattle.std.specs.Int.{w32}
+use Rattle.std.specs.List.{list_any}
+use Rattle.misp_elem.specs.declared.key.KeyForm.{KeyForm}
+use Rattle.misp_ids.specs.declared.label.Label.{Label}
+use Rattle.misp_ids.specs.declared.label.Label.TheVariants as labels
+use Rattle.misp_elem.specs.declared.content.Tag.{Tag}
+use Rattle.misp_elem.specs.declared.content.EventBody.{EventBody}
+use Rattle.misp_elem.specs.declared.content.AttributeBody.{AttributeBody}
+use Rattle.misp_elem.specs.declared.content.Content.{Content}
+use Rattle.misp_elem.specs.declared.content.Content.TheVariants as contents
+use Rattle.misp_elem.specs.declared.row.RowFields.{RowFields}
+use Rattle.misp_elem.specs.Row.{text_limit, is_after, label_kind, barred_labels, fits}
+use Rattle.misp_elem.specs.Reading.{Reading, ◌>>=◌, ended, byte_at, uid_at, org_at, number_at, between_at, stamp_at, text_at, date_at, plain_kind_at, flag_at, optional_at}
+use Rattle.misp_elem.specs.KeyReading.{key_at}
+
+unfoldable pub group_at : List ℕ → Reading Label
+group_at bytes = do
+  creator ← org_at bytes
+  uuid ← uid_at creator.1
+  Ok (labels.Group (record { creator = creator.0; uuid = uuid.0 }), uuid.1)
+
+abbrev pub label_of : List ℕ → ℕ → List ℕ → Reading Label
+label_of bytes kind rest =
+    if kind == 0 then Ok (labels.Own, rest)
+    else if kind == 1 then Ok (labels.Community, rest)
+    else if kind == 2 then Ok (labels.Connected, rest)
+    else if kind == 3 then Ok (labels.All, rest)
+    else if kind == 4 then group_at rest
+    else if kind == 5 then Ok (labels.Inherit, rest)
+    else Err (length bytes)
+
+-- a label of none of the barred kinds
+unfoldable pub label_at : List ℕ → List ℕ → Reading Label
+label_at barred bytes = do
+  kind ← byte_at bytes
+  if list_any (λ b. b == kind.0) barred then Err (length bytes) else label_of bytes kind.0 kind.1
+
+abbrev pub flags_of : List ℕ → ℕ → List ℕ → Reading (Bool × Bool)
+flags_of bytes b rest =
+    if b == 0 then Ok ((false, false), rest)
+    else if b == 1 then Ok ((true, false), rest)
+    else if b == 2 then Ok ((false, true), rest)
+    else if b == 3 then Ok ((true, true), rest)
+    else Err (length bytes)
+
+unfoldable pub flags_at : List ℕ → Reading (Bool × Bool)
+flags_at bytes = byte_at bytes >>= λ b. flags_of bytes b.0 b.1
+
+unfoldable pub colour_at : List ℕ → Reading (List ℕ)
+colour_at bytes = if nat_lt (length bytes) 3 then Err (length bytes) else Ok (take 3 bytes, drop 3 bytes)
+
+-- a name after this one, of no more bytes than there is room for
+unfoldable pub tag_name_at : ℕ → List ℕ → List ℕ → Reading (List ℕ)
+tag_name_at room before bytes = do
+  name ← text_at 1 (min 255 room) bytes
+  if is_after before name.0 then Ok name else Err (length bytes)
+
+unfoldable pub tag_at : ℕ → List ℕ → List ℕ → Reading Tag
+tag_at room before bytes = do
+  name ← tag_name_at room before bytes
+  colour ← colour_at name.1
+  exportable ← flag_at colour.1
+  Ok (record { name = name.0; colour = colour.0; exportable = exportable.0 }, exportable.1)
+
+-- so many tags after this name, whose names have the room together
+unfoldable pub tags_after : ℕ → ℕ → List ℕ → List ℕ → Reading (List Tag)
+tags_after room zero before bytes = Ok ([], bytes)
+tags_after room (suc n) before bytes = do
+  first ← tag_at room before bytes
+  others ← tags_after (room - length first.0.name) n first.0.name first.1
+  Ok (first.0 ∷ others.0, others.1)
+
+unfoldable pub tags_at : ℕ → List ℕ → Reading (List Tag)
+tags_at room bytes = do
+  count ← number_at w32 bytes
+  tags_after room count.0 [] count.1
+
+unfoldable pub event_body_at : List ℕ → Reading EventBody
+event_body_at bytes = do
+  info ← text_at 1 text_limit bytes
+  date ← date_at info.1
+  threat_level_id ← between_at 1 4 date.1
+  analysis ← between_at 0 2 threat_level_id.1
+  publish_stamp ← stamp_at analysis.1
+  extends_uuid ← optional_at publish_stamp.1
+  orgc ← org_at extends_uuid.1
+  orgc_name ← text_at 0 64 orgc.1
+  tags ← tags_at (text_limit - length info.0) orgc_name.1
+  Ok (record { info = info.0; date = date.0; threat_level_id = threat_level_id.0; analysis = analysis.0; publish_stamp = publish_stamp.0; extends_uuid = extends_uuid.0; orgc = orgc.0; orgc_name = orgc_name.0; tags = tags.0 }, tags.1)
+
+unfoldable pub attribute_body_at : List ℕ → Reading AttributeBody
+attribute_body_at bytes = do
+  kind ← plain_kind_at bytes
+  category ← between_at 0 15 kind.1
+  to_ids ← flag_at category.1
+  comment ← text_at 0 (text_limit - length kind.0) to_ids.1
+  deleted ← flag_at comment.1
+  value ← text_at 1 (text_limit - length kind.0 - length comment.0) deleted.1
+  tags ← tags_at (text_limit - length kind.0 - length comment.0 - length value.0) value.1
+  Ok (record { kind = kind.0; category = category.0; to_ids = to_ids.0; comment = comment.0; deleted = deleted.0; value = value.0; tags = tags.0 }, tags.1)
+
+abbrev pub content_of : List ℕ → ℕ → List ℕ → Reading Content
+content_of bytes kind rest =
+    if kind == 0 then (do
+      b ← event_body_at rest
+      Ok (contents.Event b.0, b.1))
+    else if kind == 2 then (do
+      b ← attribute_body_at rest
+      Ok (contents.Attribute b.0, b.1))
+    else if kind == 7 then Ok (contents.Gone, rest)
+    else Err (length bytes)
+
+-- a content that a row of this key, label and flags may have
+unfoldable pub content_at : KeyForm → ℕ → Bool × Bool → List ℕ → Reading Content
+content_at key label flags bytes = do
+  kind ← byte_at bytes
+  if fits key label flags kind.0 then content_of bytes kind.0 kind.1 else Err (length bytes)
+
+unfoldable pub fields_at : List ℕ → Reading RowFields
+fields_at bytes = do
+  owner ← org_at bytes
+  key ← key_at owner.1
+  stamp ← stamp_at key.1
+  label ← label_at (barred_labels key.0) stamp.1
+  flags ← flags_at label.1
+  content ← content_at key.0 (label_kind label.0) flags.0 flags.1
+  Ok (record { owner = owner.0; key = key.0; stamp = stamp.0; label = label.0; held = flags.0.0; carried = flags.0.1; content = content.0 }, content.1)
+
+unfoldable pub row_at : List ℕ → Reading RowFields
+row_at bytes = do
+  form ← between_at 1 1 bytes
+  fields_at form.1
+
+unfoldable pub row_of : List ℕ → Result RowFields ℕ
+row_of bytes = row_at bytes >>= λ r. ended r

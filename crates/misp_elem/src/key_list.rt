@@ -1,0 +1,49 @@
+//! A few keys.
+
+ghost use Rattle.std.specs.Prelude.{◌≡◌, length, slice_get};
+
+use crate::key::Key;
+use std::marker::Model;
+
+/// The most parents that a key has.
+pub(crate) const MOST: usize = 4;
+
+/// The keys of what stands above an element or a statement, at most four.
+///
+/// A contract sees it as the list of their forms.
+#[derive(Debug, Drop)]
+pub struct Parents {
+    pub(crate) count: usize,
+    pub(crate) keys: [Key; MOST],
+}
+
+impl Model for Parents {
+    ghost use Rattle.std.specs.Prelude.{◌≡◌, ℕ, ◌≤◌, List, length, take};
+    ghost use Rattle.misp_elem.specs.declared.key.KeyForm.{KeyForm};
+
+    ghost Value = { List KeyForm };
+
+    ghost view = { λ p. take p.count p.keys };
+
+    ghost invariant = { λ p. (p.count ≤ 4) × (length p.keys ≡ 4) };
+}
+
+impl Parents {
+    /// How many they are, at most four.
+    pub fn len(&self) -> usize
+        ensures { result ≡ length self.now }
+    {
+        self.count
+    }
+
+    /// The key at place `n`.
+    pub fn get(&self, n: usize) -> Option<Key>
+        ensures { result ≡ slice_get self.now n }
+    {
+        if n < self.count {
+            Some(self.keys[n])
+        } else {
+            None
+        }
+    }
+}

@@ -1,0 +1,141 @@
+//! Writing keys.
+
+ghost use Rattle.std.specs.Prelude.{◌≡◌, ◌++◌, OnOk, IfOk};
+ghost use Rattle.misp_elem.specs.Spelling as spelling;
+
+mod rows;
+
+use crate::key::{Key, KeyForm, Place, ProposalName};
+use misp_ids::{InstId, NoMemory, OrgId, Uid};
+pub use rows::encode;
+use std::alloc::{AllocError, Global};
+
+#[tactic(auto, unfolding(crate::specs::Spelling::uid))]
+fn put_uid(out: &mut Vec<u8>, id: Uid) -> Result<(), AllocError>
+    ensures { OnOk result (out.new.items ≡ out.old.items ++ spelling.uid id) }
+{
+    out.extend_from_slice(&id.0.to_be_bytes())
+}
+
+fn put_inst(out: &mut Vec<u8>, name: &InstId) -> Result<(), AllocError>
+    ensures { OnOk result (out.new.items ≡ out.old.items ++ spelling.inst_name name.now) }
+{
+    let name = name.text();
+    out.push(name.len() as u8)?;
+    out.extend_from_slice(name.as_bytes())
+}
+
+fn put_place(out: &mut Vec<u8>, place: &Place) -> Result<(), AllocError>
+    ensures { OnOk result (out.new.items ≡ out.old.items ++ spelling.place place.now) }
+{
+    match place {
+        Place::Event => out.push(0)?,
+        Place::Object(object) => {
+            out.push(1)?;
+            put_uid(out, object.0)?;
+        }
+        Place::Attribute(attribute) => {
+            out.push(2)?;
+            put_uid(out, attribute.0)?;
+        }
+        Place::ObjectAttribute(object, attribute) => {
+            out.push(3)?;
+            put_uid(out, object.0)?;
+            put_uid(out, attribute.0)?;
+        }
+    }
+    Ok(())
+}
+
+fn put_proposal(out: &mut Vec<u8>, name: &ProposalName) -> Result<(), AllocError>
+    ensures { OnOk result (out.new.items ≡ out.old.items ++ spelling.proposal_name name.now) }
+{
+    put_place(out, &name.target)?;
+    put_inst(out, &name.at)?;
+    put_uid(out, name.by.0)?;
+    put_uid(out, name.uuid.0)
+}
+
+fn put_key(out: &mut Vec<u8>, key: &KeyForm) -> Result<(), AllocError>
+    ensures { OnOk result (out.new.items ≡ out.old.items ++ spelling.key key.now) }
+{
+    match key {
+        KeyForm::Element { event, place } => {
+            out.push(0)?;
+            put_uid(out, event.0)?;
+            put_place(out, place)
+        }
+        KeyForm::Reference {
+            event,
+            object,
+            target,
+            uuid,
+        } => {
+            out.push(1)?;
+            put_uid(out, event.0)?;
+            put_uid(out, object.0)?;
+            put_place(out, target)?;
+            put_uid(out, uuid.0)
+        }
+        KeyForm::Proposal { event, name } => {
+            out.push(2)?;
+            put_uid(out, event.0)?;
+            put_proposal(out, name)
+        }
+        KeyForm::Verdict {
+            event,
+            name,
+            at,
+            judge,
+        } => {
+            out.push(3)?;
+            put_uid(out, event.0)?;
+            put_proposal(out, name)?;
+            put_inst(out, at)?;
+            put_uid(out, judge.0)
+        }
+        KeyForm::Sighting {
+            event,
+            target,
+            at,
+            by,
+            uuid,
+        } => {
+            out.push(4)?;
+            put_uid(out, event.0)?;
+            put_place(out, target)?;
+            put_inst(out, at)?;
+            put_uid(out, by.0)?;
+            put_uid(out, uuid.0)
+        }
+    }
+}
+
+/// The one spelling of a key.
+pub fn encode_key(alloc: Global, key: &Key) -> Result<Vec<u8>, NoMemory>
+    ensures { IfOk result (λ v. v.items ≡ spelling.key key.now) }
+{
+    let mut out = Vec::new(alloc);
+    match put_key(&mut out, &key.form) {
+        Ok(()) => Ok(out),
+        Err(_) => Err(NoMemory),
+    }
+}
+
+fn put_name(out: &mut Vec<u8>, owner: &OrgId, key: &Key) -> Result<(), AllocError>
+    ensures { OnOk result (out.new.items ≡ out.old.items ++ spelling.name owner.now key.now) }
+{
+    put_uid(out, owner.0)?;
+    put_key(out, &key.form)
+}
+
+/// The name under which a keeper holds the row of this owner and key.
+pub fn encode_name(alloc: Global, owner: &OrgId, key: &Key) -> Result<Vec<u8>, NoMemory>
+    ensures { IfOk result (λ v. v.items ≡ spelling.name owner.now key.now) }
+{
+    let mut out = Vec::new(alloc);
+    match put_name(&mut out, owner, key) {
+        Ok(()) => Ok(out),
+        Err(_) => Err(NoMemory),
+    }
+}

@@ -1,0 +1,6 @@
+//! Sharing groups.
+#![tactic(auto)]
+
+mod group;
+
+pub use group::{Group, GroupOrg, GroupServer};

@@ -1,0 +1,40 @@
+//! Organisations.
+
+use misp_ids::{OrgId, Text};
+use std::alloc::AllocError;
+use std::marker::Model;
+
+/// The most bytes that an organisation's name has.
+pub const NAME_LIMIT: usize = 64;
+
+/// An organisation and its name.
+///
+/// A contract sees it as its fields.
+#[derive(Debug, Drop)]
+pub struct Org {
+    pub uuid: OrgId,
+    pub name: Text,
+}
+
+impl Model for Org {
+    ghost use Rattle.misp_orgs.specs.Org.{OrgFields, IsOrg};
+
+    ghost Value = { OrgFields };
+
+    ghost view = { λ o. record { uuid = o.uuid; name = o.name } };
+
+    ghost invariant = { λ o. IsOrg (record { uuid = o.uuid; name = o.name }) };
+}
+
+impl Clone for Org {
+    ghost use Rattle.std.specs.Prelude.{◌≡◌};
+
+    ghost is_clone = { λ org copy. copy ≡ org };
+
+    fn clone(&self) -> Result<Org, AllocError> {
+        Ok(Org {
+            uuid: self.uuid,
+            name: self.name.clone()?,
+        })
+    }
+}

@@ -1,0 +1,4 @@
+pub mod Batches
+pub mod Lists
+pub mod Names
+pub mod Places

@@ -1,0 +1,32 @@
+//! Requests.
+
+use crate::change::Change;
+use crate::package::Package;
+use crate::statement::{ProposalDraft, SightingDraft};
+use misp_elem::{Place, ProposalName};
+use misp_ids::{EventId, OrgId};
+
+/// What an organisation asks of an instance.
+#[derive(Debug, Drop)]
+pub enum Ask {
+    /// Shows an event: the chosen copy, or that of the named owner.
+    View {
+        event: EventId,
+        owner: Option<OrgId>,
+    },
+    Change(Change),
+    Propose(ProposalDraft),
+    /// Accepts or discards a proposal.
+    Judge {
+        event: EventId,
+        proposal: ProposalName,
+        accept: bool,
+    },
+    Sight {
+        event: EventId,
+        target: Place,
+        draft: SightingDraft,
+    },
+    Index,
+    TakePart(Package),
+}
