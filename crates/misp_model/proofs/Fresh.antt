@@ -1,0 +1,69 @@
+-- A version that was just written, as a row.
+use Rattle.std.proofs.Common.{◌≡◌, ℕ, ◌≤◌, List, [], ◌∷◌, Bool, true, false, refl, ap, sym, ◌∙◌, arith, leb, ltb, length}
+use Rattle.std.specs.Prelude.{◌&&◌, ◌||◌, not, cond}
+use Rattle.std.specs.List.{list_any, list_all}
+use Rattle.std.proofs.lemmas.Bool.{and_parts, and_right}
+use Rattle.std.proofs.lemmas.Bool.Decides.{nat_tests}
+use Rattle.misp_ids.specs.declared.label.Label.{Label}
+use Rattle.misp_ids.specs.declared.label.Label.TheVariants as label
+use Rattle.misp_elem.specs.declared.content.Content.{Content}
+use Rattle.misp_model.specs.Names.{same_inst, same_org, same_key, event_of, event_key}
+use Rattle.misp_model.specs.Audience.{down}
+use Rattle.misp_model.specs.History.{Version, Came, Written, has_path, is_handed_in, is_published, is_statement, is_gone, label_now, content_now, without_local_tags, published_after, released, row_of, fresh_row}
+
+down_none : (l : Label) → down l 0 ≡ l
+unfolding down
+down_none label.Own = refl
+down_none label.Community = refl
+down_none label.Connected = refl
+down_none label.All = refl
+down_none (label.Group g) = refl
+down_none label.Inherit = refl
+
+-- of versions that are no later than v none publishes after it
+never_after : (log : List Version) (v : Version) → list_all (λ u. leb u.act v.act) log ≡ true → published_after log v ≡ false
+unfolding published_after
+never_after [] v h = refl
+never_after (p ∷ log) v h = one (not_later (and_parts (leb p.act v.act) (list_all (λ u. leb u.act v.act) log) h).0) (never_after log v (and_parts (leb p.act v.act) (list_all (λ u. leb u.act v.act) log) h).1)
+  where
+    not_later : leb p.act v.act ≡ true → ltb v.act p.act ≡ false
+    not_later e = grind (arith, nat_tests)
+
+    one : ltb v.act p.act ≡ false → published_after log v ≡ false → published_after (p ∷ log) v ≡ false
+    one e ih = grind (arith, e, ih)
+
+-- what was just written is released where it is a statement, a mark or a publishing
+fresh_release : (s g p a : Bool) → a ≡ false → (false || false || s || g || p || a) ≡ (s || g || p)
+fresh_release true g p a h = refl
+fresh_release false true p a h = refl
+fresh_release false false true a h = refl
+fresh_release false false false a h = h
+
+pub row_of_fresh : (log : List Version) (v : Version) → v.path ≡ [] → v.came ≡ Written → list_all (λ u. leb u.act v.act) log ≡ true → row_of log v ≡ fresh_row v
+unfolding row_of fresh_row released label_now content_now has_path is_handed_in
+row_of_fresh log v p c h = λ i. record {
+  owner = v.owner;
+  key = v.key;
+  stamp = v.stamp;
+  label = same_label i;
+  held = not (release i);
+  carried = not_carried i;
+  content = cond (no_path i) (without_local_tags v.content) v.content;
+}
+  where
+    no_path : has_path v ≡ false
+    no_path = ap (λ ns. elim ns as (λ x. Bool) [ [] ↦ false | n ∷ ns ↦ true ]) p
+
+    not_handed : is_handed_in v.came ≡ false
+    not_handed = ap is_handed_in c
+
+    not_carried : (is_handed_in v.came || has_path v) ≡ false
+    not_carried i = not_handed i || no_path i
+
+    same_label : down v.label (length v.path) ≡ v.label
+    same_label = ap (λ ns. down v.label (length ns)) p ∙ down_none v.label
+
+    release : (has_path v || is_handed_in v.came || is_statement v.key || is_gone v.content || is_published v.came || published_after log v) ≡ (is_statement v.key || is_gone v.content || is_published v.came)
+    release =
+        (λ i. no_path i || not_handed i || is_statement v.key || is_gone v.content || is_published v.came || published_after log v)
+        ∙ fresh_release (is_statement v.key) (is_gone v.content) (is_published v.came) (published_after log v) (never_after log v h)

@@ -1,0 +1,15 @@
+pub mod Names
+pub mod Order
+pub mod Dates
+pub mod Audience
+pub mod View
+pub mod History
+pub mod Passing
+pub mod Arrival
+pub mod Asking
+pub mod Shown
+pub mod Acts
+pub mod Erasure
+pub mod Kept
+pub mod Outcomes
+pub mod Machine

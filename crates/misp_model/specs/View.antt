@@ -1,0 +1,98 @@
+-- What an organisation is granted at an instance, and the form in which it sees an event.
+-- rows are all rows at one instance, one for each owner and key.
+use Rattle.std.specs.Prelude.{Bool, true, false, cond, not, ltb, eqb, ◌&&◌, ◌||◌, List, Option, filter}
+use Rattle.std.specs.List.{list_any, list_all, find}
+use Rattle.misp_ids.specs.declared.uid.OrgId.{OrgId}
+use Rattle.misp_ids.specs.declared.uid.EventId.{EventId}
+use Rattle.misp_elem.specs.declared.key.KeyForm.{KeyForm as Key}
+use Rattle.misp_elem.specs.declared.key.KeyForm.TheVariants.{Element, Reference, Proposal, Verdict, Sighting}
+use Rattle.misp_elem.specs.declared.content.Content.TheVariants as content
+use Rattle.misp_elem.specs.declared.row.RowFields.{RowFields as Row}
+use Rattle.misp_groups.specs.declared.group.Group.{Group}
+use Rattle.misp_model.specs.Names.{Inst, same_org, same_key, event_of, event_key, parents}
+use Rattle.misp_model.specs.Audience.{is_open}
+
+-- the row is the owner's row of the key
+unfoldable pub is_row_of : OrgId → Key → Row → Bool
+is_row_of w k row = same_org row.owner w && same_key row.key k
+
+-- the row is a mark of a deleted event
+unfoldable pub is_mark : Row → Bool
+is_mark row = elim row.content [ content.Gone ↦ true | content.Event b ↦ false | content.Object b ↦ false | content.Attribute b ↦ false | content.Reference b ↦ false | content.Proposal b ↦ false | content.Verdict b ↦ false | content.Sighting b ↦ false ]
+
+-- the row is deleted
+unfoldable pub is_deleted : Row → Bool
+is_deleted row = elim row.content [ content.Object b ↦ b.deleted | content.Attribute b ↦ b.deleted | content.Reference b ↦ b.deleted | content.Gone ↦ false | content.Event b ↦ false | content.Proposal b ↦ false | content.Verdict b ↦ false | content.Sighting b ↦ false ]
+
+-- the owner's copy of the event is Home or Carried
+unfoldable pub has_copy : List Row → OrgId → EventId → Bool
+has_copy rows w e = list_any (λ row. is_row_of w (event_key e) row && not (is_mark row)) rows
+
+-- the owner's copy is Home, Gone
+unfoldable pub has_home : List Row → OrgId → EventId → Bool
+has_home rows w e = list_any (λ row. is_row_of w (event_key e) row && (not (is_mark row) && not row.carried)) rows
+
+unfoldable pub has_gone : List Row → OrgId → EventId → Bool
+has_gone rows w e = list_any (λ row. is_row_of w (event_key e) row && is_mark row) rows
+
+-- the row is open to the organisation
+unfoldable pub row_is_open : List Group → Inst → OrgId → Row → Bool
+row_is_open groups i o row = is_open groups i o row.owner row.label
+
+-- the owner has a row of this key that is open to the organisation
+unfoldable pub has_open : List Row → List Group → Inst → OrgId → OrgId → Key → Bool
+has_open rows groups i o w k = list_any (λ row. is_row_of w k row && row_is_open groups i o row) rows
+
+-- an element or reference row is granted: its copy is there, and it and all its parents in that copy are open
+unfoldable pub element_granted : List Row → List Group → Inst → OrgId → Row → Bool
+element_granted rows groups i o row =
+    has_copy rows row.owner (event_of row.key) && row_is_open groups i o row && list_all (has_open rows groups i o row.owner) (parents row.key)
+
+-- the element of this key is granted in some copy
+unfoldable pub granted_somewhere : List Row → List Group → Inst → OrgId → Key → Bool
+granted_somewhere rows groups i o k = list_any (λ row. same_key row.key k && element_granted rows groups i o row) rows
+
+-- whether a row of this key is granted; element says it for an element or a reference
+unfoldable pub granted_by : List Row → List Group → Inst → OrgId → OrgId → Bool → Key → Bool
+granted_by rows groups i o w element (Element e p) = element
+granted_by rows groups i o w element (Reference e x t u) = element
+granted_by rows groups i o w element (Proposal e n) = same_org o w || granted_somewhere rows groups i o (Element e n.target)
+granted_by rows groups i o w element (Verdict e n j v) = same_org o w || granted_somewhere rows groups i o (Element e n.target)
+granted_by rows groups i o w element (Sighting e t j v u) = same_org o w || has_copy rows o e && granted_somewhere rows groups i o (Element e t)
+
+-- the row is granted to the organisation
+unfoldable pub granted : List Row → List Group → Inst → OrgId → Row → Bool
+granted rows groups i o row = granted_by rows groups i o row.owner (element_granted rows groups i o row) row.key
+
+-- what the organisation knows: what is granted to it, and all that is its own
+unfoldable pub is_known : List Row → List Group → Inst → OrgId → Row → Bool
+is_known rows groups i o row = same_org row.owner o || granted rows groups i o row
+
+unfoldable pub known : List Row → List Group → Inst → OrgId → List Row
+known rows groups i o = filter (is_known rows groups i o) rows
+
+-- neither the row nor a parent of it is deleted, and its copy is not Gone
+unfoldable pub is_live : List Row → Row → Bool
+is_live rows row =
+    not (is_deleted row) && not (has_gone rows row.owner (event_of row.key))
+    && list_all (λ k. not (list_any (λ r. is_row_of row.owner k r && is_deleted r) rows)) (parents row.key)
+
+-- of two event rows the first is chosen: the greater stamp, of equals Home before Carried, of equals the least owner
+unfoldable pub is_before : Row → Row → Bool
+is_before a b =
+    ltb b.stamp a.stamp
+    || eqb b.stamp a.stamp && (b.carried && not a.carried || cond b.carried a.carried (not a.carried) && ltb a.owner.0.0 b.owner.0.0)
+
+-- of these rows the one that none goes before
+unfoldable pub first_of_all : List Row → Option Row
+first_of_all rows = find (λ row. not (list_any (λ other. is_before other row) rows)) rows
+
+-- the event row of the chosen copy
+unfoldable pub chosen : List Row → List Group → Inst → OrgId → EventId → Option Row
+chosen rows groups i o e = first_of_all (filter (λ row. same_key row.key (event_key e) && granted rows groups i o row) rows)
+
+-- no lesser owner has a granted row of the row's key
+unfoldable pub is_least : List Row → List Group → Inst → OrgId → Row → Bool
+is_least rows groups i o row =
+    granted rows groups i o row
+    && not (list_any (λ r. same_key r.key row.key && ltb r.owner.0.0 row.owner.0.0 && granted rows groups i o r) rows)

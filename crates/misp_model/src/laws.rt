@@ -1,0 +1,108 @@
+//! Laws of the tables and of one act, on which the crates above stand.
+
+ghost use Rattle.std.specs.Prelude.{◌≡◌, ℕ, suc, List, [], ◌∷◌, ◌++◌, map, Bool, true, false, not, ◌&&◌, cond, eqb, ltb, leb, bytes_eq, Option, Some, None};
+ghost use Rattle.std.specs.Ordering.{nat_cmp, ordering_then, is_lt};
+ghost use Rattle.std.specs.Cmp.Lexicographic.{slice_cmp};
+ghost use Rattle.std.specs.List.{filter, list_any, list_all};
+ghost use Rattle.misp_ids.specs.declared.uid.OrgId.{OrgId};
+ghost use Rattle.misp_ids.specs.declared.uid.EventId.{EventId};
+ghost use Rattle.misp_elem.specs.declared.key.KeyForm.{KeyForm as Key};
+ghost use Rattle.misp_elem.specs.declared.row.RowFields.{RowFields as Row};
+ghost use Rattle.misp_elem.specs.Draft.{SubmissionFields as Submission};
+ghost use Rattle.misp_elem.specs.Key.{IsKey};
+ghost use Rattle.misp_elem.specs.Row.{IsRow};
+ghost use Rattle.misp_elem.specs.Spelling as spelling;
+ghost use Rattle.misp_requests.specs.declared.change.Change.{Change};
+ghost use Rattle.misp_requests.specs.declared.change.Change.TheVariants.{AddEvent};
+ghost use Rattle.misp_requests.specs.declared.ask.Ask.{Ask};
+ghost use Rattle.misp_requests.specs.declared.ask.Ask.TheVariants.{View, Index};
+ghost use Rattle.misp_requests.specs.declared.ask.Ask.TheVariants as ask;
+ghost use Rattle.misp_model.specs.Names.{Inst, same_inst, same_org, same_key};
+ghost use Rattle.misp_model.specs.Order.{put, is_less};
+ghost use Rattle.misp_model.specs.History.{Version, Written, is_published, same_cell, row_of, fresh_row, spell, stands_before, tables};
+ghost use Rattle.misp_model.specs.Machine.{put_all, event_number, name_bytes, raw_before};
+ghost use Rattle.misp_model.specs.Asking.{Scene, Rule, first_rule, change_writes};
+ghost use Rattle.misp_model.specs.Acts.{World, Act, Net, Caller, Asks, Misfits, Nothing, Refused, scene, ask_rules, brings, is_accepted, answer, ok_answer, step};
+
+/// No two keys have one spelling by numbers.
+pub fn each_key_has_its_own_spelling()
+    ensures spelling { (a b : Key) → spell a ≡ spell b → a ≡ b }
+{}
+
+/// The order of keys and rows by numbers is that of the bytes that spell them: a keeper that orders
+/// its rows by the numbers of their events, and then by their names, tells them as the tables have them.
+pub fn rows_stand_in_the_order_of_their_bytes()
+    ensures keys { (a b : Key) → IsKey a → IsKey b →
+        is_less (spell a) (spell b) ≡ is_lt (slice_cmp nat_cmp (spelling.key a) (spelling.key b)) }
+    ensures rows { (a b : Row) → IsRow a → IsRow b →
+        stands_before a b ≡ raw_before (event_number a) (name_bytes a) (event_number b) (name_bytes b) }
+    ensures same { (a b : Row) → IsRow a → IsRow b →
+        (same_org a.owner b.owner && same_key a.key b.key)
+        ≡ (eqb (event_number a) (event_number b) && bytes_eq (name_bytes a) (name_bytes b)) }
+    ensures compared { (e f : ℕ) (m n : List ℕ) →
+        raw_before e m f n ≡ is_lt (ordering_then (nat_cmp e f) (slice_cmp nat_cmp m n)) }
+{}
+
+/// A version that is no publishing is put in the place of its owner's row of its key where it is
+/// newer than all versions there, and changes nothing else. Just written, it is a row as it stands.
+pub fn one_version_more()
+    ensures fresh { (log : List Version) (v : Version) → v.path ≡ [] → v.came ≡ Written →
+        list_all (λ u. leb u.act v.act) log ≡ true → row_of log v ≡ fresh_row v }
+    ensures placed { (log : List Version) (v : Version) (i : Inst) → is_published v.came ≡ false →
+        tables (log ++ v ∷ []) i
+        ≡ cond (same_inst v.at i && not (list_any (λ a. same_cell a v && leb v.stamp a.stamp) log))
+        (put stands_before (row_of log v)
+        (filter (λ r. not (same_org r.owner v.owner && same_key r.key v.key)) (tables log i)))
+        (tables log i) }
+{}
+
+/// An accepted request that adds an event without references puts each of its versions in its place
+/// as a row, at its instance alone.
+pub fn an_added_event_is_put_row_by_row()
+    ensures here { (n : ℕ) (w : World) (act : Act) (c : Caller) (b : Submission) → b.references ≡ [] →
+        is_accepted (scene n w act c) (ask.Change (AddEvent b)) ≡ true →
+        list_all (λ v. ltb v.act n) w.log ≡ true →
+        tables (w.log ++ change_writes (scene n w act c) (AddEvent b)) act.at
+        ≡ put_all (map fresh_row (change_writes (scene n w act c) (AddEvent b))) (tables w.log act.at) }
+    ensures elsewhere { (n : ℕ) (w : World) (act : Act) (c : Caller) (b : Submission) (j : Inst) →
+        b.references ≡ [] → is_accepted (scene n w act c) (ask.Change (AddEvent b)) ≡ true →
+        same_inst act.at j ≡ false →
+        tables (w.log ++ change_writes (scene n w act c) (AddEvent b)) j ≡ tables w.log j }
+    ensures acts { (n : ℕ) (w : World) (act : Act) (c : Caller) (b : Submission) → b.references ≡ [] →
+        is_accepted (scene n w act c) (ask.Change (AddEvent b)) ≡ true →
+        list_all (λ v. ltb v.act n) w.log ≡ true →
+        list_all (λ v. ltb v.act (suc n)) (w.log ++ change_writes (scene n w act c) (AddEvent b)) ≡ true }
+{}
+
+/// The first rule that holds decides what a request is answered.
+pub fn the_first_rule_decides()
+    ensures accepted { (s : Scene) (a : Ask) → first_rule (ask_rules s a) ≡ None → is_accepted s a ≡ true }
+    ensures refused { (s : Scene) (a : Ask) (r : Rule) → first_rule (ask_rules s a) ≡ Some r →
+        is_accepted s a ≡ false }
+    ensures answer { (s : Scene) (a : Ask) → first_rule (ask_rules s a) ≡ None → answer s a ≡ ok_answer s a }
+    ensures refusal { (s : Scene) (a : Ask) (r : Rule) → first_rule (ask_rules s a) ≡ Some r →
+        answer s a ≡ Refused r }
+{}
+
+/// An accepted request adds to the history what it brings. A refused one, a view, the index, a
+/// request refused by its form and an act that does nothing leave the state as it is. After each act
+/// the history has no number of a later one.
+pub fn what_an_act_leaves()
+    ensures accepted { (net : Net) (n : ℕ) (w : World) (act : Act) (c : Caller) (a : Ask) →
+        act.deed ≡ Asks c a → is_accepted (scene n w act c) a ≡ true →
+        step net n w act ≡ record w { log = w.log ++ brings (scene n w act c) a } }
+    ensures changed { (net : Net) (n : ℕ) (w : World) (act : Act) (c : Caller) (x : Change) →
+        act.deed ≡ Asks c (ask.Change x) → is_accepted (scene n w act c) (ask.Change x) ≡ true →
+        step net n w act ≡ record w { log = w.log ++ change_writes (scene n w act c) x } }
+    ensures refused { (net : Net) (n : ℕ) (w : World) (act : Act) (c : Caller) (a : Ask) →
+        act.deed ≡ Asks c a → is_accepted (scene n w act c) a ≡ false → step net n w act ≡ w }
+    ensures view { (net : Net) (n : ℕ) (w : World) (act : Act) (c : Caller) (e : EventId) (o : Option OrgId) →
+        act.deed ≡ Asks c (View e o) → step net n w act ≡ w }
+    ensures index { (net : Net) (n : ℕ) (w : World) (act : Act) (c : Caller) →
+        act.deed ≡ Asks c Index → step net n w act ≡ w }
+    ensures misfit { (net : Net) (n : ℕ) (w : World) (act : Act) (c : Caller) →
+        act.deed ≡ Misfits c → step net n w act ≡ w }
+    ensures nothing { (net : Net) (n : ℕ) (w : World) (act : Act) → act.deed ≡ Nothing → step net n w act ≡ w }
+    ensures numbers { (net : Net) (n : ℕ) (w : World) (act : Act) → list_all (λ v. ltb v.act n) w.log ≡ true →
+        list_all (λ v. ltb v.act (suc n)) (step net n w act).log ≡ true }
+{}
