@@ -1,0 +1,121 @@
+-- What each reader makes of a value, or the need that it then names.
+use Rattle.std.specs.Prelude.{◌≡◌, ℕ, ◌^◌, Bool, true, false, ◌&&◌, ◌==◌, not, nat_lt, nat_le, List, [], ◌∷◌, length, codes, Option, Some, None, option_and_then, option_map, Result, Ok, Err, if◌then◌else◌}
+use Rattle.std.specs.Char.{is_ascii_digit}
+use Rattle.std.specs.List.{list_all}
+use Rattle.std.specs.Str.{bytes_eq}
+use Rattle.std.specs.Str.Parse.{digits_value}
+use Rattle.serde_json.specs.Data.{Num, unsigned, negative, float, Data, null, boolean, number, string, array, object, Items}
+use Rattle.serde_json.specs.Find.{get, as_u64, as_str, as_array}
+use Rattle.misp_ids.specs.declared.uid.Uid.{Uid}
+use Rattle.misp_ids.specs.declared.stamp.TheConstants.{LAST_SECOND}
+use Rattle.misp_ids.specs.Uid.{read_uid}
+use Rattle.misp_fields.specs.declared.need.Need.{Need}
+use Rattle.misp_fields.specs.declared.need.Need.TheVariants as needs
+
+-- what a function returned, seen by view, is what is read
+abbrev pub Shown : {X A : Type 0} → (X → A) → Result X Need → Result A Need → Type 0
+Shown view (Ok x) read = read ≡ Ok (view x)
+Shown view (Err need) read = read ≡ Err need
+
+-- what there is, or else a need
+abbrev pub or_need : {A : Type 0} → Need → Option A → Result A Need
+or_need need None = Err need
+or_need need (Some x) = Ok x
+
+-- null counts as absent
+abbrev pub present : Data → Option Data
+present null = None
+present (boolean b) = Some (boolean b)
+present (number n) = Some (number n)
+present (string s) = Some (string s)
+present (array ds) = Some (array ds)
+present (object ms) = Some (object ms)
+
+abbrev pub member_of : List ℕ → Data → Option Data
+member_of name d = option_and_then present (get name d)
+
+abbrev pub text_of : Data → Result (List ℕ) Need
+text_of d = or_need needs.Text (as_str d)
+
+abbrev pub list_of : Data → Result Items Need
+list_of d = or_need needs.List (as_array d)
+
+-- 1 to 20 decimal digits of a number below 2 ^ 64
+abbrev pub is_number_text : List ℕ → Bool
+is_number_text s = nat_lt 0 (length s) && nat_le (length s) 20 && list_all is_ascii_digit s && nat_lt (digits_value 10 s) (2 ^ 64)
+
+abbrev pub number_in : List ℕ → Result ℕ Need
+number_in s = if is_number_text s then Ok (digits_value 10 s) else Err needs.Number
+
+abbrev pub number_of : Data → Result ℕ Need
+number_of null = Err needs.Number
+number_of (boolean b) = Err needs.Number
+number_of (number n) = or_need needs.Number (as_u64 n)
+number_of (string s) = number_in s
+number_of (array ds) = Err needs.Number
+number_of (object ms) = Err needs.Number
+
+abbrev pub stamp_in : Result ℕ Need → Result ℕ Need
+stamp_in (Ok n) = if nat_le n LAST_SECOND then Ok n else Err needs.Stamp
+stamp_in (Err need) = Err needs.Stamp
+
+abbrev pub stamp_of : Data → Result ℕ Need
+stamp_of d = stamp_in (number_of d)
+
+abbrev pub flag_num : Num → Result Bool Need
+flag_num (unsigned n) = if n == 0 then Ok false else (if n == 1 then Ok true else Err needs.Flag)
+flag_num (negative z) = Err needs.Flag
+flag_num (float x) = Err needs.Flag
+
+abbrev pub flag_in : List ℕ → Result Bool Need
+flag_in s = if bytes_eq s (codes "0") then Ok false else (if bytes_eq s (codes "1") then Ok true else Err needs.Flag)
+
+abbrev pub flag_of : Data → Result Bool Need
+flag_of null = Err needs.Flag
+flag_of (boolean b) = Ok b
+flag_of (number n) = flag_num n
+flag_of (string s) = flag_in s
+flag_of (array ds) = Err needs.Flag
+flag_of (object ms) = Err needs.Flag
+
+abbrev pub uuid_of : Data → Result Uid Need
+uuid_of null = Err needs.Uuid
+uuid_of (boolean b) = Err needs.Uuid
+uuid_of (number n) = Err needs.Uuid
+uuid_of (string s) = or_need needs.Uuid (read_uid s)
+uuid_of (array ds) = Err needs.Uuid
+uuid_of (object ms) = Err needs.Uuid
+
+-- the empty text is no identifier
+abbrev pub optional_uuid_in : List ℕ → Result (Option Uid) Need
+optional_uuid_in [] = Ok None
+optional_uuid_in (b ∷ bs) = or_need needs.Uuid (option_map Some (read_uid (b ∷ bs)))
+
+abbrev pub optional_uuid_of : Data → Result (Option Uid) Need
+optional_uuid_of null = Err needs.Uuid
+optional_uuid_of (boolean b) = Err needs.Uuid
+optional_uuid_of (number n) = Err needs.Uuid
+optional_uuid_of (string s) = optional_uuid_in s
+optional_uuid_of (array ds) = Err needs.Uuid
+optional_uuid_of (object ms) = Err needs.Uuid
+
+-- `YYYY-` in digits
+abbrev pub is_year_form : ℕ → ℕ → ℕ → ℕ → ℕ → Bool
+is_year_form y1 y2 y3 y4 hyphen = is_ascii_digit y1 && is_ascii_digit y2 && is_ascii_digit y3 && is_ascii_digit y4 && (hyphen == 45)
+
+-- `MM-DD` in digits
+abbrev pub is_day_form : ℕ → ℕ → ℕ → ℕ → ℕ → Bool
+is_day_form m1 m2 hyphen d1 d2 = is_ascii_digit m1 && is_ascii_digit m2 && (hyphen == 45) && is_ascii_digit d1 && is_ascii_digit d2
+
+-- `YYYY-MM-DD` in digits, whatever the month and the day
+abbrev pub is_date_form : List ℕ → Bool
+is_date_form (y1 ∷ y2 ∷ y3 ∷ y4 ∷ h1 ∷ m1 ∷ m2 ∷ h2 ∷ d1 ∷ d2 ∷ []) = is_year_form y1 y2 y3 y4 h1 && is_day_form m1 m2 h2 d1 d2
+is_date_form text = false
+
+abbrev pub date_of : Data → Result (List ℕ) Need
+date_of null = Err needs.Date
+date_of (boolean b) = Err needs.Date
+date_of (number n) = Err needs.Date
+date_of (string s) = if is_date_form s then Ok s else Err needs.Date
+date_of (array ds) = Err needs.Date
+date_of (object ms) = Err needs.Date

@@ -1,0 +1,14 @@
+//! Readers of JSON values that take several spellings of one thing, and the words for what a
+//! value was needed to be.
+#![tactic(auto)]
+
+mod need;
+mod numbers;
+mod values;
+
+pub use need::{Need, write_need};
+pub use numbers::{number, stamp};
+pub use values::{date, flag, is_date_form, list, member, optional_uuid, text, uuid};
+
+#[cfg(test)]
+mod tests;

@@ -1,0 +1,5 @@
+mod Dates
+mod Fitting
+mod GroupNames
+mod Kept
+mod Plain

@@ -1,0 +1,10 @@
+pub mod Body
+pub mod Fields
+pub mod Kinds
+pub mod Names
+pub mod Path
+pub mod Readers
+pub mod Replies
+pub mod Rows
+pub mod Tables
+pub mod Written

@@ -1,0 +1,32 @@
+//! Why a body was not read.
+
+ghost use Rattle.std.specs.Prelude.{◌≡◌};
+ghost use Rattle.misp_format.specs.declared.fault.FormatFault.TheVariants.{NoMemory};
+
+use misp_fields::Need;
+use misp_ids::Text;
+use std::alloc::{AllocError, AllocFailed};
+
+/// Why a body was not read.
+#[derive(Debug, PartialEq, Eq, Drop)]
+pub enum FormatFault {
+    /// At the first faulty place something else was needed.
+    BadField { path: Text, need: Need },
+    NoMemory,
+}
+
+impl From<AllocError> for FormatFault {
+    ghost from_gives = { λ _ fault. fault ≡ NoMemory };
+
+    fn from(_error: AllocError) -> FormatFault {
+        FormatFault::NoMemory
+    }
+}
+
+impl<T: Drop> From<AllocFailed<T>> for FormatFault {
+    ghost from_gives = { λ _ fault. fault ≡ NoMemory };
+
+    fn from(_error: AllocFailed<T>) -> FormatFault {
+        FormatFault::NoMemory
+    }
+}

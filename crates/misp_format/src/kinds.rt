@@ -1,0 +1,77 @@
+//! The names of the categories of attributes.
+
+ghost use Rattle.std.specs.Prelude.{◌≡◌, position, slice_get, codes};
+ghost use Rattle.std.specs.Option.{option_map_or};
+ghost use Rattle.std.specs.Str.{bytes_eq};
+ghost use Rattle.serde_json.specs.View.{view};
+ghost use Rattle.misp_format.specs.Kinds.{category_in, category_of, category_name};
+
+use misp_fields::{self as fields, Need};
+use serde_json::Value;
+
+/// The categories of attributes, each at its number.
+const CATEGORIES: [&str; 16] = [
+    "Internal reference",
+    "Targeting data",
+    "Antivirus detection",
+    "Payload delivery",
+    "Artifacts dropped",
+    "Payload installation",
+    "Persistence mechanism",
+    "Network activity",
+    "Payload type",
+    "Attribution",
+    "External analysis",
+    "Financial fraud",
+    "Support Tool",
+    "Social network",
+    "Person",
+    "Other",
+];
+
+/// The number of the category `Other`.
+pub(crate) const OTHER: u8 = 15;
+
+/// The place of a name in a list.
+fn place_in(names: &[&str], text: &str) -> Option<usize>
+    ensures { result ≡ position (λ name. bytes_eq name.now text.now) names.now }
+{
+    names.iter().position(|name| *name == text)
+}
+
+fn category_in(text: &str) -> Result<u8, Need>
+    ensures { result ≡ category_in text.now }
+{
+    match place_in(&CATEGORIES, text) {
+        Some(number) => Ok(number as u8),
+        None => Err(Need::Range),
+    }
+}
+
+/// The number of the category that a value names.
+pub(crate) fn category(value: &Value) -> Result<u8, Need>
+    ensures { result ≡ category_of (view value.now) }
+{
+    match fields::text(value) {
+        Ok(text) => category_in(text),
+        Err(need) => Err(need),
+    }
+}
+
+/// The name at a place of a list, or that of the last category.
+fn name_at(names: &[&'static str], number: usize) -> &'static str
+    ensures { result.now ≡ option_map_or (λ name. name.now) (slice_get names.now number) (codes "Other") }
+{
+    match names.get(number) {
+        Some(name) => name,
+        None => "Other",
+    }
+}
+
+/// The name of the category of this number.
+#[tactic(auto, unfolding(crate::specs::Kinds::category_name))]
+pub(crate) fn category_name(number: u8) -> &'static str
+    ensures { result.now ≡ category_name number }
+{
+    name_at(&CATEGORIES, usize::from(number))
+}

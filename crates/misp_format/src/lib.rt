@@ -1,0 +1,25 @@
+//! Events as JSON bodies: what is read of a body, with the first faulty place, and what is written.
+#![tactic(auto)]
+
+mod attribute;
+mod element;
+mod event;
+mod fault;
+mod fields;
+mod groups;
+mod keys;
+mod kinds;
+mod members;
+mod path;
+mod readers;
+mod replies;
+mod statement;
+mod writing;
+
+pub use event::read_event;
+pub use fault::FormatFault;
+pub use replies::{write_refusal, write_saved};
+pub use writing::write_event;
+
+#[cfg(test)]
+mod tests;

@@ -1,0 +1,6 @@
+mod Cutting
+mod Digits
+mod Documents
+mod Marks
+mod Visible
+pub mod Few

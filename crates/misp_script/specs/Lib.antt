@@ -1,0 +1,10 @@
+pub mod Entries
+pub mod Faults
+pub mod Fields
+pub mod Lines
+pub mod Names
+pub mod Network
+pub mod Numbers
+pub mod Source
+pub mod Step
+pub mod Tables

@@ -1,0 +1,135 @@
+-- THE TABLES of a description: the members of each, in the order in which they are read.
+use Rattle.std.specs.Prelude.{ℕ, ◌==◌, ◌&&◌, Bool, not, nat_le, nat_lt, List, [], ◌∷◌, ◌++◌, length, codes, bytes_eq, find, Option, Some, None, option_map, Ok, if◌then◌else◌}
+use Rattle.std.specs.List.{list_any}
+use Rattle.std.specs.Str.{chars}
+use Rattle.std.specs.Char.{is_control}
+use Rattle.toml.specs.Data.{Data}
+use Rattle.misp_ids.specs.declared.uid.Uid.{Uid}
+use Rattle.misp_ids.specs.declared.uid.OrgId.{OrgId}
+use Rattle.misp_ids.specs.Uid.{read_uid}
+use Rattle.misp_ids.specs.Names.{is_inst_name, is_api_key}
+use Rattle.misp_orgs.specs.declared.key.Role.{Role}
+use Rattle.misp_orgs.specs.declared.key.Role.TheVariants as roles
+use Rattle.misp_orgs.specs.declared.org.TheConstants.{NAME_LIMIT}
+use Rattle.misp_orgs.specs.Org.{OrgFields}
+use Rattle.misp_script.specs.declared.description.Host.{Host}
+use Rattle.misp_script.specs.declared.description.HostKey.{HostKey}
+use Rattle.misp_script.specs.declared.fault.DescNeed.TheVariants as needs
+use Rattle.misp_script.specs.Faults.{Reading, ◌>>=◌}
+use Rattle.misp_script.specs.Entries.{Body, entry_of, has, text_at, text_or_none_at, said, refused_if, no_other}
+
+-- ---- organisations
+
+-- 1 to 64 bytes, and no control character
+abbrev pub is_org_name : List ℕ → Bool
+is_org_name text = nat_lt 0 (length text) && nat_le (length text) NAME_LIMIT && not (list_any is_control (chars text))
+
+abbrev pub org_name_of : List ℕ → Option (List ℕ)
+org_name_of text = if is_org_name text then Some text else None
+
+abbrev pub has_name : List OrgFields → List ℕ → Bool
+has_name orgs name = list_any (λ o. bytes_eq o.name name) orgs
+
+abbrev pub has_uuid : List OrgFields → Uid → Bool
+has_uuid orgs uuid = list_any (λ o. o.uuid.0.0 == uuid.0) orgs
+
+abbrev pub org_name_at : Body → Reading (List ℕ)
+org_name_at it = text_at it (codes "name") >>= λ text. said it (codes "name") needs.Name (org_name_of text)
+
+abbrev pub uuid_at : Body → Reading Uid
+uuid_at it = text_at it (codes "uuid") >>= λ text. said it (codes "uuid") needs.Uuid (read_uid text)
+
+unfoldable pub org_at : List OrgFields → Body → Reading OrgFields
+org_at before it = do
+  name ← org_name_at it
+  new_name ← refused_if (has_name before name) it (codes "name") needs.Distinct
+  uuid ← uuid_at it
+  new_uuid ← refused_if (has_uuid before uuid) it (codes "uuid") needs.Distinct
+  no_more ← no_other it (codes "name" ∷ codes "uuid" ∷ [])
+  Ok (record { uuid = record { 0 = uuid }; name = name })
+
+abbrev pub next_org : ℕ → List OrgFields → Data → Reading (List OrgFields)
+next_org n before d = org_at before (entry_of (codes "org") n d) >>= λ org. Ok (before ++ org ∷ [])
+
+-- ---- instances
+
+abbrev pub host_name_of : List ℕ → Option (List ℕ)
+host_name_of text = if is_inst_name text then Some text else None
+
+abbrev pub has_host : List Host → List ℕ → Bool
+has_host hosts name = list_any (λ h. bytes_eq h.name name) hosts
+
+abbrev pub host_name_at : Body → Reading (List ℕ)
+host_name_at it = text_at it (codes "name") >>= λ text. said it (codes "name") needs.Name (host_name_of text)
+
+unfoldable pub host_at : List Host → Body → Reading Host
+host_at before it = do
+  name ← host_name_at it
+  new ← refused_if (has_host before name) it (codes "name") needs.Distinct
+  address ← text_or_none_at it (codes "address")
+  no_more ← no_other it (codes "name" ∷ codes "address" ∷ [])
+  Ok (record { name = name; address = address })
+
+abbrev pub next_host : ℕ → List Host → Data → Reading (List Host)
+next_host n before d = host_at before (entry_of (codes "instance") n d) >>= λ host. Ok (before ++ host ∷ [])
+
+-- ---- keys
+
+abbrev pub key_of : List ℕ → Option (List ℕ)
+key_of text = if is_api_key text then Some text else None
+
+abbrev pub role_of : List ℕ → Option Role
+role_of text =
+    if bytes_eq text (codes "reader") then Some roles.Reader
+    else if bytes_eq text (codes "user") then Some roles.User
+    else if bytes_eq text (codes "publisher") then Some roles.Publisher
+    else if bytes_eq text (codes "orgadmin") then Some roles.OrgAdmin
+    else if bytes_eq text (codes "sync") then Some roles.Sync
+    else if bytes_eq text (codes "siteadmin") then Some roles.SiteAdmin
+    else None
+
+-- the instance of this name
+abbrev pub host_of : List Host → List ℕ → Option (List ℕ)
+host_of hosts text = option_map (λ h. h.name) (find (λ h. bytes_eq h.name text) hosts)
+
+-- the organisation of this name
+abbrev pub org_named : List OrgFields → List ℕ → Option OrgId
+org_named orgs text = option_map (λ o. o.uuid) (find (λ o. bytes_eq o.name text) orgs)
+
+-- the instance has the key
+abbrev pub has_key : List HostKey → List ℕ → List ℕ → Bool
+has_key keys at key = list_any (λ k. bytes_eq k.key.key key && bytes_eq k.at at) keys
+
+abbrev pub known_host_at : List Host → Body → List ℕ → Reading (List ℕ)
+known_host_at hosts it name = text_at it name >>= λ text. said it name needs.Known (host_of hosts text)
+
+abbrev pub known_org_at : List OrgFields → Body → Reading OrgId
+known_org_at orgs it = text_at it (codes "org") >>= λ text. said it (codes "org") needs.Known (org_named orgs text)
+
+abbrev pub api_key_at : Body → Reading (List ℕ)
+api_key_at it = text_at it (codes "key") >>= λ text. said it (codes "key") needs.Key (key_of text)
+
+abbrev pub role_at : Body → Reading Role
+role_at it = text_at it (codes "role") >>= λ text. said it (codes "role") needs.Role (role_of text)
+
+abbrev pub no_partner_at : Body → Reading (Option (List ℕ))
+no_partner_at it = refused_if (has it (codes "partner")) it (codes "partner") needs.Member >>= λ none. Ok None
+
+-- the partner of a key for synchronisation; no other key has one
+abbrev pub partner_at : List Host → Body → Role → Reading (Option (List ℕ))
+partner_at hosts it roles.Sync = known_host_at hosts it (codes "partner") >>= λ partner. Ok (Some partner)
+partner_at hosts it role = no_partner_at it
+
+unfoldable pub key_at : List OrgFields → List Host → List HostKey → Body → Reading HostKey
+key_at orgs hosts before it = do
+  at ← known_host_at hosts it (codes "instance")
+  key ← api_key_at it
+  new ← refused_if (has_key before at key) it (codes "key") needs.Distinct
+  org ← known_org_at orgs it
+  role ← role_at it
+  partner ← partner_at hosts it role
+  no_more ← no_other it (codes "instance" ∷ codes "key" ∷ codes "org" ∷ codes "role" ∷ codes "partner" ∷ [])
+  Ok (record { at = at; key = record { key = key; org = org; role = role; partner = partner } })
+
+abbrev pub next_key : List OrgFields → List Host → ℕ → List HostKey → Data → Reading (List HostKey)
+next_key orgs hosts n before d = key_at orgs hosts before (entry_of (codes "key") n d) >>= λ key. Ok (before ++ key ∷ [])

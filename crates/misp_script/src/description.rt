@@ -1,0 +1,49 @@
+//! What a description says.
+
+ghost use Rattle.std.specs.Prelude.{◌≡◌, IfOk};
+ghost use Rattle.misp_script.specs.Names.{names_of};
+
+use misp_ids::{InstId, Items, NoMemory, Text};
+use misp_orgs::{Admin, KeyRecord};
+use std::alloc::Global;
+
+/// The instances of a network, in the order in which they are listed.
+#[derive(Debug, Drop)]
+pub struct Description {
+    pub instances: Items<Entry>,
+}
+
+/// An instance, its address, which may be empty, and what is set up there.
+#[derive(Debug, Drop)]
+pub struct Entry {
+    pub name: InstId,
+    pub address: Text,
+    pub admin: Admin,
+}
+
+impl Description {
+    /// The names of the instances, in their order.
+    pub fn names(&self, alloc: Global) -> Result<Items<InstId>, NoMemory>
+        ensures { IfOk result (λ names. names ≡ names_of self.now) }
+    {
+        let mut names = Vec::new(alloc);
+        for entry in self.instances.as_slice() {
+            names.push(entry.name)?;
+        }
+        Ok(Items::of(names))
+    }
+}
+
+/// An instance that is listed.
+#[derive(Debug, Drop)]
+pub(crate) struct Host {
+    pub(crate) name: InstId,
+    pub(crate) address: Text,
+}
+
+/// A key, and the instance whose key it is.
+#[derive(Clone, Copy, Debug)]
+pub(crate) struct HostKey {
+    pub(crate) at: InstId,
+    pub(crate) key: KeyRecord,
+}

@@ -1,0 +1,32 @@
+//! The steps of a script.
+
+use misp_ids::Stamp;
+
+/// What a line of a script says.
+#[derive(Clone, Copy, Debug, PartialEq, Eq)]
+pub struct Step<'a> {
+    /// The moment of the step.
+    pub time: Stamp,
+    /// The word from which its identifiers are made.
+    pub word: u128,
+    pub deed: Deed<'a>,
+}
+
+/// What is done in a step.
+#[derive(Clone, Copy, Debug, PartialEq, Eq)]
+pub enum Deed<'a> {
+    Nothing,
+    Request(RequestLine<'a>),
+}
+
+/// A request to an instance.
+#[derive(Clone, Copy, Debug, PartialEq, Eq)]
+pub struct RequestLine<'a> {
+    /// The place of the instance in the description, from 0.
+    pub at: usize,
+    /// The text of the key, if one is given. It may be none that a key could be.
+    pub key: Option<&'a str>,
+    pub method: &'a str,
+    pub target: &'a str,
+    pub body: &'a [u8],
+}

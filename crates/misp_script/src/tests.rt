@@ -1,0 +1,196 @@
+use super::*;
+use misp_ids::InstId;
+use std::alloc::Global;
+use std::fmt::Write;
+use std::test::Fail;
+
+const ORG: &str = "[[org]]\nname = 'A'\nuuid = 'aaaaaaaa-0000-4000-8000-000000000001'\n";
+
+const HOST: &str = "[[instance]]\nname = 'one'\n";
+
+const KEY: &str =
+    "[[key]]\ninstance = 'one'\nkey = 'kkkkkkkkkkkkkkkkkkkkkkkkkkkkkkkkkkkkkkkk'\norg = 'A'\n";
+
+/// What a description is read as: what it brings, or its fault.
+fn shown(alloc: Global, text: &str) -> Result<String, Fail> {
+    let mut out = String::new(alloc);
+    match read_description(alloc, text.as_bytes()) {
+        Ok(description) => {
+            for entry in description.instances.as_slice() {
+                let name = entry.name.text();
+                let address = entry.address.as_str();
+                let orgs = entry.admin.orgs.as_slice().len();
+                let keys = entry.admin.keys.as_slice().len();
+                write!(out, "{name}@{address} {orgs} {keys}")?;
+            }
+        }
+        Err(DescFault::Bad { path, need }) => {
+            let path = path.as_str();
+            let need = need.text();
+            write!(out, "{path} {need}")?;
+        }
+        Err(DescFault::NoMemory) => out.push_str("no memory")?,
+    }
+    Ok(out)
+}
+
+#[test]
+fn each_need_is_told_with_its_path(rt: HostRuntime) -> Result<(), Fail> {
+    let alloc = rt.alloc();
+    let rows = [
+        (
+            "{org}{host}address = 'here'\n{key}role = 'publisher'\n",
+            "one@here 1 1",
+        ),
+        ("x = [", "- toml"),
+        ("{org}", "instance later"),
+        ("zzz = 1\nkeys = []\n", "keys member"),
+        ("org = [1]\n", "org member"),
+        ("instance = 7\n", "instance member"),
+        (
+            "instance = [{},{},{},{},{},{},{},{},{},{},{},{},{},{},{},{},{}]\n",
+            "instance limit",
+        ),
+        ("[[org]]\n", "org[0].name present"),
+        ("[[org]]\nname = 1\n", "org[0].name text"),
+        ("[[org]]\nname = ''\n", "org[0].name name"),
+        ("[[org]]\nname = \"a\\u0085\"\n", "org[0].name name"),
+        (
+            "{org}[[org]]\nname = 'A'\nuuid = 1\n",
+            "org[1].name distinct",
+        ),
+        ("[[org]]\nname = 'A'\nuuid = 'a'\n", "org[0].uuid uuid"),
+        (
+            "{org}[[org]]\nname = 'B'\nuuid = 'AAAAAAAA-0000-4000-8000-000000000001'\n",
+            "org[1].uuid distinct",
+        ),
+        ("{org}zz = 1\nb = 2\n", "org[0].b member"),
+        ("[[instance]]\nname = 'One'\n", "instance[0].name name"),
+        ("{host}{host}", "instance[1].name distinct"),
+        ("{host}address = 1\n", "instance[0].address text"),
+        ("{host}[[key]]\ninstance = 'two'\n", "key[0].instance known"),
+        (
+            "{host}[[key]]\ninstance = 'one'\nkey = 'k'\n",
+            "key[0].key key",
+        ),
+        ("{host}{key}", "key[0].org known"),
+        ("{org}{host}{key}", "key[0].role present"),
+        ("{org}{host}{key}role = 'admin'\n", "key[0].role role"),
+        ("{org}{host}{key}role = 'sync'\n", "key[0].partner present"),
+        (
+            "{org}{host}{key}role = 'sync'\npartner = 'two'\n",
+            "key[0].partner known",
+        ),
+        (
+            "{org}{host}{key}role = 'user'\npartner = 'one'\n",
+            "key[0].partner member",
+        ),
+        (
+            "{org}{host}{key}role = 'user'\n{key}",
+            "key[1].key distinct",
+        ),
+        ("{org}{host}{key}role = 'user'\nx = 1\n", "key[0].x member"),
+        ("{org}{host}{key}role = 'user'\n", "key[0].role later"),
+        (
+            "{org}{host}{key}role = 'sync'\npartner = 'one'\n",
+            "key[0].role later",
+        ),
+        ("{org}{host}[[link]]\n", "link later"),
+        ("{host}[[instance]]\nname = 'two'\n", "instance later"),
+    ];
+    for (text, told) in &rows {
+        let text = text.replace(alloc, "{org}", ORG)?;
+        let text = text.as_str().replace(alloc, "{host}", HOST)?;
+        let text = text.as_str().replace(alloc, "{key}", KEY)?;
+        let is = shown(alloc, text.as_str())?;
+        assert!(rt; is.as_str() == *told, "{text} is {is}");
+    }
+    Ok(())
+}
+
+/// A request, as a test shows it.
+fn request_shown(alloc: Global, request: &RequestLine<'_>) -> Result<String, Fail> {
+    let at = request.at;
+    let key = request.key.unwrap_or("none");
+    let method = request.method;
+    let target = request.target;
+    let body = std::str::from_utf8(request.body)?;
+    Ok(format!(in alloc; "{at} {key} {method} {target} [{body}]")?)
+}
+
+/// What a line is read as: its step, or the place of its fault.
+fn step_shown(alloc: Global, line: &str, names: &[InstId]) -> Result<String, Fail> {
+    match read_line(line.as_bytes(), names) {
+        Ok(step) => {
+            let time = step.time.get();
+            let deed = match &step.deed {
+                Deed::Nothing => String::from_str(alloc, "none")?,
+                Deed::Request(request) => request_shown(alloc, request)?,
+            };
+            Ok(format!(in alloc; "{time} {deed}")?)
+        }
+        Err(bad) => {
+            let place = bad.place;
+            Ok(format!(in alloc; "bad {place}")?)
+        }
+    }
+}
+
+#[test]
+fn lines_are_steps_or_bad_at_a_place(rt: HostRuntime) -> Result<(), Fail> {
+    let alloc = rt.alloc();
+    let rows = [
+        ("x", "bad 0"),
+        ("", "bad 0"),
+        ("1700000000", "bad 10"),
+        ("1700000000 0 none", "bad 11"),
+        ("01 {word} none", "bad 0"),
+        ("0 {word} none", "0 none"),
+        ("253402300799 {word} none", "253402300799 none"),
+        ("253402300800 {word} none", "bad 0"),
+        ("1 {word}", "bad 34"),
+        ("1 {word} ", "bad 35"),
+        ("1 {WORD} none", "bad 2"),
+        ("1 {word} pull one", "bad 35"),
+        ("1 {word} none ", "bad 40"),
+        ("1 {word} none x", "bad 40"),
+        ("1 {word} req", "bad 38"),
+        ("1 {word} req two - GET /", "bad 39"),
+        ("1 {word} req one", "bad 42"),
+        ("1 {word} req one  GET /", "bad 43"),
+        ("1 {word} req one - GET", "bad 48"),
+        ("1 {word} req one - GET /\u{e9}", "bad 49"),
+        ("1 {word} req one - GET /", "1 0 none GET / []"),
+        ("1 {word} req one k POST /a  b c", "1 0 k POST /a [ b c]"),
+    ];
+    let names = [InstId::read("one").ok_or("one")?];
+    for (line, told) in &rows {
+        let line = line.replace(alloc, "{word}", "0123456789abcdef0123456789abcdef")?;
+        let line = line
+            .as_str()
+            .replace(alloc, "{WORD}", "0123456789ABCDEF0123456789abcdef")?;
+        let is = step_shown(alloc, line.as_str(), &names)?;
+        assert!(rt; is.as_str() == *told, "{line} is {is}");
+    }
+    Ok(())
+}
+
+#[test]
+fn a_source_is_cut_at_the_first_line_of_three_hyphens(rt: HostRuntime) -> Result<(), Fail> {
+    let rows = [
+        ("a\n---\nb\nc", "a\n", "b\nc"),
+        ("---\n---\n", "", "---\n"),
+        ("a ---\n---b\n", "a ---\n---b\n", ""),
+        ("a\n---", "a\n", ""),
+        ("", "", ""),
+    ];
+    for (source, description, script) in &rows {
+        let parts = split_source(source.as_bytes());
+        assert!(rt; parts.0 == description.as_bytes());
+        assert!(rt; parts.1 == script.as_bytes());
+    }
+    let (line, rest) = split_line(b"b\nc".as_slice());
+    assert!(rt; line == b"b".as_slice());
+    assert!(rt; rest == b"c".as_slice());
+    Ok(())
+}
