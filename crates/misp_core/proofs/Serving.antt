@@ -1,0 +1,153 @@
+-- How a verdict over a keeper comes to an answer.
+use Rattle.std.proofs.Common.{◌≡◌, ℕ, ◌<◌, List, [], ◌∷◌, length, arith, Bool, true, false, refl, ap, sym, subst, ◌∙◌, map, cond, option_map, Option, Some, None, Result, Ok, Err}
+use Rattle.std.specs.Prelude.{IfOk, IfSome, OnErr}
+use Rattle.misp_elem.specs.declared.row.RowFields.{RowFields as Row}
+use Rattle.misp_elem.specs.Row.{AreRows}
+use Rattle.misp_elem.specs.declared.refusal.RuleName.TheVariants as rules
+use Rattle.misp_requests.specs.declared.ask.Ask.{Ask}
+use Rattle.misp_requests.specs.declared.ask.Ask.TheVariants.{View}
+use Rattle.misp_requests.specs.declared.ask.Ask.TheVariants as asks
+use Rattle.misp_requests.specs.declared.change.Change.TheVariants.{AddEvent}
+use Rattle.misp_requests.specs.declared.change.Change.TheVariants as changes
+use Rattle.misp_orgs.specs.declared.admin.Admin.{Admin}
+use Rattle.misp_outside.specs.declared.fault.KeeperFault.{KeeperFault}
+use Rattle.misp_outside.specs.declared.fault.KeeperFault.TheVariants as stops
+use Rattle.misp_outside.specs.declared.row.RawRow.{RawRow}
+use Rattle.misp_outside.specs.Held.{Held, put_rows, put_admins, with_batch, rows_of}
+use Rattle.misp_model.specs.Asking.{Scene, Rule, first_rule}
+use Rattle.misp_model.specs.Asking as asking
+use Rattle.misp_model.specs.Acts.{answer}
+use Rattle.misp_model.specs.Acts as model
+use Rattle.misp_edit.specs.Adding.{refusing}
+use Rattle.misp_core.specs.Raw.{raw_row, rows_in}
+use Rattle.misp_core.specs.Answers.{Surroundings, event_asked, IsBuilt, IsDecision, IsVerdict, reply_of, reply_in, writes_in, reply_over, writes_over, named, scene_at}
+use Rattle.misp_core.specs.Outcome.{Outcome, Went, ByKeeper, ByMemory, outcome_of, asked_of, with_rows, IsServed, IsAnswered, IsRefused, replied_of}
+use Rattle.misp_core.specs.declared.decide.Verdict.{Verdict}
+use Rattle.misp_core.specs.declared.reply.Reply.{Reply}
+use Rattle.misp_core.specs.declared.reply.Reply.TheVariants as replies
+use Rattle.misp_core.proofs.Decisions.{answered, unwritten, none_written}
+
+-- no rows put change nothing
+pub put_none : (held : Option Held) → held ≡ option_map (with_rows []) held
+unfolding put_rows
+put_none None = refl
+put_none (Some held) = refl
+
+-- a batch of rows puts the rows
+pub put_batch : (rows : List Row) (held : Option Held) → option_map (with_batch (record { rows = map raw_row rows; admin = [] })) held ≡ option_map (with_rows rows) held
+unfolding with_batch put_admins
+put_batch rows None = refl
+put_batch rows (Some held) = refl
+
+rule_went : (rule : Rule) → outcome_of (replies.Refused (record { name = named rule; place = [] })) ≡ Went
+rule_went asking.NotGranted = refl
+rule_went asking.NotOwner = refl
+rule_went asking.LockedCopy = refl
+rule_went asking.EventExists = refl
+rule_went asking.EventGone = refl
+rule_went asking.ElementExists = refl
+rule_went asking.GroupNotUsable = refl
+rule_went asking.OlderTime = refl
+rule_went asking.TimeLimit = refl
+rule_went asking.ProposalExists = refl
+rule_went asking.ProposalClosed = refl
+rule_went asking.ElementFull = refl
+
+reply_went : (admin : Admin) (s : Scene) (ask : Ask) (r : model.Reply) → outcome_of (reply_of admin s ask r) ≡ Went
+reply_went admin s ask (model.Refused rule) = rule_went rule
+reply_went admin s ask (model.Seen v) = refl
+reply_went admin s ask (model.Saved vs) = refl
+reply_went admin s ask (model.Listed vs) = refl
+reply_went admin s ask (model.Taken n) = refl
+reply_went admin s ask model.Other = refl
+
+-- no verdict is a keeper's fault or want of memory
+pub verdict_went : (n : ℕ) (at : Surroundings) (ask : Ask) (rows : Result (List Row) (List ℕ)) (verdict : Verdict) → IsVerdict n at ask rows verdict → outcome_of verdict.reply ≡ Went
+unfolding reply_in
+verdict_went n at ask (Ok rows) verdict is = ap outcome_of is.reply ∙ reply_went at.admin (scene_at n at rows) ask (answer (scene_at n at rows) ask)
+verdict_went n at ask (Err name) verdict is = ap (λ (v : Verdict). outcome_of v.reply) is
+
+-- what refuses writes nothing
+refused_writes : (admin : Admin) (s : Scene) (ask : Ask) → IsBuilt ask → IsRefused (reply_in admin s ask) → writes_in s ask ≡ []
+unfolding reply_in
+refused_writes admin s (View event owner) built refused = none_written s admin event owner
+refused_writes admin s (asks.Change (AddEvent b)) built refused = one (refusing s b) refl
+  where
+    one : (rule : Option Rule) → refusing s b ≡ rule → writes_in s (asks.Change (AddEvent b)) ≡ []
+    one None e = absurd (subst (λ r. IsRefused (reply_of admin s (asks.Change (AddEvent b)) r)) (answered s admin b e) refused)
+    one (Some rule) e = unwritten s admin b rule e
+refused_writes admin s (asks.Change (changes.AddParts e b)) built refused = absurd built
+refused_writes admin s (asks.Change (changes.EditEvent e edit)) built refused = absurd built
+refused_writes admin s (asks.Change (changes.EditAttribute e p edit)) built refused = absurd built
+refused_writes admin s (asks.Change (changes.EditObject e x edit)) built refused = absurd built
+refused_writes admin s (asks.Change (changes.Delete e p)) built refused = absurd built
+refused_writes admin s (asks.Change (changes.DeleteReference e x u)) built refused = absurd built
+refused_writes admin s (asks.Change (changes.Tag e p t)) built refused = absurd built
+refused_writes admin s (asks.Change (changes.Untag e p t)) built refused = absurd built
+refused_writes admin s (asks.Change (changes.DeleteEvent e)) built refused = absurd built
+refused_writes admin s (asks.Change (changes.Publish e)) built refused = absurd built
+refused_writes admin s (asks.Propose d) built refused = absurd built
+refused_writes admin s (asks.Judge e n accept) built refused = absurd built
+refused_writes admin s (asks.Sight e t d) built refused = absurd built
+refused_writes admin s asks.Index built refused = absurd built
+refused_writes admin s (asks.TakePart p) built refused = absurd built
+
+pub verdict_refused : (n : ℕ) (at : Surroundings) (ask : Ask) (rows : Result (List Row) (List ℕ)) (verdict : Verdict) → IsBuilt ask → IsVerdict n at ask rows verdict → IsRefused verdict.reply → verdict.writes ≡ []
+verdict_refused n at ask (Ok rows) verdict built is refused =
+    is.writes ∙ refused_writes at.admin (scene_at n at rows) ask built (subst IsRefused is.reply refused)
+verdict_refused n at ask (Err name) verdict built is refused = ap (λ (v : Verdict). v.writes) is
+
+record Parts (n : ℕ) (at : Surroundings) (ask : Ask) (rows : Result (List Row) (List ℕ)) (verdict : Verdict) : Type 0 where
+  reply : verdict.reply ≡ reply_over n at ask rows
+  writes : verdict.writes ≡ writes_over n at ask rows
+  are_rows : AreRows verdict.writes
+
+parts_of : (n : ℕ) (at : Surroundings) (ask : Ask) (rows : Result (List Row) (List ℕ)) (verdict : Verdict) → IsVerdict n at ask rows verdict → Parts n at ask rows verdict
+parts_of n at ask (Ok rows) verdict is = record { reply = is.reply; writes = is.writes; are_rows = is.are_rows }
+parts_of n at ask (Err name) verdict is = record {
+  reply = ap (λ (v : Verdict). v.reply) is;
+  writes = ap (λ (v : Verdict). v.writes) is;
+  are_rows = subst AreRows (sym (ap (λ (v : Verdict). v.writes) is)) tt;
+}
+
+-- a verdict over what is held, put into it
+pub served : (n : ℕ) (at : Surroundings) (ask : Ask) (held : Held) (new : Option Held) (verdict : Verdict) → IsVerdict n at ask (asked_of ask held) verdict
+    → new ≡ Some (with_rows verdict.writes held) → IsServed n at ask held verdict.reply new
+served n at ask held new verdict is put =
+    let parts : Parts n at ask (asked_of ask held) verdict = parts_of n at ask (asked_of ask held) verdict is in
+    record {
+      reply_is = parts.reply;
+      left = put ∙ ap (λ rows. Some (with_rows rows held)) parts.writes;
+      are_rows = subst AreRows parts.writes parts.are_rows;
+    }
+
+-- what was served, or what stopped it, as a reply
+pub replied : (n : ℕ) (at : Surroundings) (ask : Ask) (old new : Option Held) (result : Result Reply KeeperFault)
+    → IfSome old (λ held. IfOk result (λ reply. IsServed n at ask held reply new)) → IfOk result (λ reply. outcome_of reply ≡ Went) → OnErr result (new ≡ old)
+    → IfSome old (λ held. IsAnswered n at ask held (replied_of result) new)
+replied n at ask None new result served went err = tt
+replied n at ask (Some held) new (Ok reply) served went err = record {
+  reply_is = served.reply_is ∙ ap (λ o. reply_under o) (sym went);
+  left = served.left ∙ ap (λ o. Some (held_under o)) (sym went);
+  are_rows = λ w. served.are_rows;
+}
+  where
+    reply_under : Outcome → Reply
+    reply_under o = Rattle.misp_core.specs.Outcome.reply_to o n at ask held
+
+    held_under : Outcome → Held
+    held_under o = Rattle.misp_core.specs.Outcome.held_after o n at ask held
+replied n at ask (Some held) new (Err stops.Failed) served went err = record { reply_is = refl; left = err; are_rows = λ w. absurd cc }
+replied n at ask (Some held) new (Err stops.NoMemory) served went err = record { reply_is = refl; left = err; are_rows = λ w. absurd cc }
+
+pub empty_below : (rows : List Row) → length rows < 1 → rows ≡ []
+empty_below [] few = refl
+empty_below (r ∷ rows) few = absurd (omega arith)
+
+-- the same over a keeper that may not tell
+pub served_told : (n : ℕ) (at : Surroundings) (ask : Ask) (old new : Option Held) (raws : List RawRow) (verdict : Verdict)
+    → IfSome old (λ told. raws ≡ rows_of (event_asked ask) told.rows) → IsVerdict n at ask (rows_in raws) verdict
+    → new ≡ option_map (with_rows verdict.writes) old → IfSome old (λ held. IsServed n at ask held verdict.reply new)
+served_told n at ask None new raws verdict found is put = tt
+served_told n at ask (Some held) new raws verdict found is put =
+    served n at ask held new verdict (subst (λ rs. IsVerdict n at ask (rows_in rs) verdict) found is) put

@@ -1,0 +1,193 @@
+-- What a request is answered where nothing stops it, and what it writes.
+use Rattle.std.specs.Prelude.{◌≡◌, ℕ, Bool, true, cond, is_some, List, [], ◌∷◌, map, length, fold, max, unwrap_or, option_map, Result, Ok, Err}
+use Rattle.std.specs.declared.option.Option.{Option}
+use Rattle.std.specs.declared.option.Option.TheVariants.{None, Some}
+use Rattle.hex.specs.Hex.{encode_lower}
+use Rattle.misp_ids.specs.declared.uid.Uid.{Uid}
+use Rattle.misp_ids.specs.declared.uid.OrgId.{OrgId}
+use Rattle.misp_ids.specs.declared.uid.EventId.{EventId}
+use Rattle.misp_ids.specs.declared.label.Label.{Label}
+use Rattle.misp_ids.specs.declared.label.Label.TheVariants as labels
+use Rattle.misp_ids.specs.Uid.{text_of}
+use Rattle.misp_elem.specs.declared.row.RowFields.{RowFields as Row}
+use Rattle.misp_elem.specs.declared.refusal.Refusal.{Refusal}
+use Rattle.misp_elem.specs.declared.refusal.RuleName.{RuleName}
+use Rattle.misp_elem.specs.declared.refusal.RuleName.TheVariants as rules
+use Rattle.misp_elem.specs.declared.visible.VisibleEvent.{VisibleEvent}
+use Rattle.misp_elem.specs.Draft.{SubmissionFields as Submission}
+use Rattle.misp_elem.specs.Row.{AreRows}
+use Rattle.misp_requests.specs.declared.ask.Ask.{Ask}
+use Rattle.misp_requests.specs.declared.ask.Ask.TheVariants.{View}
+use Rattle.misp_requests.specs.declared.ask.Ask.TheVariants as asks
+use Rattle.misp_requests.specs.declared.change.Change.TheVariants.{AddEvent}
+use Rattle.misp_orgs.specs.declared.admin.Admin.{Admin}
+use Rattle.misp_orgs.specs.declared.key.Caller.{Caller}
+use Rattle.misp_orgs.specs.Org.{name_of}
+use Rattle.misp_model.specs.Dates.{date_of}
+use Rattle.misp_model.specs.View.{known}
+use Rattle.misp_model.specs.History.{Version, fresh_row}
+use Rattle.misp_model.specs.Asking.{Scene, Rule}
+use Rattle.misp_model.specs.Asking as asking
+use Rattle.misp_model.specs.Acts.{answer, brings, is_accepted}
+use Rattle.misp_model.specs.Acts as model
+use Rattle.misp_edit.specs.Adding.{scene_of, first_clash, first_unusable}
+use Rattle.misp_edit.specs.declared.fault.AddFault.{AddFault}
+use Rattle.misp_edit.specs.declared.fault.AddFault.TheVariants as faults
+use Rattle.misp_core.specs.Standing.{Standing}
+use Rattle.misp_core.specs.declared.reply.Answer.{Answer}
+use Rattle.misp_core.specs.declared.reply.Answer.TheVariants as answers
+use Rattle.misp_core.specs.declared.reply.Reply.{Reply}
+use Rattle.misp_core.specs.declared.reply.Reply.TheVariants as replies
+use Rattle.misp_core.specs.declared.decide.Verdict.{Verdict}
+
+-- ---- asks
+
+-- an added event has a body, and for now no references
+abbrev pub IsAdded : Submission → Type 0
+IsAdded b = (is_some b.body ≡ true) × (b.references ≡ [])
+
+-- the asks that are built: showing an event, and adding one
+abbrev pub IsBuilt : Ask → Type 0
+IsBuilt (View event owner) = Unit {0}
+IsBuilt (asks.Change (AddEvent b)) = IsAdded b
+IsBuilt ask = ⊥
+
+abbrev pub no_event : EventId
+no_event = record { 0 = record { 0 = 0 } }
+
+-- the event that an ask is about
+abbrev pub event_asked : Ask → EventId
+event_asked (View event owner) = event
+event_asked (asks.Change (AddEvent b)) = b.event
+event_asked ask = no_event
+
+-- ---- surroundings
+
+-- the name of an organisation at an instance, empty where it is not known there
+abbrev pub name_in : Admin → OrgId → List ℕ
+name_in admin org = unwrap_or (name_of admin.orgs org) []
+
+-- where and when a request is answered, and whose it is
+pub record Surroundings : Type 0 where
+  pub here : List ℕ
+  pub admin : Admin
+  pub caller : Caller
+  pub now : ℕ
+
+abbrev pub site : List ℕ → Admin → Caller → ℕ → Surroundings
+site here admin caller now = record { here = here; admin = admin; caller = caller; now = now }
+
+abbrev pub site_at : Standing → Caller → ℕ → Surroundings
+site_at i caller now = site i.name i.admin caller now
+
+-- the scene of the n-th request, on a day, over what the caller knows
+abbrev pub scene_with : ℕ → List ℕ → Surroundings → List Row → Scene
+scene_with n today at rows = scene_of n at.here at.caller.org (name_in at.admin at.caller.org) at.now today rows
+
+-- the scene of the n-th request, over these rows
+abbrev pub scene_at : ℕ → Surroundings → List Row → Scene
+scene_at n at rows = scene_with n (date_of at.now) at (known rows [] at.here at.caller.org)
+
+-- ---- refusals
+
+-- a rule of the requests, as a reply names it
+abbrev pub named : Rule → RuleName
+named asking.NotGranted = rules.NotGranted
+named asking.NotOwner = rules.NotOwner
+named asking.LockedCopy = rules.LockedCopy
+named asking.EventExists = rules.EventExists
+named asking.EventGone = rules.EventGone
+named asking.ElementExists = rules.ElementExists
+named asking.GroupNotUsable = rules.GroupNotUsable
+named asking.OlderTime = rules.OlderTime
+named asking.TimeLimit = rules.TimeLimit
+named asking.ProposalExists = rules.ProposalExists
+named asking.ProposalClosed = rules.ProposalClosed
+named asking.ElementFull = rules.ElementFull
+
+abbrev pub uuid_text : Option ℕ → List ℕ
+uuid_text None = []
+uuid_text (Some u) = text_of (record { 0 = u })
+
+abbrev pub group_text : Option Label → List ℕ
+group_text (Some (labels.Group g)) = text_of g.uuid
+group_text label = []
+
+-- of a body that brings a uuid again the first such uuid, of one with a label that is not usable the first such group
+abbrev pub added_place : Scene → Submission → Rule → List ℕ
+added_place s b asking.ElementExists = uuid_text (first_clash s b)
+added_place s b asking.GroupNotUsable = group_text (first_unusable s b)
+added_place s b rule = []
+
+-- the place that a refusal shows
+abbrev pub place_of : Scene → Ask → Rule → List ℕ
+place_of s (asks.Change (AddEvent b)) rule = added_place s b rule
+place_of s ask rule = []
+
+-- the refusal by a rule that has no place
+abbrev pub bare : RuleName → Refusal
+bare name = record { name = name; place = [] }
+
+-- the refusal that names a row which does not decode
+abbrev pub bad_row : List ℕ → Refusal
+bad_row name = record { name = rules.BadRow; place = encode_lower name }
+
+-- ---- answers
+
+-- the greatest of the stamps, or 0 where there is none
+unfoldable pub greatest : List ℕ → ℕ
+greatest stamps = fold max 0 stamps
+
+-- how many rows were written, of which event, and the greatest of their stamps
+abbrev pub saved : EventId → List Version → Answer
+saved event vs = answers.Saved (length vs) event (greatest (map (λ v. v.stamp) vs))
+
+-- the event with the name of its holder
+abbrev pub named_event : Admin → VisibleEvent → VisibleEvent
+named_event admin v = record v { org_name = name_in admin v.row.owner }
+
+-- a reply of the definitions, as it is given
+abbrev pub reply_of : Admin → Scene → Ask → model.Reply → Reply
+reply_of admin s ask (model.Refused rule) = replies.Refused (record { name = named rule; place = place_of s ask rule })
+reply_of admin s ask (model.Seen v) = replies.Ok (answers.Event (named_event admin v))
+reply_of admin s ask (model.Saved vs) = replies.Ok (saved (event_asked ask) vs)
+reply_of admin s ask other = replies.Refused (bare rules.NoRoute)
+
+-- the reply to an ask in these surroundings
+unfoldable pub reply_in : Admin → Scene → Ask → Reply
+reply_in admin s ask = reply_of admin s ask (answer s ask)
+
+-- the rows that it writes
+unfoldable pub writes_in : Scene → Ask → List Row
+writes_in s ask = cond (is_accepted s ask) (map fresh_row (brings s ask)) []
+
+-- ---- over what a keeper holds of the event
+
+abbrev pub reply_over : ℕ → Surroundings → Ask → Result (List Row) (List ℕ) → Reply
+reply_over n at ask (Ok rows) = reply_in at.admin (scene_at n at rows) ask
+reply_over n at ask (Err name) = replies.Refused (bad_row name)
+
+abbrev pub writes_over : ℕ → Surroundings → Ask → Result (List Row) (List ℕ) → List Row
+writes_over n at ask (Ok rows) = writes_in (scene_at n at rows) ask
+writes_over n at ask (Err name) = []
+
+-- what is replied to an ask in these surroundings, and written for it
+pub record IsDecision (s : Scene) (admin : Admin) (ask : Ask) (verdict : Verdict) : Type 0 where
+  pub reply : verdict.reply ≡ reply_in admin s ask
+  pub writes : verdict.writes ≡ writes_in s ask
+  pub are_rows : AreRows verdict.writes
+
+-- the same over what is held of the event, which may have a row that is none
+abbrev pub IsVerdict : ℕ → Surroundings → Ask → Result (List Row) (List ℕ) → Verdict → Type 0
+IsVerdict n at ask (Ok rows) verdict = IsDecision (scene_at n at rows) at.admin ask verdict
+IsVerdict n at ask (Err name) verdict = verdict ≡ record { reply = replies.Refused (bad_row name); writes = [] }
+
+-- ---- by the parts of a verdict
+
+-- the refusal for a fault
+abbrev pub IsRefusal : AddFault → Refusal → Type 0
+IsRefusal faults.EventExists refusal = refusal ≡ bare rules.EventExists
+IsRefusal faults.EventGone refusal = refusal ≡ bare rules.EventGone
+IsRefusal (faults.ElementExists u) refusal = refusal ≡ record { name = rules.ElementExists; place = text_of u }
+IsRefusal (faults.GroupNotUsable g) refusal = refusal ≡ record { name = rules.GroupNotUsable; place = text_of g.uuid }
+IsRefusal faults.NoMemory refusal = ⊥

@@ -1,0 +1,4 @@
+pub mod Raw
+pub mod Standing
+pub mod Answers
+pub mod Outcome

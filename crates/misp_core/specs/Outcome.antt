@@ -1,0 +1,73 @@
+-- What stopped a request, and what it is answered and leaves where that is known.
+use Rattle.std.specs.Prelude.{◌≡◌, ℕ, ◌==◌, List, map, Result, Ok, Err, if◌then◌else◌}
+use Rattle.std.specs.declared.option.Option.{Option}
+use Rattle.std.specs.declared.option.Option.TheVariants.{None, Some}
+use Rattle.misp_elem.specs.declared.refusal.RuleName.{RuleName}
+use Rattle.misp_elem.specs.declared.refusal.RuleName.TheVariants as rules
+use Rattle.misp_elem.specs.Refusal.{rule_number}
+use Rattle.misp_elem.specs.Row.{AreRows}
+use Rattle.misp_requests.specs.declared.ask.Ask.{Ask}
+use Rattle.misp_elem.specs.declared.row.RowFields.{RowFields as Row}
+use Rattle.misp_outside.specs.declared.fault.KeeperFault.{KeeperFault}
+use Rattle.misp_outside.specs.declared.fault.KeeperFault.TheVariants as stops
+use Rattle.misp_outside.specs.Held.{Held, rows_of, put_rows}
+use Rattle.misp_core.specs.Raw.{raw_row, rows_in}
+use Rattle.misp_core.specs.Answers.{Surroundings, event_asked, bare, reply_over, writes_over}
+use Rattle.misp_core.specs.declared.reply.Reply.{Reply}
+use Rattle.misp_core.specs.declared.reply.Reply.TheVariants as replies
+
+-- nothing stopped it, the keeper did, or the want of memory did
+pub data Outcome : Type 0 where
+  Went : Outcome
+  ByKeeper : Outcome
+  ByMemory : Outcome
+
+abbrev pub outcome_by : RuleName → Outcome
+outcome_by name = if rule_number name == 26 then ByKeeper else if rule_number name == 27 then ByMemory else Went
+
+-- read off the reply
+abbrev pub outcome_of : Reply → Outcome
+outcome_of (replies.Ok answer) = Went
+outcome_of (replies.Refused refusal) = outcome_by refusal.name
+
+-- what is held of the event that is asked about, as rows
+abbrev pub asked_of : Ask → Held → Result (List Row) (List ℕ)
+asked_of ask held = rows_in (rows_of (event_asked ask) held.rows)
+
+-- the reply to the n-th request, where this is held, under this outcome
+abbrev pub reply_to : Outcome → ℕ → Surroundings → Ask → Held → Reply
+reply_to Went n at ask held = reply_over n at ask (asked_of ask held)
+reply_to ByKeeper n at ask held = replies.Refused (bare rules.KeeperFault)
+reply_to ByMemory n at ask held = replies.Refused (bare rules.NoMemory)
+
+-- what is held after these rows are put
+abbrev pub with_rows : List Row → Held → Held
+with_rows rows held = record held { rows = put_rows (map raw_row rows) held.rows }
+
+-- what is held afterwards
+abbrev pub held_after : Outcome → ℕ → Surroundings → Ask → Held → Held
+held_after Went n at ask held = with_rows (writes_over n at ask (asked_of ask held)) held
+held_after ByKeeper n at ask held = held
+held_after ByMemory n at ask held = held
+
+-- the reply is the stated one, and so is what is held afterwards; what is written are rows
+pub record IsAnswered (n : ℕ) (at : Surroundings) (ask : Ask) (held : Held) (reply : Reply) (new : Option Held) : Type 0 where
+  pub reply_is : reply ≡ reply_to (outcome_of reply) n at ask held
+  pub left : new ≡ Some (held_after (outcome_of reply) n at ask held)
+  pub are_rows : outcome_of reply ≡ Went → AreRows (writes_over n at ask (asked_of ask held))
+
+-- the same where nothing stopped it
+pub record IsServed (n : ℕ) (at : Surroundings) (ask : Ask) (held : Held) (reply : Reply) (new : Option Held) : Type 0 where
+  pub reply_is : reply ≡ reply_over n at ask (asked_of ask held)
+  pub left : new ≡ Some (with_rows (writes_over n at ask (asked_of ask held)) held)
+  pub are_rows : AreRows (writes_over n at ask (asked_of ask held))
+
+abbrev pub IsRefused : Reply → Type 0
+IsRefused (replies.Refused refusal) = Unit {0}
+IsRefused (replies.Ok answer) = ⊥
+
+-- what was served, or what stopped it, as a reply
+abbrev pub replied_of : Result Reply KeeperFault → Reply
+replied_of (Ok reply) = reply
+replied_of (Err stops.Failed) = replies.Refused (bare rules.KeeperFault)
+replied_of (Err stops.NoMemory) = replies.Refused (bare rules.NoMemory)

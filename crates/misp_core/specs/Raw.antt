@@ -1,0 +1,61 @@
+-- Rows as a keeper holds them.
+use Rattle.std.specs.Prelude.{◌≡◌, ℕ, Bool, ◌&&◌, cond, List, [], ◌∷◌, ◌++◌, map, Result, Ok, Err, bytes_eq}
+use Rattle.std.specs.declared.option.Option.{Option}
+use Rattle.std.specs.declared.option.Option.TheVariants.{None, Some}
+use Rattle.misp_elem.specs.declared.row.RowFields.{RowFields as Row}
+use Rattle.misp_elem.specs.Spelling as spelling
+use Rattle.misp_model.specs.Machine.{name_bytes}
+use Rattle.misp_elem.specs.RowReading.{row_of}
+use Rattle.misp_model.specs.Names.{same_event, event_of}
+use Rattle.misp_model.specs.Machine.{name_bytes}
+use Rattle.misp_outside.specs.declared.row.RawRow.{RawRow}
+use Rattle.misp_outside.specs.Held.{Held}
+use Rattle.misp_core.specs.declared.store.RowFault.{RowFault}
+use Rattle.misp_core.specs.declared.store.RowFault.TheVariants as faults
+
+-- a row as a keeper holds it: spelled, under its event and its name
+unfoldable pub raw_row : Row → RawRow
+raw_row r = record { event = event_of r.key; name = name_bytes r; bytes = spelling.row r }
+
+-- what a keeper holds that has just these rows, in their order
+abbrev pub holding : List Row → Held
+holding rows = record { rows = map raw_row rows; admin = [] }
+
+-- the row is held under its own event and name
+unfoldable pub stands_under : RawRow → Row → Bool
+stands_under raw r = same_event (event_of r.key) raw.event && bytes_eq raw.name (name_bytes r)
+
+abbrev pub row_read : RawRow → Result Row ℕ → Option Row
+row_read raw (Ok r) = cond (stands_under raw r) (Some r) None
+row_read raw (Err left) = None
+
+-- the row that the bytes spell, where it is one of the event and name under which it is held
+unfoldable pub row_in : RawRow → Option Row
+row_in raw = row_read raw (row_of raw.bytes)
+
+abbrev pub onto : List ℕ → Option Row → Result (List Row) (List ℕ) → Result (List Row) (List ℕ)
+onto name None others = Err name
+onto name (Some row) (Ok rows) = Ok (row ∷ rows)
+onto name (Some row) (Err other) = Err other
+
+-- all the rows, or the name of the first that is none
+unfoldable pub rows_in : List RawRow → Result (List Row) (List ℕ)
+rows_in [] = Ok []
+rows_in (raw ∷ raws) = onto raw.name (row_in raw) (rows_in raws)
+
+-- these rows, and then those that are read
+abbrev pub after : List Row → Result (List Row) (List ℕ) → Result (List Row) (List ℕ)
+after rows (Ok others) = Ok (rows ++ others)
+after rows (Err name) = Err name
+
+-- ---- what a reader answers
+
+-- the row that is held there is none
+abbrev pub IsNoRow : RawRow → RowFault → Type 0
+IsNoRow raw (faults.BadRow name) = (name ≡ raw.name) × (row_in raw ≡ None)
+IsNoRow raw faults.NoMemory = Unit {0}
+
+-- the first row that is none has this name
+abbrev pub NamesBadRow : Result (List Row) (List ℕ) → RowFault → Type 0
+NamesBadRow read (faults.BadRow name) = read ≡ Err name
+NamesBadRow read faults.NoMemory = Unit {0}

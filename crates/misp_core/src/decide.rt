@@ -1,0 +1,253 @@
+//! What a request comes to over the rows of its event.
+
+ghost use Rattle.std.specs.Prelude.{◌≡◌, ◌≤◌, ℕ, List, IfOk, Ok, map, length, []};
+ghost use Rattle.misp_requests.specs.declared.ask.Ask.TheVariants.{View};
+ghost use Rattle.misp_requests.specs.declared.ask.Ask.TheVariants as asks;
+ghost use Rattle.misp_requests.specs.declared.change.Change.TheVariants.{AddEvent};
+ghost use Rattle.misp_core.specs.declared.reply.Reply.TheVariants as replies;
+ghost use Rattle.misp_core.specs.declared.reply.Answer.TheVariants as answers;
+ghost use Rattle.misp_core.specs.Raw.{rows_in};
+ghost use Rattle.misp_core.specs.Answers.{site, scene_with, IsAdded, IsBuilt, IsDecision, IsVerdict, IsRefusal, name_in, bare, bad_row, greatest};
+
+use crate::reply::{Answer, Reply};
+use crate::store::{RowFault, decode_rows};
+use misp_edit::{AddFault, add_event};
+use misp_elem::{NoMemory, Refusal, Row, RuleName, Submission, VisibleEvent};
+use misp_ids::{EventId, InstId, Items, OrgId, Stamp, Text};
+use misp_orgs::{Admin, Caller};
+use misp_outside::RawRow;
+use misp_requests::{Ask, Change};
+use misp_view::{known, shown};
+use std::alloc::Global;
+
+/// What is replied, and the rows that are written before.
+#[derive(Debug, Drop)]
+pub(crate) struct Verdict {
+    pub(crate) reply: Reply,
+    pub(crate) writes: Items<Row>,
+}
+
+/// The refusal by a rule that has no place.
+pub(crate) fn bare(alloc: Global, name: RuleName) -> Refusal
+    ensures { result ≡ bare name }
+{
+    Refusal {
+        name,
+        place: Text::of(String::new(alloc)),
+    }
+}
+
+// A reply for which nothing is written.
+fn unwritten(alloc: Global, reply: Reply) -> Verdict
+    ensures { result ≡ record { reply = reply; writes = [] } }
+{
+    Verdict {
+        reply,
+        writes: Items::of(Vec::new(alloc)),
+    }
+}
+
+// The name of an organisation, empty where it is not known here.
+fn name_text(alloc: Global, admin: &Admin, org: &OrgId) -> Result<Text, NoMemory>
+    ensures name { IfOk result (λ name. name ≡ name_in admin.now org.now) }
+    ensures short { IfOk result (λ name. length name ≤ 64) }
+{
+    match admin.name_of(org) {
+        Some(name) => Ok(Text::of(String::from_str(alloc, name)?)),
+        None => Ok(Text::of(String::new(alloc))),
+    }
+}
+
+// The first moment.
+fn first_moment() -> Stamp
+    ensures { result ≡ 0 }
+{
+    match Stamp::new(0) {
+        Some(moment) => moment,
+        None => unreachable!(),
+    }
+}
+
+// The greatest of the rows' stamps.
+#[tactic(auto, unfolding(crate::specs::Answers::greatest))]
+fn greatest(rows: &[Row]) -> Stamp
+    ensures { result ≡ greatest (map (λ row. row.stamp) rows.now) }
+{
+    let mut newest = first_moment();
+    for row in rows {
+        newest = newest.max(row.stamp);
+    }
+    newest
+}
+
+// The refusal of an addition.
+fn refusal(alloc: Global, fault: AddFault) -> Result<Refusal, NoMemory>
+    ensures { IfOk result (IsRefusal fault) }
+{
+    match fault {
+        AddFault::EventExists => Ok(bare(alloc, RuleName::EventExists)),
+        AddFault::EventGone => Ok(bare(alloc, RuleName::EventGone)),
+        AddFault::ElementExists(uuid) => Ok(Refusal {
+            name: RuleName::ElementExists,
+            place: uuid.to_text(alloc)?,
+        }),
+        AddFault::GroupNotUsable(group) => Ok(Refusal {
+            name: RuleName::GroupNotUsable,
+            place: group.uuid.to_text(alloc)?,
+        }),
+        AddFault::NoMemory => Err(NoMemory),
+    }
+}
+
+// The reply to an addition, and the rows that it writes.
+fn saved(event: EventId, rows: Vec<Row>) -> Verdict
+    ensures { result ≡ record { reply = replies.Ok (answers.Saved (length rows.items) event (greatest (map (λ row. row.stamp) rows.items))); writes = rows.items } }
+{
+    Verdict {
+        reply: Reply::Ok(Answer::Saved {
+            elements: rows.len() as u64,
+            event,
+            stamp: greatest(&rows),
+        }),
+        writes: Items::of(rows),
+    }
+}
+
+fn event_in(submission: &Submission) -> EventId
+    ensures { result ≡ submission.now.event }
+{
+    submission.event
+}
+
+// Adds an event, over the rows that the caller knows of it.
+fn add(
+    alloc: Global,
+    here: &InstId,
+    admin: &Admin,
+    caller: &Caller,
+    now: Stamp,
+    submission: Submission,
+    rows: &[Row],
+) -> Result<Verdict, NoMemory>
+    requires { IsAdded submission }
+    ensures { (n : ℕ) (today : List ℕ) → IfOk result (IsDecision
+        (scene_with n today (site here.now admin.now caller.now now) rows.now) admin.now (asks.Change (AddEvent submission))) }
+{
+    let name = name_text(alloc, admin, &caller.org)?;
+    let event = event_in(&submission);
+    match add_event(alloc, submission, &caller.org, &name, here, now, rows) {
+        Ok(added) => Ok(saved(event, added)),
+        Err(fault) => {
+            let refusal = refusal(alloc, fault)?;
+            Ok(unwritten(alloc, Reply::Refused(refusal)))
+        }
+    }
+}
+
+fn holder(event: &VisibleEvent) -> OrgId
+    ensures { result ≡ event.now.row.owner }
+{
+    event.row.owner
+}
+
+// The event with the name of its holder.
+fn named(event: VisibleEvent, name: Text) -> VisibleEvent
+    ensures { result ≡ record event { org_name = name } }
+{
+    let mut event = event;
+    event.org_name = name;
+    event
+}
+
+// Shows an event, over the rows that the caller knows of it.
+fn view(
+    alloc: Global,
+    here: &InstId,
+    admin: &Admin,
+    caller: &Caller,
+    now: Stamp,
+    event: &EventId,
+    owner: Option<OrgId>,
+    rows: &[Row],
+) -> Result<Verdict, NoMemory>
+    ensures { (n : ℕ) (today : List ℕ) → IfOk result (IsDecision
+        (scene_with n today (site here.now admin.now caller.now now) rows.now) admin.now (View event.now owner)) }
+{
+    match shown(alloc, rows, here, &caller.org, event, owner)? {
+        Some(seen) => {
+            let name = name_text(alloc, admin, &holder(&seen))?;
+            let seen = named(seen, name);
+            Ok(unwritten(alloc, Reply::Ok(Answer::Event(seen))))
+        }
+        None => {
+            let refusal = bare(alloc, RuleName::NotGranted);
+            Ok(unwritten(alloc, Reply::Refused(refusal)))
+        }
+    }
+}
+
+// What a request comes to, over the rows that the caller knows of its event.
+fn decide_known(
+    alloc: Global,
+    here: &InstId,
+    admin: &Admin,
+    caller: &Caller,
+    now: Stamp,
+    ask: Ask,
+    rows: &[Row],
+) -> Result<Verdict, NoMemory>
+    requires { IsBuilt ask }
+    ensures { (n : ℕ) (today : List ℕ) → IfOk result (IsDecision
+        (scene_with n today (site here.now admin.now caller.now now) rows.now) admin.now ask) }
+{
+    match ask {
+        Ask::View { event, owner } => view(alloc, here, admin, caller, now, &event, owner, rows),
+        Ask::Change(Change::AddEvent(submission)) => {
+            add(alloc, here, admin, caller, now, submission, rows)
+        }
+        _ => unreachable!(),
+    }
+}
+
+// What a request comes to, over all rows of its event.
+fn decide(
+    alloc: Global,
+    here: &InstId,
+    admin: &Admin,
+    caller: &Caller,
+    now: Stamp,
+    ask: Ask,
+    rows: Vec<Row>,
+) -> Result<Verdict, NoMemory>
+    requires { IsBuilt ask }
+    ensures { (n : ℕ) → IfOk result (IsVerdict n (site here.now admin.now caller.now now) ask (Ok rows.items)) }
+{
+    let rows = known(alloc, rows, here, &caller.org)?;
+    decide_known(alloc, here, admin, caller, now, ask, &rows)
+}
+
+/// What a request comes to, over what a keeper holds of its event.
+pub(crate) fn judge(
+    alloc: Global,
+    here: &InstId,
+    admin: &Admin,
+    caller: &Caller,
+    now: Stamp,
+    ask: Ask,
+    raws: &[RawRow],
+) -> Result<Verdict, NoMemory>
+    requires { IsBuilt ask }
+    ensures { (n : ℕ) → IfOk result (IsVerdict n (site here.now admin.now caller.now now) ask (rows_in raws.now)) }
+{
+    match decode_rows(alloc, raws) {
+        Ok(rows) => decide(alloc, here, admin, caller, now, ask, rows),
+        Err(RowFault::BadRow { name }) => {
+            let refusal = Refusal {
+                name: RuleName::BadRow,
+                place: Text::of(hex::encode(alloc, name.as_slice())?),
+            };
+            Ok(unwritten(alloc, Reply::Refused(refusal)))
+        }
+        Err(RowFault::NoMemory) => Err(NoMemory),
+    }
+}

@@ -1,0 +1,150 @@
+//! Rows as a keeper holds them.
+
+ghost use Rattle.std.specs.Prelude.{◌≡◌, ◌&&◌, Some, None, Ok, map, [], IfOk, IfErr, IsErr, bytes_eq};
+ghost use Rattle.misp_model.specs.Names.{same_event, event_of};
+ghost use Rattle.misp_core.specs.Raw.{IsNoRow, NamesBadRow, rows_in, row_in, raw_row, stands_under};
+
+use misp_elem::{DecodeFault, NoMemory, Row, decode, encode, encode_name};
+use misp_ids::{EventId, Items};
+use misp_outside::{RawBatch, RawRow};
+use std::alloc::{AllocError, AllocFailed, Global};
+
+/// Why rows were not read.
+#[derive(Debug, Drop)]
+pub(crate) enum RowFault {
+    /// The bytes under this name are no row's, or those of a row of another event or name.
+    BadRow { name: Items<u8> },
+    NoMemory,
+}
+
+impl From<NoMemory> for RowFault {
+    ghost use Rattle.misp_core.specs.declared.store.RowFault.TheVariants.{NoMemory};
+
+    ghost from_gives = { λ _ fault. fault ≡ NoMemory };
+
+    fn from(_error: NoMemory) -> RowFault {
+        RowFault::NoMemory
+    }
+}
+
+impl From<AllocError> for RowFault {
+    ghost use Rattle.misp_core.specs.declared.store.RowFault.TheVariants.{NoMemory};
+
+    ghost from_gives = { λ _ fault. fault ≡ NoMemory };
+
+    fn from(_error: AllocError) -> RowFault {
+        RowFault::NoMemory
+    }
+}
+
+impl<T: Drop> From<AllocFailed<T>> for RowFault {
+    ghost use Rattle.misp_core.specs.declared.store.RowFault.TheVariants.{NoMemory};
+
+    ghost from_gives = { λ _ fault. fault ≡ NoMemory };
+
+    fn from(_error: AllocFailed<T>) -> RowFault {
+        RowFault::NoMemory
+    }
+}
+
+fn event_of(row: &Row) -> EventId
+    ensures { result ≡ event_of row.now.key }
+{
+    row.key.event()
+}
+
+// Whether the row is held under its own event.
+#[tactic(auto, unfolding(misp_model::specs::Names::same_event))]
+fn is_at_event(raw: &RawRow, row: &Row) -> bool
+    ensures { result ≡ same_event (event_of row.now.key) raw.now.event }
+{
+    event_of(row).0.0 == raw.event.0.0
+}
+
+// Whether the row is held under this name, and under its own event.
+fn is_under(raw: &RawRow, row: &Row, name: &[u8]) -> bool
+    ensures { result ≡ (same_event (event_of row.now.key) raw.now.event && bytes_eq raw.now.name name.now) }
+{
+    is_at_event(raw, row) && raw.name.as_slice() == name
+}
+
+// Whether the row is held under its own event and name.
+#[tactic(auto, unfolding(crate::specs::Raw::stands_under, misp_model::specs::Machine::name_bytes))]
+fn stands_under(alloc: Global, raw: &RawRow, row: &Row) -> Result<bool, NoMemory>
+    ensures { IfOk result (λ is. is ≡ stands_under raw.now row.now) }
+{
+    let name = encode_name(alloc, &row.owner, &row.key)?;
+    Ok(is_under(raw, row, &name))
+}
+
+fn bad_row<T>(raw: &RawRow) -> Result<T, RowFault>
+    ensures fault { IfErr result (λ fault. row_in raw.now ≡ None → IsNoRow raw.now fault) }
+    ensures err { IsErr result }
+{
+    Err(RowFault::BadRow {
+        name: raw.name.clone()?,
+    })
+}
+
+// The row that is held there.
+#[tactic(auto, unfolding(crate::specs::Raw::row_in))]
+fn decode_row(alloc: Global, raw: &RawRow) -> Result<Row, RowFault>
+    ensures ok { IfOk result (λ row. row_in raw.now ≡ Some row) }
+    ensures bad { IfErr result (IsNoRow raw.now) }
+{
+    match decode(alloc, raw.bytes.as_slice()) {
+        Ok(row) => {
+            if stands_under(alloc, raw, &row)? {
+                Ok(row)
+            } else {
+                bad_row(raw)
+            }
+        }
+        Err(DecodeFault::BadRow { .. }) => bad_row(raw),
+        Err(DecodeFault::NoMemory) => Err(RowFault::NoMemory),
+    }
+}
+
+/// The rows that are held there, or the first that is none.
+#[tactic(auto, unfolding(crate::specs::Raw::rows_in))]
+pub(crate) fn decode_rows(alloc: Global, raws: &[RawRow]) -> Result<Vec<Row>, RowFault>
+    ensures ok { IfOk result (λ rows. rows_in raws.now ≡ Ok rows.items) }
+    ensures bad { IfErr result (NamesBadRow (rows_in raws.now)) }
+{
+    let mut rows = Vec::new(alloc);
+    for raw in raws {
+        rows.push(decode_row(alloc, raw)?)?;
+    }
+    Ok(rows)
+}
+
+#[tactic(auto, unfolding(crate::specs::Raw::raw_row, misp_model::specs::Machine::name_bytes))]
+fn raw_row(alloc: Global, row: &Row) -> Result<RawRow, NoMemory>
+    ensures { IfOk result (λ raw. raw ≡ raw_row row.now) }
+{
+    Ok(RawRow {
+        event: event_of(row),
+        name: Items::of(encode_name(alloc, &row.owner, &row.key)?),
+        bytes: Items::of(encode(alloc, row)?),
+    })
+}
+
+fn raw_rows(alloc: Global, rows: &[Row]) -> Result<Vec<RawRow>, NoMemory>
+    ensures { IfOk result (λ raws. raws.items ≡ map raw_row rows.now) }
+{
+    let mut raws = Vec::new(alloc);
+    for row in rows {
+        raws.push(raw_row(alloc, row)?)?;
+    }
+    Ok(raws)
+}
+
+/// The batch that puts these rows.
+pub(crate) fn batch_of(alloc: Global, rows: &[Row]) -> Result<RawBatch, NoMemory>
+    ensures { IfOk result (λ batch. batch ≡ record { rows = map raw_row rows.now; admin = [] }) }
+{
+    Ok(RawBatch {
+        rows: Items::of(raw_rows(alloc, rows)?),
+        admin: Items::of(Vec::new(alloc)),
+    })
+}

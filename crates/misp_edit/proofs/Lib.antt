@@ -1,0 +1,4 @@
+pub mod ListLemmas
+pub mod UuidLemmas
+pub mod RuleLemmas
+pub mod RowLemmas

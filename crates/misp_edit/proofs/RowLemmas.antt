@@ -1,0 +1,62 @@
+-- The rows of what adding an event writes.
+use Rattle.std.proofs.Common.{◌≡◌, ℕ, List, [], ◌∷◌, ◌++◌, map, option_to_list, ap, refl}
+use Rattle.std.proofs.lemmas.List.{append-nil}
+use Rattle.misp_ids.specs.declared.uid.OrgId.{OrgId}
+use Rattle.misp_ids.specs.declared.uid.EventId.{EventId}
+use Rattle.misp_ids.specs.declared.label.Label.{Label}
+use Rattle.misp_elem.specs.declared.content.Content.{Content}
+use Rattle.misp_elem.specs.declared.content.Content.TheVariants as contents
+use Rattle.misp_elem.specs.declared.key.KeyForm.TheVariants.{Element}
+use Rattle.misp_elem.specs.declared.key.Place.{Place}
+use Rattle.misp_elem.specs.declared.row.RowFields.{RowFields as Row}
+use Rattle.misp_elem.specs.Draft.{DraftFields as Draft, EventDraftFields as EventDraft, SubmissionFields as Submission}
+use Rattle.misp_model.specs.Names.{Inst, Stamp, event_key}
+use Rattle.misp_model.specs.History.{fresh_row, is_gone, is_statement, is_published}
+use Rattle.misp_model.specs.Asking.{Scene, written, part_version, parts_written, new_event, event_written}
+use Rattle.misp_edit.specs.Adding.{scene_of}
+use Rattle.misp_edit.specs.Rows.{new_row, part_row, event_row, body_of, added_rows}
+
+-- one list after two others
+map_both : {A B C : Type 0} (f : B → C) (g : A → B) (h : A → C) (xs : List A) → ((x : A) → h x ≡ f (g x)) → map h xs ≡ map f (map g xs)
+map_both f g h [] k = refl
+map_both f g h (x ∷ xs) k = rw (k x, map_both f g h xs k) refl
+
+map_after : {A B : Type 0} (f : A → B) (xs ys : List A) → map f (xs ++ ys) ≡ map f xs ++ map f ys
+map_after f [] ys = refl
+map_after f (x ∷ xs) ys = ap (λ zs. f x ∷ zs) (map_after f xs ys)
+
+module _ (act : ℕ) (at : Inst) (w : OrgId) (name : List ℕ) (now : Stamp) (today : List ℕ) (rows : List Row) where
+  -- a written version's row
+  new_row_is : (e : EventId) (p : Place) (l : Label) (c : Content) →
+      new_row w e now p l c ≡ fresh_row (written (scene_of act at w name now today rows) (Element e p) now l c)
+  unfolding new_row fresh_row written is_statement is_gone is_published
+  new_row_is e p l contents.Gone = refl
+  new_row_is e p l (contents.Event b) = refl
+  new_row_is e p l (contents.Object b) = refl
+  new_row_is e p l (contents.Attribute b) = refl
+  new_row_is e p l (contents.Reference b) = refl
+  new_row_is e p l (contents.Proposal b) = refl
+  new_row_is e p l (contents.Verdict b) = refl
+  new_row_is e p l (contents.Sighting b) = refl
+
+  part_row_is : (e : EventId) (d : Draft) → part_row w e now d ≡ fresh_row (part_version (scene_of act at w name now today rows) e d)
+  unfolding part_row part_version
+  part_row_is e d = new_row_is e d.place d.label d.content
+
+  event_row_is : (e : EventId) (l : Label) (d : EventDraft) →
+      event_row w name today e now l d ≡ fresh_row (written (scene_of act at w name now today rows) (event_key e) now l (contents.Event (new_event (scene_of act at w name now today rows) d)))
+  unfolding event_row event_key body_of new_event
+  event_row_is e l d = new_row_is e _ l _
+
+  -- all rows of a body without references
+  pub added_rows_are : (b : Submission) → b.references ≡ [] →
+      added_rows w name today now b ≡ map fresh_row (event_written (scene_of act at w name now today rows) b)
+  unfolding added_rows event_written parts_written
+  added_rows_are b none =
+      let s : Scene = scene_of act at w name now today rows in
+      rw (none, append-nil (map (part_version s b.event) b.parts))
+      (rw (map_after fresh_row (map (λ d. written s (event_key b.event) now b.label (contents.Event (new_event s d))) (option_to_list b.body)) (map (part_version s b.event) b.parts))
+      (rw (
+        map_both fresh_row (λ d. written s (event_key b.event) now b.label (contents.Event (new_event s d))) (event_row w name today b.event now b.label) (option_to_list b.body) (event_row_is b.event b.label),
+        map_both fresh_row (part_version s b.event) (part_row w b.event now) b.parts (part_row_is b.event),
+      ) refl))

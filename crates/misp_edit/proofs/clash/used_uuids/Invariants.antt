@@ -1,0 +1,9 @@
+use Rattle.std.proofs.Common.{◌≡◌, ℕ, ◌||◌, eqb, take}
+use Rattle.std.specs.List.{list_any}
+use Rattle.std.specs.Ordering.{nat_cmp}
+use Rattle.std.specs.BTreeSet.{contains}
+use Rattle.misp_edit.specs.Uuids.{has_uuid}
+use Rattle.misp_edit.proofs.clash.used_uuids.Given as goal
+
+abbrev pub invariant-loop-row : goal.invariant-loop-row
+invariant-loop-row l = (u : ℕ) → contains nat_cmp l.used u ≡ (eqb l.event.0.0 u || list_any (has_uuid l.owner l.event u) (take l.row-index l.rows))

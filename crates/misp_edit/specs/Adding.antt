@@ -1,0 +1,58 @@
+-- Adding an event: what the caller has, brings and is refused.
+use Rattle.std.specs.Prelude.{◌≡◌, ℕ, Bool, eqb, not, ◌||◌, List, [], ◌∷◌, map, Option, Some, None, option_map}
+use Rattle.std.specs.List.{list_any, find}
+use Rattle.misp_ids.specs.declared.uid.OrgId.{OrgId}
+use Rattle.misp_ids.specs.declared.uid.EventId.{EventId}
+use Rattle.misp_ids.specs.declared.label.Label.{Label}
+use Rattle.misp_ids.specs.declared.label.Label.TheVariants as labels
+use Rattle.misp_elem.specs.declared.row.RowFields.{RowFields as Row}
+use Rattle.misp_elem.specs.Draft.{SubmissionFields as Submission}
+use Rattle.misp_requests.specs.declared.change.Change.TheVariants.{AddEvent}
+use Rattle.misp_model.specs.Names.{Inst, Stamp}
+use Rattle.misp_model.specs.History.{fresh_row}
+use Rattle.misp_model.specs.Asking.{Scene, Rule, first_rule, change_rules, event_written, is_taken, is_usable, uuids_of}
+use Rattle.misp_model.specs.Asking as rule
+use Rattle.misp_edit.specs.declared.fault.AddFault.{AddFault}
+use Rattle.misp_edit.specs.declared.fault.AddFault.TheVariants.{EventExists, EventGone, ElementExists, GroupNotUsable, NoMemory}
+
+-- the surroundings of a request at an instance that has no groups
+abbrev pub scene_of : ℕ → Inst → OrgId → List ℕ → Stamp → List ℕ → List Row → Scene
+scene_of act at by by_name now today rows =
+    record { act = act; at = at; by = by; by_name = by_name; now = now; today = today; rows = rows; groups = [] }
+
+-- the rule that refuses to add the event, if there is one
+abbrev pub refusing : Scene → Submission → Option Rule
+refusing s b = first_rule (change_rules s (AddEvent b))
+
+-- each of these numbers, with those that stand before it and these others
+unfoldable pub with_those_before : List ℕ → List ℕ → List (List ℕ × ℕ)
+with_those_before before [] = []
+with_those_before before (u ∷ us) = (before, u) ∷ with_those_before (u ∷ before) us
+
+-- the uuid is the event's own, or the own copy has it, or it stands before in the body
+unfoldable pub is_clash : Scene → EventId → List ℕ × ℕ → Bool
+is_clash s e p = is_taken s e p.1 || list_any (eqb p.1) p.0
+
+-- the first such uuid, in reading order
+unfoldable pub first_clash : Scene → Submission → Option ℕ
+first_clash s b = option_map (λ p. p.1) (find (is_clash s b.event) (with_those_before [] (uuids_of s b)))
+
+-- the labels of a body, the event's before those of the parts
+unfoldable pub labels_of : Submission → List Label
+labels_of b = b.label ∷ map (λ d. d.label) b.parts
+
+-- the first label that is not usable
+unfoldable pub first_unusable : Scene → Submission → Option Label
+first_unusable s b = find (λ l. not (is_usable s l)) (labels_of b)
+
+-- the fault says which rule refuses, and what of the body that rule is about
+abbrev pub Refuses : Scene → Submission → AddFault → Type 0
+Refuses s b EventExists = refusing s b ≡ Some rule.EventExists
+Refuses s b EventGone = refusing s b ≡ Some rule.EventGone
+Refuses s b (ElementExists u) = (refusing s b ≡ Some rule.ElementExists) × (first_clash s b ≡ Some u.0)
+Refuses s b (GroupNotUsable g) = (refusing s b ≡ Some rule.GroupNotUsable) × (first_unusable s b ≡ Some (labels.Group g))
+Refuses s b NoMemory = Unit {0}
+
+-- no rule refuses, and these are the rows of what is written
+abbrev pub Adds : Scene → Submission → List Row → Type 0
+Adds s b rows = (refusing s b ≡ None) × (rows ≡ map fresh_row (event_written s b))

@@ -1,0 +1,58 @@
+-- The rows of an added event, by the fields of what is added.
+use Rattle.std.specs.Prelude.{ℕ, Bool, true, false, not, List, Some, None, map, ◌++◌, option_to_list}
+use Rattle.misp_ids.specs.declared.uid.OrgId.{OrgId}
+use Rattle.misp_ids.specs.declared.uid.EventId.{EventId}
+use Rattle.misp_ids.specs.declared.label.Label.{Label}
+use Rattle.misp_ids.specs.declared.label.Label.TheVariants as labels
+use Rattle.misp_elem.specs.declared.content.Content.{Content}
+use Rattle.misp_elem.specs.declared.content.Content.TheVariants as contents
+use Rattle.misp_elem.specs.declared.content.EventBody.{EventBody}
+use Rattle.misp_elem.specs.declared.key.Place.{Place}
+use Rattle.misp_elem.specs.declared.key.Place.TheVariants as places
+use Rattle.misp_elem.specs.declared.key.KeyForm.{KeyForm as Key}
+use Rattle.misp_elem.specs.declared.key.KeyForm.TheVariants.{Element}
+use Rattle.misp_elem.specs.declared.row.RowFields.{RowFields as Row}
+use Rattle.misp_elem.specs.Draft.{DraftFields as Draft, EventDraftFields as EventDraft, SubmissionFields as Submission}
+use Rattle.misp_model.specs.History.{is_gone}
+
+-- a row that is not published
+abbrev pub held_row : OrgId → Key → ℕ → Label → Content → Row
+held_row w k now l c = record { owner = w; key = k; stamp = now; label = l; held = true; carried = false; content = c }
+
+-- a new row of the owner
+unfoldable pub new_row : OrgId → EventId → ℕ → Place → Label → Content → Row
+new_row w e now p l c =
+    record { owner = w; key = Element e p; stamp = now; label = l; held = not (is_gone c); carried = false; content = c }
+
+-- the row of a part
+unfoldable pub part_row : OrgId → EventId → ℕ → Draft → Row
+part_row w e now d = new_row w e now d.place d.label d.content
+
+-- the body of a new event that this organisation created on this day
+unfoldable pub body_of : OrgId → List ℕ → List ℕ → EventDraft → EventBody
+body_of w name today d =
+    record {
+      info = d.info;
+      date = elim d.date [ Some date ↦ date | None ↦ today ];
+      threat_level_id = d.threat_level_id;
+      analysis = d.analysis;
+      publish_stamp = 0;
+      extends_uuid = d.extends_uuid;
+      orgc = w;
+      orgc_name = name;
+      tags = d.tags;
+    }
+
+-- the event's own row
+unfoldable pub event_row : OrgId → List ℕ → List ℕ → EventId → ℕ → Label → EventDraft → Row
+event_row w name today e now l d = new_row w e now places.Event l (contents.Event (body_of w name today d))
+
+-- the label is a group's
+abbrev pub is_group : Label → Bool
+is_group (labels.Group g) = true
+is_group label = false
+
+-- the row of the event, where the body has it, and those of the parts
+unfoldable pub added_rows : OrgId → List ℕ → List ℕ → ℕ → Submission → List Row
+added_rows w name today now b =
+    map (λ d. event_row w name today b.event now b.label d) (option_to_list b.body) ++ map (part_row w b.event now) b.parts

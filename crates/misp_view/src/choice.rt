@@ -1,0 +1,86 @@
+//! Which copy of an event is chosen.
+
+ghost use Rattle.std.specs.Prelude.{◌≡◌, true, []};
+ghost use Rattle.std.specs.List.{Contains};
+ghost use Rattle.std.specs.Option.{option_copied, option_map};
+ghost use Rattle.misp_model.specs.Names.{event_key, same_key};
+ghost use Rattle.misp_model.specs.View.{has_copy, is_before, chosen};
+ghost use Rattle.misp_view.specs.View.{better, is_granted_itself};
+
+use crate::copies::has_copy;
+use crate::rows::{is_itself, is_mark, is_open};
+use misp_elem::Row;
+use misp_ids::{EventId, InstId, OrgId};
+
+// Whether the first goes before the second.
+#[tactic(auto, unfolding(misp_model::specs::View::is_before))]
+fn is_before(a: &Row, b: &Row) -> bool
+    ensures { result ≡ is_before a.now b.now }
+{
+    b.stamp.get() < a.stamp.get()
+        || b.stamp.get() == a.stamp.get()
+            && (b.carried && !a.carried || b.carried == a.carried && a.owner.0.0 < b.owner.0.0)
+}
+
+// The best so far, or one more row, where that counts and goes before it.
+fn better<'a>(best: Option<&'a Row>, row: &'a Row, counts: bool) -> Option<&'a Row>
+    ensures { option_copied result ≡ better (option_copied best.entry) row.now counts }
+{
+    match best {
+        Some(best) if !counts || !is_before(row, best) => Some(best),
+        None if !counts => None,
+        _ => Some(row),
+    }
+}
+
+// Whether a row of the event itself has a copy beside it: it is one where it is no mark, so only for a
+// mark the other rows are looked through.
+fn is_of_copy(rows: &[Row], event: &EventId, row: &Row) -> bool
+    ensures { Contains rows.now row.now → same_key row.now.key (event_key event.now) ≡ true →
+        result ≡ has_copy rows.now row.now.owner event.now }
+{
+    if !is_mark(row) {
+        return true;
+    }
+    has_copy(rows, &row.owner, event)
+}
+
+// Whether it is a row of the event itself that is granted.
+fn is_candidate(rows: &[Row], here: &InstId, org: &OrgId, event: &EventId, row: &Row) -> bool
+    ensures { Contains rows.now row.now → result ≡ is_granted_itself here.now org.now event.now rows.now row.now }
+{
+    if !is_itself(row, event) {
+        return false;
+    }
+    if !is_open(row, here, org) {
+        return false;
+    }
+    is_of_copy(rows, event, row)
+}
+
+/// The event row of the chosen copy.
+pub(crate) fn chosen_row<'a>(
+    rows: &'a [Row],
+    here: &InstId,
+    org: &OrgId,
+    event: &EventId,
+) -> Option<&'a Row>
+    ensures { option_copied result ≡ chosen rows.now [] here.now org.now event.now }
+{
+    let mut best = None;
+    for row in rows {
+        best = better(best, row, is_candidate(rows, here, org, event, row));
+    }
+    best
+}
+
+/// Whose copy of the event is chosen for the organisation at this instance, of those granted to it:
+/// that of the greatest stamp, of equals one of this instance, and of equals that of the least owner.
+pub fn chosen(rows: &[Row], here: &InstId, org: &OrgId, event: &EventId) -> Option<OrgId>
+    ensures { result ≡ option_map (λ row. row.owner) (chosen rows.now [] here.now org.now event.now) }
+{
+    match chosen_row(rows, here, org, event) {
+        Some(row) => Some(row.owner),
+        None => None,
+    }
+}

@@ -1,0 +1,102 @@
+//! The form in which an organisation sees an event.
+
+ghost use Rattle.std.specs.Prelude.{◌≡◌, IfOk};
+ghost use Rattle.std.specs.List.{find};
+ghost use Rattle.std.specs.Option.{option_copied};
+ghost use Rattle.misp_model.specs.Shown.{event_row, form_of, shown};
+ghost use Rattle.misp_view.specs.View.{scene_of};
+ghost use Rattle.misp_view.specs.Form.{is_granted_row_of};
+
+use crate::attributes::attributes;
+use crate::choice::chosen_row;
+use crate::granting::row_granted;
+use crate::rows::is_event_row;
+use misp_elem::{Row, VisibleEvent};
+use misp_ids::{EventId, InstId, Items, NoMemory, OrgId, Text};
+use std::alloc::Global;
+
+// Whether it is the owner's row of the event itself, and is granted.
+#[tactic(auto, unfolding(crate::specs::Form::is_granted_row_of))]
+fn is_granted_row_of(
+    rows: &[Row],
+    here: &InstId,
+    org: &OrgId,
+    event: &EventId,
+    owner: &OrgId,
+    row: &Row,
+) -> bool
+    ensures { result ≡ is_granted_row_of here.now org.now event.now owner.now rows.now row.now }
+{
+    is_event_row(row, owner, event) && row_granted(rows, here, org, row)
+}
+
+// The row of the event itself in the named owner's copy.
+fn row_of<'a>(
+    rows: &'a [Row],
+    here: &InstId,
+    org: &OrgId,
+    event: &EventId,
+    owner: &OrgId,
+) -> Option<&'a Row>
+    ensures { option_copied result ≡ find (is_granted_row_of here.now org.now event.now owner.now rows.now) rows.now }
+{
+    rows.iter().find(|row| is_granted_row_of(rows, here, org, event, owner, row))
+}
+
+// The row of the event itself in the named owner's copy, or in the chosen one.
+#[tactic(auto, unfolding(misp_model::specs::Shown::event_row, crate::specs::Form::is_granted_row_of))]
+fn event_row<'a>(
+    rows: &'a [Row],
+    here: &InstId,
+    org: &OrgId,
+    event: &EventId,
+    owner: Option<OrgId>,
+) -> Option<&'a Row>
+    ensures { option_copied result ≡ event_row (scene_of here.now org.now rows.now) event.now owner }
+{
+    match owner {
+        None => chosen_row(rows, here, org, event),
+        Some(owner) => row_of(rows, here, org, event, &owner),
+    }
+}
+
+// The form of one copy, by its row of the event itself.
+fn form(
+    alloc: Global,
+    rows: &[Row],
+    here: &InstId,
+    org: &OrgId,
+    event: &EventId,
+    row: &Row,
+) -> Result<VisibleEvent, NoMemory>
+    ensures { IfOk result (λ form. form ≡ form_of (scene_of here.now org.now rows.now) event.now row.now) }
+{
+    let attributes = attributes(alloc, rows, here, org, event, &row.owner)?;
+    Ok(VisibleEvent {
+        row: row.clone()?,
+        org_name: Text::of(String::new(alloc)),
+        attributes,
+        objects: Items::of(Vec::new(alloc)),
+        proposals: Items::of(Vec::new(alloc)),
+        group_names: Items::of(Vec::new(alloc)),
+    })
+}
+
+/// What the organisation sees of an event at this instance: of the named owner's copy, or of the
+/// chosen one. It is `None` where that copy is not granted to it. The names of the owner and of groups
+/// are left empty.
+pub fn shown(
+    alloc: Global,
+    rows: &[Row],
+    here: &InstId,
+    org: &OrgId,
+    event: &EventId,
+    owner: Option<OrgId>,
+) -> Result<Option<VisibleEvent>, NoMemory>
+    ensures { IfOk result (λ seen. seen ≡ shown (scene_of here.now org.now rows.now) event.now owner) }
+{
+    match event_row(rows, here, org, event, owner) {
+        Some(row) => Ok(Some(form(alloc, rows, here, org, event, row)?)),
+        None => Ok(None),
+    }
+}
