@@ -1,0 +1,47 @@
+//! The program: the real streams, keepers in memory, and the status as its exit status.
+#![tactic(auto)]
+
+ghost use Rattle.std.specs.Prelude.{◌≡◌, IfOk, vec_len};
+
+use misp_app::run;
+use misp_outside::{
+    MemDial, MemDoor, StandardInput, StandardOutput, StepClock, SureCarry, SureKeeper,
+};
+use std::alloc::{AllocError, Global};
+use std::env;
+use std::io::{self, BufReader};
+use std::process::ExitCode;
+
+/// How many keepers there are.
+const KEEPERS: usize = 16;
+
+fn keepers(alloc: Global) -> Result<Vec<SureKeeper>, AllocError>
+    ensures { IfOk result (λ keepers. vec_len keepers ≡ 16) }
+{
+    let mut keepers = Vec::new(alloc);
+    while keepers.len() < KEEPERS {
+        keepers.push(SureKeeper::new(alloc))?;
+    }
+    Ok(keepers)
+}
+
+fn main(rt: HostRuntime) -> io::Result<ExitCode> {
+    let alloc = rt.alloc();
+    let words: Vec<String> = env::args(&rt)?.skip(1).collect(alloc)?;
+    let mut source = StandardInput::new(BufReader::new(alloc, rt.reader())?);
+    let mut sink = StandardOutput::new(io::writer(&rt));
+    let mut keepers = keepers(alloc)?;
+    let mut clock = StepClock { time: 0, word: 0 };
+    let status = run(
+        alloc,
+        &words,
+        &mut source,
+        &mut sink,
+        &mut keepers,
+        &mut SureCarry::new(),
+        &mut MemDoor::new(Vec::new(alloc)),
+        &mut MemDial::new(),
+        &mut clock,
+    );
+    Ok(ExitCode::from(status.code()))
+}

@@ -1,0 +1,58 @@
+-- How a run ends.
+use Rattle.std.specs.Prelude.{◌≡◌, ℕ, nat_lt, List, [], ◌∷◌, length, codes, if◌then◌else◌}
+use Rattle.misp_app.specs.declared.status.Status.{Status}
+use Rattle.misp_app.specs.declared.status.Status.TheVariants.{Done, Usage, ReadFault, WriteFault, BadDescription, OutOfMemory, TooMuch}
+
+-- the exit status of the program
+abbrev pub status_code : Status → ℕ
+status_code Done = 0
+status_code Usage = 2
+status_code ReadFault = 3
+status_code WriteFault = 4
+status_code BadDescription = 5
+status_code OutOfMemory = 8
+status_code TooMuch = 9
+
+-- the statuses with which reading ends
+abbrev pub IsReadEnd : Status → Type 0
+IsReadEnd Done = ⊥
+IsReadEnd Usage = ⊥
+IsReadEnd ReadFault = Unit {0}
+IsReadEnd WriteFault = ⊥
+IsReadEnd BadDescription = ⊥
+IsReadEnd OutOfMemory = Unit {0}
+IsReadEnd TooMuch = Unit {0}
+
+-- the words of a command line are accepted
+abbrev pub AreAccepted : List (List ℕ) → Type 0
+AreAccepted words = words ≡ codes "net" ∷ []
+
+-- nothing was written
+abbrev pub IsSilent : Status → Type 0
+IsSilent Done = ⊥
+IsSilent Usage = Unit {0}
+IsSilent ReadFault = Unit {0}
+IsSilent WriteFault = ⊥
+IsSilent BadDescription = ⊥
+IsSilent OutOfMemory = Unit {0}
+IsSilent TooMuch = Unit {0}
+
+-- the statuses with which writing ends that did not succeed
+abbrev pub IsPutEnd : Status → Type 0
+IsPutEnd Done = ⊥
+IsPutEnd Usage = ⊥
+IsPutEnd ReadFault = ⊥
+IsPutEnd WriteFault = Unit {0}
+IsPutEnd BadDescription = ⊥
+IsPutEnd OutOfMemory = Unit {0}
+IsPutEnd TooMuch = ⊥
+
+-- the statuses with which a run ends that has read its source
+abbrev pub IsSourceEnd : Status → Type 0
+IsSourceEnd Done = ⊥
+IsSourceEnd Usage = ⊥
+IsSourceEnd ReadFault = ⊥
+IsSourceEnd WriteFault = Unit {0}
+IsSourceEnd BadDescription = Unit {0}
+IsSourceEnd OutOfMemory = Unit {0}
+IsSourceEnd TooMuch = ⊥

@@ -1,0 +1,101 @@
+//! The top call.
+
+ghost use Rattle.std.specs.Prelude.{◌≡◌, ◌≤◌, ◌↔◌, IfErr, IfSome, IsOk, OnOk, IsTrue, ◌<◌, length, map, vec_len, string_bytes};
+ghost use Rattle.misp_outside.specs.Causes.{Rose};
+ghost use Rattle.misp_app.specs.Source.{described, IsTold};
+ghost use Rattle.misp_app.specs.Status.{AreAccepted, IsSilent, IsSourceEnd};
+
+use crate::fault::{put, tell_fault};
+use crate::reading::read_all;
+use crate::{KEEPERS, MAX_SOURCE, Status};
+use misp_net::run_net;
+use misp_outside::{Carry, Clock, Dial, Door, Keeper, Sink, Source};
+use misp_script::{DescFault, read_description, split_source};
+use std::alloc::Global;
+
+/// Does all that the program does: reads the source, runs its script over the keepers, and writes
+/// the lines.
+pub fn run<S: Source, W: Sink, K: Keeper, C: Carry, D: Door, L: Dial, T: Clock>(
+    alloc: Global,
+    words: &[String],
+    source: &mut S,
+    sink: &mut W,
+    keepers: &mut Vec<K>,
+    carry: &mut C,
+    door: &mut D,
+    dial: &mut L,
+    clock: &mut T,
+) -> Status
+    requires { KEEPERS ≤ vec_len keepers.old }
+
+    // The words decide whether anything is done.
+    ensures usage { result ≡ Status.Usage ↔ ¬ AreAccepted (map string_bytes words.now) }
+
+    // A fault is answered only where a count rose.
+    ensures read { result ≡ Status.ReadFault → Rose (S.faults source.old) (S.faults source.new) }
+    ensures write { result ≡ Status.WriteFault → Rose (W.faults sink.old) (W.faults sink.new) }
+    ensures too_much { result ≡ Status.TooMuch →
+        IfSome (S.left source.old) (λ left. MAX_SOURCE < length left) }
+    ensures silent { IsSilent result → W.written sink.new ≡ W.written sink.old }
+
+    // Done comes only where there is a description; of a bad one the first fault is told.
+    ensures done { result ≡ Status.Done →
+        IfSome (S.left source.old) (λ left. IsOk (described left)) }
+    ensures bad { result ≡ Status.BadDescription →
+        IfSome (S.left source.old) (λ left.
+        IsTold (described left) (W.written sink.old) (W.written sink.new)) }
+
+    ensures places { vec_len keepers.new ≡ vec_len keepers.old }
+    ensures untouched { (carry.new ≡ carry.old) × (door.new ≡ door.old)
+        × (dial.new ≡ dial.old) × (clock.new ≡ clock.old) }
+{
+    if !are_accepted(words) {
+        return Status::Usage;
+    }
+    let bytes = match read_all(alloc, source) {
+        Ok(bytes) => bytes,
+        Err(status) => return status,
+    };
+    match run_source(alloc, &bytes, sink, keepers) {
+        Ok(()) => Status::Done,
+        Err(status) => status,
+    }
+}
+
+fn are_accepted(words: &[String]) -> bool
+    ensures { IsTrue result ↔ AreAccepted (map string_bytes words.now) }
+{
+    match words {
+        [word] => word.as_str() == "net",
+        _ => false,
+    }
+}
+
+// Runs what the source said.
+fn run_source<W: Sink, K: Keeper>(
+    alloc: Global,
+    bytes: &[u8],
+    sink: &mut W,
+    keepers: &mut Vec<K>,
+) -> Result<(), Status>
+    requires { KEEPERS ≤ vec_len keepers.old }
+    ensures write { result ≡ Err Status.WriteFault →
+        Rose (W.faults sink.old) (W.faults sink.new) }
+    ensures silent { IfErr result (λ status.
+        IsSilent status → W.written sink.new ≡ W.written sink.old) }
+    ensures others { IfErr result IsSourceEnd }
+    ensures done { OnOk result (IsOk (described bytes.now)) }
+    ensures bad { result ≡ Err Status.BadDescription →
+        IsTold (described bytes.now) (W.written sink.old) (W.written sink.new) }
+    ensures places { vec_len keepers.new ≡ vec_len keepers.old }
+{
+    let (description, script) = split_source(bytes);
+    match read_description(alloc, description) {
+        Ok(net) => {
+            let lines = run_net(alloc, net, keepers, script)?;
+            put(sink, &lines)
+        }
+        Err(DescFault::Bad { path, need }) => Err(tell_fault(alloc, sink, path.as_str(), need)),
+        Err(DescFault::NoMemory) => Err(Status::OutOfMemory),
+    }
+}

@@ -1,0 +1,92 @@
+//! How a run ends.
+
+ghost use Rattle.std.specs.Prelude.{◌≡◌};
+ghost use Rattle.misp_app.specs.Status.{status_code};
+
+use misp_ids::NoMemory;
+use misp_net::NetFault;
+use misp_outside::SinkFault;
+use std::alloc::{AllocError, AllocFailed};
+
+/// How a run ends.
+#[derive(Clone, Copy, Debug, PartialEq, Eq)]
+pub enum Status {
+    /// All steps were run, and all lines were written.
+    Done,
+    /// The words are not accepted.
+    Usage,
+    ReadFault,
+    WriteFault,
+    /// The text before the script is no description; a line says where and why.
+    BadDescription,
+    OutOfMemory,
+    /// The source is longer than it may be.
+    TooMuch,
+}
+
+impl Status {
+    /// The exit status of the program.
+    pub fn code(self) -> u8
+        ensures { result ≡ status_code self }
+    {
+        match self {
+            Status::Done => 0,
+            Status::Usage => 2,
+            Status::ReadFault => 3,
+            Status::WriteFault => 4,
+            Status::BadDescription => 5,
+            Status::OutOfMemory => 8,
+            Status::TooMuch => 9,
+        }
+    }
+}
+
+impl From<AllocError> for Status {
+    ghost use Rattle.misp_app.specs.declared.status.Status.TheVariants.{OutOfMemory};
+
+    ghost from_gives = { λ _ status. status ≡ OutOfMemory };
+
+    fn from(_error: AllocError) -> Status {
+        Status::OutOfMemory
+    }
+}
+
+impl<T: Drop> From<AllocFailed<T>> for Status {
+    ghost use Rattle.misp_app.specs.declared.status.Status.TheVariants.{OutOfMemory};
+
+    ghost from_gives = { λ _ status. status ≡ OutOfMemory };
+
+    fn from(_error: AllocFailed<T>) -> Status {
+        Status::OutOfMemory
+    }
+}
+
+impl From<NoMemory> for Status {
+    ghost use Rattle.misp_app.specs.declared.status.Status.TheVariants.{OutOfMemory};
+
+    ghost from_gives = { λ _ status. status ≡ OutOfMemory };
+
+    fn from(_error: NoMemory) -> Status {
+        Status::OutOfMemory
+    }
+}
+
+impl From<SinkFault> for Status {
+    ghost use Rattle.misp_app.specs.declared.status.Status.TheVariants.{WriteFault};
+
+    ghost from_gives = { λ _ status. status ≡ WriteFault };
+
+    fn from(_error: SinkFault) -> Status {
+        Status::WriteFault
+    }
+}
+
+impl From<NetFault> for Status {
+    ghost use Rattle.misp_app.specs.declared.status.Status.TheVariants.{OutOfMemory};
+
+    ghost from_gives = { λ _ status. status ≡ OutOfMemory };
+
+    fn from(_fault: NetFault) -> Status {
+        Status::OutOfMemory
+    }
+}

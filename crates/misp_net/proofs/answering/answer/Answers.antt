@@ -1,0 +1,22 @@
+use native.Mathlib.Omega.{arith}
+use Rattle.std.proofs.Common.{◌≡◌, Ok, Err, subst}
+use Rattle.misp_script.specs.Step.{request_data}
+use Rattle.misp_core.specs.Outcome.{ByKeeper, outcome_of}
+use Rattle.misp_net.specs.Request.{Gives}
+use Rattle.misp_net.specs.Answering.{form_of}
+use Rattle.misp_net.proofs.Replying.{by_step, no_keeper}
+use Rattle.misp_net.proofs.answering.answer.Goals as goal
+
+pub returns-in-Ok-clause-replied : goal.returns-in-Ok-clause-replied
+returns-in-Ok-clause-replied g c = λ n. by_step n c.args.instance.now c.args.now
+    (form_of c.args.instance.now.admin (request_data c.args.request.now) c.args.word)
+    (c.in-Ok.caller, c.in-Ok.ask) _ _ _
+    (subst (λ admin. form_of admin (request_data c.args.request.now) c.args.word ≡ Ok (c.in-Ok.caller, c.in-Ok.ask)) c.admin.ensures c.in-Ok.ensures.form)
+    (c.step.ensures.answered n)
+
+pub returns-in-Err-clause-cause : goal.returns-in-Err-clause-cause
+returns-in-Err-clause-cause g c = record {
+  later = omega arith;
+  rose = λ is. absurd (no_keeper c.args.instance.now.admin (request_data c.args.request.now) c.args.word c.in-Err.fault
+      (subst (λ admin. Gives (Err c.in-Err.fault) (form_of admin (request_data c.args.request.now) c.args.word)) c.admin.ensures c.in-Err.ensures.form) (subst (λ r. outcome_of r ≡ ByKeeper) c.refused.ensures is));
+}

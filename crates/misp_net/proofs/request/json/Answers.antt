@@ -1,0 +1,19 @@
+use Rattle.std.proofs.Common.{refl, inl, inr}
+use Rattle.std.specs.Str.{is_utf8}
+use Rattle.std.proofs.lemmas.Bool.{cases_Bool}
+use Rattle.std.proofs.lemmas.Str.{IsUtf8-from_is_utf8, is_utf8-from_IsUtf8}
+use Rattle.misp_net.specs.Request.{json_in}
+use Rattle.misp_net.proofs.request.json.Goals as goal
+
+pub returns-in-Ok : goal.returns-in-Ok
+unfolding json_in
+returns-in-Ok c = rw (is_utf8-from_IsUtf8 c.args.body.now c.in-Ok.ensures.ok.0, c.in-Ok.ensures.ok.1) refl
+
+-- the bytes are no UTF-8, or no JSON
+pub returns-in-Err-2 : goal.returns-in-Err-2
+unfolding json_in
+returns-in-Err-2 c =
+    elim (cases_Bool (is_utf8 c.args.body.now)) [
+      | inl text ↦ rw (text, c.in-Err.ensures.err (λ memory. let told = c.is_memory.ensures.1 memory in let no = rw c.if-is_memory.false at told in absurd cc) (IsUtf8-from_is_utf8 c.args.body.now text), c.bare.ensures) refl
+      | inr bytes ↦ rw (bytes, c.bare.ensures) refl
+    ]

@@ -1,0 +1,4 @@
+pub mod Answering
+pub mod Route
+pub mod Request
+pub mod Text
