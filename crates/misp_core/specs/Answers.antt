@@ -151,7 +151,7 @@ abbrev pub reply_of : Admin → Scene → Ask → model.Reply → Reply
 reply_of admin s ask (model.Refused rule) = replies.Refused (record { name = named rule; place = place_of s ask rule })
 reply_of admin s ask (model.Seen v) = replies.Ok (answers.Event (named_event admin v))
 reply_of admin s ask (model.Saved vs) = replies.Ok (saved (event_asked ask) vs)
-reply_of admin s ask other = replies.Refused (bare rules.NoRoute)
+reply_of admin s ask _ = replies.Refused (bare rules.NoRoute)
 
 -- the reply to an ask in these surroundings
 unfoldable pub reply_in : Admin → Scene → Ask → Reply
