@@ -1,2 +1,5 @@
 pub mod Decisions
 pub mod Serving
+pub mod HeldRows
+pub mod OwnRows
+pub mod Keeping

@@ -1,9 +1,8 @@
 -- How a verdict over a keeper comes to an answer.
-use Rattle.std.proofs.Common.{◌≡◌, ℕ, ◌<◌, List, [], ◌∷◌, length, arith, Bool, true, false, refl, ap, sym, subst, ◌∙◌, map, cond, option_map, Option, Some, None, Result, Ok, Err}
+use Rattle.std.proofs.Common.{◌≡◌, ℕ, ◌<◌, List, [], ◌∷◌, length, arith, refl, ap, sym, subst, ◌∙◌, map, option_map, Option, Some, None, Result, Ok, Err}
 use Rattle.std.specs.Prelude.{IfOk, IfSome, OnErr}
 use Rattle.misp_elem.specs.declared.row.RowFields.{RowFields as Row}
 use Rattle.misp_elem.specs.Row.{AreRows}
-use Rattle.misp_elem.specs.declared.refusal.RuleName.TheVariants as rules
 use Rattle.misp_requests.specs.declared.ask.Ask.{Ask}
 use Rattle.misp_requests.specs.declared.ask.Ask.TheVariants.{View}
 use Rattle.misp_requests.specs.declared.ask.Ask.TheVariants as asks
@@ -20,7 +19,7 @@ use Rattle.misp_model.specs.Acts.{answer}
 use Rattle.misp_model.specs.Acts as model
 use Rattle.misp_edit.specs.Adding.{refusing}
 use Rattle.misp_core.specs.Raw.{raw_row, rows_in}
-use Rattle.misp_core.specs.Answers.{Surroundings, event_asked, IsBuilt, IsDecision, IsVerdict, reply_of, reply_in, writes_in, reply_over, writes_over, named, scene_at}
+use Rattle.misp_core.specs.Answers.{Surroundings, event_asked, IsBuilt, IsVerdict, reply_of, reply_in, writes_in, reply_over, writes_over, named, scene_at}
 use Rattle.misp_core.specs.Outcome.{Outcome, Went, ByKeeper, ByMemory, outcome_of, asked_of, with_rows, IsServed, IsAnswered, IsRefused, replied_of}
 use Rattle.misp_core.specs.declared.decide.Verdict.{Verdict}
 use Rattle.misp_core.specs.declared.reply.Reply.{Reply}
@@ -96,6 +95,11 @@ pub verdict_refused : (n : ℕ) (at : Surroundings) (ask : Ask) (rows : Result (
 verdict_refused n at ask (Ok rows) verdict built is refused =
     is.writes ∙ refused_writes at.admin (scene_at n at rows) ask built (subst IsRefused is.reply refused)
 verdict_refused n at ask (Err name) verdict built is refused = ap (λ (v : Verdict). v.writes) is
+
+-- the same over what is held of the event
+pub refused_over : (n : ℕ) (at : Surroundings) (ask : Ask) (read : Result (List Row) (List ℕ)) → IsBuilt ask → IsRefused (reply_over n at ask read) → writes_over n at ask read ≡ []
+refused_over n at ask (Ok rows) built refused = refused_writes at.admin (scene_at n at rows) ask built refused
+refused_over n at ask (Err name) built refused = refl
 
 record Parts (n : ℕ) (at : Surroundings) (ask : Ask) (rows : Result (List Row) (List ℕ)) (verdict : Verdict) : Type 0 where
   reply : verdict.reply ≡ reply_over n at ask rows

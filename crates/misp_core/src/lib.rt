@@ -3,8 +3,13 @@
 
 mod decide;
 mod instance;
+mod laws;
 mod reply;
 mod store;
 
 pub use instance::Instance;
+pub use laws::{
+    a_refused_request_writes_nothing, an_instance_answers_by_the_history,
+    rows_are_held_as_their_bytes,
+};
 pub use reply::{Answer, Reply};

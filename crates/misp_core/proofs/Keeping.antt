@@ -1,0 +1,169 @@
+-- A request to an instance whose keeper holds the tables is an act of the history.
+use Rattle.std.proofs.Common.{◌≡◌, ℕ, [], Bool, true, false, ltb, refl, sym, ap, subst, ◌∙◌, map, cond, Ok, inl, inr}
+use Rattle.std.specs.List.{list_all}
+use Rattle.std.proofs.lemmas.Bool.{cases_Bool}
+use Rattle.misp_elem.specs.Draft.{SubmissionFields as Submission}
+use Rattle.misp_elem.specs.Row.{AreRows}
+use Rattle.misp_requests.specs.declared.ask.Ask.{Ask}
+use Rattle.misp_requests.specs.declared.ask.Ask.TheVariants.{View}
+use Rattle.misp_requests.specs.declared.ask.Ask.TheVariants as asks
+use Rattle.misp_requests.specs.declared.change.Change.TheVariants.{AddEvent}
+use Rattle.misp_requests.specs.declared.change.Change.TheVariants as changes
+use Rattle.misp_outside.specs.Held.{Held, rows_of, put_rows}
+use Rattle.misp_model.specs.Dates.{date_of}
+use Rattle.misp_model.specs.Names.{Inst, same_inst}
+use Rattle.misp_model.specs.View.{known}
+use Rattle.misp_model.specs.History.{tables, fresh_row}
+use Rattle.misp_model.specs.Machine.{put_all, event_rows}
+use Rattle.misp_model.specs.Asking.{Scene, change_writes}
+use Rattle.misp_model.specs.Acts.{World, Net, scene, known_at, step, asked, brings, is_accepted}
+use Rattle.misp_model.proofs.Steps.{step_view, step_refused, step_changed}
+use Rattle.misp_model.proofs.Submitted.{added_tables, added_elsewhere}
+use Rattle.misp_core.specs.Raw.{raw_row, rows_in}
+use Rattle.misp_core.specs.Answers.{Surroundings, event_asked, IsBuilt, scene_at, name_in, reply_in, writes_in, reply_over, writes_over}
+use Rattle.misp_core.specs.Outcome.{asked_of, with_rows}
+use Rattle.misp_core.specs.Keeping.{caller_at, act_at, Keeps}
+use Rattle.misp_core.proofs.Decisions.{none_written}
+use Rattle.misp_core.proofs.HeldRows.{rows_again, rows_of_event, rows_kept, rows_put, rows_put_held}
+use Rattle.misp_core.proofs.OwnRows.{own_alike}
+
+-- what is held of the event that is asked about is that event's rows
+asked_rows : (here : Inst) (w : World) (ask : Ask) (held : Held) → Keeps here w held → asked_of ask held ≡ Ok (event_rows (event_asked ask) (tables w.log here))
+asked_rows here w ask held keeps =
+    ap (λ raws. rows_in (rows_of (event_asked ask) raws)) keeps.rows
+    ∙ ap rows_in (rows_of_event (event_asked ask) (tables w.log here))
+    ∙ rows_again _ (rows_kept (event_asked ask) (tables w.log here) keeps.are_rows)
+
+-- where there are no groups, the scene over the tables is that of the act
+scene_there : (n : ℕ) (w : World) (at : Surroundings) (ask : Ask) → w.groups at.here ≡ [] → scene_at n at (tables w.log at.here) ≡ scene n w (act_at at ask) (caller_at at)
+unfolding scene known_at
+scene_there n w at ask none = λ i. record {
+  act = n;
+  at = at.here;
+  by = at.caller.org;
+  by_name = name_in at.admin at.caller.org;
+  now = at.now;
+  today = date_of at.now;
+  rows = known (tables w.log at.here) (sym none i) at.here at.caller.org;
+  groups = sym none i;
+}
+
+module _ (n : ℕ) (w : World) (at : Surroundings) (ask : Ask) (held : Held) where
+  -- the reply is that of the history
+  pub replied_there : IsBuilt ask → w.groups at.here ≡ [] → Keeps at.here w held →
+      reply_over n at ask (asked_of ask held) ≡ reply_in at.admin (scene n w (act_at at ask) (caller_at at)) ask
+  replied_there built none keeps =
+      ap (reply_over n at ask) (asked_rows at.here w ask held keeps)
+      ∙ (own_alike at.admin ask (tables w.log at.here) (scene_at n at []) built).replies
+      ∙ ap (λ s. reply_in at.admin s ask) (scene_there n w at ask none)
+
+  -- what is written is what the history has as rows
+  written_there : IsBuilt ask → w.groups at.here ≡ [] → Keeps at.here w held →
+      writes_over n at ask (asked_of ask held) ≡ writes_in (scene n w (act_at at ask) (caller_at at)) ask
+  written_there built none keeps =
+      ap (writes_over n at ask) (asked_rows at.here w ask held keeps)
+      ∙ (own_alike at.admin ask (tables w.log at.here) (scene_at n at []) built).writes
+      ∙ ap (λ s. writes_in s ask) (scene_there n w at ask none)
+
+module _ (net : Net) (n : ℕ) (w : World) (at : Surroundings) where
+  abbrev there : Ask → Scene
+  there ask = scene n w (act_at at ask) (caller_at at)
+
+  -- an accepted addition writes its versions, and a refused one nothing
+  written_where : (b : Submission) (is : Bool) → is_accepted (there (asks.Change (AddEvent b))) (asks.Change (AddEvent b)) ≡ is →
+      writes_in (there (asks.Change (AddEvent b))) (asks.Change (AddEvent b)) ≡ cond is (map fresh_row (change_writes (there (asks.Change (AddEvent b))) (AddEvent b))) []
+  unfolding writes_in brings
+  written_where b is e = ap (λ t. cond t (map fresh_row (change_writes (there (asks.Change (AddEvent b))) (AddEvent b))) []) e
+
+  view_left : (e : _) (owner : _) → tables (step net n w (act_at at (View e owner))).log at.here ≡ put_all (writes_in (there (View e owner)) (View e owner)) (tables w.log at.here)
+  unfolding put_all
+  view_left e owner =
+      ap (λ (v : World). tables v.log at.here) (step_view net n w (act_at at (View e owner)) (caller_at at) e owner refl)
+      ∙ sym (ap (λ rows. put_all rows (tables w.log at.here)) (none_written (there (View e owner)) at.admin e owner))
+
+  module _ (b : Submission) where
+    abbrev ask : Ask
+    ask = asks.Change (AddEvent b)
+
+    add_left : b.references ≡ [] → list_all (λ v. ltb v.act n) w.log ≡ true →
+        tables (step net n w (act_at at ask)).log at.here ≡ put_all (writes_in (there ask) ask) (tables w.log at.here)
+    unfolding put_all scene known_at
+    add_left plain older = elim (cases_Bool (is_accepted (there ask) ask)) [
+      | inl yes_ ↦
+          ap (λ (v : World). tables v.log at.here) (step_changed net n w (act_at at ask) (caller_at at) (AddEvent b) refl yes_)
+          ∙ added_tables (there ask) b plain yes_ w.log refl older
+          ∙ sym (ap (λ rows. put_all rows (tables w.log at.here)) (written_where b true yes_))
+      | inr no_ ↦
+          ap (λ (v : World). tables v.log at.here) (step_refused net n w (act_at at ask) (caller_at at) ask refl no_)
+          ∙ sym (ap (λ rows. put_all rows (tables w.log at.here)) (written_where b false no_))
+    ]
+
+    add_elsewhere : b.references ≡ [] → (j : Inst) → same_inst at.here j ≡ false → tables (step net n w (act_at at ask)).log j ≡ tables w.log j
+    unfolding scene known_at
+    add_elsewhere plain j apart = elim (cases_Bool (is_accepted (there ask) ask)) [
+      | inl yes_ ↦
+          ap (λ (v : World). tables v.log j) (step_changed net n w (act_at at ask) (caller_at at) (AddEvent b) refl yes_)
+          ∙ added_elsewhere (there ask) b plain yes_ w.log j apart
+      | inr no_ ↦ ap (λ (v : World). tables v.log j) (step_refused net n w (act_at at ask) (caller_at at) ask refl no_)
+    ]
+
+  -- the tables after the act are those before with what it writes
+  tables_left : (a : Ask) → IsBuilt a → list_all (λ v. ltb v.act n) w.log ≡ true →
+      tables (step net n w (act_at at a)).log at.here ≡ put_all (writes_in (there a) a) (tables w.log at.here)
+  tables_left (View e owner) built older = view_left e owner
+  tables_left (asks.Change (AddEvent b)) built older = add_left b built.1 older
+  tables_left (asks.Change (changes.AddParts e b)) built older = absurd built
+  tables_left (asks.Change (changes.EditEvent e edit)) built older = absurd built
+  tables_left (asks.Change (changes.EditAttribute e p edit)) built older = absurd built
+  tables_left (asks.Change (changes.EditObject e x edit)) built older = absurd built
+  tables_left (asks.Change (changes.Delete e p)) built older = absurd built
+  tables_left (asks.Change (changes.DeleteReference e x u)) built older = absurd built
+  tables_left (asks.Change (changes.Tag e p t)) built older = absurd built
+  tables_left (asks.Change (changes.Untag e p t)) built older = absurd built
+  tables_left (asks.Change (changes.DeleteEvent e)) built older = absurd built
+  tables_left (asks.Change (changes.Publish e)) built older = absurd built
+  tables_left (asks.Propose d) built older = absurd built
+  tables_left (asks.Judge e n accept) built older = absurd built
+  tables_left (asks.Sight e t d) built older = absurd built
+  tables_left asks.Index built older = absurd built
+  tables_left (asks.TakePart p) built older = absurd built
+
+  -- the act changes no tables elsewhere
+  pub same_elsewhere : (a : Ask) → IsBuilt a → (j : Inst) → same_inst at.here j ≡ false → tables (step net n w (act_at at a)).log j ≡ tables w.log j
+  same_elsewhere (View e owner) built j apart = ap (λ (v : World). tables v.log j) (step_view net n w (act_at at (View e owner)) (caller_at at) e owner refl)
+  same_elsewhere (asks.Change (AddEvent b)) built j apart = add_elsewhere b built.1 j apart
+  same_elsewhere (asks.Change (changes.AddParts e b)) built j apart = absurd built
+  same_elsewhere (asks.Change (changes.EditEvent e edit)) built j apart = absurd built
+  same_elsewhere (asks.Change (changes.EditAttribute e p edit)) built j apart = absurd built
+  same_elsewhere (asks.Change (changes.EditObject e x edit)) built j apart = absurd built
+  same_elsewhere (asks.Change (changes.Delete e p)) built j apart = absurd built
+  same_elsewhere (asks.Change (changes.DeleteReference e x u)) built j apart = absurd built
+  same_elsewhere (asks.Change (changes.Tag e p t)) built j apart = absurd built
+  same_elsewhere (asks.Change (changes.Untag e p t)) built j apart = absurd built
+  same_elsewhere (asks.Change (changes.DeleteEvent e)) built j apart = absurd built
+  same_elsewhere (asks.Change (changes.Publish e)) built j apart = absurd built
+  same_elsewhere (asks.Propose d) built j apart = absurd built
+  same_elsewhere (asks.Judge e n accept) built j apart = absurd built
+  same_elsewhere (asks.Sight e t d) built j apart = absurd built
+  same_elsewhere asks.Index built j apart = absurd built
+  same_elsewhere (asks.TakePart p) built j apart = absurd built
+
+  -- it changes no groups
+  pub same_groups : (a : Ask) → (step net n w (act_at at a)).groups ≡ w.groups
+  unfolding step asked
+  same_groups a = refl
+
+  -- and its keeper holds the tables after it
+  pub left_there : (a : Ask) (held : Held) → IsBuilt a → list_all (λ v. ltb v.act n) w.log ≡ true → w.groups at.here ≡ [] → Keeps at.here w held →
+      AreRows (writes_over n at a (asked_of a held)) → Keeps at.here (step net n w (act_at at a)) (with_rows (writes_over n at a (asked_of a held)) held)
+  left_there a held built older none keeps are =
+      let written : writes_over n at a (asked_of a held) ≡ writes_in (there a) a = written_there n w at a held built none keeps in
+      let left : tables (step net n w (act_at at a)).log at.here ≡ put_all (writes_over n at a (asked_of a held)) (tables w.log at.here) =
+      tables_left a built older ∙ sym (ap (λ rows. put_all rows (tables w.log at.here)) written) in
+      record {
+        rows =
+            ap (put_rows (map raw_row (writes_over n at a (asked_of a held)))) keeps.rows
+            ∙ rows_put_held _ (tables w.log at.here) are keeps.are_rows
+            ∙ sym (ap (map raw_row) left);
+        are_rows = subst AreRows (sym left) (rows_put _ (tables w.log at.here) are keeps.are_rows);
+      }

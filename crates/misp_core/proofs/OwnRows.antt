@@ -1,0 +1,135 @@
+-- What is asked of one event is replied from the event's own rows as from all, with the place that a refusal shows.
+use Rattle.std.proofs.Common.{◌≡◌, ℕ, List, [], ◌++◌, eqb, refl, sym, ap, ◌∙◌, map, cond, option_map}
+use Rattle.std.specs.Prelude.{◌&&◌, ◌||◌, not}
+use Rattle.std.specs.List.{filter, list_any, find}
+use Rattle.std.proofs.lemmas.Bool.{and_parts}
+use Rattle.misp_ids.specs.declared.uid.EventId.{EventId}
+use Rattle.misp_ids.specs.declared.label.Label.{Label}
+use Rattle.misp_ids.specs.declared.label.Label.TheVariants as labels
+use Rattle.misp_elem.specs.declared.row.RowFields.{RowFields as Row}
+use Rattle.misp_elem.specs.Draft.{SubmissionFields as Submission}
+use Rattle.misp_requests.specs.declared.ask.Ask.{Ask}
+use Rattle.misp_requests.specs.declared.ask.Ask.TheVariants.{View}
+use Rattle.misp_requests.specs.declared.ask.Ask.TheVariants as asks
+use Rattle.misp_requests.specs.declared.change.Change.TheVariants.{AddEvent}
+use Rattle.misp_requests.specs.declared.change.Change.TheVariants as changes
+use Rattle.misp_orgs.specs.declared.admin.Admin.{Admin}
+use Rattle.misp_model.specs.Names.{same_org, same_event, event_of}
+use Rattle.misp_model.specs.View.{known}
+use Rattle.misp_model.specs.History.{fresh_row}
+use Rattle.misp_model.specs.Asking.{Scene, Rule, takes_uuid, is_taken, is_usable, has_target, uuid_at, uuids_of}
+use Rattle.misp_model.specs.Asking as asking
+use Rattle.misp_model.specs.Acts.{answer, brings, is_accepted}
+use Rattle.misp_model.specs.Acts as model
+use Rattle.misp_model.specs.Machine.{event_rows, seeing}
+use Rattle.misp_model.proofs.Lists.{any_cut}
+use Rattle.misp_model.proofs.OneEvent.{IsSame, known_here, view_of_event, add_of_event}
+use Rattle.misp_edit.specs.Adding.{with_those_before, is_clash, first_clash, labels_of, first_unusable}
+use Rattle.misp_core.specs.Answers.{Surroundings, event_asked, IsBuilt, added_place, place_of, uuid_text, group_text, reply_of, reply_in, writes_in, scene_at}
+
+-- ---- places
+
+module _ (e : EventId) (rows : List Row) (s : Scene) where
+  abbrev own : Scene
+  own = seeing s (event_rows e rows)
+
+  abbrev all : Scene
+  all = seeing s rows
+
+  -- a uuid is taken by a row of the event
+  taken_own : (u : ℕ) → is_taken own e u ≡ is_taken all e u
+  unfolding is_taken
+  taken_own u =
+      ap (λ known_rows. eqb e.0.0 u || list_any (λ row. same_org row.owner s.by && (same_event (event_of row.key) e && takes_uuid u row.key)) known_rows) (known_here e rows s.groups s.at s.by)
+      ∙ ap (λ found. eqb e.0.0 u || found) (any_cut
+      (λ row. same_org row.owner s.by && (same_event (event_of row.key) e && takes_uuid u row.key))
+      (λ row. same_event (event_of row.key) e)
+      (λ row g. (and_parts _ _ (and_parts _ _ g).1).0) (known rows s.groups s.at s.by))
+
+  -- no row makes a label usable
+  usable_own : (l : Label) → is_usable own l ≡ is_usable all l
+  unfolding is_usable
+  usable_own (labels.Group g) = refl
+  usable_own labels.Own = refl
+  usable_own labels.Community = refl
+  usable_own labels.Connected = refl
+  usable_own labels.All = refl
+  usable_own labels.Inherit = refl
+
+-- without references the uuids of a body are those of its parts
+plain_uuids : (s : Scene) (b : Submission) → b.references ≡ [] → uuids_of s b ≡ map (λ d. uuid_at b.event d.place) b.parts ++ []
+unfolding uuids_of
+plain_uuids s b plain = ap (λ rs. map (λ d. uuid_at b.event d.place) b.parts ++ map (λ r. r.uuid.0.0) (filter (has_target s b) rs)) plain
+
+module _ (b : Submission) (rows : List Row) (s : Scene) where
+  abbrev here : Scene
+  here = seeing s (event_rows b.event rows)
+
+  abbrev there : Scene
+  there = seeing s rows
+
+  clash_own : b.references ≡ [] → first_clash here b ≡ first_clash there b
+  unfolding first_clash is_clash
+  clash_own plain =
+      let uuids : uuids_of here b ≡ uuids_of there b = plain_uuids here b plain ∙ sym (plain_uuids there b plain) in
+      λ i. option_map (λ p. p.1) (find (λ p. taken_own b.event rows s p.1 i || list_any (eqb p.1) p.0) (with_those_before [] (uuids i)))
+
+  unusable_own : first_unusable here b ≡ first_unusable there b
+  unfolding first_unusable
+  unusable_own = λ i. find (λ l. not (usable_own b.event rows s l i)) (labels_of b)
+
+  added_place_own : b.references ≡ [] → (rule : Rule) → added_place here b rule ≡ added_place there b rule
+  added_place_own plain asking.ElementExists = ap uuid_text (clash_own plain)
+  added_place_own plain asking.GroupNotUsable = ap group_text unusable_own
+  added_place_own plain asking.NotGranted = refl
+  added_place_own plain asking.NotOwner = refl
+  added_place_own plain asking.LockedCopy = refl
+  added_place_own plain asking.EventExists = refl
+  added_place_own plain asking.EventGone = refl
+  added_place_own plain asking.OlderTime = refl
+  added_place_own plain asking.TimeLimit = refl
+  added_place_own plain asking.ProposalExists = refl
+  added_place_own plain asking.ProposalClosed = refl
+  added_place_own plain asking.ElementFull = refl
+
+-- ---- replies and writes
+
+-- two scenes in which a request is replied and written the same
+pub record IsAlike (admin : Admin) (s t : Scene) (ask : Ask) : Type 0 where
+  pub replies : reply_in admin s ask ≡ reply_in admin t ask
+  pub writes : writes_in s ask ≡ writes_in t ask
+
+reply_alike : (admin : Admin) (s t : Scene) (ask : Ask) → ((rule : Rule) → place_of s ask rule ≡ place_of t ask rule) → (r : model.Reply) → reply_of admin s ask r ≡ reply_of admin t ask r
+reply_alike admin s t ask h (model.Refused rule) = λ i. Rattle.misp_core.specs.declared.reply.Reply.TheVariants.Refused (record { name = Rattle.misp_core.specs.Answers.named rule; place = h rule i })
+reply_alike admin s t ask h (model.Seen v) = refl
+reply_alike admin s t ask h (model.Saved vs) = refl
+reply_alike admin s t ask h (model.Listed vs) = refl
+reply_alike admin s t ask h (model.Taken n) = refl
+reply_alike admin s t ask h model.Other = refl
+
+alike : (admin : Admin) (s t : Scene) (ask : Ask) → ((rule : Rule) → place_of s ask rule ≡ place_of t ask rule) → IsSame s t ask → IsAlike admin s t ask
+unfolding reply_in writes_in
+alike admin s t ask h same = record {
+  replies = reply_alike admin s t ask h (answer s ask) ∙ ap (reply_of admin t ask) same.answers;
+  writes = λ i. cond (same.accepted i) (map fresh_row (same.brought i)) [];
+}
+
+-- what is asked of an event is replied and written over its own rows as over all
+pub own_alike : (admin : Admin) (ask : Ask) (rows : List Row) (s : Scene) → IsBuilt ask → IsAlike admin (seeing s (event_rows (event_asked ask) rows)) (seeing s rows) ask
+own_alike admin (View e owner) rows s built = alike admin _ _ (View e owner) (λ rule. refl) (view_of_event e rows s owner)
+own_alike admin (asks.Change (AddEvent b)) rows s built = alike admin _ _ (asks.Change (AddEvent b)) (added_place_own b rows s built.1) (add_of_event b rows s)
+own_alike admin (asks.Change (changes.AddParts e b)) rows s built = absurd built
+own_alike admin (asks.Change (changes.EditEvent e edit)) rows s built = absurd built
+own_alike admin (asks.Change (changes.EditAttribute e p edit)) rows s built = absurd built
+own_alike admin (asks.Change (changes.EditObject e x edit)) rows s built = absurd built
+own_alike admin (asks.Change (changes.Delete e p)) rows s built = absurd built
+own_alike admin (asks.Change (changes.DeleteReference e x u)) rows s built = absurd built
+own_alike admin (asks.Change (changes.Tag e p t)) rows s built = absurd built
+own_alike admin (asks.Change (changes.Untag e p t)) rows s built = absurd built
+own_alike admin (asks.Change (changes.DeleteEvent e)) rows s built = absurd built
+own_alike admin (asks.Change (changes.Publish e)) rows s built = absurd built
+own_alike admin (asks.Propose d) rows s built = absurd built
+own_alike admin (asks.Judge e n accept) rows s built = absurd built
+own_alike admin (asks.Sight e t d) rows s built = absurd built
+own_alike admin asks.Index rows s built = absurd built
+own_alike admin (asks.TakePart p) rows s built = absurd built

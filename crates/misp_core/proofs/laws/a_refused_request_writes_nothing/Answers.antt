@@ -1,0 +1,6 @@
+-- The law is a lemma of proofs/Serving.antt.
+use Rattle.misp_core.proofs.Serving.{refused_over}
+use Rattle.misp_core.proofs.laws.a_refused_request_writes_nothing.Goals as goal
+
+pub returns : goal.returns
+returns c = record { writes = λ n at ask read built refused. refused_over n at ask read built refused }

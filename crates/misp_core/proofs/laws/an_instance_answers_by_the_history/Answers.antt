@@ -1,0 +1,11 @@
+-- The laws are lemmas of proofs/Keeping.antt.
+use Rattle.misp_core.proofs.Keeping.{replied_there, left_there, same_elsewhere, same_groups}
+use Rattle.misp_core.proofs.laws.an_instance_answers_by_the_history.Goals as goal
+
+pub returns : goal.returns
+returns c = record {
+  reply = λ n w at ask held built none keeps. replied_there n w at ask held built none keeps;
+  left = λ net n w at ask held built older none keeps are. left_there net n w at ask held built older none keeps are;
+  elsewhere = λ net n w at ask j built apart. same_elsewhere net n w at ask built j apart;
+  groups = λ net n w at ask. same_groups net n w at ask;
+}
