@@ -1,6 +1,8 @@
 -- The reply to a request by its form.
-use Rattle.std.proofs.Common.{◌≡◌, ℕ, List, refl, sym, subst, inl, inr, Option, Some, None, Result, Ok, Err}
+use Rattle.std.proofs.Common.{◌≡◌, ◌⊎◌, ℕ, List, refl, sym, ap, subst, inl, inr, Option, Some, None, Result, Ok, Err}
 use Rattle.std.specs.Prelude.{IfSome}
+use Rattle.misp_elem.specs.declared.refusal.Refusal.{Refusal}
+use Rattle.misp_elem.specs.declared.refusal.RuleName.TheVariants as rules
 use Rattle.misp_elem.specs.Draft.{SubmissionFields as Submission}
 use Rattle.misp_format.specs.declared.fault.FormatFault.{FormatFault}
 use Rattle.misp_format.specs.declared.fault.FormatFault.TheVariants as faults
@@ -12,7 +14,7 @@ use Rattle.misp_requests.specs.declared.ask.Ask.{Ask}
 use Rattle.misp_script.specs.Step.{RequestData}
 use Rattle.misp_core.specs.Standing.{Standing}
 use Rattle.misp_core.specs.Answers.{site_at}
-use Rattle.misp_core.specs.Outcome.{ByKeeper, outcome_of, IsAnswered}
+use Rattle.misp_core.specs.Outcome.{Outcome, Went, ByKeeper, ByMemory, outcome_of, IsAnswered}
 use Rattle.misp_core.specs.declared.reply.Reply.{Reply}
 use Rattle.misp_core.specs.declared.reply.Reply.TheVariants as replies
 use Rattle.serde_json.specs.Data.{Data}
@@ -21,40 +23,35 @@ use Rattle.misp_net.specs.declared.route.Route.TheVariants.{AddEvent, ViewEvent}
 use Rattle.misp_net.specs.declared.request.AskFault.{AskFault}
 use Rattle.misp_net.specs.declared.request.AskFault.TheVariants as stops
 use Rattle.misp_net.specs.Route.{route_of}
-use Rattle.misp_net.specs.Request.{Reading, Gives, json_in, json_or_refusal, added, added_by, asked, ask_of}
-use Rattle.misp_net.specs.Answering.{Asked, caller_in, by_body, by_route, form_of, fault_reply, IsReplied}
+use Rattle.misp_net.specs.Hosts.{Host, host_of}
+use Rattle.misp_net.specs.Request.{Reading, Gives, bare, json_in, json_or_refusal, added, added_by, asked, ask_of}
+use Rattle.misp_net.specs.Answering.{Asked, caller_in, by_body, by_route, form_of, fault_reply, reply_by, IsReplied}
 
 -- an ask is answered by the instance
 pub by_step : (n : ℕ) (i : Standing) (now : ℕ) (form : Reading Asked) (asked : Asked) (reply : Reply) (old new : Option Held)
     → form ≡ Ok asked → IfSome old (λ held. IsAnswered n (site_at i asked.0 now) asked.1 held reply new)
-    → IfSome old (λ held. IsReplied n i now form held reply new)
+    → IfSome old (λ held. IsReplied n (host_of i) now form held reply new)
 by_step n i now form asked reply None new is answered = tt
-by_step n i now form asked reply (Some held) new is answered = subst (λ f. IsReplied n i now f held reply new) (sym is) answered
+by_step n i now form asked reply (Some held) new is answered =
+    subst (λ f. IsReplied n (host_of i) now f held reply new) (sym is)
+    (record { reply_is = answered.reply_is; left = answered.left; are_rows = answered.are_rows })
 
-out_of_memory : (n : ℕ) (i : Standing) (now : ℕ) (form : Reading Asked) (held : Held) → IsReplied n i now form held (fault_reply stops.NoMemory) (Some held)
-out_of_memory n i now (Ok asked) held = record { reply_is = refl; left = refl; are_rows = λ went. absurd cc }
-out_of_memory n i now (Err refusal) held = (inr refl, refl)
+-- a refusal by the form of a request comes from no keeper, and from memory only where memory ran out
+abbrev IsFormal : Refusal → Type 0
+IsFormal refusal = (outcome_of (replies.Refused refusal) ≡ Went) ⊎ (refusal ≡ bare rules.NoMemory)
 
--- a request that was not read is refused, and what is held stays
-pub by_fault : (n : ℕ) (i : Standing) (now : ℕ) (form : Reading Asked) (fault : AskFault) (old : Option Held) → Gives (Err fault) form
-    → IfSome old (λ held. IsReplied n i now form held (fault_reply fault) old)
-by_fault n i now form fault None given = tt
-by_fault n i now form (stops.Refused refusal) (Some held) given = subst (λ f. IsReplied n i now f held (fault_reply (stops.Refused refusal)) (Some held)) (sym given) (inl refl, refl)
-by_fault n i now form stops.NoMemory (Some held) given = out_of_memory n i now form held
-
--- what is refused by its form is refused by no keeper
 abbrev ByForm : {A : Type 0} → Reading A → Type 0
 ByForm (Ok x) = Unit {0}
-ByForm (Err refusal) = outcome_of (replies.Refused refusal) ≡ ByKeeper → ⊥
+ByForm (Err refusal) = IsFormal refusal
 
 value_by_form : (value : Option Data) → ByForm (json_or_refusal value)
-value_by_form None = λ is. absurd cc
+value_by_form None = inl refl
 value_by_form (Some value) = tt
 
 asked_by_form : (read : Result Submission FormatFault) → ByForm (asked read)
 asked_by_form (Ok submission) = tt
-asked_by_form (Err (faults.BadField path need)) = λ is. absurd cc
-asked_by_form (Err faults.NoMemory) = λ is. absurd cc
+asked_by_form (Err (faults.BadField path need)) = inl refl
+asked_by_form (Err faults.NoMemory) = inr refl
 
 added_by_form : (word : ℕ) (value : Reading Data) → ByForm value → ByForm (added_by word value)
 added_by_form word (Ok value) formed = asked_by_form (event_at word value)
@@ -70,16 +67,51 @@ body_by_form caller (Ok ask) formed = tt
 body_by_form caller (Err refusal) formed = formed
 
 route_by_form : (route : Option Route) (caller : Option Caller) (body : List ℕ) (word : ℕ) → ByForm (by_route route caller body word)
-route_by_form None caller body word = λ is. absurd cc
-route_by_form (Some route) None body word = λ is. absurd cc
+route_by_form None caller body word = inl refl
+route_by_form (Some route) None body word = inl refl
 route_by_form (Some route) (Some caller) body word = body_by_form caller (ask_of route body word) (ask_by_form route body word)
 
 form_by_form : (admin : Admin) (request : RequestData) (word : ℕ) → ByForm (form_of admin request word)
 unfolding form_of
 form_by_form admin request word = route_by_form (route_of request.method request.target) (caller_in admin request.key) request.body word
 
--- so no keeper failed where a request was not read
+-- such a refusal is the stated one
+formal_reply : (n : ℕ) (host : Host) (now : ℕ) (held : Held) (refusal : Refusal) → IsFormal refusal
+    → IsReplied n host now (Err refusal) held (replies.Refused refusal) (Some held)
+formal_reply n host now held refusal (inl went) = record {
+  reply_is = sym (ap (λ outcome. reply_by outcome n host now (Err refusal) held) went);
+  left = refl;
+  are_rows = λ went. tt;
+}
+formal_reply n host now held refusal (inr out) = subst (λ r. IsReplied n host now (Err r) held (replies.Refused r) (Some held)) (sym out)
+    (record { reply_is = refl; left = refl; are_rows = λ went. tt })
+
+out_of_memory : (n : ℕ) (host : Host) (now : ℕ) (form : Reading Asked) (held : Held)
+    → IsReplied n host now form held (fault_reply stops.NoMemory) (Some held)
+out_of_memory n host now (Ok asked) held = record { reply_is = refl; left = refl; are_rows = λ went. absurd cc }
+out_of_memory n host now (Err refusal) held = record { reply_is = refl; left = refl; are_rows = λ went. tt }
+
+-- a request that was not read is refused, and what is held stays
+by_fault : (n : ℕ) (host : Host) (now : ℕ) (form : Reading Asked) (fault : AskFault) (held : Held) → Gives (Err fault) form → ByForm form
+    → IsReplied n host now form held (fault_reply fault) (Some held)
+by_fault n host now form (stops.Refused refusal) held given formed =
+    let formal : IsFormal refusal = subst ByForm given formed in
+    subst (λ f. IsReplied n host now f held (replies.Refused refusal) (Some held)) (sym given) (formal_reply n host now held refusal formal)
+by_fault n host now form stops.NoMemory held given formed = out_of_memory n host now form held
+
+pub refused_by_form : (n : ℕ) (i : Standing) (now : ℕ) (request : RequestData) (word : ℕ) (fault : AskFault) (old : Option Held)
+    → Gives (Err fault) (form_of i.admin request word)
+    → IfSome old (λ held. IsReplied n (host_of i) now (form_of i.admin request word) held (fault_reply fault) old)
+refused_by_form n i now request word fault None given = tt
+refused_by_form n i now request word fault (Some held) given =
+    by_fault n (host_of i) now (form_of i.admin request word) fault held given (form_by_form i.admin request word)
+
+no_keeper_in : (refusal : Refusal) → IsFormal refusal → outcome_of (replies.Refused refusal) ≡ ByKeeper → ⊥
+no_keeper_in refusal (inl went) is = absurd cc
+no_keeper_in refusal (inr out) is = absurd cc
+
+-- no keeper failed where a request was not read
 pub no_keeper : (admin : Admin) (request : RequestData) (word : ℕ) (fault : AskFault) → Gives (Err fault) (form_of admin request word)
     → outcome_of (fault_reply fault) ≡ ByKeeper → ⊥
-no_keeper admin request word (stops.Refused refusal) given = subst ByForm given (form_by_form admin request word)
+no_keeper admin request word (stops.Refused refusal) given = no_keeper_in refusal (subst ByForm given (form_by_form admin request word))
 no_keeper admin request word stops.NoMemory given = λ is. absurd cc

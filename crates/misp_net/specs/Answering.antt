@@ -1,21 +1,23 @@
 -- What a request is by its form, and what it is replied.
-use Rattle.std.specs.Prelude.{◌≡◌, ◌⊎◌, ℕ, List, Option, Some, None, Ok, Err, if◌then◌else◌}
+use Rattle.std.specs.Prelude.{◌≡◌, ℕ, List, [], Option, Some, None, Ok, Err, if◌then◌else◌}
 use Rattle.misp_ids.specs.Names.{is_api_key}
 use Rattle.misp_elem.specs.declared.refusal.RuleName.TheVariants as rules
+use Rattle.misp_elem.specs.declared.row.RowFields.{RowFields as Row}
+use Rattle.misp_elem.specs.Row.{AreRows}
 use Rattle.misp_orgs.specs.declared.admin.Admin.{Admin}
 use Rattle.misp_orgs.specs.declared.key.Caller.{Caller}
 use Rattle.misp_orgs.specs.Admin.{who_of}
 use Rattle.misp_outside.specs.Held.{Held}
 use Rattle.misp_requests.specs.declared.ask.Ask.{Ask}
 use Rattle.misp_script.specs.Step.{RequestData}
-use Rattle.misp_core.specs.Standing.{Standing}
-use Rattle.misp_core.specs.Answers.{site_at}
-use Rattle.misp_core.specs.Outcome.{IsAnswered}
+use Rattle.misp_core.specs.Answers.{site, writes_over}
+use Rattle.misp_core.specs.Outcome.{Outcome, Went, ByKeeper, ByMemory, outcome_of, asked_of, reply_to, held_after}
 use Rattle.misp_core.specs.declared.reply.Reply.{Reply}
 use Rattle.misp_core.specs.declared.reply.Reply.TheVariants as replies
 use Rattle.misp_net.specs.declared.route.Route.{Route}
 use Rattle.misp_net.specs.declared.request.AskFault.{AskFault}
 use Rattle.misp_net.specs.declared.request.AskFault.TheVariants as stops
+use Rattle.misp_net.specs.Hosts.{Host}
 use Rattle.misp_net.specs.Route.{route_of}
 use Rattle.misp_net.specs.Request.{Reading, bare, ask_of}
 
@@ -49,9 +51,26 @@ abbrev pub fault_reply : AskFault → Reply
 fault_reply (stops.Refused refusal) = replies.Refused refusal
 fault_reply stops.NoMemory = replies.Refused (bare rules.NoMemory)
 
--- The reply to the n-th request, of this form, where this is held, and what is held afterwards: what the instance
--- answers, or the refusal by the form, in whose place only the want of memory may stand.
-abbrev pub IsReplied : ℕ → Standing → ℕ → Reading Asked → Held → Reply → Option Held → Type 0
-IsReplied n i now (Ok asked) held reply new = IsAnswered n (site_at i asked.0 now) asked.1 held reply new
-IsReplied n i now (Err refusal) held reply new =
-    ((reply ≡ replies.Refused refusal) ⊎ (reply ≡ replies.Refused (bare rules.NoMemory))) × (new ≡ Some held)
+-- ---- the reply to the n-th request of a script, of this form
+
+abbrev pub reply_by : Outcome → ℕ → Host → ℕ → Reading Asked → Held → Reply
+reply_by outcome n host now (Ok asked) held = reply_to outcome n (site host.name host.admin asked.0 now) asked.1 held
+reply_by Went n host now (Err refusal) held = replies.Refused refusal
+reply_by ByKeeper n host now (Err refusal) held = replies.Refused (bare rules.KeeperFault)
+reply_by ByMemory n host now (Err refusal) held = replies.Refused (bare rules.NoMemory)
+
+-- what is held afterwards
+abbrev pub held_by : Outcome → ℕ → Host → ℕ → Reading Asked → Held → Held
+held_by outcome n host now (Ok asked) held = held_after outcome n (site host.name host.admin asked.0 now) asked.1 held
+held_by outcome n host now (Err refusal) held = held
+
+-- the rows that it writes where nothing stops it
+abbrev pub writes_by : ℕ → Host → ℕ → Reading Asked → Held → List Row
+writes_by n host now (Ok asked) held = writes_over n (site host.name host.admin asked.0 now) asked.1 (asked_of asked.1 held)
+writes_by n host now (Err refusal) held = []
+
+-- the reply is the stated one, and so is what is held afterwards; what is written are rows
+pub record IsReplied (n : ℕ) (host : Host) (now : ℕ) (form : Reading Asked) (held : Held) (reply : Reply) (new : Option Held) : Type 0 where
+  pub reply_is : reply ≡ reply_by (outcome_of reply) n host now form held
+  pub left : new ≡ Some (held_by (outcome_of reply) n host now form held)
+  pub are_rows : outcome_of reply ≡ Went → AreRows (writes_by n host now form held)

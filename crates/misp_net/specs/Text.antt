@@ -1,5 +1,5 @@
 -- What is written for the lines of a script.
-use Rattle.std.specs.Prelude.{ℕ, List, [], ◌∷◌, ◌++◌, codes, decimal}
+use Rattle.std.specs.Prelude.{ℕ, ◌+◌, List, [], ◌∷◌, ◌++◌, codes, decimal}
 use Rattle.serde_json.specs.Written.{compact_text}
 use Rattle.misp_elem.specs.Refusal.{rule_status}
 use Rattle.misp_format.specs.Replies.{saved_data, refusal_data}
@@ -30,3 +30,8 @@ output_text (Replied reply) = reply_text reply
 -- a line: its number, a space, the output and LF
 abbrev pub line_of : ℕ → Output → List ℕ
 line_of number output = decimal number ++ 32 ∷ output_text output ++ 10 ∷ []
+
+-- the lines, numbered from there
+abbrev pub text_from : ℕ → List Output → List ℕ
+text_from number [] = []
+text_from number (output ∷ outputs) = line_of number output ++ text_from (number + 1) outputs

@@ -6,6 +6,7 @@ ghost use Rattle.misp_script.specs.Step.{request_data};
 ghost use Rattle.misp_core.specs.Answers.{IsBuilt};
 ghost use Rattle.misp_core.specs.Outcome.{ByKeeper, outcome_of, IsRefused};
 ghost use Rattle.misp_net.specs.Answering.{caller_in, form_of, fault_reply, IsReplied};
+ghost use Rattle.misp_net.specs.Hosts.{host_of};
 ghost use Rattle.misp_net.specs.Request.{Gives};
 
 use crate::request::{AskFault, bare, read_ask};
@@ -72,7 +73,7 @@ pub fn answer<K: Keeper>(
     request: &RequestLine<'_>,
 ) -> Reply
     // Reply and rows are the stated functions of the request and of what is held.
-    ensures replied { (n : ℕ) → IfSome instance.old.held (λ held. IsReplied n instance.old now
+    ensures replied { (n : ℕ) → IfSome instance.old.held (λ held. IsReplied n (host_of instance.old) now
         (form_of instance.old.admin (request_data request.now) word) held result instance.new.held) }
 
     // A refused request changes nothing.

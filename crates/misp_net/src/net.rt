@@ -1,6 +1,11 @@
 //! The run of a script.
 
-ghost use Rattle.std.specs.Prelude.{◌≡◌, ◌≤◌, length, vec_len};
+ghost use Rattle.std.specs.Prelude.{◌≡◌, ◌≤◌, ℕ, IfOk, OnOk, length, take, drop, vec_len};
+ghost use Rattle.misp_script.specs.Names.{names_of};
+ghost use Rattle.misp_script.specs.Step.{step_of};
+ghost use Rattle.misp_net.specs.Hosts.{described_hosts, hosts_of, stocks_of, stocks};
+ghost use Rattle.misp_net.specs.Run.{acts_of};
+ghost use Rattle.misp_net.specs.Course.{IsAct, HasPut, HasRun};
 
 use crate::answering::answer;
 use crate::line::{Output, write_line};
@@ -19,7 +24,9 @@ fn run_line<K: Keeper>(
     line: &[u8],
 ) -> Output
     requires { length names.now ≡ vec_len instances.old }
-    ensures { vec_len instances.new ≡ vec_len instances.old }
+    ensures act { (n : ℕ) → IsAct n (hosts_of instances.old.items) (step_of names.now line.now)
+        (stocks_of instances.old.items) (stocks_of instances.new.items) result }
+    ensures hosts { hosts_of instances.new.items ≡ hosts_of instances.old.items }
 {
     match read_line(line, names) {
         Ok(step) => match step.deed {
@@ -33,6 +40,26 @@ fn run_line<K: Keeper>(
     }
 }
 
+// Runs one line, and writes the line of this number.
+fn put_line<K: Keeper>(
+    lines: &mut Vec<u8>,
+    alloc: Global,
+    names: &[InstId],
+    instances: &mut Vec<Instance<K>>,
+    number: usize,
+    line: &[u8],
+) -> Result<(), NoMemory>
+    requires { length names.now ≡ vec_len instances.old }
+    ensures put { OnOk result ((n : ℕ) →
+        HasPut n (hosts_of instances.old.items) (step_of names.now line.now)
+        (stocks_of instances.old.items) (stocks_of instances.new.items)
+        number lines.old.items lines.new.items) }
+    ensures hosts { hosts_of instances.new.items ≡ hosts_of instances.old.items }
+{
+    let output = run_line(alloc, names, instances, line);
+    write_line(lines, alloc, number, &output)
+}
+
 // Runs a script, one line after another.
 fn run_lines<K: Keeper>(
     alloc: Global,
@@ -41,15 +68,17 @@ fn run_lines<K: Keeper>(
     script: &[u8],
 ) -> Result<Vec<u8>, NoMemory>
     requires { length names.now ≡ vec_len instances.old }
-    ensures { vec_len instances.new ≡ vec_len instances.old }
+    ensures places { vec_len instances.new ≡ vec_len instances.old }
+    ensures ran { IfOk result (λ lines.
+        HasRun (hosts_of instances.old.items) (acts_of names.now script.now)
+        (stocks_of instances.old.items) (stocks_of instances.new.items) lines.items) }
 {
     let mut lines = Vec::new(alloc);
     let mut number = 1usize;
     let mut rest = script;
     while !rest.is_empty() {
         let (line, after) = split_line(rest);
-        let output = run_line(alloc, names, instances, line);
-        write_line(&mut lines, alloc, number, &output)?;
+        put_line(&mut lines, alloc, names, instances, number, line)?;
         rest = after;
         number += 1;
     }
@@ -66,8 +95,16 @@ pub fn run_net<K: Keeper>(
 ) -> Result<Vec<u8>, NetFault>
     requires { length net.instances ≤ vec_len keepers.old }
 
-    // Each keeper is back in its place.
+    // What was written and what is held follow from the script, and from what stopped each line.
+    ensures ran { IfOk result (λ lines.
+        HasRun (described_hosts net) (acts_of (names_of net) script.now)
+        (take (length net.instances) (stocks K.held K.faults keepers.old.items))
+        (take (length net.instances) (stocks K.held K.faults keepers.new.items)) lines.items) }
+
+    // Each keeper is back in its place, and the others are as they were.
     ensures places { vec_len keepers.new ≡ vec_len keepers.old }
+    ensures others { drop (length net.instances) (stocks K.held K.faults keepers.new.items)
+        ≡ drop (length net.instances) (stocks K.held K.faults keepers.old.items) }
 {
     let names = net.names(alloc)?;
     let mut instances = open_all(alloc, keepers, net.instances.into_vec())?;

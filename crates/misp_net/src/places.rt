@@ -1,6 +1,7 @@
 //! Takes keepers out of their places, and puts them back.
 
-ghost use Rattle.std.specs.Prelude.{◌≡◌, ◌+◌, ◌<◌, ◌≤◌, ◌∷◌, IfOk, OnOk, OnErr, vec_len, vec_capacity, drop};
+ghost use Rattle.std.specs.Prelude.{◌≡◌, ◌+◌, ◌<◌, ◌≤◌, ◌∷◌, ◌++◌, IfOk, OnOk, OnErr, map, vec_len, vec_capacity};
+ghost use Rattle.misp_net.specs.Hosts.{described_host, hosts_of, stocks_of, stocks};
 
 use misp_core::Instance;
 use misp_ids::NoMemory;
@@ -41,10 +42,13 @@ pub(crate) fn open_all<K: Keeper>(
     entries: Vec<Entry>,
 ) -> Result<Vec<Instance<K>>, NetFault>
     requires { vec_len entries ≤ vec_len keepers.old }
-    ensures count { IfOk result (λ instances. vec_len instances ≡ vec_len entries) }
-    ensures others { IfOk result (λ instances. vec_len instances + vec_len keepers.new ≡ vec_len keepers.old) }
+    ensures hosts { IfOk result (λ instances.
+        hosts_of instances.items ≡ map described_host entries.items) }
+    ensures opened { IfOk result (λ instances.
+        stocks_of instances.items ++ stocks K.held K.faults keepers.new.items
+        ≡ stocks K.held K.faults keepers.old.items) }
     ensures room { OnOk result (vec_len keepers.old ≤ vec_capacity keepers.new) }
-    ensures back { OnErr result (vec_len keepers.new ≡ vec_len keepers.old) }
+    ensures back { OnErr result (keepers.new ≡ keepers.old) }
 {
     let mut instances = Vec::with_capacity(alloc, entries.len())?;
     for entry in entries {
@@ -57,7 +61,8 @@ pub(crate) fn open_all<K: Keeper>(
 /// Puts the keepers of instances back in front of the others.
 pub(crate) fn close_all<K: Keeper>(mut instances: Vec<Instance<K>>, keepers: &mut Vec<K>)
     requires { vec_len instances + vec_len keepers.old ≤ vec_capacity keepers.old }
-    ensures { vec_len keepers.new ≡ vec_len instances + vec_len keepers.old }
+    ensures { stocks K.held K.faults keepers.new.items
+        ≡ stocks_of instances.items ++ stocks K.held K.faults keepers.old.items }
 {
     while let Some(instance) = instances.pop() {
         put_first(keepers, instance.into_keeper());

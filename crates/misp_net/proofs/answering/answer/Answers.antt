@@ -4,7 +4,7 @@ use Rattle.misp_script.specs.Step.{request_data}
 use Rattle.misp_core.specs.Outcome.{ByKeeper, outcome_of}
 use Rattle.misp_net.specs.Request.{Gives}
 use Rattle.misp_net.specs.Answering.{form_of}
-use Rattle.misp_net.proofs.Replying.{by_step, no_keeper}
+use Rattle.misp_net.proofs.Replying.{by_step, refused_by_form, no_keeper}
 use Rattle.misp_net.proofs.answering.answer.Goals as goal
 
 pub returns-in-Ok-clause-replied : goal.returns-in-Ok-clause-replied
@@ -13,6 +13,12 @@ returns-in-Ok-clause-replied g c = λ n. by_step n c.args.instance.now c.args.no
     (c.in-Ok.caller, c.in-Ok.ask) _ _ _
     (subst (λ admin. form_of admin (request_data c.args.request.now) c.args.word ≡ Ok (c.in-Ok.caller, c.in-Ok.ask)) c.admin.ensures c.in-Ok.ensures.form)
     (c.step.ensures.answered n)
+
+pub returns-in-Err-clause-replied : goal.returns-in-Err-clause-replied
+returns-in-Err-clause-replied g c = λ n.
+    rw (c.refused.ensures)
+    (refused_by_form n c.args.instance.now c.args.now (request_data c.args.request.now) c.args.word c.in-Err.fault c.args.instance.now.held
+    (subst (λ admin. Gives (Err c.in-Err.fault) (form_of admin (request_data c.args.request.now) c.args.word)) c.admin.ensures c.in-Err.ensures.form))
 
 pub returns-in-Err-clause-cause : goal.returns-in-Err-clause-cause
 returns-in-Err-clause-cause g c = record {

@@ -1,11 +1,16 @@
-use Rattle.std.proofs.Common.{◌≡◌, ◌+◌, ◌≤◌, length, vec_len, vec_capacity}
+use Rattle.std.proofs.Common.{◌≡◌, ◌+◌, ◌≤◌, ◌++◌, map, length, vec_len, vec_capacity}
+use Rattle.misp_net.specs.Hosts.{described_host, hosts_of, stocks_of, stocks}
 use Rattle.misp_net.proofs.places.open_all.Given as goal
 
 -- the first keepers have been taken, each into its instance
 abbrev pub invariant-loop-entry : goal.invariant-loop-entry
-invariant-loop-entry g l = record {
-  count : vec_len l.instances ≡ length l.yielded;
-  room : vec_len l.fn.entries ≤ vec_capacity l.instances;
-  others : vec_len l.instances + vec_len l.keepers ≡ vec_len l.fn.keepers;
-  places : vec_len l.fn.keepers ≤ vec_capacity l.keepers;
-}
+invariant-loop-entry g l =
+    let seen = stocks g.K.Keeper.held g.K.Keeper.faults in
+    record {
+      hosts : hosts_of l.instances.items ≡ map described_host l.yielded;
+      opened : stocks_of l.instances.items ++ seen l.keepers.items ≡ seen l.fn.keepers.items;
+      count : vec_len l.instances ≡ length l.yielded;
+      room : vec_len l.fn.entries ≤ vec_capacity l.instances;
+      others : vec_len l.instances + vec_len l.keepers ≡ vec_len l.fn.keepers;
+      places : vec_len l.fn.keepers ≤ vec_capacity l.keepers;
+    }

@@ -1,0 +1,41 @@
+use Rattle.std.proofs.Common.{◌≡◌, ℕ, [], ◌∷◌, ◌++◌, ◌+◌, length, map, refl, sym, ◌∙◌, ap, subst, arith, append_assoc, length-append}
+use Rattle.misp_script.specs.Step.{step_of}
+use Rattle.misp_net.specs.Hosts.{hosts_of, stocks_of}
+use Rattle.misp_net.specs.Run.{Act, acts_of}
+use Rattle.misp_net.specs.Course.{HasPut}
+use Rattle.misp_net.proofs.Courses.{no_acts, one_more}
+use Rattle.misp_net.proofs.Steps.{hosts_long}
+use Rattle.misp_net.proofs.net.run_lines.Goals as goal
+
+pub loop-rest-init : goal.loop-rest-init
+loop-rest-init g c = record {
+  run = ([], refl, refl, rw c.new-lines.ensures.items (no_acts (hosts_of c.args.instances.now.items) (stocks_of c.args.instances.now.items)));
+  hosts = refl;
+  places = refl;
+  number = omega arith;
+}
+
+-- the line that was run is the next of them
+pub loop-rest-preserved : goal.loop-rest-preserved
+loop-rest-preserved g c =
+    let so_far = c.loop-rest.invariant.run in
+    let act : Act = step_of c.args.names.now c.split_line.result.0.now in
+    let put : HasPut (0 + length so_far.0) (hosts_of c.args.instances.now.items) act (stocks_of c.loop-rest.instances.items) (stocks_of c.put_line.new.instances.items) c.loop-rest.number c.loop-rest.lines.items c.put_line.new.lines.items =
+    subst (λ hosts. HasPut (0 + length so_far.0) hosts act (stocks_of c.loop-rest.instances.items) (stocks_of c.put_line.new.instances.items) c.loop-rest.number c.loop-rest.lines.items c.put_line.new.lines.items)
+    c.loop-rest.invariant.hosts (c.in_ok-put_line.ensures.put (0 + length so_far.0)) in
+    record {
+      run = (
+        so_far.0 ++ act ∷ [],
+        append_assoc so_far.0 (act ∷ []) (acts_of c.args.names.now c.split_line.result.1.now)
+            ∙ ap (λ lines. so_far.0 ++ map (step_of c.args.names.now) lines) (sym c.split_line.ensures.lines) ∙ so_far.1,
+        omega (arith, so_far.2, length-append so_far.0 (act ∷ [])),
+        rw (put.text_is, so_far.2) (one_more _ _ _ _ _ _ _ _ so_far.3 put.ran),
+      );
+      hosts = c.put_line.ensures.hosts ∙ c.loop-rest.invariant.hosts;
+      places = omega (arith, hosts_long _ _ c.put_line.ensures.hosts, c.loop-rest.invariant.places, c.put_line.new.instances.ok.0, c.loop-rest.instances.ok.0);
+      number = omega (arith, c.split_line.ensures.shorter, c.loop-rest.invariant.number);
+    }
+
+pub returns-in_err-put_line-clause-places : goal.returns-in_err-put_line-clause-places
+returns-in_err-put_line-clause-places g c =
+    omega (arith, hosts_long _ _ c.put_line.ensures.hosts, c.loop-rest.invariant.places, c.put_line.new.instances.ok.0, c.loop-rest.instances.ok.0)

@@ -1,0 +1,70 @@
+-- The instances of a network, and their keepers, as a run sees them.
+use Rattle.std.specs.Prelude.{◌≡◌, ℕ, List, [], map, slice_index, slice_index_or}
+use Rattle.std.specs.declared.option.Option.{Option}
+use Rattle.std.specs.declared.option.Option.TheVariants.{Some}
+use Rattle.misp_orgs.specs.declared.admin.Admin.{Admin}
+use Rattle.misp_outside.specs.Held.{Held, nothing_held}
+use Rattle.misp_script.specs.declared.description.Description.{Description}
+use Rattle.misp_script.specs.declared.description.Entry.{Entry}
+use Rattle.misp_core.specs.Standing.{Standing}
+
+-- who an instance is: its name, and what is set up there
+pub record Host : Type 0 where
+  pub name : List ℕ
+  pub admin : Admin
+
+abbrev pub host_of : Standing → Host
+host_of i = record { name = i.name; admin = i.admin }
+
+abbrev pub hosts_of : List Standing → List Host
+hosts_of instances = map host_of instances
+
+abbrev pub described_host : Entry → Host
+described_host e = record { name = e.name; admin = e.admin }
+
+-- the instances of a description
+abbrev pub described_hosts : Description → List Host
+described_hosts net = map described_host net.instances
+
+abbrev pub nobody : Host
+nobody = record { name = []; admin = record { orgs = []; keys = [] } }
+
+-- the instance of a place
+abbrev pub host_at : ℕ → List Host → Host
+host_at place hosts = slice_index_or hosts place nobody
+
+-- ---- what they hold
+
+-- a keeper: what it holds, where it tells it, and how often it has failed
+pub record Stock : Type 0 where
+  pub held : Option Held
+  pub faults : ℕ
+
+abbrev pub stock_of : Standing → Stock
+stock_of i = record { held = i.held; faults = i.faults }
+
+abbrev pub stocks_of : List Standing → List Stock
+stocks_of instances = map stock_of instances
+
+-- keepers, by what is told of each
+abbrev pub stocks : {K : Type 0} → (K → Option Held) → (K → ℕ) → List K → List Stock
+stocks held faults keepers = map (λ keeper. record { held = held keeper; faults = faults keeper }) keepers
+
+-- what is held at each place
+abbrev pub Tables : Type 0
+Tables = List Held
+
+abbrev pub held_at : ℕ → Tables → Held
+held_at place tables = slice_index_or tables place nothing_held
+
+-- what each tells
+abbrev pub told : List Stock → List (Option Held)
+told old = map (λ stock. stock.held) old
+
+-- all of them tell, and this
+abbrev pub Tell : List Stock → Tables → Type 0
+Tell old tables = told old ≡ map Some tables
+
+-- how often the keeper of a place has failed
+abbrev pub count_at : ℕ → List Stock → ℕ
+count_at place old = slice_index (map (λ stock. stock.faults) old) place
