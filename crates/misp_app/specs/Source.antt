@@ -1,13 +1,17 @@
 -- What a source describes, and the line that tells where it does not.
-use Rattle.std.specs.Prelude.{ℕ, List, Result, Ok, Err}
+use Rattle.std.specs.Prelude.{◌≡◌, ℕ, List, length, take, drop, Result, Ok, Err}
 use Rattle.std.specs.declared.option.Option.{Option}
 use Rattle.std.specs.Io.KnownBytes.{Appends}
 use Rattle.misp_script.specs.declared.description.Description.{Description}
 use Rattle.misp_script.specs.declared.fault.DescFault.TheVariants as faults
 use Rattle.misp_script.specs.Faults.{Reading}
 use Rattle.misp_script.specs.Network.{description_at}
-use Rattle.misp_script.specs.Source.{description_part}
-use Rattle.misp_app.specs.Streams.{fault_line}
+use Rattle.misp_script.specs.Names.{names_of}
+use Rattle.misp_script.specs.Source.{description_part, script_part}
+use Rattle.misp_net.specs.Hosts.{Stock, described_hosts}
+use Rattle.misp_net.specs.Run.{acts_of}
+use Rattle.misp_net.specs.Course.{HasRun}
+use Rattle.misp_app.specs.Streams.{AppendsSome, fault_line}
 
 -- what is described by the text before the script, or its first fault
 abbrev pub described : List ℕ → Reading Description
@@ -18,3 +22,19 @@ abbrev pub IsTold : Reading Description → Option (List ℕ) → Option (List �
 IsTold (Ok net) old new = ⊥
 IsTold (Err (faults.Bad path need)) old new = Appends old new (fault_line path need)
 IsTold (Err faults.NoMemory) old new = ⊥
+
+-- The source describes a network, its script was run over the first keepers, and its lines were written so. The other
+-- keepers are as they were.
+pub record HasWritten (source : List ℕ) (old new : List Stock) (Writes : List ℕ → Type 0) : Type 0 where
+  pub net : Description
+  pub lines : List ℕ
+  pub described_is : described source ≡ Ok net
+  pub ran : HasRun (described_hosts net) (acts_of (names_of net) (script_part source)) (take (length net.instances) old) (take (length net.instances) new) lines
+  pub others : drop (length net.instances) new ≡ drop (length net.instances) old
+  pub written : Writes lines
+
+-- some of the lines, or of the line of the fault, were written
+abbrev pub IsPartly : Reading Description → List ℕ → List Stock → List Stock → Option (List ℕ) → Option (List ℕ) → Type 0
+IsPartly (Ok net) source old new before after = HasWritten source old new (AppendsSome before after)
+IsPartly (Err (faults.Bad path need)) source old new before after = AppendsSome before after (fault_line path need)
+IsPartly (Err faults.NoMemory) source old new before after = ⊥

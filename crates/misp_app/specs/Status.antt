@@ -56,3 +56,13 @@ IsSourceEnd WriteFault = Unit {0}
 IsSourceEnd BadDescription = Unit {0}
 IsSourceEnd OutOfMemory = Unit {0}
 IsSourceEnd TooMuch = ⊥
+
+-- no keeper was asked
+abbrev pub IsStill : Status → Type 0
+IsStill Done = ⊥
+IsStill Usage = Unit {0}
+IsStill ReadFault = Unit {0}
+IsStill WriteFault = ⊥
+IsStill BadDescription = Unit {0}
+IsStill OutOfMemory = ⊥
+IsStill TooMuch = Unit {0}

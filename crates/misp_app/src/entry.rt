@@ -1,9 +1,11 @@
 //! The top call.
 
-ghost use Rattle.std.specs.Prelude.{◌≡◌, ◌≤◌, ◌↔◌, IfErr, IfSome, IsOk, OnOk, IsTrue, ◌<◌, length, map, vec_len, string_bytes};
+ghost use Rattle.std.specs.Prelude.{◌≡◌, ◌≤◌, ◌↔◌, IfErr, IfSome, OnOk, IsTrue, ◌<◌, length, map, vec_len, string_bytes};
 ghost use Rattle.misp_outside.specs.Causes.{Rose};
-ghost use Rattle.misp_app.specs.Source.{described, IsTold};
-ghost use Rattle.misp_app.specs.Status.{AreAccepted, IsSilent, IsSourceEnd};
+ghost use Rattle.std.specs.Io.KnownBytes.{Appends};
+ghost use Rattle.misp_net.specs.Hosts.{stocks};
+ghost use Rattle.misp_app.specs.Source.{described, IsTold, HasWritten, IsPartly};
+ghost use Rattle.misp_app.specs.Status.{AreAccepted, IsSilent, IsStill, IsSourceEnd};
 
 use crate::fault::{put, tell_fault};
 use crate::reading::read_all;
@@ -38,14 +40,22 @@ pub fn run<S: Source, W: Sink, K: Keeper, C: Carry, D: Door, L: Dial, T: Clock>(
         IfSome (S.left source.old) (λ left. MAX_SOURCE < length left) }
     ensures silent { IsSilent result → W.written sink.new ≡ W.written sink.old }
 
-    // Done comes only where there is a description; of a bad one the first fault is told.
-    ensures done { result ≡ Status.Done →
-        IfSome (S.left source.old) (λ left. IsOk (described left)) }
+    // The lines written and what is held follow from the source, and from what stopped each line.
+    ensures done { result ≡ Status.Done → IfSome (S.left source.old) (λ left.
+        HasWritten left (stocks K.held K.faults keepers.old.items)
+        (stocks K.held K.faults keepers.new.items)
+        (Appends (W.written sink.old) (W.written sink.new))) }
+    ensures partly { result ≡ Status.WriteFault → IfSome (S.left source.old) (λ left.
+        IsPartly (described left) left (stocks K.held K.faults keepers.old.items)
+        (stocks K.held K.faults keepers.new.items) (W.written sink.old) (W.written sink.new)) }
+
+    // Of a description that is none the first fault is told.
     ensures bad { result ≡ Status.BadDescription →
         IfSome (S.left source.old) (λ left.
         IsTold (described left) (W.written sink.old) (W.written sink.new)) }
 
     ensures places { vec_len keepers.new ≡ vec_len keepers.old }
+    ensures still { IsStill result → keepers.new.items ≡ keepers.old.items }
     ensures untouched { (carry.new ≡ carry.old) × (door.new ≡ door.old)
         × (dial.new ≡ dial.old) × (clock.new ≡ clock.old) }
 {
@@ -84,10 +94,17 @@ fn run_source<W: Sink, K: Keeper>(
     ensures silent { IfErr result (λ status.
         IsSilent status → W.written sink.new ≡ W.written sink.old) }
     ensures others { IfErr result IsSourceEnd }
-    ensures done { OnOk result (IsOk (described bytes.now)) }
+    ensures done { OnOk result
+        (HasWritten bytes.now (stocks K.held K.faults keepers.old.items)
+        (stocks K.held K.faults keepers.new.items)
+        (Appends (W.written sink.old) (W.written sink.new))) }
+    ensures partly { result ≡ Err Status.WriteFault →
+        IsPartly (described bytes.now) bytes.now (stocks K.held K.faults keepers.old.items)
+        (stocks K.held K.faults keepers.new.items) (W.written sink.old) (W.written sink.new) }
     ensures bad { result ≡ Err Status.BadDescription →
         IsTold (described bytes.now) (W.written sink.old) (W.written sink.new) }
     ensures places { vec_len keepers.new ≡ vec_len keepers.old }
+    ensures still { IfErr result (λ status. IsStill status → keepers.new.items ≡ keepers.old.items) }
 {
     let (description, script) = split_source(bytes);
     match read_description(alloc, description) {

@@ -4,7 +4,7 @@ ghost use Rattle.std.specs.Prelude.{◌≡◌, IfOk, IfErr, OnOk, string_bytes};
 ghost use Rattle.std.specs.Io.KnownBytes.{Appends};
 ghost use Rattle.misp_outside.specs.Causes.{Rose};
 ghost use Rattle.misp_app.specs.Status.{IsSilent, IsSourceEnd, IsPutEnd};
-ghost use Rattle.misp_app.specs.Streams.{fault_line};
+ghost use Rattle.misp_app.specs.Streams.{AppendsSome, fault_line};
 
 use crate::Status;
 use crate::writing::write_all;
@@ -15,6 +15,8 @@ use std::alloc::{AllocError, Global};
 /// Writes all the bytes, after there is room for them.
 pub(crate) fn put<W: Sink>(sink: &mut W, bytes: &[u8]) -> Result<(), Status>
     ensures ok { OnOk result (Appends (W.written sink.old) (W.written sink.new) bytes.now) }
+    ensures partly { result ≡ Err Status.WriteFault →
+        AppendsSome (W.written sink.old) (W.written sink.new) bytes.now }
     ensures write { result ≡ Err Status.WriteFault →
         Rose (W.faults sink.old) (W.faults sink.new) }
     ensures silent { IfErr result (λ status.
@@ -40,6 +42,8 @@ fn fault_line(alloc: Global, path: &str, need: DescNeed) -> Result<String, Alloc
 pub(crate) fn tell_fault<W: Sink>(alloc: Global, sink: &mut W, path: &str, need: DescNeed) -> Status
     ensures told { result ≡ Status.BadDescription →
         Appends (W.written sink.old) (W.written sink.new) (fault_line path.now need) }
+    ensures partly { result ≡ Status.WriteFault →
+        AppendsSome (W.written sink.old) (W.written sink.new) (fault_line path.now need) }
     ensures write { result ≡ Status.WriteFault → Rose (W.faults sink.old) (W.faults sink.new) }
     ensures silent { IsSilent result → W.written sink.new ≡ W.written sink.old }
     ensures others { IsSourceEnd result }
