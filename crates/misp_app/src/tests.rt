@@ -1,149 +1,385 @@
-//! How runs end over streams in memory, and what is written then.
+//! How runs end over streams and keepers in memory, and what is written then.
 
 ghost use Rattle.std.specs.Prelude.{◌≡◌, IfOk, vec_len};
 
 use crate::*;
-use misp_outside::{MemDial, MemDoor, MemSink, MemSource, StepClock, SureCarry, SureKeeper};
+use misp_ids::{EventId, Items, Uid};
+use misp_outside::{
+    Keeper, MemDial, MemDoor, MemKeeper, MemSink, MemSource, RawBatch, RawRow, StepClock, SureCarry,
+};
 use std::alloc::Global;
 use std::test::Fail;
 
-const DESCRIPTION: &str =
-    "[[org]]\nname = \"Alpha\"\nuuid = \"aaaaaaaa-0000-4000-8000-000000000001\"\n\n[[instance]]\nname = \"a\"\n\n[[key]]\ninstance = \"a\"\nkey = \"AAAAAAAAAAAAAAAAAAAAAAAAAAAAAAAAAAAAAAAA\"\norg = \"Alpha\"\nrole = \"publisher\"\n---\n";
+/// What the names in the texts of the table stand for, in the order in which they are put in.
+const NAMES: [(&str, &str); 25] = [
+    (
+        "{net}",
+        "[[org]]\nname = 'Alpha'\nuuid = '{oa}'\n[[org]]\nname = 'Beta'\nuuid = '{ob}'\n\
+         [[instance]]\nname = 'a'\n\
+         [[key]]\ninstance = 'a'\nkey = '{ka}'\norg = 'Alpha'\nrole = 'publisher'\n\
+         [[key]]\ninstance = 'a'\nkey = '{kb}'\norg = 'Beta'\nrole = 'publisher'\n",
+    ),
+    ("{A adds}", "{step} req a {ka} POST /events/add"),
+    ("{B adds}", "{step} req a {kb} POST /events/add"),
+    ("{B views}", "{step} req a {kb} GET /events/view/"),
+    ("{step}", "1700000000 00000000000000000000000000000000"),
+    (
+        "{wave}",
+        "{'Event':{'uuid':'{e1}','info':'Wave','date':'2023-11-14','distribution':'1','Attribute':[{part}]}}",
+    ),
+    (
+        "{own}",
+        "{'Event':{'uuid':'{e1}','info':'Wave','date':'2023-11-14','distribution':'0','Attribute':[{part}]}}",
+    ),
+    (
+        "{nameless}",
+        "{'Event':{'uuid':'{e1}','info':'','date':'2023-11-14','distribution':'1','Attribute':[{part}]}}",
+    ),
+    (
+        "{twice}",
+        "{'info':'Wave','date':'2023-11-14','Attribute':[{part},{part}]}",
+    ),
+    ("{part}", "{'uuid':'{u1}','type':'text','value':'x'}"),
+    (
+        "{saved}",
+        "200 {'elements':2,'event':'{e1}','timestamp':'1700000000'}",
+    ),
+    (
+        "{shown}",
+        "200 {'Event':{'Attribute':[{'ShadowAttribute':[],'Sighting':[],'Tag':[],'category':'Other',\
+         'comment':'','deleted':false,'distribution':'5','timestamp':'1700000000','to_ids':false,\
+         'type':'text','uuid':'{u1}','value':'x'}],'Object':[],'Org':{'name':'Alpha','uuid':'{oa}'},\
+         'Orgc':{'name':'Alpha','uuid':'{oa}'},'ShadowAttribute':[],'Tag':[],'analysis':'0',\
+         'attribute_count':'1','date':'2023-11-14','distribution':'1','extends_uuid':'',\
+         'info':'Wave','publish_timestamp':'0','published':false,'threat_level_id':'4',\
+         'timestamp':'1700000000','uuid':'{e1}'}}",
+    ),
+    ("{hidden}", "404 {'name':'NotGranted','place':'','rule':9}"),
+    ("{no route}", "404 {'name':'NoRoute','place':'','rule':4}"),
+    (
+        "{no keeper}",
+        "503 {'name':'KeeperFault','place':'','rule':26}",
+    ),
+    (
+        "{no row}",
+        "500 {'name':'BadRow','place':'6e616d65','rule':28}",
+    ),
+    ("{oa}", "aaaaaaaa-0000-4000-8000-000000000001"),
+    ("{ob}", "bbbbbbbb-0000-4000-8000-000000000002"),
+    ("{e1}", "e1000000-0000-4000-8000-000000000001"),
+    ("{e2}", "e1000000-0000-4000-8000-000000000002"),
+    ("{e9}", "e1000000-0000-4000-8000-000000000009"),
+    ("{u1}", "a1000000-0000-4000-8000-000000000001"),
+    ("{ka}", "AAAAAAAAAAAAAAAAAAAAAAAAAAAAAAAAAAAAAAAA"),
+    ("{kb}", "BBBBBBBBBBBBBBBBBBBBBBBBBBBBBBBBBBBBBBBB"),
+    ("'", "\""),
+];
 
-const VIEW: &str =
-    "1700000000 00000000000000000000000000000000 req a AAAAAAAAAAAAAAAAAAAAAAAAAAAAAAAAAAAAAAAA GET /events/view/e1000000-0000-4000-8000-000000000001\n";
+/// A source under words, filled with `x` up to a length, over keepers of which the first holds one
+/// row, which is none. The read, the write and the call of that keeper with these numbers fail, and
+/// none at 0; its call 1 put the row. Afterwards it has applied so many batches, and the others
+/// none.
+#[derive(Drop)]
+struct Case<'a> {
+    words: &'a str,
+    source: &'a str,
+    len: usize,
+    fails: [u64; 3],
+    status: Status,
+    written: &'a str,
+    batches: u64,
+}
 
-const HIDDEN: &str = "1 404 {\"name\":\"NotGranted\",\"place\":\"\",\"rule\":9}\n2 bad 0\n";
+const NONE: [u64; 3] = [0, 0, 0];
 
-fn keepers(alloc: Global) -> Result<Vec<SureKeeper>, Fail>
+const CASES: [Case<'static>; 17] = [
+    Case {
+        words: "net",
+        source: "{net}---\n{A adds} {wave}\n{B views}{e1}\n",
+        len: 0,
+        fails: NONE,
+        status: Status::Done,
+        written: "1 {saved}\n2 {shown}\n",
+        batches: 2,
+    },
+    // What is hidden is as what is not there, and another holder's event may be added.
+    Case {
+        words: "net",
+        source: "{net}---\n{A adds} {own}\n{B views}{e1}\n{B views}{e2}\n{B adds} {own}\n",
+        len: 0,
+        fails: NONE,
+        status: Status::Done,
+        written: "1 {saved}\n2 {hidden}\n3 {hidden}\n4 {saved}\n",
+        batches: 3,
+    },
+    Case {
+        words: "net",
+        source: "{net}---\n{A adds} {wave}\n{A adds} {wave}\n{B adds} {wave}\n",
+        len: 0,
+        fails: NONE,
+        status: Status::Done,
+        written: "1 {saved}\n2 409 {'name':'EventExists','place':'','rule':12}\n3 {saved}\n",
+        batches: 3,
+    },
+    // Each rule before those that follow.
+    Case {
+        words: "net",
+        source: "{net}---\n{step} req a - GET /nothing {\n{step} req a {ka} GET /events/add\n\
+                 {step} req a - POST /events/add {\n{A adds} {\n{A adds} {nameless}\n\
+                 {A adds} {twice}\n{B views}{e1}",
+        len: 0,
+        fails: NONE,
+        status: Status::Done,
+        written: "1 {no route}\n2 {no route}\n3 403 {'name':'NoKey','place':'','rule':1}\n\
+                  4 400 {'name':'BadJson','place':'','rule':6}\n\
+                  5 400 {'name':'BadField','place':'Event.info range','rule':7}\n\
+                  6 409 {'name':'ElementExists','place':'{u1}','rule':14}\n\
+                  7 {hidden}\n",
+        batches: 1,
+    },
+    Case {
+        words: "net",
+        source: "{net}---\nx\n1700000000 0 none\n1700000000\n{step} none\n",
+        len: 0,
+        fails: NONE,
+        status: Status::Done,
+        written: "1 bad 0\n2 bad 11\n3 bad 10\n4 -\n",
+        batches: 1,
+    },
+    // No line is run.
+    Case {
+        words: "net",
+        source: "{net}---\n",
+        len: 0,
+        fails: NONE,
+        status: Status::Done,
+        written: "",
+        batches: 1,
+    },
+    Case {
+        words: "net",
+        source: "{net}",
+        len: 0,
+        fails: NONE,
+        status: Status::Done,
+        written: "",
+        batches: 1,
+    },
+    Case {
+        words: "net",
+        source: "[[org]]\nname = 'Alpha'\n---\n{step} none\n",
+        len: 0,
+        fails: NONE,
+        status: Status::BadDescription,
+        written: "bad description: org[0].uuid present\n",
+        batches: 1,
+    },
+    // Other words, also over a source and a sink that fail.
+    Case {
+        words: "net x",
+        source: "{net}",
+        len: 0,
+        fails: [1, 1, 0],
+        status: Status::Usage,
+        written: "",
+        batches: 1,
+    },
+    Case {
+        words: "feed",
+        source: "{net}",
+        len: 0,
+        fails: [1, 1, 0],
+        status: Status::Usage,
+        written: "",
+        batches: 1,
+    },
+    Case {
+        words: "net",
+        source: "{net}---\n{A adds} {wave}\n",
+        len: 0,
+        fails: [2, 0, 0],
+        status: Status::ReadFault,
+        written: "",
+        batches: 1,
+    },
+    // The script was run before the write.
+    Case {
+        words: "net",
+        source: "{net}---\n{A adds} {wave}\n",
+        len: 0,
+        fails: [0, 1, 0],
+        status: Status::WriteFault,
+        written: "",
+        batches: 2,
+    },
+    Case {
+        words: "net",
+        source: "zzz = 1\n",
+        len: 0,
+        fails: [0, 1, 0],
+        status: Status::WriteFault,
+        written: "",
+        batches: 1,
+    },
+    // A load that fails, and a batch.
+    Case {
+        words: "net",
+        source: "{net}---\n{B views}{e1}\n{B views}{e1}\n",
+        len: 0,
+        fails: [0, 0, 2],
+        status: Status::Done,
+        written: "1 {no keeper}\n2 {hidden}\n",
+        batches: 1,
+    },
+    Case {
+        words: "net",
+        source: "{net}---\n{A adds} {wave}\n{B views}{e1}\n{A adds} {wave}\n",
+        len: 0,
+        fails: [0, 0, 3],
+        status: Status::Done,
+        written: "1 {no keeper}\n2 {hidden}\n3 {saved}\n",
+        batches: 2,
+    },
+    // The row that the keeper holds is none.
+    Case {
+        words: "net",
+        source: "{net}---\n{B views}{e9}\n{A adds} {'uuid':'{e9}','info':'x','date':'2023-11-14'}\n{B views}{e2}\n",
+        len: 0,
+        fails: NONE,
+        status: Status::Done,
+        written: "1 {no row}\n2 {no row}\n3 {hidden}\n",
+        batches: 1,
+    },
+    // One byte too many.
+    Case {
+        words: "net",
+        source: "{net}---\n",
+        len: 67_108_865,
+        fails: NONE,
+        status: Status::TooMuch,
+        written: "",
+        batches: 1,
+    },
+];
+
+/// The text with what its names stand for.
+fn named(alloc: Global, text: &str) -> Result<String, Fail> {
+    let mut whole = String::from_str(alloc, text)?;
+    for (name, meant) in &NAMES {
+        whole = whole.as_str().replace(alloc, name, meant)?;
+    }
+    Ok(whole)
+}
+
+fn idle(alloc: Global) -> MemKeeper {
+    MemKeeper::new(alloc, Vec::new(alloc))
+}
+
+// The first holds a row without bytes, and its call of this number fails.
+fn keepers(alloc: Global, fails: u64) -> Result<Vec<MemKeeper>, Fail>
     ensures { IfOk result (λ keepers. vec_len keepers ≡ 16) }
 {
+    let mut first = MemKeeper::new(alloc, vec![in alloc; fails]?);
+    let row = RawRow {
+        event: EventId(Uid(0xe100_0000_0000_4000_8000_0000_0000_0009)),
+        name: Items::of(b"name".to_vec(alloc)?),
+        bytes: Items::of(Vec::new(alloc)),
+    };
+    let batch = RawBatch {
+        rows: Items::of(vec![in alloc; row]?),
+        admin: Items::of(Vec::new(alloc)),
+    };
+    if first.apply(&batch).is_err() {
+        return Err(Fail::from("the row is not put"));
+    }
     let keepers = vec![in alloc;
-        SureKeeper::new(alloc),
-        SureKeeper::new(alloc),
-        SureKeeper::new(alloc),
-        SureKeeper::new(alloc),
-        SureKeeper::new(alloc),
-        SureKeeper::new(alloc),
-        SureKeeper::new(alloc),
-        SureKeeper::new(alloc),
-        SureKeeper::new(alloc),
-        SureKeeper::new(alloc),
-        SureKeeper::new(alloc),
-        SureKeeper::new(alloc),
-        SureKeeper::new(alloc),
-        SureKeeper::new(alloc),
-        SureKeeper::new(alloc),
-        SureKeeper::new(alloc),
+        first,
+        idle(alloc),
+        idle(alloc),
+        idle(alloc),
+        idle(alloc),
+        idle(alloc),
+        idle(alloc),
+        idle(alloc),
+        idle(alloc),
+        idle(alloc),
+        idle(alloc),
+        idle(alloc),
+        idle(alloc),
+        idle(alloc),
+        idle(alloc),
+        idle(alloc),
     ]?;
     Ok(keepers)
 }
 
-/// A source under a word. The reads and writes with these numbers fail.
+/// How a run ended, what was written, and how many batches each keeper has applied.
 #[derive(Drop)]
-struct Case<'a> {
-    word: &'a str,
-    source: &'a str,
-    reads: &'a [u64],
-    writes: &'a [u64],
+struct Outcome {
+    status: Status,
+    written: String,
+    batches: Vec<u64>,
 }
 
-/// How a run ends, and what is written.
-fn ran(alloc: Global, case: &Case<'_>) -> Result<(Status, String), Fail> {
-    let words = vec![in alloc; String::from_str(alloc, case.word)?]?;
-    let bytes = case.source.as_bytes().to_vec(alloc)?;
-    let mut source = MemSource::new(bytes, vec![in alloc; 5usize]?, case.reads.to_vec(alloc)?);
-    let mut sink = MemSink::new(alloc, case.writes.to_vec(alloc)?);
+// The bytes of a text, filled with `x` up to this length.
+fn filled(alloc: Global, text: &str, len: usize) -> Result<Vec<u8>, Fail> {
+    let mut bytes = named(alloc, text)?.into_bytes();
+    let more = len.saturating_sub(bytes.len());
+    for _ in 0..more / 4096 {
+        bytes.extend_from_slice(&[b'x'; 4096])?;
+    }
+    for _ in 0..more % 4096 {
+        bytes.push(b'x')?;
+    }
+    Ok(bytes)
+}
+
+fn ran(alloc: Global, case: &Case<'_>) -> Result<Outcome, Fail> {
+    let [reads, writes, calls] = case.fails;
+    let mut words = Vec::new(alloc);
+    for word in case.words.split(' ') {
+        words.push(String::from_str(alloc, word)?)?;
+    }
+    let bytes = filled(alloc, case.source, case.len)?;
+    let mut source = MemSource::new(bytes, vec![in alloc; 5usize]?, vec![in alloc; reads]?);
+    let mut sink = MemSink::new(alloc, vec![in alloc; writes]?);
+    let mut keepers = keepers(alloc, calls)?;
     let status = run(
         alloc,
         &words,
         &mut source,
         &mut sink,
-        &mut keepers(alloc)?,
+        &mut keepers,
         &mut SureCarry::new(),
         &mut MemDoor::new(Vec::new(alloc)),
         &mut MemDial::new(),
         &mut StepClock { time: 0, word: 0 },
     );
-    Ok((status, String::from_utf8(sink.bytes().to_vec(alloc)?)?))
-}
-
-fn story(alloc: Global) -> Result<String, Fail> {
-    let mut text = String::from_str(alloc, DESCRIPTION)?;
-    text.push_str(VIEW)?;
-    text.push_str("x\n")?;
-    Ok(text)
-}
-
-#[test]
-fn a_script_is_run_line_by_line(rt: HostRuntime) -> Result<(), Fail> {
-    let source = story(rt.alloc())?;
-    let case = Case {
-        word: "net",
-        source: source.as_str(),
-        reads: &[],
-        writes: &[],
-    };
-    let (status, written) = ran(rt.alloc(), &case)?;
-    assert_eq!(rt; status, Status::Done);
-    assert_eq!(rt; written.as_str(), HIDDEN);
-    Ok(())
+    let mut batches = Vec::new(alloc);
+    for keeper in &keepers {
+        batches.push(keeper.batches())?;
+    }
+    Ok(Outcome {
+        status,
+        written: String::from_utf8(sink.bytes().to_vec(alloc)?)?,
+        batches,
+    })
 }
 
 #[test]
-fn other_words_do_nothing(rt: HostRuntime) -> Result<(), Fail> {
-    let case = Case {
-        word: "feed",
-        source: DESCRIPTION,
-        reads: &[1],
-        writes: &[1],
-    };
-    let (status, written) = ran(rt.alloc(), &case)?;
-    assert_eq!(rt; status, Status::Usage);
-    assert_eq!(rt; written.as_str(), "");
-    Ok(())
-}
-
-#[test]
-fn a_read_that_fails_ends_the_run(rt: HostRuntime) -> Result<(), Fail> {
-    let source = story(rt.alloc())?;
-    let case = Case {
-        word: "net",
-        source: source.as_str(),
-        reads: &[2],
-        writes: &[],
-    };
-    let (status, written) = ran(rt.alloc(), &case)?;
-    assert_eq!(rt; status, Status::ReadFault);
-    assert_eq!(rt; written.as_str(), "");
-    Ok(())
-}
-
-#[test]
-fn a_write_that_fails_ends_the_run(rt: HostRuntime) -> Result<(), Fail> {
-    let source = story(rt.alloc())?;
-    let case = Case {
-        word: "net",
-        source: source.as_str(),
-        reads: &[],
-        writes: &[1],
-    };
-    let (status, written) = ran(rt.alloc(), &case)?;
-    assert_eq!(rt; status, Status::WriteFault);
-    assert_eq!(rt; written.as_str(), "");
-    Ok(())
-}
-
-#[test]
-fn the_first_fault_of_a_description_is_told(rt: HostRuntime) -> Result<(), Fail> {
-    let case = Case {
-        word: "net",
-        source: "[[org]]\nname = \"Alpha\"\n",
-        reads: &[],
-        writes: &[],
-    };
-    let (status, written) = ran(rt.alloc(), &case)?;
-    assert_eq!(rt; status, Status::BadDescription);
-    assert_eq!(rt; written.as_str(), "bad description: org[0].uuid present\n");
+fn runs_end_and_write_as_the_table_says(rt: HostRuntime) -> Result<(), Fail> {
+    for case in &CASES {
+        let source = case.source;
+        let ran = ran(rt.alloc(), case)?;
+        let written = named(rt.alloc(), case.written)?;
+        let batches = [case.batches, 0, 0, 0, 0, 0, 0, 0, 0, 0, 0, 0, 0, 0, 0, 0];
+        assert_eq!(rt; ran.status, case.status, "after {source}");
+        assert_eq!(rt; ran.written.as_str(), written.as_str(), "after {source}");
+        assert_eq!(rt;
+            ran.batches.as_slice(),
+            batches.as_slice(),
+            "after {source}"
+        );
+    }
     Ok(())
 }
