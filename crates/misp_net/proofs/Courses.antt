@@ -3,12 +3,17 @@ use Rattle.std.proofs.Common.{◌≡◌, ℕ, suc, ◌+◌, List, [], ◌∷◌,
 use Rattle.std.proofs.lemmas.List.{length-map, map-append}
 use Rattle.std.specs.Prelude.{Result, Ok, Err, OnOk}
 use Rattle.misp_outside.specs.Causes.{RoseBy}
+use Rattle.misp_model.specs.Acts.{World}
+use Rattle.misp_model.specs.Kept.{start}
 use Rattle.misp_core.specs.Outcome.{Outcome}
 use Rattle.misp_net.specs.declared.line.Output.{Output}
 use Rattle.misp_net.specs.Hosts.{Host, Stock, Tables, Tell, count_at}
 use Rattle.misp_net.specs.Text.{line_of, text_from}
 use Rattle.misp_net.specs.Run.{Act, output_of, tables_after, outputs_of, tables_left, outcome_in, fault_at, faults_at}
+use Rattle.misp_net.specs.History.{world_after, world_left, told_outputs, AreDistinct, empty_tables, IsHistory}
 use Rattle.misp_net.specs.Course.{IsAct, HasRun}
+use Rattle.misp_net.proofs.Telling.{output_told, line_left}
+use Rattle.misp_net.proofs.Histories.{told_push, world_push, at_start}
 
 outputs_push : (n : ℕ) (hosts : List Host) (acts : List Act) (act : Act) (outcomes : List Outcome) (outcome : Outcome) (tables : Tables) → length outcomes ≡ length acts
     → outputs_of n hosts (acts ++ act ∷ []) (outcomes ++ outcome ∷ []) tables
@@ -62,6 +67,8 @@ no_acts hosts old = record {
   causes = λ place. omega arith;
   outputs_are = λ tables tell. refl;
   tables_are = λ tables tell. tell;
+  told = λ distinct empty. refl;
+  history = λ distinct empty. at_start hosts;
 }
 
 pub one_more : (hosts : List Host) (acts : List Act) (act : Act) (old mid new : List Stock) (text : List ℕ) (output : Output)
@@ -71,6 +78,9 @@ one_more hosts acts act old mid new text output run step =
     let outputs : List Output = run.outputs in
     let outcome : Outcome = outcome_in output in
     let each : length outcomes ≡ length acts = ap length run.agree ∙ length-map outputs outcome_in ∙ run.each in
+    let none : 0 + length acts ≡ length acts = omega arith in
+    let so_far : AreDistinct hosts → Tell old (empty_tables hosts) → IsHistory hosts (0 + length acts) (world_left 0 hosts start acts outcomes) (tables_left 0 hosts acts outcomes (empty_tables hosts)) =
+    λ distinct empty. subst (λ n. IsHistory hosts n (world_left 0 hosts start acts outcomes) (tables_left 0 hosts acts outcomes (empty_tables hosts))) (sym none) (run.history distinct empty) in
     record {
       outcomes = outcomes ++ outcome ∷ [];
       outputs = outputs ++ output ∷ [];
@@ -91,6 +101,21 @@ one_more hosts acts act old mid new text output run step =
       tables_are = λ tables tell.
           subst (λ left. Tell new left) (sym (left_push 0 hosts acts act outcomes outcome tables each))
           (step.tables_are (tables_left 0 hosts acts outcomes tables) (run.tables_are tables tell));
+      told = λ distinct empty.
+          ap (λ before. before ++ output ∷ []) (run.told distinct empty)
+          ∙ ap (λ last. told_outputs 0 hosts start acts outcomes ++ last ∷ [])
+          (step.output_is (tables_left 0 hosts acts outcomes (empty_tables hosts)) (run.tables_are (empty_tables hosts) empty)
+              ∙ output_told hosts distinct (0 + length acts) (world_left 0 hosts start acts outcomes) (tables_left 0 hosts acts outcomes (empty_tables hosts)) (so_far distinct empty) outcome act step.among)
+          ∙ sym (told_push 0 hosts start acts act outcomes outcome each);
+      history = λ distinct empty.
+          let after = line_left hosts distinct (0 + length acts) (world_left 0 hosts start acts outcomes) (tables_left 0 hosts acts outcomes (empty_tables hosts)) (so_far distinct empty) outcome act step.among
+          (step.are_rows (tables_left 0 hosts acts outcomes (empty_tables hosts)) (run.tables_are (empty_tables hosts) empty)) in
+          let long : suc (0 + length acts) ≡ length (acts ++ act ∷ []) = omega (arith, length-append acts (act ∷ [])) in
+          let world : World = world_after outcome (0 + length acts) hosts (world_left 0 hosts start acts outcomes) act in
+          let left : Tables = tables_left 0 hosts (acts ++ act ∷ []) (outcomes ++ outcome ∷ []) (empty_tables hosts) in
+          subst (λ n. IsHistory hosts n (world_left 0 hosts start (acts ++ act ∷ []) (outcomes ++ outcome ∷ [])) left) long
+          (subst (λ w. IsHistory hosts (suc (0 + length acts)) w left) (sym (world_push 0 hosts start acts act outcomes outcome each))
+          (subst (λ t. IsHistory hosts (suc (0 + length acts)) world t) (sym (left_push 0 hosts acts act outcomes outcome (empty_tables hosts) each)) after));
     }
 
 -- what holds where all went well gives what follows from it

@@ -1,6 +1,10 @@
 pub mod Kept
 pub mod Built
+pub mod Forms
 pub mod Replying
+pub mod Telling
+pub mod Histories
 pub mod Steps
 pub mod Courses
+pub mod Privacy
 pub mod Fronts

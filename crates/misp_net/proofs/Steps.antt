@@ -2,7 +2,7 @@
 use Rattle.std.proofs.Common.{◌≡◌, ◌≢◌, ℕ, zero, suc, ◌<◌, List, [], ◌∷◌, map, length, get_or, set, Option, Some, Ok, Err, refl, sym, ◌∙◌, ap, subst, inl, inr, arith, length-set}
 use Rattle.std.proofs.lemmas.Bool.{cases_eq}
 use Rattle.std.proofs.lemmas.Bool.Decides.{nat_tests}
-use Rattle.std.proofs.lemmas.List.{length-map, map-set, get_or-map, set-get_or}
+use Rattle.std.proofs.lemmas.List.{length-map, map-set, get_or-map}
 use Rattle.std.specs.Prelude.{IfSome}
 use Rattle.misp_outside.specs.Causes.{RoseBy, HasCause}
 use Rattle.misp_outside.specs.Held.{Held}
@@ -78,11 +78,11 @@ abbrev pub step_at : ℕ → ℕ → RequestData → StepData
 step_at time word r = record { time = time; word = word; deed = Request r }
 
 -- the step of one keeper is a step of all
-one_act : (n : ℕ) (hosts : List Host) (time word : ℕ) (r : RequestData) (old : List Stock) (new none : Stock) (reply : Reply) → r.at < length old
+one_act : (n : ℕ) (hosts : List Host) (time word : ℕ) (r : RequestData) (old : List Stock) (new none : Stock) (reply : Reply) → r.at < length old → r.at < length hosts
     → IfSome (get_or old r.at none).held (λ held. IsReplied n (host_at r.at hosts) time (form_of (host_at r.at hosts).admin r word) held reply new.held)
     → HasCause (get_or old r.at none).faults new.faults (outcome_of reply ≡ ByKeeper)
     → IsAct n hosts (Ok (step_at time word r)) old (set old r.at new) (Replied reply)
-one_act n hosts time word r old new none reply lt replied cause =
+one_act n hosts time word r old new none reply lt among replied cause =
     let P : Option Held → Type 0 = λ held. IfSome held (λ held. IsReplied n (host_at r.at hosts) time (form_of (host_at r.at hosts).admin r word) held reply new.held) in
     let at : (tables : Tables) → Tell old tables → IsReplied n (host_at r.at hosts) time (form_of (host_at r.at hosts).admin r word) (held_at r.at tables) reply new.held =
     λ tables tell. subst P (tell_at old tables r.at none lt tell) replied in
@@ -91,6 +91,8 @@ one_act n hosts time word r old new none reply lt replied cause =
       causes = λ place. act_causes r old new none (outcome_of reply) lt cause place;
       output_is = λ tables tell. ap Replied (at tables tell).reply_is;
       tables_are = λ tables tell. tell_set old tables r.at new (request_held (outcome_of reply) n hosts time word r tables) tell (at tables tell).left;
+      among = among;
+      are_rows = λ tables tell went. (at tables tell).are_rows went;
     }
 
 -- and that of one instance
@@ -106,7 +108,7 @@ one_request n time word r old new none reply lt replied cause =
     subst (λ h. R h (get_or (stocks_of old) r.at (stock_of none))) (sym host) (subst (λ s. R (host_of (get_or old r.at none)) s) (sym stock) replied) in
     let long : r.at < length (stocks_of old) = rw (length-map old stock_of) lt in
     subst (λ news. IsAct n (hosts_of old) (Ok (step_at time word r)) (stocks_of old) news (Replied reply)) (sym (map-set stock_of old r.at new))
-    (one_act n (hosts_of old) time word r (stocks_of old) (stock_of new) (stock_of none) reply long there
+    (one_act n (hosts_of old) time word r (stocks_of old) (stock_of new) (stock_of none) reply long (rw (length-map old host_of) lt) there
     (subst (λ s. HasCause s.faults new.faults (outcome_of reply ≡ ByKeeper)) (sym stock) cause))
 
 pub hosts_kept : (old : List Standing) (place : ℕ) (new none : Standing) → place < length old
@@ -123,6 +125,8 @@ no_request n hosts time word old = record {
   causes = λ place. omega arith;
   output_is = λ tables tell. refl;
   tables_are = λ tables tell. tell;
+  among = tt;
+  are_rows = λ tables tell went. tt;
 }
 
 pub no_step : (n : ℕ) (hosts : List Host) (bad : BadLine) (old : List Stock) → IsAct n hosts (Err bad) old old (Bad bad.place)
@@ -131,6 +135,8 @@ no_step n hosts bad old = record {
   causes = λ place. omega arith;
   output_is = λ tables tell. refl;
   tables_are = λ tables tell. tell;
+  among = tt;
+  are_rows = λ tables tell went. tt;
 }
 
 -- there are as many instances as before

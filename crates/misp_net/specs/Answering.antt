@@ -1,6 +1,7 @@
 -- What a request is by its form, and what it is replied.
 use Rattle.std.specs.Prelude.{◌≡◌, ℕ, List, [], Option, Some, None, Ok, Err, if◌then◌else◌}
 use Rattle.misp_ids.specs.Names.{is_api_key}
+use Rattle.misp_elem.specs.declared.refusal.Refusal.{Refusal}
 use Rattle.misp_elem.specs.declared.refusal.RuleName.TheVariants as rules
 use Rattle.misp_elem.specs.declared.row.RowFields.{RowFields as Row}
 use Rattle.misp_elem.specs.Row.{AreRows}
@@ -53,11 +54,15 @@ fault_reply stops.NoMemory = replies.Refused (bare rules.NoMemory)
 
 -- ---- the reply to the n-th request of a script, of this form
 
+-- a refusal by the form, unless something stopped the request
+abbrev pub refusal_by : Outcome → Refusal → Reply
+refusal_by Went refusal = replies.Refused refusal
+refusal_by ByKeeper refusal = replies.Refused (bare rules.KeeperFault)
+refusal_by ByMemory refusal = replies.Refused (bare rules.NoMemory)
+
 abbrev pub reply_by : Outcome → ℕ → Host → ℕ → Reading Asked → Held → Reply
 reply_by outcome n host now (Ok asked) held = reply_to outcome n (site host.name host.admin asked.0 now) asked.1 held
-reply_by Went n host now (Err refusal) held = replies.Refused refusal
-reply_by ByKeeper n host now (Err refusal) held = replies.Refused (bare rules.KeeperFault)
-reply_by ByMemory n host now (Err refusal) held = replies.Refused (bare rules.NoMemory)
+reply_by outcome n host now (Err refusal) held = refusal_by outcome refusal
 
 -- what is held afterwards
 abbrev pub held_by : Outcome → ℕ → Host → ℕ → Reading Asked → Held → Held

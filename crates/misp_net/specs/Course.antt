@@ -1,10 +1,13 @@
 -- What is known of the course of a script over instances, some of which may not tell what they hold.
 use Rattle.std.specs.Prelude.{◌≡◌, ℕ, List, ◌++◌, map, length}
 use Rattle.misp_outside.specs.Causes.{RoseBy}
-use Rattle.misp_core.specs.Outcome.{Outcome}
+use Rattle.misp_elem.specs.Row.{AreRows}
+use Rattle.misp_model.specs.Kept.{start}
+use Rattle.misp_core.specs.Outcome.{Outcome, Went}
 use Rattle.misp_net.specs.declared.line.Output.{Output}
 use Rattle.misp_net.specs.Hosts.{Host, Stock, Tables, Tell, count_at}
-use Rattle.misp_net.specs.Run.{Act, output_of, tables_after, outputs_of, tables_left, outcome_in, fault_at, faults_at}
+use Rattle.misp_net.specs.Run.{Act, output_of, tables_after, outputs_of, tables_left, outcome_in, fault_at, faults_at, writes_of, IsAmong}
+use Rattle.misp_net.specs.History.{world_left, told_outputs, AreDistinct, empty_tables, IsHistory}
 use Rattle.misp_net.specs.Text.{line_of, text_from}
 
 -- The n-th line took the keepers from old to new, and put this out.
@@ -13,6 +16,8 @@ pub record IsAct (n : ℕ) (hosts : List Host) (act : Act) (old new : List Stock
   pub causes : (place : ℕ) → RoseBy (fault_at place act (outcome_in output)) (count_at place old) (count_at place new)
   pub output_is : (tables : Tables) → Tell old tables → output ≡ output_of (outcome_in output) n hosts act tables
   pub tables_are : (tables : Tables) → Tell old tables → Tell new (tables_after (outcome_in output) n hosts act tables)
+  pub among : IsAmong (length hosts) act
+  pub are_rows : (tables : Tables) → Tell old tables → outcome_in output ≡ Went → AreRows (writes_of n hosts act tables)
 
 -- the same, and behind what was written before stands what it put out, as the line of this number
 pub record HasPut (n : ℕ) (hosts : List Host) (act : Act) (old new : List Stock) (number : ℕ) (before after : List ℕ) : Type 0 where
@@ -32,3 +37,7 @@ pub record HasRun (hosts : List Host) (acts : List Act) (old new : List Stock) (
   pub causes : (place : ℕ) → RoseBy (faults_at place acts outcomes) (count_at place old) (count_at place new)
   pub outputs_are : (tables : Tables) → Tell old tables → outputs ≡ outputs_of 0 hosts acts outcomes tables
   pub tables_are : (tables : Tables) → Tell old tables → Tell new (tables_left 0 hosts acts outcomes tables)
+  -- over keepers that held nothing the lines are those of the history, and each keeper holds its tables
+  pub told : AreDistinct hosts → Tell old (empty_tables hosts) → outputs ≡ told_outputs 0 hosts start acts outcomes
+  pub history : AreDistinct hosts → Tell old (empty_tables hosts)
+      → IsHistory hosts (length acts) (world_left 0 hosts start acts outcomes) (tables_left 0 hosts acts outcomes (empty_tables hosts))

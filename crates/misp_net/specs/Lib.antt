@@ -4,4 +4,6 @@ pub mod Request
 pub mod Answering
 pub mod Text
 pub mod Run
+pub mod History
 pub mod Course
+pub mod Promise

@@ -1,15 +1,16 @@
 -- The run of a script, given what stopped each of its lines: what is put out, and what is held in the end.
 use Rattle.std.specs.Prelude.{ℕ, suc, ◌+◌, ◌==◌, List, [], ◌∷◌, map, slice_set, Ok, Err, if◌then◌else◌}
+use Rattle.misp_elem.specs.declared.row.RowFields.{RowFields as Row}
 use Rattle.misp_outside.specs.Held.{Held}
 use Rattle.misp_script.specs.Fields.{Reading}
 use Rattle.misp_script.specs.Lines.{lines_of}
-use Rattle.misp_script.specs.Step.{StepData, DeedData, RequestData, step_of}
+use Rattle.misp_script.specs.Step.{StepData, DeedData, RequestData, IsPlaced, step_of}
 use Rattle.misp_script.specs.Step as deeds
 use Rattle.misp_core.specs.Outcome.{Outcome, Went, ByKeeper, ByMemory, outcome_of}
 use Rattle.misp_net.specs.declared.line.Output.{Output}
 use Rattle.misp_net.specs.declared.line.Output.TheVariants.{Bad, Nothing, Replied}
 use Rattle.misp_net.specs.Hosts.{Host, host_at, Tables, held_at}
-use Rattle.misp_net.specs.Answering.{form_of, reply_by, held_by}
+use Rattle.misp_net.specs.Answering.{form_of, reply_by, held_by, writes_by}
 
 -- a line of a script: a step, or the place of its first faulty field
 abbrev pub Act : Type 0
@@ -48,6 +49,21 @@ deed_tables outcome n hosts time word (deeds.Request r) tables = slice_set table
 abbrev pub tables_after : Outcome → ℕ → List Host → Act → Tables → Tables
 tables_after outcome n hosts (Ok step) tables = deed_tables outcome n hosts step.time step.word step.deed tables
 tables_after outcome n hosts (Err bad) tables = tables
+
+-- the rows that a line writes where nothing stops it
+abbrev pub deed_writes : ℕ → List Host → ℕ → ℕ → DeedData → Tables → List Row
+deed_writes n hosts time word deeds.Nothing tables = []
+deed_writes n hosts time word (deeds.Request r) tables =
+    writes_by n (host_at r.at hosts) time (form_of (host_at r.at hosts).admin r word) (held_at r.at tables)
+
+abbrev pub writes_of : ℕ → List Host → Act → Tables → List Row
+writes_of n hosts (Ok step) tables = deed_writes n hosts step.time step.word step.deed tables
+writes_of n hosts (Err bad) tables = []
+
+-- the instance that is asked is one of so many
+abbrev pub IsAmong : ℕ → Act → Type 0
+IsAmong count (Ok step) = IsPlaced count step.deed
+IsAmong count (Err bad) = Unit {0}
 
 -- ---- all lines
 

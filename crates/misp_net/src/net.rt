@@ -6,6 +6,7 @@ ghost use Rattle.misp_script.specs.Step.{step_of};
 ghost use Rattle.misp_net.specs.Hosts.{described_hosts, hosts_of, stocks_of, stocks};
 ghost use Rattle.misp_net.specs.Run.{acts_of};
 ghost use Rattle.misp_net.specs.Course.{IsAct, HasPut, HasRun};
+ghost use Rattle.misp_net.specs.Promise.{IsPromised};
 
 use crate::answering::answer;
 use crate::line::{Output, write_line};
@@ -95,9 +96,10 @@ pub fn run_net<K: Keeper>(
 ) -> Result<Vec<u8>, NetFault>
     requires { length net.instances ≤ vec_len keepers.old }
 
-    // What was written and what is held follow from the script, and from what stopped each line.
+    // What was written and what is held follow from the script, and from what stopped each line;
+    // and what an organisation was never granted changes none of its replies.
     ensures ran { IfOk result (λ lines.
-        HasRun (described_hosts net) (acts_of (names_of net) script.now)
+        IsPromised (described_hosts net) (acts_of (names_of net) script.now)
         (take (length net.instances) (stocks K.held K.faults keepers.old.items))
         (take (length net.instances) (stocks K.held K.faults keepers.new.items)) lines.items) }
 

@@ -3,6 +3,7 @@ use Rattle.std.proofs.lemmas.List.{length-map}
 use Rattle.misp_net.specs.Hosts.{Stock, stock_of, described_host, hosts_of, stocks_of, stocks}
 use Rattle.misp_net.specs.Run.{acts_of}
 use Rattle.misp_net.specs.Course.{HasRun}
+use Rattle.misp_net.proofs.Privacy.{promised}
 use Rattle.misp_net.proofs.Fronts.{opened_long, run_in_front, others_kept}
 use Rattle.misp_net.proofs.net.run_net.Goals as goal
 
@@ -12,10 +13,11 @@ returns-clause-ran g c =
     let entries = c.args.net.instances in
     let opened = c.in_ok-instances.instances.items in
     let hosts : hosts_of opened ≡ map described_host entries = c.in_ok-instances.ensures.hosts ∙ ap (map described_host) c.into_vec.ensures in
-    run_in_front (hosts_of opened) (map described_host entries) _ (stocks_of opened) (stocks_of c.run_lines-lines.new.instances.items)
+    promised _ _ _ _ _
+    (run_in_front (hosts_of opened) (map described_host entries) _ (stocks_of opened) (stocks_of c.run_lines-lines.new.instances.items)
     (stocks g.K.Keeper.held g.K.Keeper.faults c.open_all.new.keepers.items) _ _ (length entries) _
     hosts (opened_long opened entries hosts) c.in_ok-instances.ensures.opened c.close_all.ensures
-    (rw (← c.in_ok-names.ensures, ← c.as_slice.ensures) c.in_ok-lines.ensures.ran)
+    (rw (← c.in_ok-names.ensures, ← c.as_slice.ensures) c.in_ok-lines.ensures.ran))
 
 pub returns-clause-others : goal.returns-clause-others
 returns-clause-others g c =

@@ -1,0 +1,134 @@
+-- The lines of a script as the acts of a network's history, and what that history says of them.
+use Rattle.std.specs.Prelude.{◌≡◌, ℕ, suc, ◌<◌, Bool, true, false, ltb, List, [], ◌∷◌, map, length, Option, Some, None, Ok, Err}
+use Rattle.std.specs.List.{list_all}
+use Rattle.misp_ids.specs.declared.uid.OrgId.{OrgId}
+use Rattle.misp_elem.specs.declared.refusal.RuleName.TheVariants as rules
+use Rattle.misp_orgs.specs.declared.key.Caller.{Caller}
+use Rattle.misp_outside.specs.Held.{nothing_held}
+use Rattle.misp_script.specs.Step.{DeedData, RequestData}
+use Rattle.misp_script.specs.Step as deeds
+use Rattle.misp_model.specs.Names.{Inst, same_inst, same_org}
+use Rattle.misp_model.specs.Acts.{World, Net}
+use Rattle.misp_model.specs.Acts as model
+use Rattle.misp_model.specs.Outcomes.{Whole, Failed, step_partly, run_partly}
+use Rattle.misp_model.specs.Outcomes as model_outcomes
+use Rattle.misp_core.specs.Answers.{Surroundings, site, reply_in}
+use Rattle.misp_core.specs.Keeping.{Keeps, act_at, caller_at}
+use Rattle.misp_core.specs.Outcome.{Outcome, Went, ByKeeper, ByMemory}
+use Rattle.misp_core.specs.declared.reply.Reply.{Reply}
+use Rattle.misp_core.specs.declared.reply.Reply.TheVariants as replies
+use Rattle.misp_net.specs.declared.line.Output.{Output}
+use Rattle.misp_net.specs.declared.line.Output.TheVariants.{Bad, Nothing, Replied}
+use Rattle.misp_net.specs.Hosts.{Host, host_at, Tables, held_at}
+use Rattle.misp_net.specs.Request.{Reading, bare}
+use Rattle.misp_net.specs.Answering.{Asked, caller_in, form_of, refusal_by}
+use Rattle.misp_net.specs.Run.{Act}
+
+-- ---- lines as acts
+
+-- where and when a caller asks
+abbrev pub site_of : Host → ℕ → Caller → Surroundings
+site_of host now caller = site host.name host.admin caller now
+
+-- what is asked, or that somebody asked what is no request
+abbrev pub form_deed : Reading Asked → Host → ℕ → Option Caller → model.Deed
+form_deed (Ok asked) host now caller = model.Asks (caller_at (site_of host now asked.0)) asked.1
+form_deed (Err refusal) host now None = model.Nothing
+form_deed (Err refusal) host now (Some caller) = model.Misfits (caller_at (site_of host now caller))
+
+abbrev pub request_act : Host → ℕ → ℕ → RequestData → model.Act
+request_act host time word r =
+    record { at = host.name; now = time; deed = form_deed (form_of host.admin r word) host time (caller_in host.admin r.key) }
+
+abbrev pub no_act : ℕ → model.Act
+no_act time = record { at = []; now = time; deed = model.Nothing }
+
+abbrev pub deed_act : List Host → ℕ → ℕ → DeedData → model.Act
+deed_act hosts time word deeds.Nothing = no_act time
+deed_act hosts time word (deeds.Request r) = request_act (host_at r.at hosts) time word r
+
+-- a line that is none does nothing
+abbrev pub act_in : List Host → Act → model.Act
+act_in hosts (Ok step) = deed_act hosts step.time step.word step.deed
+act_in hosts (Err bad) = no_act 0
+
+abbrev pub acts_in : List Host → List Act → List model.Act
+acts_in hosts acts = map (act_in hosts) acts
+
+-- no instance pulls from another
+abbrev pub no_links : Net
+no_links = λ way at link groups. None
+
+-- of a line that was stopped nothing was applied
+abbrev pub applied : Outcome → model_outcomes.Outcome
+applied Went = Whole
+applied ByKeeper = Failed
+applied ByMemory = Failed
+
+-- the state after the n-th line
+abbrev pub world_after : Outcome → ℕ → List Host → World → Act → World
+world_after outcome n hosts w act = step_partly no_links n w (act_in hosts act) (applied outcome)
+
+-- the state after these lines, the first being the n-th
+abbrev pub world_left : ℕ → List Host → World → List Act → List Outcome → World
+world_left n hosts w [] outcomes = w
+world_left n hosts w (act ∷ acts) [] = w
+world_left n hosts w (act ∷ acts) (outcome ∷ outcomes) = world_left (suc n) hosts (world_after outcome n hosts w act) acts outcomes
+
+-- ---- what the history says of a line
+
+-- the reply to the n-th request, of this form: the stated function of what is asked, and of what its caller knows
+abbrev pub told_reply : Outcome → ℕ → World → Host → ℕ → Reading Asked → Reply
+told_reply Went n w host now (Ok asked) =
+    reply_in host.admin (model.scene n w (act_at (site_of host now asked.0) asked.1) (caller_at (site_of host now asked.0))) asked.1
+told_reply ByKeeper n w host now (Ok asked) = replies.Refused (bare rules.KeeperFault)
+told_reply ByMemory n w host now (Ok asked) = replies.Refused (bare rules.NoMemory)
+told_reply outcome n w host now (Err refusal) = refusal_by outcome refusal
+
+abbrev pub told_deed : Outcome → ℕ → List Host → World → ℕ → ℕ → DeedData → Output
+told_deed outcome n hosts w time word deeds.Nothing = Nothing
+told_deed outcome n hosts w time word (deeds.Request r) =
+    Replied (told_reply outcome n w (host_at r.at hosts) time (form_of (host_at r.at hosts).admin r word))
+
+-- what the n-th line puts out
+abbrev pub told_output : Outcome → ℕ → List Host → World → Act → Output
+told_output outcome n hosts w (Ok step) = told_deed outcome n hosts w step.time step.word step.deed
+told_output outcome n hosts w (Err bad) = Bad bad.place
+
+abbrev pub told_outputs : ℕ → List Host → World → List Act → List Outcome → List Output
+told_outputs n hosts w [] outcomes = []
+told_outputs n hosts w (act ∷ acts) [] = []
+told_outputs n hosts w (act ∷ acts) (outcome ∷ outcomes) =
+    told_output outcome n hosts w act ∷ told_outputs (suc n) hosts (world_after outcome n hosts w act) acts outcomes
+
+-- ---- what the keepers hold of it
+
+-- no two instances have one name
+abbrev pub AreDistinct : List Host → Type 0
+AreDistinct hosts = (p q : ℕ) → p < length hosts → q < length hosts → same_inst (host_at p hosts).name (host_at q hosts).name ≡ true → p ≡ q
+
+-- nothing is held by any
+abbrev pub empty_tables : List Host → Tables
+empty_tables hosts = map (λ host. nothing_held) hosts
+
+-- each keeper holds the tables of its instance after the first n acts, and no groups are known
+pub record IsHistory (hosts : List Host) (n : ℕ) (w : World) (tables : Tables) : Type 0 where
+  pub long : length tables ≡ length hosts
+  pub each : (place : ℕ) → place < length hosts → Keeps (host_at place hosts).name w (held_at place tables)
+  pub earlier : list_all (λ v. ltb v.act n) w.log ≡ true
+  pub none : (i : Inst) → w.groups i ≡ []
+
+-- ---- whose a line is
+
+abbrev pub is_caller : OrgId → Option Caller → Bool
+is_caller o None = false
+is_caller o (Some caller) = same_org caller.org o
+
+abbrev pub deed_is_of : OrgId → List Host → DeedData → Bool
+deed_is_of o hosts deeds.Nothing = false
+deed_is_of o hosts (deeds.Request r) = is_caller o (caller_in (host_at r.at hosts).admin r.key)
+
+-- the line is a request with a key of the organisation
+abbrev pub is_of : OrgId → List Host → Act → Bool
+is_of o hosts (Ok step) = deed_is_of o hosts step.deed
+is_of o hosts (Err bad) = false

@@ -1,0 +1,44 @@
+-- What is promised of the run of a script over keepers that held nothing.
+use Rattle.std.specs.Prelude.{◌≡◌, ℕ, suc, List, [], ◌∷◌, map, Option, Some, None, if◌then◌else◌}
+use Rattle.misp_ids.specs.declared.uid.OrgId.{OrgId}
+use Rattle.misp_model.specs.Acts.{World, step}
+use Rattle.misp_model.specs.Acts as model
+use Rattle.misp_model.specs.Kept.{start, erased}
+use Rattle.misp_core.specs.Outcome.{Outcome, Went}
+use Rattle.misp_net.specs.declared.line.Output.{Output}
+use Rattle.misp_net.specs.Hosts.{Host, Stock, Tell}
+use Rattle.misp_net.specs.Run.{Act}
+use Rattle.misp_net.specs.Course.{HasRun}
+use Rattle.misp_net.specs.History.{acts_in, no_links, told_output, AreDistinct, empty_tables, is_of}
+
+-- nothing stops any of the lines
+abbrev pub unstopped : List Act → List Outcome
+unstopped acts = map (λ act. Went) acts
+
+-- what the lines put out where nothing stops them, over the history of these acts
+abbrev pub outputs_over : ℕ → List Host → World → List Act → List model.Act → List Output
+outputs_over n hosts w [] history = []
+outputs_over n hosts w (act ∷ acts) [] = []
+outputs_over n hosts w (act ∷ acts) (a ∷ history) = told_output Went n hosts w act ∷ outputs_over (suc n) hosts (step no_links n w a) acts history
+
+-- what the organisation is replied, in order
+abbrev pub replies_to : OrgId → List Host → List Act → List Output → List Output
+replies_to o hosts [] outputs = []
+replies_to o hosts (act ∷ acts) [] = []
+replies_to o hosts (act ∷ acts) (output ∷ outputs) =
+    if is_of o hosts act then output ∷ replies_to o hosts acts outputs else replies_to o hosts acts outputs
+
+-- its own lines, each in its place
+abbrev pub own_lines : OrgId → List Host → List Act → List (Option Act)
+own_lines o hosts acts = map (λ act. if is_of o hosts act then Some act else None) acts
+
+pub record IsPromised (hosts : List Host) (acts : List Act) (old new : List Stock) (text : List ℕ) : Type 0 where
+  pub run : HasRun hosts acts old new text
+  -- where nothing was stopped, elements that an organisation was never granted change none of its replies
+  pub private : AreDistinct hosts → Tell old (empty_tables hosts) → run.outcomes ≡ unstopped acts → (o : OrgId) →
+      replies_to o hosts acts run.outputs
+      ≡ replies_to o hosts acts (outputs_over 0 hosts start acts (erased o no_links (acts_in hosts acts)))
+  -- and any script with its lines that comes to the same without those elements gives it these replies
+  pub alike : AreDistinct hosts → Tell old (empty_tables hosts) → run.outcomes ≡ unstopped acts → (o : OrgId) (others : List Act) →
+      own_lines o hosts others ≡ own_lines o hosts acts → erased o no_links (acts_in hosts others) ≡ erased o no_links (acts_in hosts acts) →
+      replies_to o hosts others (outputs_over 0 hosts start others (acts_in hosts others)) ≡ replies_to o hosts acts run.outputs
