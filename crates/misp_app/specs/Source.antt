@@ -10,7 +10,8 @@ use Rattle.misp_script.specs.Names.{names_of}
 use Rattle.misp_script.specs.Source.{description_part, script_part}
 use Rattle.misp_net.specs.Hosts.{Stock, described_hosts}
 use Rattle.misp_net.specs.Run.{acts_of}
-use Rattle.misp_net.specs.Course.{HasRun}
+use Rattle.misp_net.specs.History.{AreDistinct}
+use Rattle.misp_net.specs.Promise.{IsPromised}
 use Rattle.misp_app.specs.Streams.{AppendsSome, fault_line}
 
 -- what is described by the text before the script, or its first fault
@@ -29,7 +30,8 @@ pub record HasWritten (source : List ℕ) (old new : List Stock) (Writes : List 
   pub net : Description
   pub lines : List ℕ
   pub described_is : described source ≡ Ok net
-  pub ran : HasRun (described_hosts net) (acts_of (names_of net) (script_part source)) (take (length net.instances) old) (take (length net.instances) new) lines
+  pub distinct : AreDistinct (described_hosts net)
+  pub ran : IsPromised (described_hosts net) (acts_of (names_of net) (script_part source)) (take (length net.instances) old) (take (length net.instances) new) lines
   pub others : drop (length net.instances) new ≡ drop (length net.instances) old
   pub written : Writes lines
 

@@ -40,7 +40,8 @@ pub fn run<S: Source, W: Sink, K: Keeper, C: Carry, D: Door, L: Dial, T: Clock>(
         IfSome (S.left source.old) (λ left. MAX_SOURCE < length left) }
     ensures silent { IsSilent result → W.written sink.new ≡ W.written sink.old }
 
-    // The lines written and what is held follow from the source, and from what stopped each line.
+    // The lines written and what is held follow from the source, and from what stopped each line;
+    // and what an organisation was never granted changes none of its replies.
     ensures done { result ≡ Status.Done → IfSome (S.left source.old) (λ left.
         HasWritten left (stocks K.held K.faults keepers.old.items)
         (stocks K.held K.faults keepers.new.items)
@@ -82,6 +83,7 @@ fn are_accepted(words: &[String]) -> bool
 }
 
 // Runs what the source said.
+#[tactic(auto, using(crate::proofs::Sole::one_is_distinct))]
 fn run_source<W: Sink, K: Keeper>(
     alloc: Global,
     bytes: &[u8],

@@ -6,5 +6,6 @@ pub mod Telling
 pub mod Histories
 pub mod Steps
 pub mod Courses
+pub mod Refusing
 pub mod Privacy
 pub mod Fronts

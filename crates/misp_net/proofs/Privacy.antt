@@ -36,6 +36,7 @@ use Rattle.misp_net.specs.History.{site_of, act_in, acts_in, no_links, told_repl
 use Rattle.misp_net.specs.Promise.{unstopped, outputs_over, replies_to, own_lines, IsPromised}
 use Rattle.misp_net.proofs.Forms.{AskedBy, form_caller}
 use Rattle.misp_net.proofs.Telling.{world_whole}
+use Rattle.misp_net.proofs.Refusing.{idle_same}
 
 -- ---- over a set of keys that has all that the organisation knows
 
@@ -155,6 +156,7 @@ told_unstopped n hosts w (act ∷ acts) =
 pub promised : (hosts : List Host) (acts : List Act) (old new : List Stock) (text : List ℕ) → HasRun hosts acts old new text → IsPromised hosts acts old new text
 promised hosts acts old new text run = record {
   run = run;
+  refused = λ outcome n act tables idle. idle_same outcome n hosts act tables idle;
   private = λ distinct empty went o.
       ap (replies_to o hosts acts) (run.told distinct empty ∙ ap (told_outputs 0 hosts start acts) went ∙ told_unstopped 0 hosts start acts)
       ∙ sym (private_replies o hosts acts);

@@ -4,10 +4,11 @@ use Rattle.misp_ids.specs.declared.uid.OrgId.{OrgId}
 use Rattle.misp_model.specs.Acts.{World, step}
 use Rattle.misp_model.specs.Acts as model
 use Rattle.misp_model.specs.Kept.{start, erased}
-use Rattle.misp_core.specs.Outcome.{Outcome, Went}
+use Rattle.misp_core.specs.Outcome.{Outcome, Went, IsRefused}
 use Rattle.misp_net.specs.declared.line.Output.{Output}
-use Rattle.misp_net.specs.Hosts.{Host, Stock, Tell}
-use Rattle.misp_net.specs.Run.{Act}
+use Rattle.misp_net.specs.declared.line.Output.TheVariants.{Bad, Nothing, Replied}
+use Rattle.misp_net.specs.Hosts.{Host, Stock, Tables, Tell}
+use Rattle.misp_net.specs.Run.{Act, output_of, tables_after}
 use Rattle.misp_net.specs.Course.{HasRun}
 use Rattle.misp_net.specs.History.{acts_in, no_links, told_output, AreDistinct, empty_tables, is_of}
 
@@ -32,8 +33,16 @@ replies_to o hosts (act ∷ acts) (output ∷ outputs) =
 abbrev pub own_lines : OrgId → List Host → List Act → List (Option Act)
 own_lines o hosts acts = map (λ act. if is_of o hosts act then Some act else None) acts
 
+-- a line that is none, asks nothing, or is refused
+abbrev pub IsIdle : Output → Type 0
+IsIdle (Bad place) = Unit {0}
+IsIdle Nothing = Unit {0}
+IsIdle (Replied reply) = IsRefused reply
+
 pub record IsPromised (hosts : List Host) (acts : List Act) (old new : List Stock) (text : List ℕ) : Type 0 where
   pub run : HasRun hosts acts old new text
+  -- what is refused changes nothing
+  pub refused : (outcome : Outcome) (n : ℕ) (act : Act) (tables : Tables) → IsIdle (output_of outcome n hosts act tables) → tables_after outcome n hosts act tables ≡ tables
   -- where nothing was stopped, elements that an organisation was never granted change none of its replies
   pub private : AreDistinct hosts → Tell old (empty_tables hosts) → run.outcomes ≡ unstopped acts → (o : OrgId) →
       replies_to o hosts acts run.outputs
