@@ -1,5 +1,5 @@
 -- What a source describes, and the line that tells where it does not.
-use Rattle.std.specs.Prelude.{◌≡◌, ℕ, List, length, take, drop, Result, Ok, Err}
+use Rattle.std.specs.Prelude.{◌≡◌, ℕ, List, length, take, drop, nat_lt, Result, Ok, Err, if◌then◌else◌}
 use Rattle.std.specs.declared.option.Option.{Option}
 use Rattle.std.specs.Io.KnownBytes.{Appends}
 use Rattle.misp_script.specs.declared.description.Description.{Description}
@@ -12,11 +12,22 @@ use Rattle.misp_net.specs.Hosts.{Stock, described_hosts}
 use Rattle.misp_net.specs.Run.{acts_of}
 use Rattle.misp_net.specs.History.{AreDistinct}
 use Rattle.misp_net.specs.Promise.{IsPromised}
+use Rattle.misp_app.specs.declared.TheConstants.{MAX_SOURCE}
+use Rattle.misp_app.specs.declared.status.Status.{Status}
+use Rattle.misp_app.specs.declared.status.Status.TheVariants.{Done, BadDescription, TooMuch}
 use Rattle.misp_app.specs.Streams.{AppendsSome, fault_line}
 
 -- what is described by the text before the script, or its first fault
 abbrev pub described : List ℕ → Reading Description
 described source = description_at (description_part source)
+
+abbrev pub described_status : Reading Description → Status
+described_status (Ok net) = Done
+described_status (Err fault) = BadDescription
+
+-- how a run of this source ends, unless a fault or the want of memory stops it
+abbrev pub status_of : List ℕ → Status
+status_of source = if nat_lt MAX_SOURCE (length source) then TooMuch else described_status (described source)
 
 -- it has a first fault, and the line of that fault was written
 abbrev pub IsTold : Reading Description → Option (List ℕ) → Option (List ℕ) → Type 0

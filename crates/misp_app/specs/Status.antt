@@ -66,3 +66,13 @@ IsStill WriteFault = ⊥
 IsStill BadDescription = Unit {0}
 IsStill OutOfMemory = ⊥
 IsStill TooMuch = Unit {0}
+
+-- a fault or the want of memory stopped the run
+abbrev pub IsStopped : Status → Type 0
+IsStopped Done = ⊥
+IsStopped Usage = ⊥
+IsStopped ReadFault = Unit {0}
+IsStopped WriteFault = Unit {0}
+IsStopped BadDescription = ⊥
+IsStopped OutOfMemory = Unit {0}
+IsStopped TooMuch = ⊥

@@ -1,11 +1,11 @@
 //! The top call.
 
-ghost use Rattle.std.specs.Prelude.{◌≡◌, ◌≤◌, ◌↔◌, IfErr, IfSome, OnOk, IsTrue, ◌<◌, length, map, vec_len, string_bytes};
+ghost use Rattle.std.specs.Prelude.{◌≡◌, ◌≤◌, ◌↔◌, ◌⊎◌, IfErr, IfSome, OnOk, IsTrue, ◌<◌, length, map, vec_len, string_bytes};
 ghost use Rattle.misp_outside.specs.Causes.{Rose};
 ghost use Rattle.std.specs.Io.KnownBytes.{Appends};
 ghost use Rattle.misp_net.specs.Hosts.{stocks};
-ghost use Rattle.misp_app.specs.Source.{described, IsTold, HasWritten, IsPartly};
-ghost use Rattle.misp_app.specs.Status.{AreAccepted, IsSilent, IsStill, IsSourceEnd};
+ghost use Rattle.misp_app.specs.Source.{described, described_status, status_of, IsTold, HasWritten, IsPartly};
+ghost use Rattle.misp_app.specs.Status.{AreAccepted, IsStopped, IsSilent, IsStill, IsSourceEnd};
 
 use crate::fault::{put, tell_fault};
 use crate::reading::read_all;
@@ -30,8 +30,10 @@ pub fn run<S: Source, W: Sink, K: Keeper, C: Carry, D: Door, L: Dial, T: Clock>(
 ) -> Status
     requires { KEEPERS ≤ vec_len keepers.old }
 
-    // The words decide whether anything is done.
+    // The words and the source decide how it ends, where no fault and no want of memory does.
     ensures usage { result ≡ Status.Usage ↔ ¬ AreAccepted (map string_bytes words.now) }
+    ensures status { AreAccepted (map string_bytes words.now) → IfSome (S.left source.old)
+        (λ left. IsStopped result ⊎ (result ≡ status_of left)) }
 
     // A fault is answered only where a count rose.
     ensures read { result ≡ Status.ReadFault → Rose (S.faults source.old) (S.faults source.new) }
@@ -91,6 +93,9 @@ fn run_source<W: Sink, K: Keeper>(
     keepers: &mut Vec<K>,
 ) -> Result<(), Status>
     requires { KEEPERS ≤ vec_len keepers.old }
+    ensures status { IfErr result (λ status.
+        IsStopped status ⊎ (status ≡ described_status (described bytes.now))) }
+    ensures described { OnOk result (described_status (described bytes.now) ≡ Status.Done) }
     ensures write { result ≡ Err Status.WriteFault →
         Rose (W.faults sink.old) (W.faults sink.new) }
     ensures silent { IfErr result (λ status.

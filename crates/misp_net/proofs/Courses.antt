@@ -25,7 +25,7 @@ outputs_push n hosts (a ∷ acts) act (o ∷ outcomes) outcome tables each =
     let later : suc n + length acts ≡ n + suc (length acts) = omega arith in
     ap (λ outputs. output_of o n hosts a tables ∷ outputs)
     (outputs_push (suc n) hosts acts act outcomes outcome (tables_after o n hosts a tables) (omega arith)
-        ∙ ap (λ k. outputs_of (suc n) hosts acts outcomes (tables_after o n hosts a tables) ++ output_of outcome k hosts act (tables_left (suc n) hosts acts outcomes (tables_after o n hosts a tables)) ∷ []) later)
+    ∙ ap (λ k. outputs_of (suc n) hosts acts outcomes (tables_after o n hosts a tables) ++ output_of outcome k hosts act (tables_left (suc n) hosts acts outcomes (tables_after o n hosts a tables)) ∷ []) later)
 
 left_push : (n : ℕ) (hosts : List Host) (acts : List Act) (act : Act) (outcomes : List Outcome) (outcome : Outcome) (tables : Tables) → length outcomes ≡ length acts
     → tables_left n hosts (acts ++ act ∷ []) (outcomes ++ outcome ∷ []) tables
@@ -105,7 +105,7 @@ one_more hosts acts act old mid new text output run step =
           ap (λ before. before ++ output ∷ []) (run.told distinct empty)
           ∙ ap (λ last. told_outputs 0 hosts start acts outcomes ++ last ∷ [])
           (step.output_is (tables_left 0 hosts acts outcomes (empty_tables hosts)) (run.tables_are (empty_tables hosts) empty)
-              ∙ output_told hosts distinct (0 + length acts) (world_left 0 hosts start acts outcomes) (tables_left 0 hosts acts outcomes (empty_tables hosts)) (so_far distinct empty) outcome act step.among)
+          ∙ output_told hosts distinct (0 + length acts) (world_left 0 hosts start acts outcomes) (tables_left 0 hosts acts outcomes (empty_tables hosts)) (so_far distinct empty) outcome act step.among)
           ∙ sym (told_push 0 hosts start acts act outcomes outcome each);
       history = λ distinct empty.
           let after = line_left hosts distinct (0 + length acts) (world_left 0 hosts start acts outcomes) (tables_left 0 hosts acts outcomes (empty_tables hosts)) (so_far distinct empty) outcome act step.among

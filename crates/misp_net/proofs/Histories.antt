@@ -23,7 +23,7 @@ told_push n hosts w (a ∷ acts) act (o ∷ outcomes) outcome each =
     let after : World = world_after o n hosts w a in
     ap (λ outputs. told_output o n hosts w a ∷ outputs)
     (told_push (suc n) hosts after acts act outcomes outcome (omega arith)
-        ∙ ap (λ k. told_outputs (suc n) hosts after acts outcomes ++ told_output outcome k hosts (world_left (suc n) hosts after acts outcomes) act ∷ []) later)
+    ∙ ap (λ k. told_outputs (suc n) hosts after acts outcomes ++ told_output outcome k hosts (world_left (suc n) hosts after acts outcomes) act ∷ []) later)
 
 pub world_push : (n : ℕ) (hosts : List Host) (w : World) (acts : List Act) (act : Act) (outcomes : List Outcome) (outcome : Outcome) → length outcomes ≡ length acts
     → world_left n hosts w (acts ++ act ∷ []) (outcomes ++ outcome ∷ []) ≡ world_after outcome (n + length acts) hosts (world_left n hosts w acts outcomes) act

@@ -98,7 +98,7 @@ module _ (keep : Key → Bool) (closed : IsClosed keep) (o : OrgId) (hosts : Lis
       let a : model.Act = act_in hosts act in
       let after : World = step no_links n w a in
       let rest : replies_to o hosts acts (outputs_over (suc n) hosts (step no_links n (cut_world keep w) (erased_act o keep n w a)) acts (erase o keep no_links (suc n) after (acts_in hosts acts)))
-          ≡ replies_to o hosts acts (outputs_over (suc n) hosts after acts (acts_in hosts acts)) =
+      ≡ replies_to o hosts acts (outputs_over (suc n) hosts after acts (acts_in hosts acts)) =
       ap (λ v. replies_to o hosts acts (outputs_over (suc n) hosts v acts (erase o keep no_links (suc n) after (acts_in hosts acts))))
       (step_cut keep closed o no_links n w a has.0 (known_first (suc n) after (acts_in hosts acts) has.2) has.1)
       ∙ kept_replies (suc n) after acts has.2 in
@@ -135,15 +135,15 @@ same_lines o hosts n w (act ∷ acts) (other ∷ others) (a ∷ history) same =
     let more = same_lines o hosts (suc n) (step no_links n w a) acts others history rest in
     elim (cases_Bool (is_of o hosts other)) [
       | inl its ↦ elim (cases_Bool (is_of o hosts act)) [
-          | inl own ↦
-              let one : other ≡ act = cc in
-              rw (its, own, more) (ap (λ x. told_output Went n hosts w x ∷ replies_to o hosts acts (outputs_over (suc n) hosts (step no_links n w a) acts history)) one)
-          | inr none ↦ absurd cc
-        ]
+        | inl own ↦
+            let one : other ≡ act = cc in
+            rw (its, own, more) (ap (λ x. told_output Went n hosts w x ∷ replies_to o hosts acts (outputs_over (suc n) hosts (step no_links n w a) acts history)) one)
+        | inr none ↦ absurd cc
+      ]
       | inr its ↦ elim (cases_Bool (is_of o hosts act)) [
-          | inl own ↦ absurd cc
-          | inr none ↦ rw (its, none) more
-        ]
+        | inl own ↦ absurd cc
+        | inr none ↦ rw (its, none) more
+      ]
     ]
 
 -- where nothing is stopped, the history is that of all acts
