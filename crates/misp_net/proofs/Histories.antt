@@ -1,5 +1,5 @@
 -- The history goes on by one line.
-use Rattle.std.proofs.Common.{◌≡◌, ℕ, zero, suc, ◌+◌, ◌<◌, List, [], ◌∷◌, ◌++◌, map, length, refl, sym, ◌∙◌, ap, arith}
+use Rattle.std.proofs.Common.{◌≡◌, ℕ, zero, suc, ◌+◌, List, [], ◌∷◌, ◌++◌, length, refl, ◌∙◌, ap, arith}
 use Rattle.std.proofs.lemmas.List.{length-map}
 use Rattle.misp_outside.specs.Held.{nothing_held}
 use Rattle.misp_model.specs.History.{tables, newest, newest_from}
@@ -7,8 +7,7 @@ use Rattle.misp_model.specs.Order.{in_order}
 use Rattle.misp_model.specs.Acts.{World}
 use Rattle.misp_model.specs.Kept.{start}
 use Rattle.misp_core.specs.Outcome.{Outcome}
-use Rattle.misp_net.specs.declared.line.Output.{Output}
-use Rattle.misp_net.specs.Hosts.{Host, held_at, Tables}
+use Rattle.misp_net.specs.Hosts.{Host, held_at}
 use Rattle.misp_net.specs.Run.{Act}
 use Rattle.misp_net.specs.History.{world_after, world_left, told_output, told_outputs, empty_tables, IsHistory}
 

@@ -1,5 +1,5 @@
 -- What an organisation was never granted changes none of its replies.
-use Rattle.std.proofs.Common.{◌≡◌, ℕ, suc, Bool, true, false, List, [], ◌∷◌, map, Option, Some, None, Ok, Err, refl, sym, ◌∙◌, ap, subst, inl, inr}
+use Rattle.std.proofs.Common.{◌≡◌, ℕ, suc, Bool, true, List, [], ◌∷◌, Option, Some, None, Ok, Err, refl, sym, ◌∙◌, ap, subst, inl, inr}
 use Rattle.std.proofs.lemmas.Bool.{cases_Bool}
 use Rattle.std.specs.Prelude.{if◌then◌else◌}
 use Rattle.std.specs.List.{list_all}
@@ -25,7 +25,6 @@ use Rattle.misp_model.proofs.Headline.{kept_is_closed, kept_has}
 use Rattle.misp_core.specs.Answers.{reply_in}
 use Rattle.misp_core.specs.Keeping.{act_at, caller_at}
 use Rattle.misp_core.specs.Outcome.{Went}
-use Rattle.misp_net.specs.declared.line.Output.{Output}
 use Rattle.misp_net.specs.declared.line.Output.TheVariants.{Replied}
 use Rattle.misp_net.specs.Hosts.{Host, host_at, Stock}
 use Rattle.misp_net.specs.Request.{Reading}

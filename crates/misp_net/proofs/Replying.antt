@@ -14,7 +14,7 @@ use Rattle.misp_requests.specs.declared.ask.Ask.{Ask}
 use Rattle.misp_script.specs.Step.{RequestData}
 use Rattle.misp_core.specs.Standing.{Standing}
 use Rattle.misp_core.specs.Answers.{site_at}
-use Rattle.misp_core.specs.Outcome.{Outcome, Went, ByKeeper, ByMemory, outcome_of, IsAnswered}
+use Rattle.misp_core.specs.Outcome.{Went, ByKeeper, outcome_of, IsAnswered}
 use Rattle.misp_core.specs.declared.reply.Reply.{Reply}
 use Rattle.misp_core.specs.declared.reply.Reply.TheVariants as replies
 use Rattle.serde_json.specs.Data.{Data}

@@ -1,7 +1,7 @@
 -- One line over keepers that hold the tables of the history.
-use Rattle.std.proofs.Common.{◌≡◌, ◌≢◌, ℕ, suc, ◌<◌, Bool, true, false, List, map, length, set, get_or, Option, Some, None, Result, Ok, Err, refl, sym, ◌∙◌, ap, subst, inl, inr, arith, length-set}
+use Rattle.std.proofs.Common.{◌≡◌, ◌≢◌, ℕ, suc, ◌<◌, true, false, List, map, length, Option, Some, None, Ok, Err, refl, sym, ◌∙◌, ap, subst, inl, inr, length-set}
 use Rattle.std.proofs.lemmas.Bool.{cases_eq, cases_Bool}
-use Rattle.std.proofs.lemmas.List.{get_or-set_same, get_or-set_other, set-get_or, length-map}
+use Rattle.std.proofs.lemmas.List.{get_or-set_same, get_or-set_other, set-get_or}
 use Rattle.std.specs.Prelude.{ltb, slice_set}
 use Rattle.std.specs.List.{list_all}
 use Rattle.misp_elem.specs.Row.{AreRows}
@@ -9,7 +9,7 @@ use Rattle.misp_orgs.specs.declared.key.Caller.{Caller}
 use Rattle.misp_outside.specs.Held.{Held, nothing_held}
 use Rattle.misp_script.specs.Step.{DeedData, IsPlaced}
 use Rattle.misp_script.specs.Step as deeds
-use Rattle.misp_model.specs.Names.{Inst, same_inst}
+use Rattle.misp_model.specs.Names.{same_inst}
 use Rattle.misp_model.specs.History.{tables}
 use Rattle.misp_model.specs.Acts.{World, step}
 use Rattle.misp_model.specs.Acts as model

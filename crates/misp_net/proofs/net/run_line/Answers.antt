@@ -1,10 +1,5 @@
-use Rattle.std.proofs.Common.{◌≡◌, ◌<◌, ℕ, length, Ok, sym, ◌∙◌, ap, subst, arith}
+use Rattle.std.proofs.Common.{◌≡◌, ◌<◌, length, Ok, ◌∙◌, ap, subst, arith}
 use Rattle.misp_script.specs.Step.{IsPlaced, request_data, deed_data, step_of}
-use Rattle.misp_script.specs.Step as deeds
-use Rattle.misp_script.specs.declared.step.Deed.TheVariants.{Request}
-use Rattle.misp_net.specs.declared.line.Output.TheVariants.{Replied}
-use Rattle.misp_net.specs.Hosts.{hosts_of, stocks_of}
-use Rattle.misp_net.specs.Course.{IsAct}
 use Rattle.misp_net.proofs.Steps.{step_at, one_request, hosts_kept}
 use Rattle.misp_net.proofs.net.run_line.Goals as goal
 

@@ -1,8 +1,6 @@
-use Rattle.std.proofs.Common.{◌≡◌, List, length, map, sym, ◌∙◌, ap, subst, arith}
+use Rattle.std.proofs.Common.{◌≡◌, length, map, ◌∙◌, ap, arith}
 use Rattle.std.proofs.lemmas.List.{length-map}
-use Rattle.misp_net.specs.Hosts.{Stock, stock_of, described_host, hosts_of, stocks_of, stocks}
-use Rattle.misp_net.specs.Run.{acts_of}
-use Rattle.misp_net.specs.Course.{HasRun}
+use Rattle.misp_net.specs.Hosts.{stock_of, described_host, hosts_of, stocks_of, stocks}
 use Rattle.misp_net.proofs.Privacy.{promised}
 use Rattle.misp_net.proofs.Fronts.{opened_long, run_in_front, others_kept}
 use Rattle.misp_net.proofs.net.run_net.Goals as goal
