@@ -42,12 +42,14 @@ pub record HasWritten (source : List ℕ) (old new : List Stock) (Writes : List 
   pub lines : List ℕ
   pub described_is : described source ≡ Ok net
   pub distinct : AreDistinct (described_hosts net)
-  pub ran : IsPromised (described_hosts net) (acts_of (names_of net) (script_part source)) (take (length net.instances) old) (take (length net.instances) new) lines
+  pub ran : IsPromised (described_hosts net) (acts_of (names_of net) (script_part source))
+      (take (length net.instances) old) (take (length net.instances) new) lines
   pub others : drop (length net.instances) new ≡ drop (length net.instances) old
   pub written : Writes lines
 
 -- some of the lines, or of the line of the fault, were written
-abbrev pub IsPartly : Reading Description → List ℕ → List Stock → List Stock → Option (List ℕ) → Option (List ℕ) → Type 0
+abbrev pub IsPartly :
+    Reading Description → List ℕ → List Stock → List Stock → Option (List ℕ) → Option (List ℕ) → Type 0
 IsPartly (Ok net) source old new before after = HasWritten source old new (AppendsSome before after)
 IsPartly (Err (faults.Bad path need)) source old new before after = AppendsSome before after (fault_line path need)
 IsPartly (Err faults.NoMemory) source old new before after = ⊥

@@ -38,7 +38,11 @@ form_deed (Err refusal) host now (Some caller) = model.Misfits (caller_at (site_
 
 abbrev pub request_act : Host → ℕ → ℕ → RequestData → model.Act
 request_act host time word r =
-    record { at = host.name; now = time; deed = form_deed (form_of host.admin r word) host time (caller_in host.admin r.key) }
+    record {
+      at = host.name;
+      now = time;
+      deed = form_deed (form_of host.admin r word) host time (caller_in host.admin r.key);
+    }
 
 abbrev pub no_act : ℕ → model.Act
 no_act time = record { at = []; now = time; deed = model.Nothing }
@@ -73,14 +77,16 @@ world_after outcome n hosts w act = step_partly no_links n w (act_in hosts act) 
 abbrev pub world_left : ℕ → List Host → World → List Act → List Outcome → World
 world_left n hosts w [] outcomes = w
 world_left n hosts w (act ∷ acts) [] = w
-world_left n hosts w (act ∷ acts) (outcome ∷ outcomes) = world_left (suc n) hosts (world_after outcome n hosts w act) acts outcomes
+world_left n hosts w (act ∷ acts) (outcome ∷ outcomes) =
+    world_left (suc n) hosts (world_after outcome n hosts w act) acts outcomes
 
 -- ---- what the history says of a line
 
 -- the reply to the n-th request, of this form: the stated function of what is asked, and of what its caller knows
 abbrev pub told_reply : Outcome → ℕ → World → Host → ℕ → Reading Asked → Reply
 told_reply Went n w host now (Ok asked) =
-    reply_in host.admin (model.scene n w (act_at (site_of host now asked.0) asked.1) (caller_at (site_of host now asked.0))) asked.1
+    let there : Surroundings = site_of host now asked.0 in
+    reply_in host.admin (model.scene n w (act_at there asked.1) (caller_at there)) asked.1
 told_reply ByKeeper n w host now (Ok asked) = replies.Refused (bare rules.KeeperFault)
 told_reply ByMemory n w host now (Ok asked) = replies.Refused (bare rules.NoMemory)
 told_reply outcome n w host now (Err refusal) = refusal_by outcome refusal
@@ -99,13 +105,16 @@ abbrev pub told_outputs : ℕ → List Host → World → List Act → List Outc
 told_outputs n hosts w [] outcomes = []
 told_outputs n hosts w (act ∷ acts) [] = []
 told_outputs n hosts w (act ∷ acts) (outcome ∷ outcomes) =
-    told_output outcome n hosts w act ∷ told_outputs (suc n) hosts (world_after outcome n hosts w act) acts outcomes
+    told_output outcome n hosts w act
+    ∷ told_outputs (suc n) hosts (world_after outcome n hosts w act) acts outcomes
 
 -- ---- what the keepers hold of it
 
 -- no two instances have one name
 abbrev pub AreDistinct : List Host → Type 0
-AreDistinct hosts = (p q : ℕ) → p < length hosts → q < length hosts → same_inst (host_at p hosts).name (host_at q hosts).name ≡ true → p ≡ q
+AreDistinct hosts =
+    (p q : ℕ) → p < length hosts → q < length hosts
+    → same_inst (host_at p hosts).name (host_at q hosts).name ≡ true → p ≡ q
 
 -- nothing is held by any
 abbrev pub empty_tables : List Host → Tables

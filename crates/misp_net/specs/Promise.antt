@@ -20,7 +20,8 @@ unstopped acts = map (λ act. Went) acts
 abbrev pub outputs_over : ℕ → List Host → World → List Act → List model.Act → List Output
 outputs_over n hosts w [] history = []
 outputs_over n hosts w (act ∷ acts) [] = []
-outputs_over n hosts w (act ∷ acts) (a ∷ history) = told_output Went n hosts w act ∷ outputs_over (suc n) hosts (step no_links n w a) acts history
+outputs_over n hosts w (act ∷ acts) (a ∷ history) =
+    told_output Went n hosts w act ∷ outputs_over (suc n) hosts (step no_links n w a) acts history
 
 -- what the organisation is replied, in order
 abbrev pub replies_to : OrgId → List Host → List Act → List Output → List Output
@@ -39,15 +40,19 @@ IsIdle (Bad place) = Unit {0}
 IsIdle Nothing = Unit {0}
 IsIdle (Replied reply) = IsRefused reply
 
-pub record IsPromised (hosts : List Host) (acts : List Act) (old new : List Stock) (text : List ℕ) : Type 0 where
+pub record IsPromised (hosts : List Host) (acts : List Act)
+    (old new : List Stock) (text : List ℕ) : Type 0 where
   pub run : HasRun hosts acts old new text
   -- what is refused changes nothing
-  pub refused : (outcome : Outcome) (n : ℕ) (act : Act) (tables : Tables) → IsIdle (output_of outcome n hosts act tables) → tables_after outcome n hosts act tables ≡ tables
+  pub refused : (outcome : Outcome) (n : ℕ) (act : Act) (tables : Tables)
+      → IsIdle (output_of outcome n hosts act tables) → tables_after outcome n hosts act tables ≡ tables
   -- where nothing was stopped, elements that an organisation was never granted change none of its replies
-  pub private : AreDistinct hosts → Tell old (empty_tables hosts) → run.outcomes ≡ unstopped acts → (o : OrgId) →
-      replies_to o hosts acts run.outputs
+  pub private : AreDistinct hosts → Tell old (empty_tables hosts) → run.outcomes ≡ unstopped acts
+      → (o : OrgId) → replies_to o hosts acts run.outputs
       ≡ replies_to o hosts acts (outputs_over 0 hosts start acts (erased o no_links (acts_in hosts acts)))
   -- and any script with its lines that comes to the same without those elements gives it these replies
-  pub alike : AreDistinct hosts → Tell old (empty_tables hosts) → run.outcomes ≡ unstopped acts → (o : OrgId) (others : List Act) →
-      own_lines o hosts others ≡ own_lines o hosts acts → erased o no_links (acts_in hosts others) ≡ erased o no_links (acts_in hosts acts) →
-      replies_to o hosts others (outputs_over 0 hosts start others (acts_in hosts others)) ≡ replies_to o hosts acts run.outputs
+  pub alike : AreDistinct hosts → Tell old (empty_tables hosts) → run.outcomes ≡ unstopped acts
+      → (o : OrgId) (others : List Act) → own_lines o hosts others ≡ own_lines o hosts acts
+      → erased o no_links (acts_in hosts others) ≡ erased o no_links (acts_in hosts acts)
+      → replies_to o hosts others (outputs_over 0 hosts start others (acts_in hosts others))
+      ≡ replies_to o hosts acts run.outputs
