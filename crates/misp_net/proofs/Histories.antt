@@ -47,6 +47,7 @@ unfolding start tables newest newest_from in_order nothing_held
 at_start hosts = record {
   long = length-map hosts (λ host. nothing_held);
   each = λ place inside. rw (empty_at place hosts) (record { rows = refl; are_rows = tt });
+  no_admin = λ place inside. rw (empty_at place hosts) refl;
   earlier = refl;
   none = λ i. refl;
 }

@@ -1,5 +1,5 @@
 -- One line over keepers that hold the tables of the history.
-use Rattle.std.proofs.Common.{◌≡◌, ◌≢◌, ℕ, suc, ◌<◌, true, false, List, map, length, Option, Some, None, Ok, Err, refl, sym, ◌∙◌, ap, subst, inl, inr, length-set}
+use Rattle.std.proofs.Common.{◌≡◌, ◌≢◌, ℕ, suc, ◌<◌, true, false, List, [], map, length, Option, Some, None, Ok, Err, refl, sym, ◌∙◌, ap, subst, inl, inr, length-set}
 use Rattle.std.proofs.lemmas.Bool.{cases_eq, cases_Bool}
 use Rattle.std.proofs.lemmas.List.{get_or-set_same, get_or-set_other, set-get_or}
 use Rattle.std.specs.Prelude.{ltb, slice_set}
@@ -67,6 +67,7 @@ module _ (hosts : List Host) (distinct : AreDistinct hosts) (n : ℕ) (w : World
   later = record {
     long = told.long;
     each = told.each;
+    no_admin = told.no_admin;
     earlier =
         subst (λ (v : World). list_all (λ u. ltb u.act (suc n)) v.log ≡ true) (step_nothing no_links n w (no_act 0) refl)
         (step_below no_links n w (no_act 0) told.earlier);
@@ -112,10 +113,19 @@ module _ (hosts : List Host) (distinct : AreDistinct hosts) (n : ℕ) (w : World
           (record { rows = before.rows ∙ ap (map raw_row) (sym same); are_rows = subst AreRows (sym same) before.are_rows })
     ]
 
+    admin_left : (place : ℕ) → place < length hosts → (held_at place (slice_set old at left)).admin ≡ []
+    admin_left place inside = elim (cases_eq place at) [
+      | inl same ↦
+          subst (λ p. (held_at p (slice_set old at left)).admin ≡ []) (sym same)
+          (ap (λ (held : Held). held.admin) (get_or-set_same old at left nothing_held (rw told.long lt)) ∙ told.no_admin at lt)
+      | inr other ↦ ap (λ (held : Held). held.admin) (get_or-set_other old at place left nothing_held other) ∙ told.no_admin place inside
+    ]
+
     asked_left : IsHistory hosts (suc n) next (slice_set old at left)
     asked_left = record {
       long = length-set old at left ∙ told.long;
       each = each_left;
+      no_admin = admin_left;
       earlier = step_below no_links n w (act_at there asked.1) told.earlier;
       none = λ i. ap (λ groups. groups i) (same_groups no_links n w there asked.1) ∙ told.none i;
     }

@@ -120,10 +120,11 @@ AreDistinct hosts =
 abbrev pub empty_tables : List Host → Tables
 empty_tables hosts = map (λ host. nothing_held) hosts
 
--- each keeper holds the tables of its instance after the first n acts, and no groups are known
+-- each keeper holds the tables of its instance after the first n acts and nothing else, and no groups are known
 pub record IsHistory (hosts : List Host) (n : ℕ) (w : World) (tables : Tables) : Type 0 where
   pub long : length tables ≡ length hosts
   pub each : (place : ℕ) → place < length hosts → Keeps (host_at place hosts).name w (held_at place tables)
+  pub no_admin : (place : ℕ) → place < length hosts → (held_at place tables).admin ≡ []
   pub earlier : list_all (λ v. ltb v.act n) w.log ≡ true
   pub none : (i : Inst) → w.groups i ≡ []
 
