@@ -3,3 +3,5 @@ mod Fitting
 mod GroupNames
 mod Kept
 mod Plain
+mod ReadBack
+mod Texts

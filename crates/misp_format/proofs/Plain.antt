@@ -29,7 +29,7 @@ use Rattle.misp_elem.specs.declared.visible.VisibleObject.{VisibleObject}
 use Rattle.misp_elem.specs.declared.visible.VisibleEvent.{VisibleEvent}
 use Rattle.misp_format.specs.Fields.{GroupNames, optional_uuid_data, with_group, group_data, group_names}
 use Rattle.misp_format.specs.Replies.{saved_data, refusal_data}
-use Rattle.misp_format.specs.Written.{tag_data, reference_with, reference_of, reference_data, proposal_with, proposal_of, proposal_data, sighting_with, sighting_of, sighting_data, attribute_members, attribute_with, attribute_of, attribute_data, object_members, object_with, object_of, object_data, event_members, event_with, event_of, event_data, body_data}
+use Rattle.misp_format.specs.Written.{tag_data, reference_with, reference_of, reference_data, proposal_with, proposal_of, proposal_data, sighting_with, sighting_of, sighting_data, attribute_members, attribute_with, attribute_of, attribute_data, object_members, object_with, object_of, object_data, event_members, event_others, others_with, event_with, event_of, event_data, body_data}
 
 -- no float, and at most so many levels
 pub record Plain (n : ℕ) (d : Data) : Type 0 where
@@ -182,7 +182,7 @@ plain_attribute_of names a (contents.Verdict b) = record { no_float = refl; leve
 plain_attribute_of names a (contents.Sighting b) = record { no_float = refl; levels = omega arith }
 plain_attribute_of names a contents.Gone = record { no_float = refl; levels = omega arith }
 
-plain_attribute : (names : GroupNames) (a : VisibleAttribute) → Plain 4 (attribute_data names a)
+pub plain_attribute : (names : GroupNames) (a : VisibleAttribute) → Plain 4 (attribute_data names a)
 unfolding attribute_data
 plain_attribute names a = plain_attribute_of names a a.row.content
 
@@ -205,7 +205,7 @@ plain_object_of names o (contents.Verdict b) = record { no_float = refl; levels 
 plain_object_of names o (contents.Sighting b) = record { no_float = refl; levels = omega arith }
 plain_object_of names o contents.Gone = record { no_float = refl; levels = omega arith }
 
-plain_visible_object : (names : GroupNames) (o : VisibleObject) → Plain 6 (object_data names o)
+pub plain_visible_object : (names : GroupNames) (o : VisibleObject) → Plain 6 (object_data names o)
 unfolding object_data
 plain_visible_object names o = plain_object_of names o o.row.content
 
@@ -219,6 +219,15 @@ plain_event_with names e b =
     let extends = plain_uuid b.extends_uuid in
     let members : PlainMembers 7 (event_members names e b) = record { no_float = rw (attributes.no_float, objects.no_float, proposals.no_float, tags.no_float, extends.no_float) refl; levels = omega arith } in
     plain_object 7 (with_group names e.row.label (event_members names e b)) (plain_group 7 names e.row.label (event_members names e b) (omega arith) members)
+
+pub plain_others : (names : GroupNames) (e : VisibleEvent) (b : EventBody) → PlainMembers 7 (others_with names e b)
+unfolding others_with
+plain_others names e b =
+    let proposals = plain_items 2 proposal_data plain_proposal e.proposals in
+    let tags = plain_items 1 tag_data plain_tag b.tags in
+    let extends = plain_uuid b.extends_uuid in
+    let members : PlainMembers 7 (event_others e b) = record { no_float = rw (proposals.no_float, tags.no_float, extends.no_float) refl; levels = omega arith } in
+    plain_group 7 names e.row.label (event_others e b) (omega arith) members
 
 plain_event_of : (names : GroupNames) (e : VisibleEvent) (content : Content) → Plain 8 (event_of names e content)
 plain_event_of names e (contents.Event b) = plain_event_with names e b

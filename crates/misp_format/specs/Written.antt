@@ -217,6 +217,35 @@ event_members names e b = event_lists names e b (
 unfoldable pub event_with : GroupNames → VisibleEvent → EventBody → Data
 event_with names e b = object (with_group names e.row.label (event_members names e b))
 
+-- the organisations that hold and created it, its own lists, and then other members
+abbrev pub event_parts : VisibleEvent → EventBody → Members → Members
+event_parts e b others =
+    member (codes "Org") (org_data e.row.owner e.org_name) (
+    member (codes "Orgc") (org_data b.orgc b.orgc_name) (
+    member (codes "ShadowAttribute") (list_data proposal_data e.proposals) (
+    member (codes "Tag") (list_data tag_data b.tags)
+    others)))
+
+-- the members of an event, but for its attributes, its objects and the sharing group
+abbrev pub event_others : VisibleEvent → EventBody → Members
+event_others e b = event_parts e b (
+    member (codes "analysis") (number_data b.analysis) (
+    member (codes "attribute_count") (number_data (attribute_count e)) (
+    member (codes "date") (string b.date) (
+    member (codes "distribution") (number_data (label_kind e.row.label)) (
+    member (codes "extends_uuid") (optional_uuid_data b.extends_uuid) (
+    member (codes "info") (string b.info) (
+    member (codes "publish_timestamp") (number_data b.publish_stamp) (
+    member (codes "published") (boolean (not e.row.held)) (
+    member (codes "threat_level_id") (number_data b.threat_level_id) (
+    member (codes "timestamp") (number_data e.row.stamp) (
+    member (codes "uuid") (uuid_data (key_uuid e.row.key))
+    no_members)))))))))))
+
+-- the members of an event, but for its attributes and its objects
+unfoldable pub others_with : GroupNames → VisibleEvent → EventBody → Members
+others_with names e b = with_group names e.row.label (event_others e b)
+
 -- a row of another content is null
 abbrev pub event_of : GroupNames → VisibleEvent → Content → Data
 event_of names e (contents.Event b) = event_with names e b

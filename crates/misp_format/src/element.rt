@@ -90,7 +90,7 @@ fn attribute_with(
 }
 
 #[tactic(auto, unfolding(crate::specs::Written::attribute_data))]
-fn attribute_value(
+pub(crate) fn attribute_value(
     alloc: Global,
     names: &GroupNames,
     attribute: &VisibleAttribute,
@@ -161,7 +161,7 @@ fn object_with(
 }
 
 #[tactic(auto, unfolding(crate::specs::Written::object_data))]
-fn object_value(
+pub(crate) fn object_value(
     alloc: Global,
     names: &GroupNames,
     object: &VisibleObject,
@@ -172,18 +172,4 @@ fn object_value(
         Content::Object(body) => object_with(alloc, names, object, body),
         _ => Ok(Value::Null),
     }
-}
-
-pub(crate) fn object_values(
-    alloc: Global,
-    names: &GroupNames,
-    objects: &[VisibleObject],
-) -> Result<Vec<Value>, NoMemory>
-    ensures { IfOk result (λ vs. map view vs.items ≡ map (object_data (names_in names.now)) objects.now) }
-{
-    let mut values = Vec::new(alloc);
-    for object in objects {
-        values.push(object_value(alloc, names, object)?)?;
-    }
-    Ok(values)
 }

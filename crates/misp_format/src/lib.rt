@@ -11,6 +11,7 @@ mod keys;
 mod kinds;
 mod members;
 mod path;
+mod pieces;
 mod readers;
 mod replies;
 mod statement;
@@ -19,7 +20,7 @@ mod writing;
 pub use event::read_event;
 pub use fault::FormatFault;
 pub use replies::{write_refusal, write_saved};
-pub use writing::write_event;
+pub use writing::{put_event, write_event};
 
 #[cfg(test)]
 mod tests;

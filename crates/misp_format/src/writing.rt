@@ -1,22 +1,21 @@
 //! Events as they are written.
 
-ghost use Rattle.std.specs.Prelude.{◌≡◌, IfOk, Some};
+ghost use Rattle.std.specs.Prelude.{◌≡◌, ◌++◌, IfOk, OnOk, Some};
 ghost use Rattle.serde_json.specs.Data.{no_members};
 ghost use Rattle.serde_json.specs.Read.{read};
-ghost use Rattle.serde_json.specs.View.{view};
 ghost use Rattle.serde_json.specs.Written.{compact_text};
 ghost use Rattle.misp_format.specs.Fields.{members_of};
 ghost use Rattle.misp_format.specs.Names.{names_in};
-ghost use Rattle.misp_format.specs.Written.{attribute_count, event_lists, event_members, event_with, event_data, body_data};
+ghost use Rattle.misp_format.specs.Written.{attribute_count, event_parts, event_others, others_with, event_with, event_data, body_data};
 
-use crate::element::{attribute_values, object_values, tag_values};
+use crate::element::tag_values;
 use crate::fields::Fields;
 use crate::groups::{GroupNames, group_names, sharing_group};
 use crate::keys::{put_owner, put_row};
+use crate::pieces::{put_attributes, put_members, put_objects, put_text};
 use crate::statement::proposal_values;
 use misp_elem::{Content, EventBody, VisibleEvent};
 use misp_ids::NoMemory;
-use serde_json::Value;
 use std::alloc::Global;
 
 /// How many attributes are shown, those in objects included.
@@ -32,24 +31,11 @@ fn attribute_count(event: &VisibleEvent) -> Result<usize, NoMemory>
     Ok(total)
 }
 
-/// The lists of an event, and the organisations that hold and created it.
-fn event_lists(
-    alloc: Global,
-    names: &GroupNames,
-    event: &VisibleEvent,
-    body: &EventBody,
-) -> Result<Fields, NoMemory>
-    ensures { IfOk result (λ it. members_of it ≡ event_lists (names_in names.now) event.now body.now no_members) }
+/// The organisations that hold and created an event, and its own lists.
+fn event_parts(alloc: Global, event: &VisibleEvent, body: &EventBody) -> Result<Fields, NoMemory>
+    ensures { IfOk result (λ it. members_of it ≡ event_parts event.now body.now no_members) }
 {
     let mut it = Fields::new(alloc);
-    it.list(
-        "Attribute",
-        attribute_values(alloc, names, event.attributes.as_slice())?,
-    )?;
-    it.list(
-        "Object",
-        object_values(alloc, names, event.objects.as_slice())?,
-    )?;
     put_owner(&mut it, &event.row, event.org_name.as_str())?;
     it.org("Orgc", &body.orgc, body.orgc_name.as_str())?;
     it.list(
@@ -60,16 +46,11 @@ fn event_lists(
     Ok(it)
 }
 
-/// The members of an event, but for the sharing group.
-fn event_fields(
-    alloc: Global,
-    names: &GroupNames,
-    event: &VisibleEvent,
-    body: &EventBody,
-) -> Result<Fields, NoMemory>
-    ensures { IfOk result (λ it. members_of it ≡ event_members (names_in names.now) event.now body.now) }
+/// The members of an event, but for its attributes, its objects and the sharing group.
+fn event_others(alloc: Global, event: &VisibleEvent, body: &EventBody) -> Result<Fields, NoMemory>
+    ensures { IfOk result (λ it. members_of it ≡ event_others event.now body.now) }
 {
-    let mut it = event_lists(alloc, names, event, body)?;
+    let mut it = event_parts(alloc, event, body)?;
     it.number("analysis", u64::from(body.analysis))?;
     it.number("attribute_count", attribute_count(event)? as u64)?;
     it.text("date", body.date.as_str())?;
@@ -82,37 +63,65 @@ fn event_fields(
     Ok(it)
 }
 
-#[tactic(auto, unfolding(crate::specs::Written::event_with))]
-fn event_with(
+/// The members of an event, but for its attributes and its objects.
+#[tactic(auto, unfolding(crate::specs::Written::others_with))]
+fn others_with(
     alloc: Global,
     names: &GroupNames,
     event: &VisibleEvent,
     body: &EventBody,
-) -> Result<Value, NoMemory>
-    ensures { IfOk result (λ v. view v ≡ event_with (names_in names.now) event.now body.now) }
+) -> Result<Fields, NoMemory>
+    ensures { IfOk result (λ it. members_of it
+        ≡ others_with (names_in names.now) event.now body.now) }
 {
-    let mut it = event_fields(alloc, names, event, body)?;
+    let mut it = event_others(alloc, event, body)?;
     sharing_group(alloc, &mut it, names, &event.row.label)?;
-    Ok(it.done())
+    Ok(it)
+}
+
+/// An event: its attributes and its objects one after another, and then the other members.
+fn put_with(
+    text: &mut Vec<u8>,
+    alloc: Global,
+    names: &GroupNames,
+    event: &VisibleEvent,
+    body: &EventBody,
+) -> Result<(), NoMemory>
+    ensures { OnOk result (text.new.items ≡ text.old.items
+        ++ compact_text (event_with (names_in names.now) event.now body.now)) }
+{
+    put_text(text, "{\"Attribute\":")?;
+    put_attributes(text, alloc, names, event.attributes.as_slice())?;
+    put_text(text, ",\"Object\":")?;
+    put_objects(text, alloc, names, event.objects.as_slice())?;
+    put_text(text, ",")?;
+    put_members(text, alloc, others_with(alloc, names, event, body)?)
 }
 
 #[tactic(auto, unfolding(crate::specs::Written::event_data))]
-fn event_value(alloc: Global, names: &GroupNames, event: &VisibleEvent) -> Result<Value, NoMemory>
-    ensures { IfOk result (λ v. view v ≡ event_data (names_in names.now) event.now) }
+fn put_content(
+    text: &mut Vec<u8>,
+    alloc: Global,
+    names: &GroupNames,
+    event: &VisibleEvent,
+) -> Result<(), NoMemory>
+    ensures { OnOk result (text.new.items ≡ text.old.items
+        ++ compact_text (event_data (names_in names.now) event.now)) }
 {
     match &event.row.content {
-        Content::Event(body) => event_with(alloc, names, event, body),
-        _ => Ok(Value::Null),
+        Content::Event(body) => put_with(text, alloc, names, event, body),
+        _ => put_text(text, "null"),
     }
 }
 
-fn body_value(alloc: Global, event: &VisibleEvent) -> Result<Value, NoMemory>
-    ensures { IfOk result (λ v. view v ≡ body_data event.now) }
+/// Puts the text of an event at the end of a text.
+pub fn put_event(text: &mut Vec<u8>, alloc: Global, event: &VisibleEvent) -> Result<(), NoMemory>
+    ensures { OnOk result (text.new.items ≡ text.old.items ++ compact_text (body_data event.now)) }
 {
     let names = group_names(alloc, event.group_names.as_slice())?;
-    let mut it = Fields::new(alloc);
-    it.value("Event", event_value(alloc, &names, event)?)?;
-    Ok(it.done())
+    put_text(text, "{\"Event\":")?;
+    put_content(text, alloc, &names, event)?;
+    put_text(text, "}")
 }
 
 /// The text of an event.
@@ -122,6 +131,7 @@ pub fn write_event(alloc: Global, event: &VisibleEvent) -> Result<Vec<u8>, NoMem
     // It is read to the same data.
     ensures reads_back { IfOk result (λ b. read b.items ≡ Some (body_data event.now)) }
 {
-    let value = body_value(alloc, event)?;
-    Ok(value.to_vec(alloc)?)
+    let mut text = Vec::new(alloc);
+    put_event(&mut text, alloc, event)?;
+    Ok(text)
 }

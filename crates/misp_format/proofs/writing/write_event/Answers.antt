@@ -1,18 +1,12 @@
-use Rattle.std.proofs.Common.{◌≤◌, ap, ◌∙◌, arith, Some}
-use Rattle.serde_json.specs.Data.{depth}
-use Rattle.serde_json.specs.Read.{max_depth}
-use Rattle.serde_json.specs.Written.{has_float, compact_text}
+use Rattle.std.proofs.Common.{◌++◌, ap, ◌∙◌}
+use Rattle.serde_json.specs.Read.{read}
+use Rattle.serde_json.specs.Written.{compact_text}
 use Rattle.misp_format.specs.Written.{body_data}
-use Rattle.misp_format.proofs.Plain.{plain_body}
+use Rattle.misp_format.proofs.ReadBack.{body_returned}
 use Rattle.misp_format.proofs.writing.write_event.Goals as goal
 
-pub returns-clause-text : goal.returns-clause-text
-returns-clause-text c =
-    let is = c.in_ok-value.ensures in
-    c.in_ok-to_vec.ensures.text (ap has_float is ∙ (plain_body c.args.event.now).no_float) ∙ ap compact_text is
-
+-- the text began empty
 pub returns-clause-reads_back : goal.returns-clause-reads_back
 returns-clause-reads_back c =
-    let is = c.in_ok-value.ensures in
-    let shallow : depth (body_data c.args.event.now) ≤ max_depth = omega (arith, (plain_body c.args.event.now).levels) in
-    c.in_ok-to_vec.ensures.reads_back (rw is shallow) ∙ ap (λ d. Some d) is
+    let text = compact_text (body_data c.args.event.now) in
+    ap read (c.in_ok-put_event.ensures ∙ ap (λ t. t ++ text) c.new-text.ensures.items) ∙ body_returned c.args.event.now
