@@ -1,10 +1,10 @@
 //! Writes what the lines of a script come to.
 
-ghost use Rattle.std.specs.Prelude.{◌≡◌, ◌++◌, OnOk, IfOk, decimal, codes, string_bytes};
+ghost use Rattle.std.specs.Prelude.{◌≡◌, ◌++◌, OnOk, decimal, codes, string_bytes};
 ghost use Rattle.misp_net.specs.Text.{answer_text, reply_text, output_text, line_of};
 
 use misp_core::{Answer, Reply};
-use misp_format::{write_event, write_refusal, write_saved};
+use misp_format::{put_event, write_refusal, write_saved};
 use misp_ids::NoMemory;
 use std::alloc::Global;
 use std::fmt::Write;
@@ -34,16 +34,16 @@ fn put_number(lines: &mut Vec<u8>, alloc: Global, number: usize) -> Result<(), N
     put_text(lines, text.as_str())
 }
 
-fn body(alloc: Global, answer: &Answer) -> Result<Vec<u8>, NoMemory>
-    ensures { IfOk result (λ b. b.items ≡ answer_text answer.now) }
+fn put_answer(lines: &mut Vec<u8>, alloc: Global, answer: &Answer) -> Result<(), NoMemory>
+    ensures { OnOk result (lines.new.items ≡ lines.old.items ++ answer_text answer.now) }
 {
     match answer {
         Answer::Saved {
             elements,
             event,
             stamp,
-        } => write_saved(alloc, *elements, event, *stamp),
-        Answer::Event(event) => write_event(alloc, event),
+        } => Ok(lines.extend_from_slice(&write_saved(alloc, *elements, event, *stamp)?)?),
+        Answer::Event(event) => put_event(lines, alloc, event),
     }
 }
 
@@ -53,7 +53,7 @@ fn put_reply(lines: &mut Vec<u8>, alloc: Global, reply: &Reply) -> Result<(), No
     match reply {
         Reply::Ok(answer) => {
             put_text(lines, "200 ")?;
-            Ok(lines.extend_from_slice(&body(alloc, answer)?)?)
+            put_answer(lines, alloc, answer)
         }
         Reply::Refused(refusal) => {
             put_number(lines, alloc, usize::from(refusal.status()))?;
