@@ -1,2 +1,6 @@
 pub mod Digits
 pub mod Splitting
+pub mod LowerCase
+pub mod Kept
+pub mod Barless
+pub mod Again

@@ -1,7 +1,6 @@
 -- A text that is split at the last of an ASCII character.
-use Rattle.std.proofs.Common.{◌≡◌, ℕ, zero, suc, ◌+◌, ◌-◌, ◌<◌, ◌≤◌, ◌==◌, Bor, List, length, get_or, take, drop, length-drop, get_or-drop, Option, Some, None, option_map, MatchOption, refl, sym, ap, ◌∙◌, ⊎_elim, arith}
-use Rattle.std.specs.Str.{NoCharPasses}
-use Rattle.std.specs.Str.Pattern.{HasCharAt, RFindsChar}
+use Rattle.std.proofs.Common.{◌≡◌, ℕ, zero, suc, ◌+◌, ◌-◌, ◌<◌, ◌≤◌, Bor, List, length, get_or, take, drop, length-drop, get_or-drop, Option, Some, None, option_map, MatchOption, refl, sym, ap, ◌∙◌, ⊎_elim, arith}
+use Rattle.std.specs.Str.Pattern.{RFindsChar}
 use Rattle.std.specs.Path.{rfind_below}
 use Rattle.std.proofs.lemmas.Bool.{ne_eqb, eq-eqb, cond-true, cond-false, cases_eq}
 use Rattle.std.proofs.lemmas.Str.{len_utf8_ascii}
@@ -12,7 +11,7 @@ none_below : (c : ℕ) (text : List ℕ) (n : ℕ) → ((i : ℕ) → i < n → 
 none_below c text zero h = refl
 none_below c text (suc n) h = cond-false _ _ _ (ne_eqb _ c (h n (omega arith))) ∙ none_below c text n (λ i l. h i (omega arith))
 
-last_below : (c : ℕ) (text : List ℕ) (k n : ℕ) → k < n → get_or text k 0 ≡ c → ((i : ℕ) → k < i → i < n → get_or text i 0 ≡ c → ⊥) → rfind_below c text n ≡ Some k
+pub last_below : (c : ℕ) (text : List ℕ) (k n : ℕ) → k < n → get_or text k 0 ≡ c → ((i : ℕ) → k < i → i < n → get_or text i 0 ≡ c → ⊥) → rfind_below c text n ≡ Some k
 last_below c text k zero l at h = absurd (omega arith)
 last_below c text k (suc n) l at h =
     ⊎_elim

@@ -1,5 +1,5 @@
 -- The form in which the value of an attribute is kept, or its fault.
-use Rattle.std.specs.Prelude.{ℕ, ◌+◌, ◌==◌, List, ◌++◌, length, take, drop, codes, Option, Some, None, option_map, Result, Ok, Err, if◌then◌else◌}
+use Rattle.std.specs.Prelude.{◌≡◌, ℕ, ◌+◌, ◌==◌, List, ◌++◌, length, take, drop, codes, Option, Some, None, option_map, Ok, Err, if◌then◌else◌}
 use Rattle.std.specs.Path.{rfind_below}
 use Rattle.misp_types.specs.declared.fault.ValueFault.TheVariants as faults
 use Rattle.misp_types.specs.declared.kinds.Form.{Form}
@@ -52,5 +52,9 @@ by_rule (rules.Two first second) value = two_of first second value
 by_rule rules.File value = Err faults.BinaryType
 
 -- what is kept of a value of a type, or its fault
-abbrev pub kept_of : List ℕ → List ℕ → Checked
+unfoldable pub kept_of : List ℕ → List ℕ → Checked
 kept_of kind value = by_rule (rule_of kind) value
+
+-- a value of a type that is kept as it is
+abbrev pub IsKept : List ℕ → List ℕ → Type 0
+IsKept kind value = kept_of kind value ≡ Ok value

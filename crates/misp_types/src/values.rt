@@ -1,9 +1,9 @@
 //! The form in which the value of an attribute is kept.
 
-ghost use Rattle.std.specs.Prelude.{◌≡◌, option_map, string_bytes};
+ghost use Rattle.std.specs.Prelude.{◌≡◌, IfOk, option_map, string_bytes};
 ghost use Rattle.misp_types.specs.Checked.{Shows};
 ghost use Rattle.misp_types.specs.Forms.{text_of};
-ghost use Rattle.misp_types.specs.Values.{split_value, part_of, pair_of, two_of, kept_of};
+ghost use Rattle.misp_types.specs.Values.{split_value, part_of, pair_of, two_of, kept_of, IsKept};
 
 use crate::fault::ValueFault;
 use crate::forms::text_of;
@@ -57,8 +57,10 @@ fn two_of(alloc: Global, first: Form, second: Form, value: &str) -> Result<Strin
 }
 
 /// The form in which the value of an attribute of this type is kept.
+#[tactic(auto, unfolding(crate::specs::Values::kept_of))]
 pub fn check(alloc: Global, kind: &str, value: &str) -> Result<String, ValueFault>
-    ensures { Shows string_bytes result (kept_of kind.now value.now) }
+    ensures kept { Shows string_bytes result (kept_of kind.now value.now) }
+    ensures again { IfOk result (λ text. IsKept kind.now (string_bytes text)) }
 {
     match rule_of(kind) {
         Rule::One(form) => text_of(alloc, form, value),
