@@ -111,7 +111,7 @@ pub(crate) fn decode_rows(alloc: Global, raws: &[RawRow]) -> Result<Vec<Row>, Ro
     ensures ok { IfOk result (λ rows. rows_in raws.now ≡ Ok rows.items) }
     ensures bad { IfErr result (NamesBadRow (rows_in raws.now)) }
 {
-    let mut rows = Vec::new(alloc);
+    let mut rows = Vec::with_capacity(alloc, raws.len())?;
     for raw in raws {
         rows.push(decode_row(alloc, raw)?)?;
     }
@@ -132,7 +132,7 @@ fn raw_row(alloc: Global, row: &Row) -> Result<RawRow, NoMemory>
 fn raw_rows(alloc: Global, rows: &[Row]) -> Result<Vec<RawRow>, NoMemory>
     ensures { IfOk result (λ raws. raws.items ≡ map raw_row rows.now) }
 {
-    let mut raws = Vec::new(alloc);
+    let mut raws = Vec::with_capacity(alloc, rows.len())?;
     for row in rows {
         raws.push(raw_row(alloc, row)?)?;
     }

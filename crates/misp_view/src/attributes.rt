@@ -120,7 +120,7 @@ fn collect(
     ensures plain { OnOk result (list_all is_plain rows.now ≡ true) }
 {
     let copy_is_shown = copy_shows(rows, here, org, event, owner);
-    let mut list = Vec::new(alloc);
+    let mut list = Vec::with_capacity(alloc, rows.len())?;
     for row in rows {
         let shows = shows(row, here, org, event, owner, copy_is_shown);
         add(alloc, &mut list, row, shows)?;
