@@ -10,7 +10,7 @@ ghost use Rattle.misp_core.specs.Raw.{rows_in};
 ghost use Rattle.misp_core.specs.Answers.{site, scene_with, IsAdded, IsBuilt, IsDecision, IsVerdict, IsRefusal, name_in, bare, bad_row, greatest};
 
 use crate::reply::{Answer, Reply};
-use crate::store::{RowFault, decode_rows};
+use crate::store::{RowFault, take_rows};
 use misp_edit::{AddFault, add_event};
 use misp_elem::{NoMemory, Refusal, Row, RuleName, Submission, VisibleEvent};
 use misp_ids::{EventId, InstId, Items, OrgId, Stamp, Text};
@@ -234,12 +234,12 @@ pub(crate) fn judge(
     caller: &Caller,
     now: Stamp,
     ask: Ask,
-    raws: &[RawRow],
+    raws: Vec<RawRow>,
 ) -> Result<Verdict, NoMemory>
     requires { IsBuilt ask }
-    ensures { (n : ℕ) → IfOk result (IsVerdict n (site here.now admin.now caller.now now) ask (rows_in raws.now)) }
+    ensures { (n : ℕ) → IfOk result (IsVerdict n (site here.now admin.now caller.now now) ask (rows_in raws.items)) }
 {
-    match decode_rows(alloc, raws) {
+    match take_rows(alloc, raws) {
         Ok(rows) => decide(alloc, here, admin, caller, now, ask, rows),
         Err(RowFault::BadRow { name }) => {
             let refusal = Refusal {

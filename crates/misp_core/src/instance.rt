@@ -146,7 +146,7 @@ fn serve<K: Keeper>(
     ensures cause { HasCause (K.faults keeper.old) (K.faults keeper.new) (result ≡ Err KeeperFault.Failed) }
 {
     let raws = keeper.load_event(alloc, &event_of(&ask))?;
-    match judge(alloc, here, admin, caller, now, ask, &raws) {
+    match judge(alloc, here, admin, caller, now, ask, raws) {
         Ok(verdict) => {
             put(keeper, alloc, verdict.writes.as_slice())?;
             Ok(verdict.reply)

@@ -105,9 +105,9 @@ fn decode_row(alloc: Global, raw: &RawRow) -> Result<Row, RowFault>
     }
 }
 
-/// The rows that are held there, or the first that is none.
+// The rows that are held there, or the first that is none.
 #[tactic(auto, unfolding(crate::specs::Raw::rows_in))]
-pub(crate) fn decode_rows(alloc: Global, raws: &[RawRow]) -> Result<Vec<Row>, RowFault>
+fn decode_rows(alloc: Global, raws: &[RawRow]) -> Result<Vec<Row>, RowFault>
     ensures ok { IfOk result (λ rows. rows_in raws.now ≡ Ok rows.items) }
     ensures bad { IfErr result (NamesBadRow (rows_in raws.now)) }
 {
@@ -116,6 +116,14 @@ pub(crate) fn decode_rows(alloc: Global, raws: &[RawRow]) -> Result<Vec<Row>, Ro
         rows.push(decode_row(alloc, raw)?)?;
     }
     Ok(rows)
+}
+
+/// The rows that are held there, or the first that is none. What was held is let go.
+pub(crate) fn take_rows(alloc: Global, raws: Vec<RawRow>) -> Result<Vec<Row>, RowFault>
+    ensures ok { IfOk result (λ rows. rows_in raws.items ≡ Ok rows.items) }
+    ensures bad { IfErr result (NamesBadRow (rows_in raws.items)) }
+{
+    decode_rows(alloc, &raws)
 }
 
 #[tactic(auto, unfolding(crate::specs::Raw::raw_row, misp_model::specs::Machine::name_bytes))]
