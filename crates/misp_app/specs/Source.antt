@@ -37,7 +37,8 @@ IsTold (Err faults.NoMemory) old new = ⊥
 
 -- The source describes a network, its script was run over the first keepers, and its lines were written so. The other
 -- keepers are as they were.
-pub record HasWritten (source : List ℕ) (old new : List Stock) (Writes : List ℕ → Type 0) : Type 0 where
+pub record HasWritten (source : List ℕ) (old new : List Stock)
+    (Writes : List ℕ → Type 0) : Type 0 where
   pub net : Description
   pub lines : List ℕ
   pub described_is : described source ≡ Ok net

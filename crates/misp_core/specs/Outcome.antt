@@ -51,13 +51,15 @@ held_after ByKeeper n at ask held = held
 held_after ByMemory n at ask held = held
 
 -- the reply is the stated one, and so is what is held afterwards; what is written are rows
-pub record IsAnswered (n : ℕ) (at : Surroundings) (ask : Ask) (held : Held) (reply : Reply) (new : Option Held) : Type 0 where
+pub record IsAnswered (n : ℕ) (at : Surroundings) (ask : Ask)
+    (held : Held) (reply : Reply) (new : Option Held) : Type 0 where
   pub reply_is : reply ≡ reply_to (outcome_of reply) n at ask held
   pub left : new ≡ Some (held_after (outcome_of reply) n at ask held)
   pub are_rows : outcome_of reply ≡ Went → AreRows (writes_over n at ask (asked_of ask held))
 
 -- the same where nothing stopped it
-pub record IsServed (n : ℕ) (at : Surroundings) (ask : Ask) (held : Held) (reply : Reply) (new : Option Held) : Type 0 where
+pub record IsServed (n : ℕ) (at : Surroundings) (ask : Ask)
+    (held : Held) (reply : Reply) (new : Option Held) : Type 0 where
   pub reply_is : reply ≡ reply_over n at ask (asked_of ask held)
   pub left : new ≡ Some (with_rows (writes_over n at ask (asked_of ask held)) held)
   pub are_rows : AreRows (writes_over n at ask (asked_of ask held))

@@ -101,7 +101,11 @@ fn refusal(alloc: Global, fault: AddFault) -> Result<Refusal, NoMemory>
 
 // The reply to an addition, and the rows that it writes.
 fn saved(event: EventId, rows: Vec<Row>) -> Verdict
-    ensures { result ≡ record { reply = replies.Ok (answers.Saved (length rows.items) event (greatest (map (λ row. row.stamp) rows.items))); writes = rows.items } }
+    ensures { result ≡ record {
+      reply = replies.Ok (answers.Saved (length rows.items) event
+          (greatest (map (λ row. row.stamp) rows.items)));
+      writes = rows.items;
+    } }
 {
     Verdict {
         reply: Reply::Ok(Answer::Saved {
@@ -131,7 +135,8 @@ fn add(
 ) -> Result<Verdict, NoMemory>
     requires { IsAdded submission }
     ensures { (n : ℕ) (today : List ℕ) → IfOk result (IsDecision
-        (scene_with n today (site here.now admin.now caller.now now) rows.now) admin.now (asks.Change (AddEvent submission))) }
+        (scene_with n today (site here.now admin.now caller.now now) rows.now)
+        admin.now (asks.Change (AddEvent submission))) }
 {
     let name = name_text(alloc, admin, &caller.org)?;
     let event = event_in(&submission);
@@ -237,7 +242,8 @@ pub(crate) fn judge(
     raws: Vec<RawRow>,
 ) -> Result<Verdict, NoMemory>
     requires { IsBuilt ask }
-    ensures { (n : ℕ) → IfOk result (IsVerdict n (site here.now admin.now caller.now now) ask (rows_in raws.items)) }
+    ensures { (n : ℕ) → IfOk result
+        (IsVerdict n (site here.now admin.now caller.now now) ask (rows_in raws.items)) }
 {
     match take_rows(alloc, raws) {
         Ok(rows) => decide(alloc, here, admin, caller, now, ask, rows),

@@ -31,7 +31,12 @@ impl<K: Keeper> Model for Instance<K> {
 
     ghost Value = { Standing };
 
-    ghost view = { λ a. record { name = a.name; admin = a.admin; held = K.held a.keeper; faults = K.faults a.keeper } };
+    ghost view = { λ a. record {
+      name = a.name;
+      admin = a.admin;
+      held = K.held a.keeper;
+      faults = K.faults a.keeper;
+    } };
 }
 
 // The event that a request is about.
@@ -139,7 +144,8 @@ fn serve<K: Keeper>(
 ) -> Result<Reply, KeeperFault>
     requires { IsBuilt ask }
     ensures answered { (n : ℕ) → IfSome (K.held keeper.old) (λ held.
-        IfOk result (λ reply. IsServed n (site here.now admin.now caller.now now) ask held reply (K.held keeper.new))) }
+        IfOk result (λ reply. IsServed n (site here.now admin.now caller.now now)
+        ask held reply (K.held keeper.new))) }
     ensures went { IfOk result (λ reply. outcome_of reply ≡ Went) }
     ensures refused { IfOk result (λ reply. IsRefused reply → K.held keeper.new ≡ K.held keeper.old) }
     ensures err { OnErr result (K.held keeper.new ≡ K.held keeper.old) }
