@@ -1,9 +1,9 @@
 //! What the keepers in memory hold.
 
-ghost use Rattle.std.specs.Prelude.{◌≡◌, IfOk, OnOk, OnErr, IsTrue};
+ghost use Rattle.std.specs.Prelude.{◌≡◌, ◌≤◌, length, slice_range, IfOk, OnOk, OnErr, IsTrue};
 ghost use Rattle.misp_outside.specs.Held.{rows_of, with_batch, nothing_held, ascend, comes_before, admin_before};
 
-use super::rows::put_all;
+use super::rows::{put_all, room, sort};
 use crate::{AdminRow, RawBatch, RawRow};
 use misp_ids::EventId;
 use std::alloc::{AllocError, Global};
@@ -38,18 +38,11 @@ impl Rows {
         }
     }
 
-    #[tactic(auto, unfolding(crate::specs::Held::rows_of))]
     pub fn event(&self, alloc: Global, event: &EventId) -> Result<Vec<RawRow>, AllocError>
         ensures found { IfOk result (λ found. found.items ≡ rows_of event.now self.now.rows) }
         ensures order { IfOk result (λ found. IsTrue (ascend comes_before found.items)) }
     {
-        let mut found = Vec::new(alloc);
-        for row in &self.rows {
-            if row.event == *event {
-                found.push(row.clone()?)?;
-            }
-        }
-        Ok(found)
+        rows_in(&self.rows, event).to_vec(alloc)
     }
 
     pub fn all(&self, alloc: Global) -> Result<Vec<RawRow>, AllocError>
@@ -72,12 +65,37 @@ impl Rows {
         ensures ok { OnOk result (self.new ≡ with_batch batch.now self.old) }
         ensures err { OnErr result (self.new ≡ self.old) }
     {
-        let rows = batch.rows.clone()?.into_vec();
-        let admin = batch.admin.clone()?.into_vec();
-        self.rows.reserve(rows.len())?;
-        self.admin.reserve(admin.len())?;
-        put_all(&mut self.rows, rows);
-        put_all(&mut self.admin, admin);
+        let mut rows = batch.rows.clone()?.into_vec();
+        let mut admin = batch.admin.clone()?.into_vec();
+        sort(&mut rows)?;
+        sort(&mut admin)?;
+        let later_rows = room(&mut self.rows, rows.len())?;
+        let later_admin = room(&mut self.admin, admin.len())?;
+        put_all(&mut self.rows, later_rows, rows);
+        put_all(&mut self.admin, later_admin, admin);
         Ok(())
     }
+}
+
+// The rows of the event, which stand together.
+#[tactic(auto, using(crate::proofs::Batches::ascend_rows_of))]
+fn rows_in<'a>(rows: &'a [RawRow], event: &EventId) -> &'a [RawRow]
+    requires { IsTrue (ascend comes_before rows.now) }
+    ensures rows { result.now ≡ rows_of event.now rows.now }
+    ensures order { IsTrue (ascend comes_before result.now) }
+{
+    let (from, to) = places_of(rows, event);
+    &rows[from..to]
+}
+
+// The place of the first row of the event, and the place behind its last.
+fn places_of(rows: &[RawRow], event: &EventId) -> (usize, usize)
+    requires { IsTrue (ascend comes_before rows.now) }
+    ensures bound { result.1 ≤ length rows.now }
+    ensures rows { (result.0 ≤ result.1)
+        × (slice_range rows.now result.0 result.1 ≡ rows_of event.now rows.now) }
+{
+    let from = rows.partition_point(|row| row.event.0.0 < event.0.0);
+    let to = rows.partition_point(|row| row.event.0.0 <= event.0.0);
+    (from, to)
 }

@@ -1,11 +1,12 @@
 //! Lists of rows in the order of their names.
 
-ghost use Rattle.std.specs.Prelude.{◌≡◌, ℕ, ◌+◌, ◌<◌, ◌≤◌, List, length, vec_len, vec_capacity, IsTrue, IfOk, IfErr, set};
-ghost use Rattle.std.specs.List.{insert};
+ghost use Rattle.std.specs.Prelude.{◌≡◌, ℕ, ◌+◌, ◌<◌, ◌≤◌, List, [], ◌∷◌, ◌++◌, reverse, vec_len, vec_capacity, IsTrue, IfOk};
+ghost use Rattle.std.specs.List.{list_all};
 ghost use Rattle.misp_outside.specs.Held.{name_order, raw_name, admin_name, ascend};
-ghost use Rattle.misp_outside.specs.Named.{before_by, put_by, put_all_by};
+ghost use Rattle.misp_outside.specs.Named.{before_by, put_by, put_all_by, PutTheSame, opened};
 
 use crate::{AdminRow, RawRow};
+use std::alloc::AllocError;
 use std::cmp::Ordering;
 
 /// What stands under a number and a name.
@@ -34,42 +35,96 @@ impl Named for AdminRow {
     }
 }
 
-/// Puts each row in the place of the one of its name, or else where it belongs.
-#[tactic(auto, unfolding(crate::specs::Named::put_all_by))]
-pub fn put_all<T: Named>(rows: &mut Vec<T>, new: Vec<T>)
+/// Sorts rows by their names. Of equal names the later row stays the later one.
+pub fn sort<T: Named>(new: &mut Vec<T>) -> Result<(), AllocError>
+    ensures { PutTheSame T.name new.old.items new.new.items }
+{
+    new.sort_by(|a, b| a.order(b))
+}
+
+/// Makes room for so many more rows, and as much room elsewhere.
+pub fn room<T: Named>(rows: &mut Vec<T>, count: usize) -> Result<Vec<T>, AllocError>
+    ensures rows { rows.new.items ≡ rows.old.items }
+    ensures room { IfOk result (λ _. vec_len rows.new + count ≤ vec_capacity rows.new) }
+    ensures empty { IfOk result (λ later. later.items ≡ []) }
+    ensures elsewhere { IfOk result (λ later. vec_len rows.new + count ≤ vec_capacity later) }
+{
+    rows.reserve(count)?;
+    Vec::with_capacity(*rows.allocator(), rows.len() + count)
+}
+
+/// Puts each row in the place of the one of its name, or else where it belongs. Each row is moved
+/// a few times at most where the new ones ascend; `later` has the room for that.
+#[tactic(auto, unfolding(crate::specs::Named::put_all_by), using(crate::proofs::Names::ascend_put_by))]
+pub fn put_all<T: Named>(rows: &mut Vec<T>, mut later: Vec<T>, new: Vec<T>)
     requires ascending { IsTrue (ascend (before_by T.name) rows.old.items) }
     requires room { vec_len rows.old + vec_len new ≤ vec_capacity rows.old }
+    requires empty { later.items ≡ [] }
+    requires elsewhere { vec_len rows.old + vec_len new ≤ vec_capacity later }
     ensures items { rows.new.items ≡ put_all_by T.name new.items rows.old.items }
     ensures ascending { IsTrue (ascend (before_by T.name) rows.new.items) }
 {
     for row in new {
-        put(rows, row);
+        put(rows, &mut later, row);
     }
+    later.reverse();
+    rows.append(&mut later).unwrap();
 }
 
 // Puts a row in the place of the one of its name, or else where it belongs.
-#[tactic(auto, using(crate::proofs::Names::ascend_put_by))]
-fn put<T: Named>(rows: &mut Vec<T>, row: T)
-    requires ascending { IsTrue (ascend (before_by T.name) rows.old.items) }
-    requires room { vec_len rows.old < vec_capacity rows.old }
-    ensures items { rows.new.items ≡ put_by T.name row rows.old.items }
-    ensures ascending { IsTrue (ascend (before_by T.name) rows.new.items) }
-    ensures len { vec_len rows.new ≤ vec_len rows.old + 1 }
+fn put<T: Named>(rows: &mut Vec<T>, later: &mut Vec<T>, row: T)
+    requires ascending { IsTrue (ascend (before_by T.name) (opened rows.old.items later.old.items)) }
+    requires room { vec_len rows.old + vec_len later.old < vec_capacity rows.old }
+    requires elsewhere { vec_len rows.old + vec_len later.old ≤ vec_capacity later.old }
+    ensures items { opened rows.new.items later.new.items
+        ≡ put_by T.name row (opened rows.old.items later.old.items) }
+    ensures len { vec_len rows.new + vec_len later.new ≤ vec_len rows.old + vec_len later.old + 1 }
     ensures capacity { vec_capacity rows.old ≤ vec_capacity rows.new }
+    ensures later_capacity { vec_capacity later.old ≤ vec_capacity later.new }
 {
-    match place_of(rows, &row) {
-        Ok(place) => rows[place] = row,
-        Err(place) => rows.insert(place, row).unwrap(),
+    go_back(rows, later, &row);
+    go_on(rows, later, &row);
+    rows.push(row).unwrap();
+}
+
+// Moves the rows from the end that do not come before this one.
+fn go_back<T: Named>(rows: &mut Vec<T>, later: &mut Vec<T>, row: &T)
+    requires ascending { IsTrue (ascend (before_by T.name) (opened rows.old.items later.old.items)) }
+    requires elsewhere { vec_len rows.old + vec_len later.old ≤ vec_capacity later.old }
+    ensures same { opened rows.new.items later.new.items ≡ opened rows.old.items later.old.items }
+    ensures front { IsTrue (list_all (λ held. before_by T.name held row.now) rows.new.items) }
+    ensures len { vec_len rows.new + vec_len later.new ≡ vec_len rows.old + vec_len later.old }
+    ensures capacity { vec_capacity rows.old ≤ vec_capacity rows.new }
+    ensures later_capacity { vec_capacity later.old ≤ vec_capacity later.new }
+{
+    while let Some(last) = rows.pop() {
+        if last.order(row).is_lt() {
+            rows.push(last).unwrap();
+            return;
+        }
+        later.push(last).unwrap();
     }
 }
 
-// Where the row is that the row would replace, or else where it belongs.
-fn place_of<T: Named>(rows: &[T], row: &T) -> Result<usize, usize>
-    requires { IsTrue (ascend (before_by T.name) rows.now) }
-    ensures over { IfOk result (λ place. (place < length rows.now)
-        × (set rows.now place row.now ≡ put_by T.name row.now rows.now)) }
-    ensures gap { IfErr result (λ place. (place ≤ length rows.now)
-        × (insert rows.now place row.now ≡ put_by T.name row.now rows.now)) }
+// Moves the later rows that come before this one to the end, and lets the one of its name go.
+fn go_on<T: Named>(rows: &mut Vec<T>, later: &mut Vec<T>, row: &T)
+    requires ascending { IsTrue (ascend (before_by T.name) (opened rows.old.items later.old.items)) }
+    requires room { vec_len rows.old + vec_len later.old ≤ vec_capacity rows.old }
+    requires front { IsTrue (list_all (λ held. before_by T.name held row.now) rows.old.items) }
+    ensures put { rows.new.items ++ row.now ∷ reverse later.new.items
+        ≡ put_by T.name row.now (opened rows.old.items later.old.items) }
+    ensures len { vec_len rows.new + vec_len later.new ≤ vec_len rows.old + vec_len later.old }
+    ensures capacity { vec_capacity rows.old ≤ vec_capacity rows.new }
+    ensures later_capacity { vec_capacity later.old ≤ vec_capacity later.new }
 {
-    rows.binary_search_by(|held| held.order(row))
+    while let Some(next) = later.pop() {
+        match next.order(row) {
+            Ordering::Less => rows.push(next).unwrap(),
+            Ordering::Equal => return,
+            Ordering::Greater => {
+                later.push(next).unwrap();
+                return;
+            }
+        }
+    }
 }
