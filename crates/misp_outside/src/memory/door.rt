@@ -1,36 +1,42 @@
 //! A door in memory.
 
-ghost use Rattle.std.specs.Prelude.{◌≡◌, None, Some, [], false};
+ghost use Rattle.std.specs.Prelude.{◌≡◌, ◌<◌, Some, [], false, IsTrue, vec_len, vec_capacity};
 
 use super::failing::Failing;
 use super::{MemSink, MemSource};
 use crate::{Door, DoorFault};
 
-/// A door through which nobody comes, and which fails at the calls with the given numbers. It
-/// keeps no list of what is given back.
+/// A door through which nobody comes, and which fails at the calls with the given numbers. What is
+/// given back is kept, and there is room for it where a connection is out.
 #[derive(Drop)]
 pub struct MemDoor {
     out: bool,
+    back: Vec<(MemSource, MemSink)>,
     failing: Failing,
+    ghost room: { IsTrue out → vec_len back < vec_capacity back },
 }
 
 impl MemDoor {
-    ghost use Rattle.misp_outside.specs.Doors.{door_is_out, door_faults};
+    ghost use Rattle.misp_outside.specs.Doors.{door_back, door_is_out, door_faults, door_calls, door_failing};
 
     /// The calls of `next` with the numbers `failing`, counted from 1, fail.
     pub fn new(failing: Vec<u64>) -> Self
         ensures out { door_is_out result ≡ false }
+        ensures back { door_back result ≡ [] }
         ensures faults { door_faults result ≡ 0 }
+        ensures calls { door_calls result ≡ 0 }
+        ensures numbers { door_failing result ≡ failing.items }
     {
         MemDoor {
             out: false,
+            back: Vec::new(*failing.allocator()),
             failing: Failing::at(failing),
         }
     }
 }
 
 impl Door for MemDoor {
-    ghost use Rattle.misp_outside.specs.Doors.{door_is_out, door_faults};
+    ghost use Rattle.misp_outside.specs.Doors.{door_back, door_is_out, door_faults};
 
     type From = MemSource;
 
@@ -38,7 +44,7 @@ impl Door for MemDoor {
 
     ghost coming = { λ _. Some [] };
 
-    ghost back = { λ _. None };
+    ghost back = { λ door. Some (door_back door) };
 
     ghost is_out = { door_is_out };
 
@@ -51,7 +57,8 @@ impl Door for MemDoor {
         Ok(None)
     }
 
-    fn close(&mut self, _from: Self::From, _to: Self::To) {
+    fn close(&mut self, from: Self::From, to: Self::To) {
+        self.back.push((from, to)).unwrap();
         self.out = false;
     }
 }
