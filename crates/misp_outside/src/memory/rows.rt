@@ -1,7 +1,8 @@
 //! Lists of rows in the order of their names.
 
-ghost use Rattle.std.specs.Prelude.{◌≡◌, ℕ, ◌+◌, ◌<◌, ◌≤◌, List, [], ◌∷◌, ◌++◌, reverse, vec_len, vec_capacity, IsTrue, IfOk};
+ghost use Rattle.std.specs.Prelude.{◌≡◌, ℕ, ◌+◌, ◌<◌, ◌≤◌, List, [], ◌∷◌, ◌++◌, reverse, vec_len, vec_capacity, IsTrue, IfOk, OnOk};
 ghost use Rattle.std.specs.List.{list_all};
+ghost use Rattle.std.specs.List.Sorted.{IsSortedBy};
 ghost use Rattle.misp_outside.specs.Held.{name_order, raw_name, admin_name, ascend};
 ghost use Rattle.misp_outside.specs.Named.{before_by, put_by, put_all_by, PutTheSame, opened};
 
@@ -37,7 +38,8 @@ impl Named for AdminRow {
 
 /// Sorts rows by their names. Of equal names the later row stays the later one.
 pub fn sort<T: Named>(new: &mut Vec<T>) -> Result<(), AllocError>
-    ensures { PutTheSame T.name new.old.items new.new.items }
+    ensures same { PutTheSame T.name new.old.items new.new.items }
+    ensures sorted { OnOk result (IsSortedBy (before_by T.name) new.new.items) }
 {
     new.sort_by(|a, b| a.order(b))
 }
