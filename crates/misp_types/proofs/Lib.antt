@@ -4,3 +4,4 @@ pub mod LowerCase
 pub mod Kept
 pub mod Barless
 pub mod Again
+pub mod StandardFacts

@@ -1,5 +1,5 @@
 -- The form in which the value of an attribute is kept, or its fault.
-use Rattle.std.specs.Prelude.{◌≡◌, ℕ, ◌+◌, ◌==◌, List, ◌++◌, length, take, drop, codes, Option, Some, None, option_map, Ok, Err, if◌then◌else◌}
+use Rattle.std.specs.Prelude.{◌≡◌, ℕ, ◌+◌, ◌==◌, Bool, false, List, ◌++◌, length, take, drop, codes, Option, Some, None, option_map, Ok, Err, if◌then◌else◌, bytes_eq}
 use Rattle.std.specs.Path.{rfind_below}
 use Rattle.misp_types.specs.declared.fault.ValueFault.TheVariants as faults
 use Rattle.misp_types.specs.declared.kinds.Form.{Form}
@@ -54,6 +54,15 @@ by_rule rules.File value = Err faults.BinaryType
 -- what is kept of a value of a type, or its fault
 unfoldable pub kept_of : List ℕ → List ℕ → Checked
 kept_of kind value = by_rule (rule_of kind) value
+
+-- what is kept is this value
+abbrev pub keeps : List ℕ → Checked → Bool
+keeps value (Ok kept) = bytes_eq kept value
+keeps value (Err fault) = false
+
+-- whether a value of a type is kept as it is
+unfoldable pub is_kept : List ℕ → List ℕ → Bool
+is_kept kind value = keeps value (kept_of kind value)
 
 -- a value of a type that is kept as it is
 abbrev pub IsKept : List ℕ → List ℕ → Type 0
