@@ -10,7 +10,7 @@ use Rattle.misp_requests.specs.declared.ask.Ask.TheVariants as asks
 use Rattle.misp_requests.specs.declared.change.Change.TheVariants.{AddEvent}
 use Rattle.misp_requests.specs.declared.change.Change.TheVariants as changes
 use Rattle.misp_outside.specs.Held.{Held, rows_of, put_rows}
-use Rattle.misp_model.specs.Dates.{date_of}
+use Rattle.misp_dates.specs.Dates.{date_of}
 use Rattle.misp_model.specs.Names.{Inst, same_inst}
 use Rattle.misp_model.specs.View.{known}
 use Rattle.misp_model.specs.History.{tables, fresh_row}
@@ -85,25 +85,25 @@ module _ (net : Net) (n : ℕ) (w : World) (at : Surroundings) where
     abbrev ask : Ask
     ask = asks.Change (AddEvent b)
 
-    add_left : b.references ≡ [] → list_all (λ v. ltb v.act n) w.log ≡ true →
+    add_left : list_all (λ v. ltb v.act n) w.log ≡ true →
         tables (step net n w (act_at at ask)).log at.here ≡ put_all (writes_in (there ask) ask) (tables w.log at.here)
     unfolding put_all scene known_at
-    add_left plain older = elim (cases_Bool (is_accepted (there ask) ask)) [
+    add_left older = elim (cases_Bool (is_accepted (there ask) ask)) [
       | inl yes_ ↦
           ap (λ (v : World). tables v.log at.here) (step_changed net n w (act_at at ask) (caller_at at) (AddEvent b) refl yes_)
-          ∙ added_tables (there ask) b plain yes_ w.log refl older
+          ∙ added_tables (there ask) b yes_ w.log refl older
           ∙ sym (ap (λ rows. put_all rows (tables w.log at.here)) (written_where b true yes_))
       | inr no_ ↦
           ap (λ (v : World). tables v.log at.here) (step_refused net n w (act_at at ask) (caller_at at) ask refl no_)
           ∙ sym (ap (λ rows. put_all rows (tables w.log at.here)) (written_where b false no_))
     ]
 
-    add_elsewhere : b.references ≡ [] → (j : Inst) → same_inst at.here j ≡ false → tables (step net n w (act_at at ask)).log j ≡ tables w.log j
+    add_elsewhere : (j : Inst) → same_inst at.here j ≡ false → tables (step net n w (act_at at ask)).log j ≡ tables w.log j
     unfolding scene known_at
-    add_elsewhere plain j apart = elim (cases_Bool (is_accepted (there ask) ask)) [
+    add_elsewhere j apart = elim (cases_Bool (is_accepted (there ask) ask)) [
       | inl yes_ ↦
           ap (λ (v : World). tables v.log j) (step_changed net n w (act_at at ask) (caller_at at) (AddEvent b) refl yes_)
-          ∙ added_elsewhere (there ask) b plain yes_ w.log j apart
+          ∙ added_elsewhere (there ask) b yes_ w.log j apart
       | inr no_ ↦ ap (λ (v : World). tables v.log j) (step_refused net n w (act_at at ask) (caller_at at) ask refl no_)
     ]
 
@@ -111,7 +111,7 @@ module _ (net : Net) (n : ℕ) (w : World) (at : Surroundings) where
   tables_left : (a : Ask) → IsBuilt a → list_all (λ v. ltb v.act n) w.log ≡ true →
       tables (step net n w (act_at at a)).log at.here ≡ put_all (writes_in (there a) a) (tables w.log at.here)
   tables_left (View e owner) built older = view_left e owner
-  tables_left (asks.Change (AddEvent b)) built older = add_left b built.1 older
+  tables_left (asks.Change (AddEvent b)) built older = add_left b older
   tables_left (asks.Change (changes.AddParts e b)) built older = absurd built
   tables_left (asks.Change (changes.EditEvent e edit)) built older = absurd built
   tables_left (asks.Change (changes.EditAttribute e p edit)) built older = absurd built
@@ -131,7 +131,7 @@ module _ (net : Net) (n : ℕ) (w : World) (at : Surroundings) where
   -- the act changes no tables elsewhere
   pub same_elsewhere : (a : Ask) → IsBuilt a → (j : Inst) → same_inst at.here j ≡ false → tables (step net n w (act_at at a)).log j ≡ tables w.log j
   same_elsewhere (View e owner) built j apart = ap (λ (v : World). tables v.log j) (step_view net n w (act_at at (View e owner)) (caller_at at) e owner refl)
-  same_elsewhere (asks.Change (AddEvent b)) built j apart = add_elsewhere b built.1 j apart
+  same_elsewhere (asks.Change (AddEvent b)) built j apart = add_elsewhere b j apart
   same_elsewhere (asks.Change (changes.AddParts e b)) built j apart = absurd built
   same_elsewhere (asks.Change (changes.EditEvent e edit)) built j apart = absurd built
   same_elsewhere (asks.Change (changes.EditAttribute e p edit)) built j apart = absurd built

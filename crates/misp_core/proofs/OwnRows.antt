@@ -17,14 +17,15 @@ use Rattle.misp_orgs.specs.declared.admin.Admin.{Admin}
 use Rattle.misp_model.specs.Names.{same_org, same_event, event_of}
 use Rattle.misp_model.specs.View.{known}
 use Rattle.misp_model.specs.History.{fresh_row}
-use Rattle.misp_model.specs.Asking.{Scene, Rule, takes_uuid, is_taken, is_usable, has_target, uuid_at, uuids_of}
+use Rattle.misp_model.specs.Asking.{Scene, Rule, takes_uuid, is_taken, is_usable, has_target, uuid_at}
+use Rattle.misp_model.specs.Order.{in_order}
 use Rattle.misp_model.specs.Asking as asking
 use Rattle.misp_model.specs.Acts.{answer, brings, is_accepted}
 use Rattle.misp_model.specs.Acts as model
 use Rattle.misp_model.specs.Machine.{event_rows, seeing}
 use Rattle.misp_model.proofs.Lists.{any_cut}
-use Rattle.misp_model.proofs.OneEvent.{IsSame, known_here, view_of_event, add_of_event}
-use Rattle.misp_edit.specs.Adding.{with_those_before, is_clash, first_clash, labels_of, first_unusable}
+use Rattle.misp_model.proofs.OneEvent.{IsSame, known_here, has_target_of_event, view_of_event, add_of_event}
+use Rattle.misp_edit.specs.Adding.{numbered_uuids, is_read_before, read_uuids, with_those_before, is_clash, first_clash, labels_of, first_unusable}
 use Rattle.misp_core.specs.Answers.{Surroundings, event_asked, IsBuilt, added_place, place_of, uuid_text, group_text, reply_of, reply_in, writes_in, scene_at}
 
 -- ---- places
@@ -56,11 +57,6 @@ module _ (e : EventId) (rows : List Row) (s : Scene) where
   usable_own labels.All = refl
   usable_own labels.Inherit = refl
 
--- without references the uuids of a body are those of its parts
-plain_uuids : (s : Scene) (b : Submission) → b.references ≡ [] → uuids_of s b ≡ map (λ d. uuid_at b.event d.place) b.parts ++ []
-unfolding uuids_of
-plain_uuids s b plain = ap (λ rs. map (λ d. uuid_at b.event d.place) b.parts ++ map (λ r. r.uuid.0.0) (filter (has_target s b) rs)) plain
-
 module _ (b : Submission) (rows : List Row) (s : Scene) where
   abbrev here : Scene
   here = seeing s (event_rows b.event rows)
@@ -68,29 +64,28 @@ module _ (b : Submission) (rows : List Row) (s : Scene) where
   abbrev there : Scene
   there = seeing s rows
 
-  clash_own : b.references ≡ [] → first_clash here b ≡ first_clash there b
-  unfolding first_clash is_clash
-  clash_own plain =
-      let uuids : uuids_of here b ≡ uuids_of there b = plain_uuids here b plain ∙ sym (plain_uuids there b plain) in
-      λ i. option_map (λ p. p.1) (find (λ p. taken_own b.event rows s p.1 i || list_any (eqb p.1) p.0) (with_those_before [] (uuids i)))
+  clash_own : first_clash here b ≡ first_clash there b
+  unfolding first_clash is_clash read_uuids numbered_uuids
+  clash_own = λ i. option_map (λ p. p.1) (find (λ p. taken_own b.event rows s p.1 i || list_any (eqb p.1) p.0) (with_those_before [] (map (λ p. p.1) (in_order is_read_before (map (λ d. (d.number, uuid_at b.event d.place)) b.parts
+      ++ map (λ r. (r.number, r.uuid.0.0)) (filter (λ r. has_target_of_event b rows s r i) b.references))))))
 
   unusable_own : first_unusable here b ≡ first_unusable there b
   unfolding first_unusable
   unusable_own = λ i. find (λ l. not (usable_own b.event rows s l i)) (labels_of b)
 
-  added_place_own : b.references ≡ [] → (rule : Rule) → added_place here b rule ≡ added_place there b rule
-  added_place_own plain asking.ElementExists = ap uuid_text (clash_own plain)
-  added_place_own plain asking.GroupNotUsable = ap group_text unusable_own
-  added_place_own plain asking.NotGranted = refl
-  added_place_own plain asking.NotOwner = refl
-  added_place_own plain asking.LockedCopy = refl
-  added_place_own plain asking.EventExists = refl
-  added_place_own plain asking.EventGone = refl
-  added_place_own plain asking.OlderTime = refl
-  added_place_own plain asking.TimeLimit = refl
-  added_place_own plain asking.ProposalExists = refl
-  added_place_own plain asking.ProposalClosed = refl
-  added_place_own plain asking.ElementFull = refl
+  added_place_own : (rule : Rule) → added_place here b rule ≡ added_place there b rule
+  added_place_own asking.ElementExists = ap uuid_text clash_own
+  added_place_own asking.GroupNotUsable = ap group_text unusable_own
+  added_place_own asking.NotGranted = refl
+  added_place_own asking.NotOwner = refl
+  added_place_own asking.LockedCopy = refl
+  added_place_own asking.EventExists = refl
+  added_place_own asking.EventGone = refl
+  added_place_own asking.OlderTime = refl
+  added_place_own asking.TimeLimit = refl
+  added_place_own asking.ProposalExists = refl
+  added_place_own asking.ProposalClosed = refl
+  added_place_own asking.ElementFull = refl
 
 -- ---- replies and writes
 
@@ -117,7 +112,7 @@ alike admin s t ask h same = record {
 -- what is asked of an event is replied and written over its own rows as over all
 pub own_alike : (admin : Admin) (ask : Ask) (rows : List Row) (s : Scene) → IsBuilt ask → IsAlike admin (seeing s (event_rows (event_asked ask) rows)) (seeing s rows) ask
 own_alike admin (View e owner) rows s built = alike admin _ _ (View e owner) (λ rule. refl) (view_of_event e rows s owner)
-own_alike admin (asks.Change (AddEvent b)) rows s built = alike admin _ _ (asks.Change (AddEvent b)) (added_place_own b rows s built.1) (add_of_event b rows s)
+own_alike admin (asks.Change (AddEvent b)) rows s built = alike admin _ _ (asks.Change (AddEvent b)) (added_place_own b rows s) (add_of_event b rows s)
 own_alike admin (asks.Change (changes.AddParts e b)) rows s built = absurd built
 own_alike admin (asks.Change (changes.EditEvent e edit)) rows s built = absurd built
 own_alike admin (asks.Change (changes.EditAttribute e p edit)) rows s built = absurd built

@@ -23,7 +23,7 @@ use Rattle.misp_requests.specs.declared.change.Change.TheVariants.{AddEvent}
 use Rattle.misp_orgs.specs.declared.admin.Admin.{Admin}
 use Rattle.misp_orgs.specs.declared.key.Caller.{Caller}
 use Rattle.misp_orgs.specs.Org.{name_of}
-use Rattle.misp_model.specs.Dates.{date_of}
+use Rattle.misp_dates.specs.Dates.{date_of}
 use Rattle.misp_model.specs.View.{known}
 use Rattle.misp_model.specs.History.{Version, fresh_row}
 use Rattle.misp_model.specs.Asking.{Scene, Rule}
@@ -42,9 +42,9 @@ use Rattle.misp_core.specs.declared.decide.Verdict.{Verdict}
 
 -- ---- asks
 
--- an added event has a body, and for now no references
+-- an added event has a body
 abbrev pub IsAdded : Submission → Type 0
-IsAdded b = (is_some b.body ≡ true) × (b.references ≡ [])
+IsAdded b = is_some b.body ≡ true
 
 -- the asks that are built: showing an event, and adding one
 abbrev pub IsBuilt : Ask → Type 0
@@ -80,13 +80,13 @@ site here admin caller now = record { here = here; admin = admin; caller = calle
 abbrev pub site_at : Standing → Caller → ℕ → Surroundings
 site_at i caller now = site i.name i.admin caller now
 
--- the scene of the n-th request, on a day, over what the caller knows
-abbrev pub scene_with : ℕ → List ℕ → Surroundings → List Row → Scene
-scene_with n today at rows = scene_of n at.here at.caller.org (name_in at.admin at.caller.org) at.now today rows
+-- the scene of the n-th request, over what the caller knows
+abbrev pub scene_with : ℕ → Surroundings → List Row → Scene
+scene_with n at rows = scene_of n at.here at.caller.org (name_in at.admin at.caller.org) at.now (date_of at.now) rows
 
 -- the scene of the n-th request, over these rows
 abbrev pub scene_at : ℕ → Surroundings → List Row → Scene
-scene_at n at rows = scene_with n (date_of at.now) at (known rows [] at.here at.caller.org)
+scene_at n at rows = scene_with n at (known rows [] at.here at.caller.org)
 
 -- ---- refusals
 

@@ -1,6 +1,6 @@
 //! What a request comes to over the rows of its event.
 
-ghost use Rattle.std.specs.Prelude.{◌≡◌, ◌≤◌, ℕ, List, IfOk, Ok, map, length, []};
+ghost use Rattle.std.specs.Prelude.{◌≡◌, ◌≤◌, ℕ, IfOk, Ok, map, length, []};
 ghost use Rattle.misp_requests.specs.declared.ask.Ask.TheVariants.{View};
 ghost use Rattle.misp_requests.specs.declared.ask.Ask.TheVariants as asks;
 ghost use Rattle.misp_requests.specs.declared.change.Change.TheVariants.{AddEvent};
@@ -134,8 +134,8 @@ fn add(
     rows: &[Row],
 ) -> Result<Verdict, NoMemory>
     requires { IsAdded submission }
-    ensures { (n : ℕ) (today : List ℕ) → IfOk result (IsDecision
-        (scene_with n today (site here.now admin.now caller.now now) rows.now)
+    ensures { (n : ℕ) → IfOk result (IsDecision
+        (scene_with n (site here.now admin.now caller.now now) rows.now)
         admin.now (asks.Change (AddEvent submission))) }
 {
     let name = name_text(alloc, admin, &caller.org)?;
@@ -175,8 +175,8 @@ fn view(
     owner: Option<OrgId>,
     rows: &[Row],
 ) -> Result<Verdict, NoMemory>
-    ensures { (n : ℕ) (today : List ℕ) → IfOk result (IsDecision
-        (scene_with n today (site here.now admin.now caller.now now) rows.now) admin.now (View event.now owner)) }
+    ensures { (n : ℕ) → IfOk result (IsDecision
+        (scene_with n (site here.now admin.now caller.now now) rows.now) admin.now (View event.now owner)) }
 {
     match shown(alloc, rows, here, &caller.org, event, owner)? {
         Some(seen) => {
@@ -202,8 +202,8 @@ fn decide_known(
     rows: &[Row],
 ) -> Result<Verdict, NoMemory>
     requires { IsBuilt ask }
-    ensures { (n : ℕ) (today : List ℕ) → IfOk result (IsDecision
-        (scene_with n today (site here.now admin.now caller.now now) rows.now) admin.now ask) }
+    ensures { (n : ℕ) → IfOk result (IsDecision
+        (scene_with n (site here.now admin.now caller.now now) rows.now) admin.now ask) }
 {
     match ask {
         Ask::View { event, owner } => view(alloc, here, admin, caller, now, &event, owner, rows),

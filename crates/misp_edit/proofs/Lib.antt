@@ -1,4 +1,6 @@
 pub mod ListLemmas
+pub mod SortLemmas
 pub mod UuidLemmas
+pub mod TargetLemmas
 pub mod RuleLemmas
 pub mod RowLemmas

@@ -1,20 +1,22 @@
 -- The rows of what adding an event writes.
-use Rattle.std.proofs.Common.{◌≡◌, ℕ, List, [], ◌∷◌, ◌++◌, map, option_to_list, ap, refl}
-use Rattle.std.proofs.lemmas.List.{append-nil}
+use Rattle.std.proofs.Common.{◌≡◌, ℕ, List, [], ◌∷◌, ◌++◌, map, Option, Some, None, option_map, option_to_list, ap, refl, ◌∙◌, append_assoc}
+use Rattle.std.specs.List.{filter_map, cons_option}
 use Rattle.misp_ids.specs.declared.uid.OrgId.{OrgId}
 use Rattle.misp_ids.specs.declared.uid.EventId.{EventId}
+use Rattle.misp_ids.specs.declared.uid.ElemId.{ElemId}
 use Rattle.misp_ids.specs.declared.label.Label.{Label}
+use Rattle.misp_ids.specs.declared.label.Label.TheVariants as labels
 use Rattle.misp_elem.specs.declared.content.Content.{Content}
 use Rattle.misp_elem.specs.declared.content.Content.TheVariants as contents
-use Rattle.misp_elem.specs.declared.key.KeyForm.TheVariants.{Element}
+use Rattle.misp_elem.specs.declared.key.KeyForm.TheVariants.{Element, Reference}
 use Rattle.misp_elem.specs.declared.key.Place.{Place}
 use Rattle.misp_elem.specs.declared.row.RowFields.{RowFields as Row}
-use Rattle.misp_elem.specs.Draft.{DraftFields as Draft, EventDraftFields as EventDraft, SubmissionFields as Submission}
+use Rattle.misp_elem.specs.Draft.{DraftFields as Draft, EventDraftFields as EventDraft, ReferenceDraftFields as ReferenceDraft, SubmissionFields as Submission}
 use Rattle.misp_model.specs.Names.{Inst, Stamp, event_key}
 use Rattle.misp_model.specs.History.{fresh_row, is_gone, is_statement, is_published}
-use Rattle.misp_model.specs.Asking.{Scene, written, part_version, parts_written, new_event, event_written}
+use Rattle.misp_model.specs.Asking.{Scene, written, part_version, target_of, reference_key, reference_version, parts_written, new_event, event_written}
 use Rattle.misp_edit.specs.Adding.{scene_of}
-use Rattle.misp_edit.specs.Rows.{new_row, part_row, event_row, body_of, added_rows}
+use Rattle.misp_edit.specs.Rows.{new_row, part_row, reference_row, row_with_target, event_row, body_of, added_rows}
 
 -- one list after two others
 map_both : {A B C : Type 0} (f : B → C) (g : A → B) (h : A → C) (xs : List A) → ((x : A) → h x ≡ f (g x)) → map h xs ≡ map f (map g xs)
@@ -48,15 +50,39 @@ module _ (act : ℕ) (at : Inst) (w : OrgId) (name : List ℕ) (now : Stamp) (to
   unfolding event_row event_key body_of new_event
   event_row_is e l d = new_row_is e _ l _
 
-  -- all rows of a body without references
-  pub added_rows_are : (b : Submission) → b.references ≡ [] →
-      added_rows w name today now b ≡ map fresh_row (event_written (scene_of act at w name now today rows) b)
-  unfolding added_rows event_written parts_written
-  added_rows_are b none =
-      let s : Scene = scene_of act at w name now today rows in
-      rw (none, append-nil (map (part_version s b.event) b.parts))
-      (rw (map_after fresh_row (map (λ d. written s (event_key b.event) now b.label (contents.Event (new_event s d))) (option_to_list b.body)) (map (part_version s b.event) b.parts))
-      (rw (
-        map_both fresh_row (λ d. written s (event_key b.event) now b.label (contents.Event (new_event s d))) (event_row w name today b.event now b.label) (option_to_list b.body) (event_row_is b.event b.label),
-        map_both fresh_row (part_version s b.event) (part_row w b.event now) b.parts (part_row_is b.event),
-      ) refl))
+  reference_row_is : (e : EventId) (r : ReferenceDraft) (t : Place) →
+      reference_row w e now r t ≡ fresh_row (written (scene_of act at w name now today rows) (Reference e r.object t r.uuid) now labels.Inherit (contents.Reference r.body))
+  unfolding reference_row fresh_row written is_statement is_gone is_published
+  reference_row_is e r t = refl
+
+  module _ (b : Submission) (target : ElemId → Option Place) (is : (u : ElemId) → target u ≡ target_of (scene_of act at w name now today rows) b.event b.parts u) where
+    references_are : (rs : List ReferenceDraft) →
+        filter_map (row_with_target target w b.event now) rs ≡ map fresh_row (filter_map (reference_version (scene_of act at w name now today rows) b.event b.parts) rs)
+    unfolding row_with_target reference_version reference_key
+    references_are [] = refl
+    references_are (r ∷ rs) = rw (is r.referenced) (one (target_of (scene_of act at w name now today rows) b.event b.parts r.referenced) (references_are rs))
+      where
+        s : Scene
+        s = scene_of act at w name now today rows
+
+        one : (t : Option Place) → filter_map (row_with_target target w b.event now) rs ≡ map fresh_row (filter_map (reference_version s b.event b.parts) rs) →
+            cons_option (option_map (reference_row w b.event now r) t) (filter_map (row_with_target target w b.event now) rs)
+            ≡ map fresh_row (cons_option (option_map (λ k. written s k now labels.Inherit (contents.Reference r.body)) (option_map (λ p. Reference b.event r.object p r.uuid) t)) (filter_map (reference_version s b.event b.parts) rs))
+        one None ih = ih
+        one (Some p) ih = λ i. reference_row_is b.event r p i ∷ ih i
+
+    -- all rows of a body, by what the references name
+    pub added_rows_are : added_rows target w name today now b ≡ map fresh_row (event_written (scene_of act at w name now today rows) b)
+    unfolding added_rows event_written parts_written
+    added_rows_are =
+        let s : Scene = scene_of act at w name now today rows in
+        append_assoc (map (event_row w name today b.event now b.label) (option_to_list b.body)) (map (part_row w b.event now) b.parts) (filter_map (row_with_target target w b.event now) b.references)
+        ∙ rw (
+          map_after fresh_row (map (λ d. written s (event_key b.event) now b.label (contents.Event (new_event s d))) (option_to_list b.body)) (map (part_version s b.event) b.parts ++ filter_map (reference_version s b.event b.parts) b.references),
+          map_after fresh_row (map (part_version s b.event) b.parts) (filter_map (reference_version s b.event b.parts) b.references),
+        )
+        (rw (
+          map_both fresh_row (λ d. written s (event_key b.event) now b.label (contents.Event (new_event s d))) (event_row w name today b.event now b.label) (option_to_list b.body) (event_row_is b.event b.label),
+          map_both fresh_row (part_version s b.event) (part_row w b.event now) b.parts (part_row_is b.event),
+          references_are b.references,
+        ) refl)

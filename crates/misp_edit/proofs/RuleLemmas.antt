@@ -1,32 +1,41 @@
 -- Which rule refuses to add an event, and what the refusal names.
-use Rattle.std.proofs.Common.{◌≡◌, ◌∙◌, ℕ, Bool, true, false, not, ◌||◌, [], ◌∷◌, map, Option, Some, None, ap, refl}
-use Rattle.std.specs.List.{find}
+use Rattle.std.proofs.Common.{◌≡◌, ◌∙◌, ℕ, Bool, true, false, not, ◌||◌, [], ◌∷◌, map, Option, Some, None, BTreeMap, ap, sym, refl}
+use Rattle.std.specs.List.{list_any, find}
 use Rattle.std.specs.Option.{is_some}
-use Rattle.std.proofs.lemmas.List.{append-nil}
+use Rattle.misp_ids.specs.declared.uid.ElemId.{ElemId}
 use Rattle.misp_ids.specs.declared.uid.GroupId.{GroupId}
 use Rattle.misp_ids.specs.declared.label.Label.{Label}
 use Rattle.misp_ids.specs.declared.label.Label.TheVariants as labels
+use Rattle.misp_elem.specs.declared.key.Place.{Place}
 use Rattle.misp_elem.specs.Draft.{SubmissionFields as Submission}
+use Rattle.misp_model.specs.Order.{in_order}
 use Rattle.misp_model.specs.Audience.{group_passes, known_group}
 use Rattle.misp_model.specs.View.{has_copy, has_gone}
-use Rattle.misp_model.specs.Asking.{Scene, Rule, first_rule, change_rules, holds_copy, holds_mark, is_taken, is_usable, uuids_of, clashes, has_unusable, EventExists, EventGone, ElementExists, GroupNotUsable}
+use Rattle.misp_model.specs.Asking.{Scene, Rule, first_rule, change_rules, holds_copy, holds_mark, target_of, is_taken, are_distinct, is_usable, clashes, has_unusable, EventExists, EventGone, ElementExists, GroupNotUsable}
 use Rattle.misp_edit.specs.declared.fault.AddFault.TheVariants as fault
-use Rattle.misp_edit.specs.Adding.{refusing, is_clash, first_clash, labels_of, first_unusable, Refuses}
+use Rattle.misp_edit.specs.Adding.{refusing, numbered_uuids, is_read_before, read_uuids, is_clash, first_clash, labels_of, first_unusable, Refuses}
 use Rattle.misp_edit.specs.Rows.{is_group}
-use Rattle.misp_edit.specs.Uuids.{has_uuid, is_used, uuids_in, clash_in}
+use Rattle.misp_edit.specs.Uuids.{has_uuid, is_used, numbered_in, clash_in}
+use Rattle.misp_edit.specs.Targets.{target_places, target_in, AreTargets}
 use Rattle.misp_edit.proofs.ListLemmas.{find_same, find_any, any_map}
-use Rattle.misp_edit.proofs.UuidLemmas.{is_clash_in, first_clash_is}
+use Rattle.misp_edit.proofs.UuidLemmas.{is_clash_in, first_clash_is, any_in_order, distinct_in_order, unnumbered, numbered_is}
+use Rattle.misp_edit.proofs.TargetLemmas.{target_is}
 
 module _ (s : Scene) (b : Submission) where
   -- the clash of the definition, by the recursion
-  clash_is : first_clash s b ≡ clash_in (is_taken s b.event) (uuids_of s b)
+  clash_is : first_clash s b ≡ clash_in (is_taken s b.event) (read_uuids s b)
   unfolding first_clash is_clash
-  clash_is = first_clash_is (is_taken s b.event) [] (uuids_of s b)
+  clash_is = first_clash_is (is_taken s b.event) [] (read_uuids s b)
 
   -- there is a first clash exactly where the body clashes
   pub clash_known : is_some (first_clash s b) ≡ clashes s b
-  unfolding clashes
-  clash_known = rw clash_is (is_clash_in (is_taken s b.event) (uuids_of s b))
+  unfolding clashes read_uuids
+  clash_known =
+      ap is_some clash_is ∙ is_clash_in (is_taken s b.event) (read_uuids s b)
+      ∙ (λ i.
+      not (distinct_in_order is_read_before (λ p. p.1) (numbered_uuids s b) i)
+      || any_in_order is_read_before (λ p. p.1) (is_taken s b.event) (numbered_uuids s b) i)
+      ∙ ap (λ us. not (are_distinct us) || list_any (is_taken s b.event) us) (unnumbered s b)
 
   -- there is a first unusable label exactly where the body has one
   pub unusable_known : is_some (first_unusable s b) ≡ has_unusable s b
@@ -71,19 +80,30 @@ module _ (s : Scene) (alone : s.groups ≡ []) (b : Submission) where
   unfolding first_rule holds_copy holds_mark
   gone h k = rule_is s b ∙ rw (h, k) refl
 
-  module _ (none : b.references ≡ []) where
-    clash_by : (found : Option ℕ) → clash_in (is_used s.rows s.by b.event) (uuids_in b.event b.parts) ≡ found → first_clash s b ≡ found
-    unfolding uuids_of uuids_in is_taken is_used has_uuid
-    clash_by found h = clash_is s b ∙ rw (none, append-nil (uuids_in b.event b.parts)) h
+  -- with what the references name
+  module _ (m : BTreeMap ℕ Place) (targets : AreTargets m (target_places s.rows s.by b.event b.parts)) where
+    -- the clash that is found
+    abbrev found_clash : Option ℕ
+    found_clash = clash_in (is_used s.rows s.by b.event) (map (λ p. p.1) (in_order is_read_before (numbered_in (target_in m) b)))
+
+    -- what the definition says that they name
+    target_by : (u : ElemId) → target_in m u ≡ target_of s b.event b.parts u
+    target_by u = targets u ∙ sym (target_is s b.event u b.parts)
+
+    clash_by : (found : Option ℕ) → found_clash ≡ found → first_clash s b ≡ found
+    unfolding read_uuids is_taken is_used has_uuid
+    clash_by found h =
+        clash_is s b
+        ∙ ap (λ ps. clash_in (is_taken s b.event) (map (λ p. p.1) (in_order is_read_before ps))) (numbered_is s b (target_in m) target_by)
+        ∙ h
 
     module _ (h : has_copy s.rows s.by b.event ≡ false) (k : has_gone s.rows s.by b.event ≡ false) where
       -- a uuid clashes
-      pub clash : (u : ℕ) → clash_in (is_used s.rows s.by b.event) (uuids_in b.event b.parts) ≡ Some u →
-          Refuses s b (fault.ElementExists (record { 0 = u }))
+      pub clash : (u : ℕ) → found_clash ≡ Some u → Refuses s b (fault.ElementExists (record { 0 = u }))
       unfolding first_rule holds_copy holds_mark
       clash u e = (rule_is s b ∙ rw (h, k, clash_by _ e) refl, clash_by _ e)
 
-      module _ (e : clash_in (is_used s.rows s.by b.event) (uuids_in b.event b.parts) ≡ None) where
+      module _ (e : found_clash ≡ None) where
         -- a label is a group's
         pub group : (g : GroupId) → find is_group (b.label ∷ map (λ d. d.label) b.parts) ≡ Some (labels.Group g) →
             Refuses s b (fault.GroupNotUsable g)

@@ -1,5 +1,5 @@
 -- Adding an event: what the caller has, brings and is refused.
-use Rattle.std.specs.Prelude.{◌≡◌, ℕ, Bool, eqb, not, ◌||◌, List, [], ◌∷◌, map, Option, Some, None, option_map}
+use Rattle.std.specs.Prelude.{◌≡◌, ℕ, Bool, eqb, leb, not, ◌||◌, List, [], ◌∷◌, ◌++◌, map, filter, Option, Some, None, option_map}
 use Rattle.std.specs.List.{list_any, find}
 use Rattle.misp_ids.specs.declared.uid.OrgId.{OrgId}
 use Rattle.misp_ids.specs.declared.uid.EventId.{EventId}
@@ -9,8 +9,9 @@ use Rattle.misp_elem.specs.declared.row.RowFields.{RowFields as Row}
 use Rattle.misp_elem.specs.Draft.{SubmissionFields as Submission}
 use Rattle.misp_requests.specs.declared.change.Change.TheVariants.{AddEvent}
 use Rattle.misp_model.specs.Names.{Inst, Stamp}
+use Rattle.misp_model.specs.Order.{in_order}
 use Rattle.misp_model.specs.History.{fresh_row}
-use Rattle.misp_model.specs.Asking.{Scene, Rule, first_rule, change_rules, event_written, is_taken, is_usable, uuids_of}
+use Rattle.misp_model.specs.Asking.{Scene, Rule, first_rule, change_rules, event_written, has_target, is_taken, is_usable, uuid_at}
 use Rattle.misp_model.specs.Asking as rule
 use Rattle.misp_edit.specs.declared.fault.AddFault.{AddFault}
 use Rattle.misp_edit.specs.declared.fault.AddFault.TheVariants.{EventExists, EventGone, ElementExists, GroupNotUsable, NoMemory}
@@ -24,6 +25,20 @@ scene_of act at by by_name now today rows =
 abbrev pub refusing : Scene → Submission → Option Rule
 refusing s b = first_rule (change_rules s (AddEvent b))
 
+-- the uuids of the parts, and of the references that have a target, each with its place in reading order
+unfoldable pub numbered_uuids : Scene → Submission → List (ℕ × ℕ)
+numbered_uuids s b =
+    map (λ d. (d.number, uuid_at b.event d.place)) b.parts
+    ++ map (λ r. (r.number, r.uuid.0.0)) (filter (has_target s b) b.references)
+
+-- one place is not behind another
+abbrev pub is_read_before : ℕ × ℕ → ℕ × ℕ → Bool
+is_read_before p q = leb p.0 q.0
+
+-- these uuids in reading order
+unfoldable pub read_uuids : Scene → Submission → List ℕ
+read_uuids s b = map (λ p. p.1) (in_order is_read_before (numbered_uuids s b))
+
 -- each of these numbers, with those that stand before it and these others
 unfoldable pub with_those_before : List ℕ → List ℕ → List (List ℕ × ℕ)
 with_those_before before [] = []
@@ -35,7 +50,7 @@ is_clash s e p = is_taken s e p.1 || list_any (eqb p.1) p.0
 
 -- the first such uuid, in reading order
 unfoldable pub first_clash : Scene → Submission → Option ℕ
-first_clash s b = option_map (λ p. p.1) (find (is_clash s b.event) (with_those_before [] (uuids_of s b)))
+first_clash s b = option_map (λ p. p.1) (find (is_clash s b.event) (with_those_before [] (read_uuids s b)))
 
 -- the labels of a body, the event's before those of the parts
 unfoldable pub labels_of : Submission → List Label

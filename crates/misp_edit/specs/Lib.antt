@@ -1,3 +1,4 @@
 pub mod Adding
 pub mod Uuids
+pub mod Targets
 pub mod Rows

@@ -1,7 +1,9 @@
 -- The rows of an added event, by the fields of what is added.
-use Rattle.std.specs.Prelude.{ℕ, Bool, true, false, not, List, Some, None, map, ◌++◌, option_to_list}
+use Rattle.std.specs.Prelude.{ℕ, Bool, true, false, not, List, Option, Some, None, map, ◌++◌, option_map, option_to_list}
+use Rattle.std.specs.List.{filter_map}
 use Rattle.misp_ids.specs.declared.uid.OrgId.{OrgId}
 use Rattle.misp_ids.specs.declared.uid.EventId.{EventId}
+use Rattle.misp_ids.specs.declared.uid.ElemId.{ElemId}
 use Rattle.misp_ids.specs.declared.label.Label.{Label}
 use Rattle.misp_ids.specs.declared.label.Label.TheVariants as labels
 use Rattle.misp_elem.specs.declared.content.Content.{Content}
@@ -10,9 +12,9 @@ use Rattle.misp_elem.specs.declared.content.EventBody.{EventBody}
 use Rattle.misp_elem.specs.declared.key.Place.{Place}
 use Rattle.misp_elem.specs.declared.key.Place.TheVariants as places
 use Rattle.misp_elem.specs.declared.key.KeyForm.{KeyForm as Key}
-use Rattle.misp_elem.specs.declared.key.KeyForm.TheVariants.{Element}
+use Rattle.misp_elem.specs.declared.key.KeyForm.TheVariants.{Element, Reference}
 use Rattle.misp_elem.specs.declared.row.RowFields.{RowFields as Row}
-use Rattle.misp_elem.specs.Draft.{DraftFields as Draft, EventDraftFields as EventDraft, SubmissionFields as Submission}
+use Rattle.misp_elem.specs.Draft.{DraftFields as Draft, EventDraftFields as EventDraft, ReferenceDraftFields as ReferenceDraft, SubmissionFields as Submission}
 use Rattle.misp_model.specs.History.{is_gone}
 
 -- a row that is not published
@@ -28,12 +30,16 @@ new_row w e now p l c =
 unfoldable pub part_row : OrgId → EventId → ℕ → Draft → Row
 part_row w e now d = new_row w e now d.place d.label d.content
 
+-- the date that a body gives, or else this day
+abbrev pub date_given : Option (List ℕ) → List ℕ → List ℕ
+date_given given today = elim given [ Some date ↦ date | None ↦ today ]
+
 -- the body of a new event that this organisation created on this day
 unfoldable pub body_of : OrgId → List ℕ → List ℕ → EventDraft → EventBody
 body_of w name today d =
     record {
       info = d.info;
-      date = elim d.date [ Some date ↦ date | None ↦ today ];
+      date = date_given d.date today;
       threat_level_id = d.threat_level_id;
       analysis = d.analysis;
       publish_stamp = 0;
@@ -47,12 +53,21 @@ body_of w name today d =
 unfoldable pub event_row : OrgId → List ℕ → List ℕ → EventId → ℕ → Label → EventDraft → Row
 event_row w name today e now l d = new_row w e now places.Event l (contents.Event (body_of w name today d))
 
+-- the row of a reference that has this target
+unfoldable pub reference_row : OrgId → EventId → ℕ → ReferenceDraft → Place → Row
+reference_row w e now r t = held_row w (Reference e r.object t r.uuid) now labels.Inherit (contents.Reference r.body)
+
+-- the same, where it has a target
+unfoldable pub row_with_target : (ElemId → Option Place) → OrgId → EventId → ℕ → ReferenceDraft → Option Row
+row_with_target target w e now r = option_map (reference_row w e now r) (target r.referenced)
+
 -- the label is a group's
 abbrev pub is_group : Label → Bool
 is_group (labels.Group g) = true
 is_group label = false
 
--- the row of the event, where the body has it, and those of the parts
-unfoldable pub added_rows : OrgId → List ℕ → List ℕ → ℕ → Submission → List Row
-added_rows w name today now b =
+-- the row of the event, where the body has it, those of the parts, and those of the references that have a target
+unfoldable pub added_rows : (ElemId → Option Place) → OrgId → List ℕ → List ℕ → ℕ → Submission → List Row
+added_rows target w name today now b =
     map (λ d. event_row w name today b.event now b.label d) (option_to_list b.body) ++ map (part_row w b.event now) b.parts
+    ++ filter_map (row_with_target target w b.event now) b.references

@@ -1,10 +1,12 @@
 -- Uuids that stand twice, without a scene.
-use Rattle.std.specs.Prelude.{ℕ, Bool, false, eqb, cond, ◌&&◌, ◌||◌, List, [], ◌∷◌, Option, Some, None, map}
-use Rattle.std.specs.List.{list_any}
+use Rattle.std.specs.Prelude.{ℕ, Bool, false, eqb, cond, ◌&&◌, ◌||◌, List, [], ◌∷◌, ◌++◌, Option, Some, None, option_map, map}
+use Rattle.std.specs.List.{list_any, filter_map}
 use Rattle.misp_ids.specs.declared.uid.OrgId.{OrgId}
 use Rattle.misp_ids.specs.declared.uid.EventId.{EventId}
+use Rattle.misp_ids.specs.declared.uid.ElemId.{ElemId}
+use Rattle.misp_elem.specs.declared.key.Place.{Place}
 use Rattle.misp_elem.specs.declared.row.RowFields.{RowFields as Row}
-use Rattle.misp_elem.specs.Draft.{DraftFields as Draft}
+use Rattle.misp_elem.specs.Draft.{DraftFields as Draft, ReferenceDraftFields as ReferenceDraft, SubmissionFields as Submission}
 use Rattle.misp_model.specs.Names.{same_org, same_event, event_of}
 use Rattle.misp_model.specs.Asking.{takes_uuid, uuid_at}
 
@@ -21,9 +23,17 @@ has_uuid w e u row = same_org row.owner w && (same_event (event_of row.key) e &&
 unfoldable pub is_used : List Row → OrgId → EventId → ℕ → Bool
 is_used rows w e u = eqb e.0.0 u || list_any (has_uuid w e u) rows
 
--- the uuids of these parts
-unfoldable pub uuids_in : EventId → List Draft → List ℕ
-uuids_in e parts = map (λ d. uuid_at e d.place) parts
+-- the uuid of a part, with its place in reading order
+unfoldable pub part_uuid : EventId → Draft → ℕ × ℕ
+part_uuid e d = (d.number, uuid_at e d.place)
+
+-- the same of a reference, where it has a target
+unfoldable pub reference_uuid : (ElemId → Option Place) → ReferenceDraft → Option (ℕ × ℕ)
+reference_uuid target r = option_map (λ t. (r.number, r.uuid.0.0)) (target r.referenced)
+
+-- those of the parts, and of the references that have a target
+unfoldable pub numbered_in : (ElemId → Option Place) → Submission → List (ℕ × ℕ)
+numbered_in target b = map (part_uuid b.event) b.parts ++ filter_map (reference_uuid target) b.references
 
 -- the first of these that is used or stood before
 unfoldable pub clash_in : (ℕ → Bool) → List ℕ → Option ℕ

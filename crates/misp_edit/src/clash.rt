@@ -1,13 +1,17 @@
 //! Uuids that a body brings twice, or that the caller's copy has.
 
-ghost use Rattle.std.specs.Prelude.{◌≡◌, ℕ, IfOk, OnOk, ◌||◌};
+ghost use Rattle.std.specs.Prelude.{◌≡◌, ℕ, ◌++◌, map, IfOk, OnOk, ◌||◌};
+ghost use Rattle.std.specs.List.{filter_map};
 ghost use Rattle.std.specs.Ordering.{nat_cmp};
 ghost use Rattle.std.specs.BTreeSet.{contains};
-ghost use Rattle.misp_model.specs.Names.{event_of};
 ghost use Rattle.misp_model.specs.Asking.{uuid_at, takes_uuid};
-ghost use Rattle.misp_edit.specs.Uuids.{is_at, has_uuid, is_used, uuids_in, clash_in};
+ghost use Rattle.misp_model.specs.Order.{in_order};
+ghost use Rattle.misp_edit.specs.Adding.{is_read_before};
+ghost use Rattle.misp_edit.specs.Targets.{target_in};
+ghost use Rattle.misp_edit.specs.Uuids.{is_at, has_uuid, is_used, part_uuid, reference_uuid, numbered_in, clash_in};
 
-use misp_elem::{Draft, KeyForm, Place, Row};
+use crate::targets::Targets;
+use misp_elem::{Draft, KeyForm, Place, ReferenceDraft, Row, Submission};
 use misp_ids::{EventId, NoMemory, OrgId};
 use std::alloc::Global;
 use std::collections::BTreeSet;
@@ -35,25 +39,12 @@ fn uuid_in(form: KeyForm) -> Option<u128>
     }
 }
 
-#[tactic(auto, unfolding(misp_model::specs::Names::event_of))]
-fn event_of(form: KeyForm) -> EventId
-    ensures { result ≡ event_of form }
-{
-    match form {
-        KeyForm::Element { event, .. }
-        | KeyForm::Reference { event, .. }
-        | KeyForm::Proposal { event, .. }
-        | KeyForm::Verdict { event, .. }
-        | KeyForm::Sighting { event, .. } => event,
-    }
-}
-
 // The uuid in a row, if the row is one of the owner's copy of the event.
 #[tactic(auto, unfolding(crate::specs::Uuids::has_uuid, misp_model::specs::Names::same_event, misp_model::specs::Names::same_org))]
 fn own_uuid(row: &Row, owner: OrgId, event: EventId) -> Option<u128>
     ensures { (u : ℕ) → is_at result u ≡ has_uuid owner event u row.now }
 {
-    if row.owner.0.0 == owner.0.0 && event_of(row.key.form).0.0 == event.0.0 {
+    if row.owner.0.0 == owner.0.0 && row.key.event().0.0 == event.0.0 {
         uuid_in(row.key.form)
     } else {
         None
@@ -90,24 +81,90 @@ fn used_uuids(
     Ok(used)
 }
 
-// The first uuid of the parts that is used, or that an earlier part has.
-#[tactic(auto, unfolding(crate::specs::Uuids::clash_in, crate::specs::Uuids::uuids_in))]
-pub(crate) fn first_clash(
-    alloc: Global,
-    parts: &[Draft],
-    rows: &[Row],
-    owner: OrgId,
-    event: EventId,
-) -> Result<Option<u128>, NoMemory>
-    ensures { IfOk result (λ clash.
-        clash ≡ clash_in (is_used rows.now owner event) (uuids_in event parts.now)) }
+// The uuids of the parts.
+#[tactic(auto, unfolding(crate::specs::Uuids::part_uuid))]
+fn part_uuids(alloc: Global, parts: &[Draft], event: EventId) -> Result<Vec<(u32, u128)>, NoMemory>
+    ensures { IfOk result (λ uuids. uuids.items ≡ map (part_uuid event) parts.now) }
 {
-    let mut used = used_uuids(alloc, rows, owner, event)?;
+    let mut uuids = Vec::with_capacity(alloc, parts.len())?;
     for draft in parts {
-        let uuid = uuid_at(event, draft.place);
-        if !used.insert(uuid)? {
-            return Ok(Some(uuid));
+        uuids.push((draft.number, uuid_at(event, draft.place)))?;
+    }
+    Ok(uuids)
+}
+
+// The uuid of a reference, if it has a target.
+#[tactic(auto, unfolding(crate::specs::Uuids::reference_uuid))]
+fn reference_uuid(reference: &ReferenceDraft, targets: &Targets) -> Option<(u32, u128)>
+    ensures { result ≡ reference_uuid (target_in targets.now) reference.now }
+{
+    if targets.contains_key(&reference.referenced.0.0) {
+        Some((reference.number, reference.uuid.0.0))
+    } else {
+        None
+    }
+}
+
+// With those of the references that have a target.
+fn with_references(
+    mut uuids: Vec<(u32, u128)>,
+    references: &[ReferenceDraft],
+    targets: &Targets,
+) -> Result<Vec<(u32, u128)>, NoMemory>
+    ensures { IfOk result (λ all. all.items
+        ≡ uuids.items ++ filter_map (reference_uuid (target_in targets.now)) references.now) }
+{
+    for reference in references {
+        if let Some(uuid) = reference_uuid(reference, targets) {
+            uuids.push(uuid)?;
+        }
+    }
+    Ok(uuids)
+}
+
+// The uuids that a body brings, in reading order.
+#[tactic(auto, unfolding(crate::specs::Uuids::numbered_in))]
+fn read_uuids(
+    alloc: Global,
+    submission: &Submission,
+    targets: &Targets,
+) -> Result<Vec<(u32, u128)>, NoMemory>
+    ensures { IfOk result (λ uuids. uuids.items
+        ≡ in_order is_read_before (numbered_in (target_in targets.now) submission.now)) }
+{
+    let uuids = part_uuids(alloc, submission.parts.as_slice(), submission.event)?;
+    let mut uuids = with_references(uuids, submission.references.as_slice(), targets)?;
+    uuids.sort_by_key(|pair| pair.0)?;
+    Ok(uuids)
+}
+
+// The first of these uuids that is used, or that stands before.
+#[tactic(auto, unfolding(crate::specs::Uuids::clash_in))]
+fn first_used(mut used: BTreeSet<u128>, uuids: &[(u32, u128)]) -> Result<Option<u128>, NoMemory>
+    ensures { IfOk result (λ clash.
+        clash ≡ clash_in (contains nat_cmp used) (map (λ p. p.1) uuids.now)) }
+{
+    for (_, uuid) in uuids {
+        if !used.insert(*uuid)? {
+            return Ok(Some(*uuid));
         }
     }
     Ok(None)
+}
+
+// The first uuid of the body that is used, or that stands before.
+pub(crate) fn first_clash(
+    alloc: Global,
+    submission: &Submission,
+    targets: &Targets,
+    rows: &[Row],
+    owner: OrgId,
+) -> Result<Option<u128>, NoMemory>
+    ensures { IfOk result (λ clash. clash
+        ≡ clash_in (is_used rows.now owner submission.now.event) (map (λ p. p.1)
+        (in_order is_read_before (numbered_in (target_in targets.now) submission.now)))) }
+{
+    let used = used_uuids(alloc, rows, owner, submission.event)?;
+    let uuids = read_uuids(alloc, submission, targets)?;
+    first_used(used, uuids.as_slice())
 }

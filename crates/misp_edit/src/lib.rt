@@ -9,6 +9,7 @@ mod labels;
 mod laws;
 mod refusing;
 mod rows;
+mod targets;
 
 pub use adding::add_event;
 pub use fault::AddFault;

@@ -1,12 +1,19 @@
 //! The rows of an added event.
 
-ghost use Rattle.std.specs.Prelude.{◌≡◌, ◌++◌, map, IfOk, Some, is_some, true, List, ℕ};
-ghost use Rattle.misp_elem.specs.Row.{IsRow, IsText, IsEventBody, AreRows};
-ghost use Rattle.misp_elem.specs.Draft.{IsLabelOf};
-ghost use Rattle.misp_edit.specs.Rows.{held_row, part_row, event_row, body_of, added_rows};
+ghost use Rattle.std.specs.Prelude.{◌≡◌, ◌++◌, map, IfOk, IfSome, Some, is_some, true};
+ghost use Rattle.std.specs.List.{filter_map};
+ghost use Rattle.misp_dates.specs.Dates.{date_of};
+ghost use Rattle.misp_elem.specs.Row.{IsRow, IsText, IsDate, IsEventBody, AreRows};
+ghost use Rattle.misp_elem.specs.Draft.{IsOptionalDate, IsLabelOf};
+ghost use Rattle.misp_model.specs.Asking.{is_place_of};
+ghost use Rattle.misp_edit.specs.Targets.{target_in, AreOfTheirUuids};
+ghost use Rattle.misp_edit.specs.Rows.{held_row, part_row, reference_row, row_with_target, date_given, event_row, body_of, added_rows};
 
+use crate::targets::Targets;
+use misp_dates::date_of;
 use misp_elem::{
-    Content, Draft, EventBody, EventDraft, KeyForm, Place, Row, RowFields, Submission,
+    Content, Draft, EventBody, EventDraft, KeyForm, Place, ReferenceDraft, Row, RowFields,
+    Submission,
 };
 use misp_ids::{EventId, Label, NoMemory, OrgId, Stamp, Text};
 use std::alloc::Global;
@@ -36,13 +43,14 @@ fn part_row(draft: Draft, owner: OrgId, event: EventId, now: Stamp) -> Row
         place,
         label,
         content,
+        ..
     } = draft;
     let key = KeyForm::Element { event, place };
     held_row(owner, key, now, label, content)
 }
 
 // The rows, and after them those of the parts.
-pub(crate) fn with_parts(
+fn with_parts(
     mut rows: Vec<Row>,
     parts: Vec<Draft>,
     owner: OrgId,
@@ -50,11 +58,83 @@ pub(crate) fn with_parts(
     now: Stamp,
 ) -> Result<Vec<Row>, NoMemory>
     requires { AreRows rows.items }
-    ensures all { IfOk result (λ all. all.items ≡ rows.items ++ map (part_row owner event now) parts.items) }
+    ensures all { IfOk result (λ all. all.items
+        ≡ rows.items ++ map (part_row owner event now) parts.items) }
     ensures are_rows { IfOk result (λ all. AreRows all.items) }
 {
     for draft in parts {
         rows.push(part_row(draft, owner, event, now))?;
+    }
+    Ok(rows)
+}
+
+// The row of a reference that has this target.
+#[tactic(auto, unfolding(crate::specs::Rows::reference_row))]
+fn reference_row(
+    draft: ReferenceDraft,
+    target: Place,
+    owner: OrgId,
+    event: EventId,
+    now: Stamp,
+) -> Row
+    requires { is_place_of draft.referenced target ≡ true }
+    ensures value { result ≡ reference_row owner event now draft target }
+    ensures is_row { IsRow result }
+{
+    let ReferenceDraft {
+        object,
+        uuid,
+        body,
+        ..
+    } = draft;
+    let key = KeyForm::Reference {
+        event,
+        object,
+        target,
+        uuid,
+    };
+    let content = Content::Reference(body);
+    held_row(owner, key, now, Label::Inherit, content)
+}
+
+// The same, if it has a target.
+#[tactic(auto, unfolding(crate::specs::Rows::row_with_target))]
+fn row_with_target(
+    draft: ReferenceDraft,
+    targets: &Targets,
+    owner: OrgId,
+    event: EventId,
+    now: Stamp,
+) -> Option<Row>
+    requires { AreOfTheirUuids targets.now }
+    ensures value { result ≡ row_with_target (target_in targets.now) owner event now draft }
+    ensures is_row { IfSome result IsRow }
+{
+    match targets.get(&draft.referenced.0.0) {
+        Some(target) => Some(reference_row(draft, *target, owner, event, now)),
+        None => None,
+    }
+}
+
+// The rows, and after them those of the references that have a target.
+fn with_references(
+    mut rows: Vec<Row>,
+    references: Vec<ReferenceDraft>,
+    targets: &Targets,
+    owner: OrgId,
+    event: EventId,
+    now: Stamp,
+) -> Result<Vec<Row>, NoMemory>
+    requires rows { AreRows rows.items }
+    requires targets { AreOfTheirUuids targets.now }
+    ensures all { IfOk result (λ all. all.items ≡ rows.items
+        ++ filter_map (row_with_target (target_in targets.now) owner event now) references.items) }
+    ensures are_rows { IfOk result (λ all. AreRows all.items) }
+{
+    for draft in references {
+        if let Some(row) = row_with_target(draft, targets, owner, event, now) {
+            rows.push(row)?;
+        }
     }
     Ok(rows)
 }
@@ -68,12 +148,30 @@ fn zero() -> Stamp
     }
 }
 
-// The body of an event that this organisation creates.
+// The date that a body gives, or else that of the moment.
+fn new_date(alloc: Global, given: Option<Text>, now: Stamp) -> Result<Text, NoMemory>
+    requires { IsOptionalDate given }
+    ensures value { IfOk result (λ date. date ≡ date_given given (date_of now)) }
+    ensures is_date { IfOk result IsDate }
+{
+    match given {
+        Some(date) => Ok(date),
+        None => Ok(date_of(alloc, now)?),
+    }
+}
+
+// The body of an event that this organisation creates at this moment.
 #[tactic(auto, unfolding(crate::specs::Rows::body_of))]
-fn new_body(draft: EventDraft, owner: OrgId, name: Text) -> EventBody
+fn new_body(
+    alloc: Global,
+    draft: EventDraft,
+    owner: OrgId,
+    name: Text,
+    now: Stamp,
+) -> Result<EventBody, NoMemory>
     requires { IsText 0 64 name }
-    ensures value { (today : List ℕ) → result ≡ body_of owner name today draft }
-    ensures is_body { IsEventBody result }
+    ensures value { IfOk result (λ body. body ≡ body_of owner name (date_of now) draft) }
+    ensures is_body { IfOk result IsEventBody }
 {
     let EventDraft {
         info,
@@ -83,11 +181,8 @@ fn new_body(draft: EventDraft, owner: OrgId, name: Text) -> EventBody
         extends_uuid,
         tags,
     } = draft;
-    let date = match date {
-        Some(date) => date,
-        None => unreachable!(),
-    };
-    EventBody {
+    let date = new_date(alloc, date, now)?;
+    Ok(EventBody {
         info,
         date,
         threat_level_id,
@@ -97,48 +192,47 @@ fn new_body(draft: EventDraft, owner: OrgId, name: Text) -> EventBody
         orgc: owner,
         orgc_name: name,
         tags,
-    }
+    })
 }
 
 // The event's own row.
 #[tactic(auto, unfolding(crate::specs::Rows::event_row, crate::specs::Rows::new_row, misp_model::specs::History::is_gone))]
-pub(crate) fn event_row(
+fn event_row(
+    alloc: Global,
     draft: EventDraft,
     label: Label,
     owner: OrgId,
     name: Text,
     event: EventId,
     now: Stamp,
-) -> Row
+) -> Result<Row, NoMemory>
     requires name { IsText 0 64 name }
     requires label { IsLabelOf (Some draft) label }
-    ensures value { (today : List ℕ) → result ≡ event_row owner name today event now label draft }
-    ensures is_row { IsRow result }
+    ensures value { IfOk result (λ row.
+        row ≡ event_row owner name (date_of now) event now label draft) }
+    ensures is_row { IfOk result IsRow }
 {
     let place = Place::Event;
-    let content = Content::Event(new_body(draft, owner, name));
-    held_row(
-        owner,
-        KeyForm::Element { event, place },
-        now,
-        label,
-        content,
-    )
+    let body = new_body(alloc, draft, owner, name, now)?;
+    let key = KeyForm::Element { event, place };
+    Ok(held_row(owner, key, now, label, Content::Event(body)))
 }
 
-// The rows of the event and of its parts.
+// The rows of the event, of its parts, and of its references that have a target.
 #[tactic(auto, unfolding(crate::specs::Rows::added_rows))]
 pub(crate) fn added_rows(
     alloc: Global,
     submission: Submission,
+    targets: &Targets,
     owner: OrgId,
     name: &Text,
     now: Stamp,
 ) -> Result<Vec<Row>, NoMemory>
     requires name { IsText 0 64 name.now }
     requires body { is_some submission.body ≡ true }
-    ensures all { (today : List ℕ) →
-        IfOk result (λ added. added.items ≡ added_rows owner name.now today now submission) }
+    requires targets { AreOfTheirUuids targets.now }
+    ensures all { IfOk result (λ added. added.items
+        ≡ added_rows (target_in targets.now) owner name.now (date_of now) now submission) }
     ensures are_rows { IfOk result (λ added. AreRows added.items) }
 {
     let Submission {
@@ -146,13 +240,19 @@ pub(crate) fn added_rows(
         body,
         label,
         parts,
-        ..
+        references,
     } = submission;
     let draft = match body {
         Some(draft) => draft,
         None => unreachable!(),
     };
-    let mut rows = Vec::new(alloc);
-    rows.push(event_row(draft, label, owner, name.clone()?, event, now))?;
-    with_parts(rows, parts.into_vec(), owner, event, now)
+    let room = parts
+        .as_slice()
+        .len()
+        .saturating_add(references.as_slice().len());
+    let mut rows = Vec::with_capacity(alloc, room.saturating_add(1))?;
+    let name = name.clone()?;
+    rows.push(event_row(alloc, draft, label, owner, name, event, now)?)?;
+    let rows = with_parts(rows, parts.into_vec(), owner, event, now)?;
+    with_references(rows, references.into_vec(), targets, owner, event, now)
 }

@@ -4,7 +4,10 @@ ghost use Rattle.std.specs.Prelude.{◌≡◌, [], ◌∷◌, IfOk, is_some, tru
 ghost use Rattle.misp_elem.specs.Row.{IsLabelBut};
 
 use super::*;
-use misp_elem::{AttributeBody, Content, Draft, EventDraft, Key, KeyForm, Place, Row, Submission};
+use misp_elem::{
+    Content, Draft, EventDraft, Key, KeyForm, ObjectBody, Place, ReferenceBody, ReferenceDraft,
+    Row, Submission,
+};
 use misp_ids::{ElemId, EventId, GroupId, InstId, Items, Label, OrgId, Stamp, Text, Uid};
 use std::alloc::{AllocError, Global};
 use std::test::*;
@@ -26,32 +29,55 @@ fn name(alloc: Global) -> Result<Text, AllocError>
     Ok(Text::of(String::from_str(alloc, "Alpha")?))
 }
 
-#[tactic(auto, unfolding(misp_elem::specs::Row::is_plain_kind))]
-fn part(alloc: Global, uuid: u128, label: Label) -> Result<Draft, AllocError> {
-    let kind = Text::of(String::from_str(alloc, "text")?);
+// An object, as a body brings it.
+fn part(alloc: Global, number: u32, uuid: u128, label: Label) -> Result<Draft, AllocError> {
+    let name = Text::of(String::from_str(alloc, "file")?);
+    let meta_category = Text::of(String::from_str(alloc, "")?);
+    let description = Text::of(String::from_str(alloc, "")?);
     let comment = Text::of(String::from_str(alloc, "")?);
-    let value = Text::of(String::from_str(alloc, "v")?);
     Ok(Draft {
-        place: Place::Attribute(ElemId(Uid(uuid))),
+        number,
+        place: Place::Object(ElemId(Uid(uuid))),
         label,
-        content: Content::Attribute(AttributeBody {
-            kind,
-            category: 0,
-            to_ids: false,
+        content: Content::Object(ObjectBody {
+            name,
+            meta_category,
+            description,
+            comment,
+            template_uuid: None,
+            template_version: 0,
+            deleted: false,
+        }),
+    })
+}
+
+// A reference of an object to an element.
+fn reference(
+    alloc: Global,
+    number: u32,
+    object: u128,
+    [uuid, referenced]: [u128; 2],
+) -> Result<ReferenceDraft, AllocError> {
+    let relationship_type = Text::of(String::from_str(alloc, "contains")?);
+    let comment = Text::of(String::from_str(alloc, "")?);
+    Ok(ReferenceDraft {
+        number,
+        object: ElemId(Uid(object)),
+        uuid: ElemId(Uid(uuid)),
+        referenced: ElemId(Uid(referenced)),
+        body: ReferenceBody {
+            relationship_type,
             comment,
             deleted: false,
-            value,
-            tags: Items::of(Vec::new(alloc)),
-        }),
+        },
     })
 }
 
 fn body(alloc: Global) -> Result<EventDraft, AllocError> {
     let info = Text::of(String::from_str(alloc, "i")?);
-    let date = Text::of(String::from_str(alloc, "2024-01-02")?);
     Ok(EventDraft {
         info,
-        date: Some(date),
+        date: None,
         threat_level_id: 4,
         analysis: 0,
         extends_uuid: None,
@@ -59,26 +85,38 @@ fn body(alloc: Global) -> Result<EventDraft, AllocError> {
     })
 }
 
-fn submission(
-    alloc: Global,
+/// The label of an event, two objects, the label of the second, and a reference of the first, which
+/// stands between them.
+#[derive(Clone, Copy)]
+struct Brought {
     label: Label,
-    parts: &[(u128, Label)],
-) -> Result<Submission, AllocError>
-    requires { IsLabelBut (5 ∷ []) label }
-    ensures body { IfOk result (λ submission. is_some submission.body ≡ true) }
-    ensures references { IfOk result (λ submission. submission.references ≡ []) }
+    objects: [u128; 2],
+    last: Label,
+    reference: [u128; 2],
+}
+
+fn submission(alloc: Global, brought: Brought) -> Result<Submission, AllocError>
+    requires { IsLabelBut (5 ∷ []) brought.label }
+    ensures { IfOk result (λ submission. is_some submission.body ≡ true) }
 {
-    let mut drafts = Vec::new(alloc);
-    for (uuid, label) in parts {
-        drafts.push(part(alloc, *uuid, *label)?)?;
-    }
+    let Brought {
+        label,
+        objects: [first, second],
+        last,
+        reference: pair,
+    } = brought;
+    let mut parts = Vec::new(alloc);
+    parts.push(part(alloc, 1, first, Label::Inherit)?)?;
+    parts.push(part(alloc, 3, second, last)?)?;
+    let mut references = Vec::new(alloc);
+    references.push(reference(alloc, 2, first, pair)?)?;
     let body = body(alloc)?;
     Ok(Submission {
         event: EVENT,
         body: Some(body),
         label,
-        parts: Items::of(drafts),
-        references: Items::of(Vec::new(alloc)),
+        parts: Items::of(parts),
+        references: Items::of(references),
     })
 }
 
@@ -102,38 +140,51 @@ fn mark(owner: OrgId, stamp: Stamp) -> Row {
 fn added(
     alloc: Global,
     org: OrgId,
-    label: Label,
-    parts: &[(u128, Label)],
+    brought: Brought,
     rows: &[Row],
 ) -> Result<Result<Vec<Row>, AddFault>, Fail>
-    requires { IsLabelBut (5 ∷ []) label }
+    requires { IsLabelBut (5 ∷ []) brought.label }
 {
     let here = InstId::read("north").ok_or("the name is one")?;
     let now = Stamp::new(1_700_000_000).ok_or("the moment is one")?;
-    let submission = submission(alloc, label, parts)?;
+    let submission = submission(alloc, brought)?;
     let name = name(alloc)?;
     Ok(add_event(alloc, submission, &org, &name, &here, now, rows))
 }
 
-const ATTRIBUTES: [(u128, Label); 2] = [(0xb1, Label::Inherit), (0xb2, Label::Own)];
+/// An event with two objects, the first of which refers to the second.
+const PLAIN: Brought = Brought {
+    label: Label::All,
+    objects: [0xb1, 0xb2],
+    last: Label::Own,
+    reference: [0xd1, 0xb2],
+};
 
 #[test]
-fn the_rows_are_the_events_and_its_parts(rt: HostRuntime) -> Result<(), Fail> {
-    let rows = added(rt.alloc(), CALLER, Label::All, &ATTRIBUTES, &[])?;
+fn the_rows_are_the_events_and_its_parts_and_references(rt: HostRuntime) -> Result<(), Fail> {
+    let rows = added(rt.alloc(), CALLER, PLAIN, &[])?;
     let rows = rows.ok().ok_or("nothing refuses")?;
-    let places = [
-        (Place::Event, Label::All),
-        (Place::Attribute(ElemId(Uid(0xb1))), Label::Inherit),
-        (Place::Attribute(ElemId(Uid(0xb2))), Label::Own),
+    let [first, second, uuid] = [ElemId(Uid(0xb1)), ElemId(Uid(0xb2)), ElemId(Uid(0xd1))];
+    let element = |place| KeyForm::Element {
+        event: EVENT,
+        place,
+    };
+    let reference = KeyForm::Reference {
+        event: EVENT,
+        object: first,
+        target: Place::Object(second),
+        uuid,
+    };
+    let keys = [
+        (element(Place::Event), Label::All),
+        (element(Place::Object(first)), Label::Inherit),
+        (element(Place::Object(second)), Label::Own),
+        (reference, Label::Inherit),
     ];
-    assert_eq!(rt; rows.len(), places.len());
-    for (row, (place, label)) in rows.iter().zip(places.iter()) {
-        let form = KeyForm::Element {
-            event: EVENT,
-            place: *place,
-        };
+    assert_eq!(rt; rows.len(), keys.len());
+    for (row, (form, label)) in rows.iter().zip(keys.iter()) {
         assert_eq!(rt; row.owner, CALLER);
-        assert_eq!(rt; row.key.form, form);
+        assert_eq!(rt; row.key.form, *form);
         assert_eq!(rt; row.stamp.get(), 1_700_000_000);
         assert_eq!(rt; row.label, *label);
         assert!(rt; row.held && !row.carried);
@@ -154,15 +205,24 @@ const GROUPS: Label = Label::Group(GROUP);
 
 const UNUSABLE: AddFault = AddFault::GroupNotUsable(GROUP);
 
-/// The caller and what it knows, the event's label, two uuids with the label of the second, and the
-/// fault.
-const CASES: [(OrgId, Known, Label, [u128; 2], Label, Option<AddFault>); 9] = [
+/// The caller and what it knows, the event's label, the uuids of two objects, the label of the second,
+/// a reference, and the fault.
+const CASES: [(
+    OrgId,
+    Known,
+    Label,
+    [u128; 2],
+    Label,
+    [u128; 2],
+    Option<AddFault>,
+); 12] = [
     (
         CALLER,
         Known::Copy,
         GROUPS,
         [0xb1, 0xb1],
         GROUPS,
+        [0xd2, 0xb1],
         Some(AddFault::EventExists),
     ),
     (
@@ -171,6 +231,7 @@ const CASES: [(OrgId, Known, Label, [u128; 2], Label, Option<AddFault>); 9] = [
         GROUPS,
         [0xb1, 0xb1],
         GROUPS,
+        [0xd2, 0xb1],
         Some(AddFault::EventGone),
     ),
     (
@@ -179,7 +240,17 @@ const CASES: [(OrgId, Known, Label, [u128; 2], Label, Option<AddFault>); 9] = [
         GROUPS,
         [0xb3, 0xb2],
         GROUPS,
+        [0xd2, 0xb3],
         Some(AddFault::ElementExists(Uid(0xb2))),
+    ),
+    (
+        CALLER,
+        Known::Parts,
+        GROUPS,
+        [0xb3, 0xb4],
+        GROUPS,
+        [0xd1, 0xb1],
+        Some(AddFault::ElementExists(Uid(0xd1))),
     ),
     (
         CALLER,
@@ -187,7 +258,17 @@ const CASES: [(OrgId, Known, Label, [u128; 2], Label, Option<AddFault>); 9] = [
         GROUPS,
         [0xb3, 0xb3],
         GROUPS,
+        [0xd2, 0xb3],
         Some(AddFault::ElementExists(Uid(0xb3))),
+    ),
+    (
+        CALLER,
+        Known::Nothing,
+        GROUPS,
+        [0xb3, 0xb3],
+        GROUPS,
+        [0xe1, 0xb3],
+        Some(AddFault::ElementExists(Uid(0xe1))),
     ),
     (
         CALLER,
@@ -195,7 +276,17 @@ const CASES: [(OrgId, Known, Label, [u128; 2], Label, Option<AddFault>); 9] = [
         GROUPS,
         [0xb3, 0xe1],
         GROUPS,
+        [0xd2, 0xb3],
         Some(AddFault::ElementExists(Uid(0xe1))),
+    ),
+    (
+        CALLER,
+        Known::Nothing,
+        Label::Own,
+        [0xb3, 0xb4],
+        Label::Own,
+        [0xe1, 0xb1],
+        None,
     ),
     (
         CALLER,
@@ -203,6 +294,7 @@ const CASES: [(OrgId, Known, Label, [u128; 2], Label, Option<AddFault>); 9] = [
         GROUPS,
         [0xb3, 0xb4],
         Label::Own,
+        [0xd2, 0xb3],
         Some(UNUSABLE),
     ),
     (
@@ -211,6 +303,7 @@ const CASES: [(OrgId, Known, Label, [u128; 2], Label, Option<AddFault>); 9] = [
         Label::Own,
         [0xb3, 0xb4],
         GROUPS,
+        [0xd2, 0xb3],
         Some(UNUSABLE),
     ),
     (
@@ -219,6 +312,7 @@ const CASES: [(OrgId, Known, Label, [u128; 2], Label, Option<AddFault>); 9] = [
         Label::Own,
         [0xb1, 0xb2],
         Label::Inherit,
+        [0xd1, 0xb1],
         None,
     ),
     (
@@ -227,27 +321,33 @@ const CASES: [(OrgId, Known, Label, [u128; 2], Label, Option<AddFault>); 9] = [
         Label::Own,
         [0xb1, 0xb2],
         Label::Inherit,
+        [0xd1, 0xb1],
         None,
     ),
 ];
 
 #[test]
 fn each_fault_stands_in_its_place(rt: HostRuntime) -> Result<(), Fail> {
-    let copy = added(rt.alloc(), CALLER, Label::All, &ATTRIBUTES, &[])?;
+    let copy = added(rt.alloc(), CALLER, PLAIN, &[])?;
     let copy = copy.ok().ok_or("nothing refuses")?;
     let copy = copy.as_slice();
     let (_, parts_alone) = copy.split_first().ok_or("the event has a row")?;
     let now = Stamp::new(1_700_000_000).ok_or("the moment is one")?;
     let marks = [mark(CALLER, now)];
-    for (org, known, label, [first, second], last, fault) in &CASES {
+    for (org, known, label, objects, last, reference, fault) in &CASES {
         let rows = match known {
             Known::Nothing => &copy[..0],
             Known::Copy => copy,
             Known::Parts => parts_alone,
             Known::Mark => &marks,
         };
-        let parts = [(*first, Label::Inherit), (*second, *last)];
-        let answer = added(rt.alloc(), *org, *label, &parts, rows)?;
+        let brought = Brought {
+            label: *label,
+            objects: *objects,
+            last: *last,
+            reference: *reference,
+        };
+        let answer = added(rt.alloc(), *org, brought, rows)?;
         assert_eq!(rt; answer.err(), *fault);
     }
     Ok(())

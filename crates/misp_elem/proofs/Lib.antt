@@ -7,5 +7,7 @@ pub mod ShortTexts
 pub mod Texts
 pub mod Tags
 pub mod TagFields
+pub mod Bodies
+pub mod Contents
 pub mod Rows
 pub mod KeyOrder

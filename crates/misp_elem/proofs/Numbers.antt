@@ -6,7 +6,6 @@ use Rattle.std.proofs.lemmas.List.{take_at, drop_at, take-append-drop, length-ap
 use Rattle.std.proofs.lemmas.Nat.{be_bytes_4, be_bytes_8, from_be_bytes-to_be_bytes_4, from_be_bytes-to_be_bytes_8}
 use Rattle.misp_ids.specs.declared.uid.Uid.{Uid}
 use Rattle.misp_ids.specs.declared.stamp.TheConstants.{LAST_SECOND}
-use Rattle.misp_elem.specs.Key.{IsUid}
 use Rattle.misp_elem.specs.Row.{is_text, IsText, IsStamp, IsBetween, IsOptionalUid}
 use Rattle.misp_elem.specs.Spelling.{uid, text, flag, optional_uid, stamp}
 use Rattle.misp_elem.specs.Reading.{Reading, ◌>>=◌, byte_at, number_at, between_at, stamp_at, text_of, text_at, flag_of, flag_at, optional_of, optional_at}

@@ -1,5 +1,5 @@
 -- Tags are read as they are written.
-use Rattle.std.proofs.Common.{◌≡◌, ℕ, zero, suc, ◌-◌, ◌<◌, ◌≤◌, ◌^◌, Bool, false, ltb, All, List, [], ◌∷◌, ◌++◌, length, take, drop, Ok, Err, refl, sym, ap, subst, ◌∙◌, append_assoc, arith}
+use Rattle.std.proofs.Common.{◌≡◌, ℕ, zero, suc, ◌-◌, ◌<◌, ◌≤◌, ◌^◌, Bool, false, ltb, All, List, [], ◌∷◌, ◌++◌, length, take, drop, Ok, refl, sym, ap, subst, ◌∙◌, append_assoc, arith}
 use Rattle.std.specs.Prelude.{min}
 use Rattle.std.specs.List.{flat_map, AllByRecursion}
 use Rattle.std.specs.Int.{w32, to_be_bytes}
@@ -11,7 +11,7 @@ use Rattle.std.proofs.lemmas.List.Elements.{All-from_recursion}
 use Rattle.misp_elem.specs.declared.content.Tag.{Tag}
 use Rattle.misp_elem.specs.Row.{is_after, IsTagName, IsColour, IsTag, AreTagsAfter, AreTags}
 use Rattle.misp_elem.specs.Spelling.{text, flag, tag, tags}
-use Rattle.misp_elem.specs.Reading.{Reading, ◌>>=◌}
+use Rattle.misp_elem.specs.Reading.{◌>>=◌}
 use Rattle.misp_elem.specs.RowReading.{colour_at, tag_name_at, tag_at, tags_after, tags_at}
 use Rattle.misp_elem.proofs.Bytes.{IsBytes, IsBytes-take, IsBytes-drop}
 use Rattle.misp_elem.proofs.Exact.{bind_ok, guard_ok, ok_is, Takes, Takes-then, IsField, IsMade, last, first, whole, tested, under}

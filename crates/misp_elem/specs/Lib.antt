@@ -7,3 +7,4 @@ pub mod Reading
 pub mod KeyReading
 pub mod RowReading
 pub mod Refusal
+pub mod Visible

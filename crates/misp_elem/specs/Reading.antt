@@ -14,7 +14,8 @@ use Rattle.misp_elem.specs.declared.fault.DecodeFault.TheVariants as faults
 use Rattle.misp_ids.specs.declared.stamp.TheConstants.{LAST_SECOND}
 use Rattle.misp_elem.specs.declared.fault.Stop.{Stop}
 use Rattle.misp_elem.specs.declared.fault.Stop.TheVariants as stops
-use Rattle.misp_elem.specs.Row.{is_text, is_date, is_plain_kind}
+use Rattle.misp_types.specs.Values.{is_kept}
+use Rattle.misp_elem.specs.Row.{is_text, is_date}
 
 -- ---- what a reader answers
 
@@ -126,10 +127,11 @@ date_at bytes = do
   date ← text_at 10 10 bytes
   if is_date date.0 then Ok date else Err (length bytes)
 
-unfoldable pub plain_kind_at : List ℕ → Reading (List ℕ)
-plain_kind_at bytes = do
-  kind ← text_at 1 10 bytes
-  if is_plain_kind kind.0 then Ok kind else Err (length bytes)
+-- a value of this type that is kept as it is
+unfoldable pub value_at : ℕ → List ℕ → List ℕ → Reading (List ℕ)
+value_at room kind bytes = do
+  value ← text_at 0 room bytes
+  if is_kept kind value.0 then Ok value else Err (length bytes)
 
 abbrev pub flag_of : List ℕ → ℕ → List ℕ → Reading Bool
 flag_of bytes b rest = if b == 0 then Ok (false, rest) else if b == 1 then Ok (true, rest) else Err (length bytes)

@@ -1,6 +1,5 @@
 -- What is a row.
-use Rattle.std.specs.Prelude.{◌≡◌, ℕ, ◌<◌, ◌≤◌, ◌^◌, ◌==◌, ◌&&◌, ◌||◌, slice_index, slice_get, ◌-◌, ◌*◌, ◌+◌, List, [], ◌∷◌, length, Bool, true, false, not, Option, Some, None, nat_le, codes, bytes_eq, sum_by, min}
-use Rattle.std.specs.Char.{is_ascii_digit}
+use Rattle.std.specs.Prelude.{◌≡◌, ℕ, ◌<◌, ◌≤◌, ◌^◌, ◌==◌, ◌&&◌, ◌||◌, slice_index, slice_get, ◌-◌, ◌+◌, List, [], ◌∷◌, length, Bool, true, false, not, Option, Some, None, nat_le, sum_by, min}
 use Rattle.std.specs.List.{list_any}
 use Rattle.std.specs.Str.{is_utf8}
 use Rattle.std.specs.Ordering.{nat_cmp, is_lt}
@@ -10,16 +9,21 @@ use Rattle.misp_ids.specs.declared.stamp.TheConstants.{LAST_SECOND}
 use Rattle.misp_ids.specs.declared.label.Label.{Label}
 use Rattle.misp_ids.specs.declared.label.Label.TheVariants as labels
 use Rattle.misp_elem.specs.declared.key.Place.TheVariants as places
-use Rattle.misp_elem.specs.declared.key.Place.{Place}
 use Rattle.misp_elem.specs.declared.key.KeyForm.{KeyForm}
-use Rattle.misp_elem.specs.declared.key.KeyForm.TheVariants.{Element}
+use Rattle.misp_elem.specs.declared.key.KeyForm.TheVariants.{Element, Reference, Proposal, Verdict, Sighting}
 use Rattle.misp_elem.specs.declared.content.Tag.{Tag}
 use Rattle.misp_elem.specs.declared.content.EventBody.{EventBody}
+use Rattle.misp_elem.specs.declared.content.ObjectBody.{ObjectBody}
 use Rattle.misp_elem.specs.declared.content.AttributeBody.{AttributeBody}
+use Rattle.misp_elem.specs.declared.content.ReferenceBody.{ReferenceBody}
+use Rattle.misp_elem.specs.declared.content.ProposalBody.{ProposalBody}
+use Rattle.misp_elem.specs.declared.content.SightingBody.{SightingBody}
 use Rattle.misp_elem.specs.declared.content.Content.{Content}
 use Rattle.misp_elem.specs.declared.content.Content.TheVariants as contents
 use Rattle.misp_elem.specs.declared.row.RowFields.{RowFields}
-use Rattle.misp_elem.specs.Key.{IsUid, IsKey}
+use Rattle.misp_types.specs.Values.{is_kept}
+unfoldable pub use Rattle.misp_dates.specs.Dates.{is_date}
+use Rattle.misp_elem.specs.Key.{IsUid, IsKey, place_kind}
 
 -- ---- fields
 
@@ -50,30 +54,18 @@ IsOptionalUid (Some u) = IsUid u
 
 -- ---- dates
 
--- the number of two digits
-abbrev pub two_digits : ℕ → ℕ → ℕ
-two_digits tens ones = (tens - 48) * 10 + (ones - 48)
-
--- `YYYY-MM-DD`: a year of four digits, a month from 01 to 12 and a day from 01 to 28
-abbrev pub is_date : List ℕ → Bool
-is_date (y1 ∷ y2 ∷ y3 ∷ y4 ∷ h1 ∷ m1 ∷ m2 ∷ h2 ∷ d1 ∷ d2 ∷ []) =
-    is_ascii_digit y1 && is_ascii_digit y2 && is_ascii_digit y3 && is_ascii_digit y4 && (h1 == 45)
-    && is_ascii_digit m1 && is_ascii_digit m2 && (h2 == 45) && is_ascii_digit d1 && is_ascii_digit d2
-    && nat_le 1 (two_digits m1 m2) && nat_le (two_digits m1 m2) 12 && nat_le 1 (two_digits d1 d2) && nat_le (two_digits d1 d2) 28
-is_date text = false
-
+-- a day of the calendar as `YYYY-MM-DD`
 abbrev pub IsDate : List ℕ → Type 0
 IsDate text = is_date text ≡ true
 
--- ---- types of attributes
+-- ---- values of attributes
 
--- the types whose values may be any text that is not empty, and that are kept
-unfoldable pub is_plain_kind : List ℕ → Bool
-is_plain_kind kind =
-    bytes_eq kind (codes "text") || bytes_eq kind (codes "comment") || bytes_eq kind (codes "link") || bytes_eq kind (codes "url") || bytes_eq kind (codes "user-agent")
+-- a value of this type that is kept as it is, with no more bytes than there is room for
+abbrev pub is_value : ℕ → List ℕ → List ℕ → Bool
+is_value room kind value = is_text 0 room value && is_kept kind value
 
-abbrev pub IsKind : List ℕ → Type 0
-IsKind kind = is_plain_kind kind ≡ true
+abbrev pub IsValue : ℕ → List ℕ → List ℕ → Type 0
+IsValue room kind value = is_value room kind value ≡ true
 
 -- ---- tags
 
@@ -121,19 +113,51 @@ text_size contents.Gone = 0
 abbrev pub IsEventBody : EventBody → Type 0
 IsEventBody b = IsText 1 text_limit b.info × (IsDate b.date × (IsBetween 1 4 b.threat_level_id × (IsBetween 0 2 b.analysis × (IsStamp b.publish_stamp × (IsOptionalUid b.extends_uuid × (IsUid b.orgc.0 × (IsText 0 64 b.orgc_name × AreTags (text_limit - length b.info) b.tags)))))))
 
-abbrev pub IsAttributeBody : AttributeBody → Type 0
-IsAttributeBody b = IsKind b.kind × (IsBetween 0 15 b.category × (Unit {0} × (IsText 0 (text_limit - length b.kind) b.comment × (Unit {0} × (IsText 1 (text_limit - length b.kind - length b.comment) b.value × AreTags (text_limit - length b.kind - length b.comment - length b.value) b.tags)))))
+abbrev pub IsObjectBody : ObjectBody → Type 0
+IsObjectBody b = IsText 1 text_limit b.name × (IsText 0 (text_limit - length b.name) b.meta_category × (IsText 0 (text_limit - length b.name - length b.meta_category) b.description × (IsText 0 (text_limit - length b.name - length b.meta_category - length b.description) b.comment × (IsOptionalUid b.template_uuid × ((b.template_version < 2 ^ 64) × Unit {0})))))
 
--- The contents that a row can have: those of events and attributes, and the mark.
-abbrev pub IsContent : Content → Type 0
-IsContent (contents.Event b) = IsEventBody b
-IsContent (contents.Attribute b) = IsAttributeBody b
-IsContent contents.Gone = Unit {0}
-IsContent (contents.Object b) = ⊥
-IsContent (contents.Reference b) = ⊥
-IsContent (contents.Proposal b) = ⊥
-IsContent (contents.Verdict b) = ⊥
-IsContent (contents.Sighting b) = ⊥
+abbrev pub IsAttributeBody : AttributeBody → Type 0
+IsAttributeBody b = IsText 1 100 b.kind × (IsBetween 0 15 b.category × (Unit {0} × (IsText 0 (text_limit - length b.kind) b.comment × (Unit {0} × (IsValue (text_limit - length b.kind - length b.comment) b.kind b.value × AreTags (text_limit - length b.kind - length b.comment - length b.value) b.tags)))))
+
+abbrev pub IsReferenceBody : ReferenceBody → Type 0
+IsReferenceBody b = IsText 0 text_limit b.relationship_type × (IsText 0 (text_limit - length b.relationship_type) b.comment × Unit {0})
+
+-- a proposal asks to delete only where it may
+abbrev pub is_removal : Bool → Bool → Bool
+is_removal may remove = may || not remove
+
+abbrev pub IsRemoval : Bool → Bool → Type 0
+IsRemoval may remove = is_removal may remove ≡ true
+
+-- the fewest bytes of the type in a proposal: one that asks to delete may have none
+abbrev pub least_kind : Bool → ℕ
+least_kind true = 0
+least_kind false = 1
+
+-- the value in a proposal: one that asks to delete has none
+abbrev pub is_proposed : Bool → ℕ → List ℕ → List ℕ → Bool
+is_proposed true room kind value = is_text 0 0 value
+is_proposed false room kind value = is_value room kind value
+
+abbrev pub IsProposed : Bool → ℕ → List ℕ → List ℕ → Type 0
+IsProposed remove room kind value = is_proposed remove room kind value ≡ true
+
+abbrev pub IsProposalBody : Bool → ProposalBody → Type 0
+IsProposalBody may b = IsRemoval may b.remove × (IsText 0 64 b.by_name × (IsText (least_kind b.remove) 100 b.kind × (IsBetween 0 15 b.category × (Unit {0} × (IsText 0 (text_limit - length b.kind) b.comment × IsProposed b.remove (text_limit - length b.kind - length b.comment) b.kind b.value)))))
+
+abbrev pub IsSightingBody : SightingBody → Type 0
+IsSightingBody b = IsText 0 64 b.by_name × (IsBetween 0 2 b.kind × (IsStamp b.date × IsText 0 text_limit b.source))
+
+-- The contents that a row can have, where a proposal may ask to delete or may not.
+abbrev pub IsContent : Bool → Content → Type 0
+IsContent may (contents.Event b) = IsEventBody b
+IsContent may (contents.Object b) = IsObjectBody b
+IsContent may (contents.Attribute b) = IsAttributeBody b
+IsContent may (contents.Reference b) = IsReferenceBody b
+IsContent may (contents.Proposal b) = IsProposalBody may b
+IsContent may (contents.Verdict b) = Unit {0}
+IsContent may (contents.Sighting b) = IsSightingBody b
+IsContent may contents.Gone = Unit {0}
 
 -- ---- labels
 
@@ -175,11 +199,21 @@ content_kind contents.Gone = 7
 -- which contents a row of this key, label and flags may have
 abbrev pub fits : KeyForm → ℕ → Bool × Bool → ℕ → Bool
 fits (Element event places.Event) label flags kind = (kind == 0) || ((kind == 7) && (label == 0) && not flags.0 && not flags.1)
+fits (Element event (places.Object o)) label flags kind = kind == 1
 fits (Element event (places.Attribute a)) label flags kind = kind == 2
-fits key label flags kind = false
+fits (Element event (places.ObjectAttribute o a)) label flags kind = kind == 2
+fits (Reference event object target uuid) label flags kind = kind == 3
+fits (Proposal event name) label flags kind = kind == 4
+fits (Verdict event name at judge) label flags kind = kind == 5
+fits (Sighting event target at by uuid) label flags kind = kind == 6
+
+-- a proposal may ask to delete what is there, and so not a new attribute of the event
+abbrev pub may_remove : KeyForm → Bool
+may_remove (Proposal event name) = not (place_kind name.target == 0)
+may_remove key = true
 
 abbrev pub IsContentOf : KeyForm → ℕ → Bool × Bool → Content → Type 0
-IsContentOf key label flags content = (fits key label flags (content_kind content) ≡ true) × IsContent content
+IsContentOf key label flags content = (fits key label flags (content_kind content) ≡ true) × IsContent (may_remove key) content
 
 abbrev pub IsRow : RowFields → Type 0
 IsRow r = IsUid r.owner.0 × (IsKey r.key × (IsStamp r.stamp × (IsLabelBut (barred_labels r.key) r.label × (Unit {0} × IsContentOf r.key (label_kind r.label) (r.held, r.carried) r.content))))

@@ -11,6 +11,8 @@ use std::marker::Model;
 /// A contract sees it as its fields.
 #[derive(Debug, Drop)]
 pub struct Draft {
+    /// Its place in the reading order of the body, where an event has 0.
+    pub number: u32,
     pub place: Place,
     pub label: Label,
     pub content: Content,
@@ -21,18 +23,32 @@ impl Model for Draft {
 
     ghost Value = { DraftFields };
 
-    ghost view = { λ d. record { place = d.place; label = d.label; content = d.content } };
+    ghost view = { λ d. record { number = d.number; place = d.place; label = d.label; content = d.content } };
 
-    ghost invariant = { λ d. IsDraft (record { place = d.place; label = d.label; content = d.content }) };
+    ghost invariant = { λ d. IsDraft (record { number = d.number; place = d.place; label = d.label; content = d.content }) };
 }
 
 /// A reference of an object, as a body brings it.
+///
+/// A contract sees it as its fields.
 #[derive(Debug, Drop)]
 pub struct ReferenceDraft {
+    /// Its place in the reading order of the body, where an event has 0.
+    pub number: u32,
     pub object: ElemId,
     pub uuid: ElemId,
     pub referenced: ElemId,
     pub body: ReferenceBody,
+}
+
+impl Model for ReferenceDraft {
+    ghost use Rattle.misp_elem.specs.Draft.{ReferenceDraftFields, IsReferenceDraft};
+
+    ghost Value = { ReferenceDraftFields };
+
+    ghost view = { λ r. record { number = r.number; object = r.object; uuid = r.uuid; referenced = r.referenced; body = r.body } };
+
+    ghost invariant = { λ r. IsReferenceDraft (record { number = r.number; object = r.object; uuid = r.uuid; referenced = r.referenced; body = r.body }) };
 }
 
 /// An event, as a body brings it. Without a date it has that of the moment.

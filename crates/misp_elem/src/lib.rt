@@ -6,7 +6,6 @@ mod content;
 mod copying;
 mod draft;
 mod fault;
-mod forms;
 mod key;
 mod key_list;
 mod order;
@@ -22,7 +21,6 @@ pub use content::{
 };
 pub use draft::{Draft, EventDraft, ReferenceDraft, Submission};
 pub use fault::DecodeFault;
-pub use forms::{is_date, is_plain_kind};
 pub use key::{Key, KeyForm, Place, ProposalName};
 pub use key_list::Parents;
 pub use misp_ids::NoMemory;

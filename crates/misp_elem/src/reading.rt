@@ -3,10 +3,13 @@
 ghost use Rattle.std.specs.Prelude.{◌≡◌, length};
 ghost use Rattle.misp_elem.specs.Reading.{Reads, byte_at, uid_at, elem_at, event_at, org_at, inst_at};
 
+mod bodies;
+mod contents;
 mod fields;
 mod keys;
 mod rows;
 mod tags;
+mod values;
 
 use crate::fault::BadField;
 pub use keys::decode_key;

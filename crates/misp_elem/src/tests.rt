@@ -22,6 +22,31 @@ const BEFORE_ATTRIBUTE: [u8; 61] = [
     0, 1, 0, 0, 0, 0, 0x65, 0x53, 0xf1, 0x00, 0x05, 0x01,
 ];
 
+/// What stands behind the event in the key of an object.
+const OBJECT_NAME: &[u8] = b"\x010123456789abcdef";
+
+/// The same of a proposal for an attribute, and of a sighting of one.
+const TARGET_NAME: &[u8] = b"\x020123456789abcdef\x05alpha0123456789abcdef0123456789abcdef";
+
+/// The same of a proposal for a new attribute of the event.
+const ON_THE_EVENT: &[u8] = b"\0\x05alpha0123456789abcdef0123456789abcdef";
+
+const REFERENCE_NAME: &[u8] = b"0123456789abcdef\x020123456789abcdef0123456789abcdef";
+
+const VERDICT_NAME: &[u8] =
+    b"\x020123456789abcdef\x05alpha0123456789abcdef0123456789abcdef\x04beta0123456789abcdef";
+
+const OBJECT: &[u8] = b"\x01\0\0\0\x04file\0\0\0\x04file\0\0\0\0\0\0\0\0\0\0\0\0\0\0\0\0\x18\0";
+
+const REFERENCE: &[u8] = b"\x03\0\0\0\x05drops\0\0\0\0\0";
+
+/// A proposal of another value, and one to delete.
+const CHANGE: &[u8] = b"\x04\0\0\0\0\x04beta\0\0\0\x02AS\x03\x01\0\0\0\0\0\0\0\x03AS1";
+
+const REMOVAL: &[u8] = b"\x04\x01\0\0\0\x04beta\0\0\0\0\0\0\0\0\0\0\0\0\0\0";
+
+const SIGHTING: &[u8] = b"\x06\0\0\0\x04beta\x02\0\0\0\0\x65\x53\xf1\0\0\0\0\0";
+
 fn put_text(out: &mut Vec<u8>, text: &[u8]) -> Result<(), AllocError> {
     out.extend_from_slice(&[
         0,
@@ -56,15 +81,31 @@ fn event(alloc: Global, date: &[u8]) -> Result<Vec<u8>, AllocError> {
     Ok(out)
 }
 
-fn attribute(alloc: Global, comment: &[u8], value: &[u8]) -> Result<Vec<u8>, AllocError> {
+fn attribute(
+    alloc: Global,
+    kind: &[u8],
+    comment: &[u8],
+    value: &[u8],
+) -> Result<Vec<u8>, AllocError> {
     let mut out = Vec::from_slice(alloc, &BEFORE_ATTRIBUTE)?;
     out.push(2)?;
-    put_text(&mut out, b"text")?;
+    put_text(&mut out, kind)?;
     out.extend_from_slice(&[3, 1])?;
     put_text(&mut out, comment)?;
     out.push(0)?;
     put_text(&mut out, value)?;
     out.extend_from_slice(&[0, 0, 0, 0])?;
+    Ok(out)
+}
+
+/// The row of a key of this form, with the label `Inherit` and held.
+fn row(alloc: Global, form: u8, name: &[u8], content: &[u8]) -> Result<Vec<u8>, AllocError> {
+    let mut out = Vec::from_slice(alloc, &MARK[..17])?;
+    out.push(form)?;
+    out.extend_from_slice(&MARK[18..34])?;
+    out.extend_from_slice(name)?;
+    out.extend_from_slice(&BEFORE_ATTRIBUTE[51..])?;
+    out.extend_from_slice(content)?;
     Ok(out)
 }
 
@@ -96,6 +137,14 @@ fn is_kept(alloc: Global, bytes: &[u8]) -> bool {
     }
 }
 
+/// Whether such a row is one, and is written again.
+fn is_row(alloc: Global, form: u8, name: &[u8], content: &[u8]) -> bool {
+    match row(alloc, form, name, content) {
+        Ok(bytes) => is_kept(alloc, bytes.as_slice()),
+        Err(_) => false,
+    }
+}
+
 /// The place of the fault in these bytes.
 fn fault(alloc: Global, bytes: &[u8]) -> Option<usize> {
     match decode(alloc, bytes) {
@@ -107,12 +156,18 @@ fn fault(alloc: Global, bytes: &[u8]) -> Option<usize> {
 #[test]
 fn rows_are_read_and_written(rt: HostRuntime) -> Result<(), Fail> {
     let event = event(rt.alloc(), b"2024-05-28")?;
-    let attribute = attribute(rt.alloc(), b"seen", b"a value")?;
+    let attribute = attribute(rt.alloc(), b"sha1/other", b"seen", b"A value")?;
     assert_eq!(rt; event.len(), 144);
-    assert_eq!(rt; attribute.len(), 96);
+    assert_eq!(rt; attribute.len(), 102);
     assert!(rt; is_kept(rt.alloc(), &MARK));
     assert!(rt; is_kept(rt.alloc(), event.as_slice()));
     assert!(rt; is_kept(rt.alloc(), attribute.as_slice()));
+    assert!(rt; is_row(rt.alloc(), 0, OBJECT_NAME, OBJECT));
+    assert!(rt; is_row(rt.alloc(), 1, REFERENCE_NAME, REFERENCE));
+    assert!(rt; is_row(rt.alloc(), 2, TARGET_NAME, CHANGE));
+    assert!(rt; is_row(rt.alloc(), 2, TARGET_NAME, REMOVAL));
+    assert!(rt; is_row(rt.alloc(), 3, VERDICT_NAME, b"\x05\x01"));
+    assert!(rt; is_row(rt.alloc(), 4, TARGET_NAME, SIGHTING));
     Ok(())
 }
 
@@ -125,8 +180,14 @@ fn a_fault_is_at_the_first_byte_of_its_field(rt: HostRuntime) -> Result<(), Fail
     let mut other = MARK;
     other[0] = 9;
     assert_eq!(rt; fault(rt.alloc(), &other), Some(0));
-    let late = event(rt.alloc(), b"2024-05-29")?;
+    let late = event(rt.alloc(), b"2024-02-30")?;
     assert_eq!(rt; fault(rt.alloc(), late.as_slice()), Some(58));
+    let upper = attribute(rt.alloc(), b"domain", b"seen", b"Example.com")?;
+    assert_eq!(rt; fault(rt.alloc(), upper.as_slice()), Some(83));
+    let new = row(rt.alloc(), 2, ON_THE_EVENT, REMOVAL)?;
+    assert_eq!(rt; fault(rt.alloc(), new.as_slice()), Some(84));
+    let foreign = row(rt.alloc(), 4, TARGET_NAME, CHANGE)?;
+    assert_eq!(rt; fault(rt.alloc(), foreign.as_slice()), Some(99));
     assert_eq!(rt; decode_key(&[]), Err(DecodeFault::BadRow { place: 0 }));
     Ok(())
 }
@@ -134,12 +195,12 @@ fn a_fault_is_at_the_first_byte_of_its_field(rt: HostRuntime) -> Result<(), Fail
 #[test]
 fn the_texts_of_an_element_share_a_limit(rt: HostRuntime) -> Result<(), Fail> {
     let most = filled(rt.alloc(), 16379)?;
-    let bytes = attribute(rt.alloc(), most.as_slice(), b"v")?;
+    let bytes = attribute(rt.alloc(), b"text", most.as_slice(), b"v")?;
     assert!(rt; is_kept(rt.alloc(), bytes.as_slice()));
     let more = filled(rt.alloc(), 16380)?;
-    let bytes = attribute(rt.alloc(), more.as_slice(), b"v")?;
+    let bytes = attribute(rt.alloc(), b"text", more.as_slice(), b"v")?;
     assert_eq!(rt; fault(rt.alloc(), bytes.as_slice()), Some(16457));
-    let bytes = attribute(rt.alloc(), b"seen", b"")?;
+    let bytes = attribute(rt.alloc(), b"text", b"seen", b"")?;
     assert_eq!(rt; fault(rt.alloc(), bytes.as_slice()), Some(81));
     Ok(())
 }

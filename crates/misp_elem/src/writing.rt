@@ -3,7 +3,10 @@
 ghost use Rattle.std.specs.Prelude.{◌≡◌, ◌++◌, OnOk, IfOk};
 ghost use Rattle.misp_elem.specs.Spelling as spelling;
 
+mod bodies;
+mod fields;
 mod rows;
+mod tags;
 
 use crate::key::{Key, KeyForm, Place, ProposalName};
 use misp_ids::{InstId, NoMemory, OrgId, Uid};

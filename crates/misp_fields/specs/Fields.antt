@@ -1,7 +1,8 @@
 -- What each reader makes of a value, or the need that it then names.
-use Rattle.std.specs.Prelude.{◌≡◌, ℕ, ◌^◌, Bool, true, false, ◌&&◌, ◌==◌, not, nat_lt, nat_le, List, [], ◌∷◌, length, codes, Option, Some, None, option_and_then, option_map, Result, Ok, Err, if◌then◌else◌}
+use Rattle.std.specs.Prelude.{◌≡◌, ℕ, ◌^◌, Bool, true, false, ◌&&◌, ◌==◌, nat_lt, nat_le, List, [], ◌∷◌, length, codes, Option, Some, None, option_and_then, option_map, Result, Ok, Err, if◌then◌else◌}
 use Rattle.std.specs.Char.{is_ascii_digit}
 use Rattle.std.specs.List.{list_all}
+use Rattle.std.specs.Result.{result_ok}
 use Rattle.std.specs.Str.{bytes_eq}
 use Rattle.std.specs.Str.Parse.{digits_value}
 use Rattle.serde_json.specs.Data.{Num, unsigned, negative, float, Data, null, boolean, number, string, array, object, Items}
@@ -9,6 +10,8 @@ use Rattle.serde_json.specs.Find.{get, as_u64, as_str, as_array}
 use Rattle.misp_ids.specs.declared.uid.Uid.{Uid}
 use Rattle.misp_ids.specs.declared.stamp.TheConstants.{LAST_SECOND}
 use Rattle.misp_ids.specs.Uid.{read_uid}
+use Rattle.hex.specs.Hex.{decode_sized}
+use Rattle.misp_dates.specs.Dates.{is_date}
 use Rattle.misp_fields.specs.declared.need.Need.{Need}
 use Rattle.misp_fields.specs.declared.need.Need.TheVariants as needs
 
@@ -99,23 +102,25 @@ optional_uuid_of (string s) = optional_uuid_in s
 optional_uuid_of (array ds) = Err needs.Uuid
 optional_uuid_of (object ms) = Err needs.Uuid
 
--- `YYYY-` in digits
-abbrev pub is_year_form : ℕ → ℕ → ℕ → ℕ → ℕ → Bool
-is_year_form y1 y2 y3 y4 hyphen = is_ascii_digit y1 && is_ascii_digit y2 && is_ascii_digit y3 && is_ascii_digit y4 && (hyphen == 45)
+-- a date of the calendar, `YYYY-MM-DD`
+abbrev pub date_text_of : Data → Result (List ℕ) Need
+date_text_of null = Err needs.Date
+date_text_of (boolean b) = Err needs.Date
+date_text_of (number n) = Err needs.Date
+date_text_of (string s) = if is_date s then Ok s else Err needs.Date
+date_text_of (array ds) = Err needs.Date
+date_text_of (object ms) = Err needs.Date
 
--- `MM-DD` in digits
-abbrev pub is_day_form : ℕ → ℕ → ℕ → ℕ → ℕ → Bool
-is_day_form m1 m2 hyphen d1 d2 = is_ascii_digit m1 && is_ascii_digit m2 && (hyphen == 45) && is_ascii_digit d1 && is_ascii_digit d2
+-- the three bytes that six hexadecimal digits behind `#` write, in either case
+abbrev pub colour_in : List ℕ → Option (List ℕ)
+colour_in [] = None
+colour_in (mark ∷ digits) = if mark == 35 then result_ok (decode_sized digits 3) else None
 
--- `YYYY-MM-DD` in digits, whatever the month and the day
-abbrev pub is_date_form : List ℕ → Bool
-is_date_form (y1 ∷ y2 ∷ y3 ∷ y4 ∷ h1 ∷ m1 ∷ m2 ∷ h2 ∷ d1 ∷ d2 ∷ []) = is_year_form y1 y2 y3 y4 h1 && is_day_form m1 m2 h2 d1 d2
-is_date_form text = false
-
-abbrev pub date_of : Data → Result (List ℕ) Need
-date_of null = Err needs.Date
-date_of (boolean b) = Err needs.Date
-date_of (number n) = Err needs.Date
-date_of (string s) = if is_date_form s then Ok s else Err needs.Date
-date_of (array ds) = Err needs.Date
-date_of (object ms) = Err needs.Date
+-- red, green and blue
+abbrev pub colour_of : Data → Result (List ℕ) Need
+colour_of null = Err needs.Colour
+colour_of (boolean b) = Err needs.Colour
+colour_of (number n) = Err needs.Colour
+colour_of (string s) = or_need needs.Colour (colour_in s)
+colour_of (array ds) = Err needs.Colour
+colour_of (object ms) = Err needs.Colour

@@ -2,13 +2,15 @@
 //! value was needed to be.
 #![tactic(auto)]
 
+mod forms;
 mod need;
 mod numbers;
 mod values;
 
+pub use forms::{colour, date};
 pub use need::{Need, write_need};
 pub use numbers::{number, stamp};
-pub use values::{date, flag, is_date_form, list, member, optional_uuid, text, uuid};
+pub use values::{flag, list, member, optional_uuid, text, uuid};
 
 #[cfg(test)]
 mod tests;

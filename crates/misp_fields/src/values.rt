@@ -2,7 +2,7 @@
 
 ghost use Rattle.std.specs.Prelude.{◌≡◌, ◌<◌, ◌^◌, IfOk, IfSome, option_map, map};
 ghost use Rattle.serde_json.specs.View.{view, items_of};
-ghost use Rattle.misp_fields.specs.Fields.{Shown, member_of, text_of, is_year_form, is_day_form, is_date_form, date_of, flag_of, flag_in, list_of, uuid_of, optional_uuid_of};
+ghost use Rattle.misp_fields.specs.Fields.{Shown, member_of, text_of, flag_of, flag_in, list_of, uuid_of, optional_uuid_of};
 
 use crate::need::Need;
 use misp_ids::Uid;
@@ -84,49 +84,5 @@ pub fn optional_uuid(value: &Value) -> Result<Option<Uid>, Need>
             None => Err(Need::Uuid),
         },
         _ => Err(Need::Uuid),
-    }
-}
-
-/// Whether it is of the form `YYYY-`.
-fn is_year_form(y1: u8, y2: u8, y3: u8, y4: u8, hyphen: u8) -> bool
-    ensures { result ≡ is_year_form y1 y2 y3 y4 hyphen }
-{
-    y1.is_ascii_digit()
-        && y2.is_ascii_digit()
-        && y3.is_ascii_digit()
-        && y4.is_ascii_digit()
-        && hyphen == b'-'
-}
-
-/// Whether it is of the form `MM-DD`.
-fn is_day_form(m1: u8, m2: u8, hyphen: u8, d1: u8, d2: u8) -> bool
-    ensures { result ≡ is_day_form m1 m2 hyphen d1 d2 }
-{
-    m1.is_ascii_digit()
-        && m2.is_ascii_digit()
-        && hyphen == b'-'
-        && d1.is_ascii_digit()
-        && d2.is_ascii_digit()
-}
-
-/// Whether it is of the form `YYYY-MM-DD`, whatever its month and day.
-pub fn is_date_form(text: &[u8]) -> bool
-    ensures { result ≡ is_date_form text.now }
-{
-    match text {
-        [y1, y2, y3, y4, h1, m1, m2, h2, d1, d2] => {
-            is_year_form(*y1, *y2, *y3, *y4, *h1) && is_day_form(*m1, *m2, *h2, *d1, *d2)
-        }
-        _ => false,
-    }
-}
-
-/// A text of the form `YYYY-MM-DD`, whatever its month and day.
-pub fn date<'a>(value: &'a Value) -> Result<&'a str, Need>
-    ensures { Shown (λ t. t.now) result (date_of (view value.now)) }
-{
-    match value {
-        Value::String(text) if is_date_form(text.as_bytes()) => Ok(text.as_str()),
-        _ => Err(Need::Date),
     }
 }

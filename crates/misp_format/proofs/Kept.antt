@@ -1,24 +1,24 @@
 -- What a row gives is what its reader gives, and each reader gives only what fits.
-use Rattle.std.proofs.Common.{◌≡◌, ℕ, ◌<◌, ◌≤◌, Bool, true, false, ◌&&◌, List, [], ◌∷◌, length, Option, Some, None, Result, Ok, Err, refl, subst, arith}
-use Rattle.std.specs.Prelude.{nat_lt, nat_le, position, ◌==◌, if◌then◌else◌}
+use Rattle.std.proofs.Common.{◌≡◌, ℕ, ◌<◌, Bool, true, false, ◌&&◌, List, [], ◌∷◌, Option, Some, None, Result, Ok, Err, refl, subst, arith}
+use Rattle.std.specs.Prelude.{nat_le, position, ◌==◌, if◌then◌else◌}
 use Rattle.std.specs.Option.{option_map_or}
 use Rattle.std.specs.List.{list_any}
 use Rattle.std.specs.Str.{bytes_eq}
 use Rattle.std.proofs.lemmas.Bool.Decides.{nat_tests}
 use Rattle.std.proofs.lemmas.List.Quantifiers.{position-Some}
-use Rattle.serde_json.specs.Data.{Data}
+use Rattle.serde_json.specs.Data.{Data, null, boolean, number, string, array, object}
 use Rattle.misp_ids.specs.declared.label.Label.{Label}
 use Rattle.misp_ids.specs.declared.label.Label.TheVariants as labels
-use Rattle.misp_elem.specs.Row.{is_date, is_plain_kind, IsLabel, IsLabelBut, label_kind}
+use Rattle.misp_elem.specs.Draft.{IsOptionalDate}
+use Rattle.misp_elem.specs.Row.{is_date, IsDate, IsLabel, IsLabelBut, label_kind}
 use Rattle.misp_fields.specs.declared.need.Need.{Need}
 use Rattle.misp_fields.specs.declared.need.Need.TheVariants as needs
-use Rattle.misp_fields.specs.Fields.{or_need, member_of, number_of, text_of, date_of}
+use Rattle.misp_fields.specs.Fields.{or_need, member_of, number_of, text_of, date_text_of}
 use Rattle.misp_format.specs.declared.kinds.TheConstants.{CATEGORIES}
-use Rattle.misp_format.specs.declared.fault.FormatFault.TheVariants as faults
 use Rattle.misp_format.specs.Body.{Body}
 use Rattle.misp_format.specs.Kinds.{category_in_text, category_of}
-use Rattle.misp_format.specs.Readers.{within, number_within, level, level_in, label_of, fitting, some_text_of, early_date_of, plain_kind_of, plain_value_of}
-use Rattle.misp_format.specs.Rows.{at, row, must_be}
+use Rattle.misp_format.specs.Readers.{within, number_within, level, level_in, label_of, some_in, some_date_of}
+use Rattle.misp_format.specs.Rows.{at, row}
 
 -- ---- rows
 
@@ -53,25 +53,26 @@ choice_keeps P false first second p q x h = q refl x h
 
 -- ---- readers
 
-fitting_ok : (fits : List ℕ → Bool) (need : Need) (r : Result (List ℕ) Need) (x : List ℕ) → fitting fits need r ≡ Ok x → fits x ≡ true
-fitting_ok fits need (Ok s) x h = choice_keeps (λ y. fits y ≡ true) (fits s) (Ok s) (Err need) (λ holds y is. cc) (λ fails y is. absurd cc) x h
-fitting_ok fits need (Err other) x h = absurd cc
-
 within_ok : (least most : ℕ) (r : Result ℕ Need) (x : ℕ) → within least most r ≡ Ok x → (nat_le least x && nat_le x most) ≡ true
 within_ok least most (Ok n) x h = choice_keeps (λ y. (nat_le least y && nat_le y most) ≡ true) (nat_le least n && nat_le n most) (Ok n) (Err needs.Range) (λ holds y is. cc) (λ fails y is. absurd cc) x h
 within_ok least most (Err need) x h = absurd cc
 
-pub kind_ok : (d : Data) (x : List ℕ) → plain_kind_of d ≡ Ok x → is_plain_kind x ≡ true
-kind_ok d x h = fitting_ok is_plain_kind needs.Later (fitting (λ s. nat_le 1 (length s) && nat_le (length s) 100) needs.Range (text_of d)) x h
+some_in_ok : (r : Result (List ℕ) Need) (x : Option (List ℕ)) → ((y : List ℕ) → r ≡ Ok y → IsDate y) → some_in r ≡ Ok x → IsOptionalDate x
+some_in_ok (Ok s) x day h =
+    let e : Some s ≡ x = cc in
+    subst IsOptionalDate e (day s refl)
+some_in_ok (Err need) x day h = absurd cc
 
-pub value_ok : (d : Data) (x : List ℕ) → plain_value_of d ≡ Ok x → nat_lt 0 (length x) ≡ true
-value_ok d x h = fitting_ok (λ s. nat_lt 0 (length s)) needs.Length (text_of d) x h
+date_ok : (d : Data) (x : List ℕ) → date_text_of d ≡ Ok x → IsDate x
+date_ok null x h = absurd cc
+date_ok (boolean b) x h = absurd cc
+date_ok (number n) x h = absurd cc
+date_ok (string s) x h = choice_keeps IsDate (is_date s) (Ok s) (Err needs.Date) (λ holds y is. let e : s ≡ y = cc in subst IsDate e holds) (λ fails y is. absurd cc) x h
+date_ok (array ds) x h = absurd cc
+date_ok (object ms) x h = absurd cc
 
-pub some_text_ok : (d : Data) (x : List ℕ) → some_text_of d ≡ Ok x → nat_lt 0 (length x) ≡ true
-some_text_ok d x h = fitting_ok (λ s. nat_lt 0 (length s)) needs.Range (text_of d) x h
-
-pub date_ok : (d : Data) (x : List ℕ) → early_date_of d ≡ Ok x → is_date x ≡ true
-date_ok d x h = fitting_ok is_date needs.Later (date_of d) x h
+pub some_date_ok : (d : Data) (x : Option (List ℕ)) → some_date_of d ≡ Ok x → IsOptionalDate x
+some_date_ok d x h = some_in_ok (date_text_of d) x (date_ok d) h
 
 pub number_ok : (least most : ℕ) (d : Data) (x : ℕ) → number_within least most d ≡ Ok x → (nat_le least x && nat_le x most) ≡ true
 number_ok least most d x h = within_ok least most (number_of d) x h

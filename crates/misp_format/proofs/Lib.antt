@@ -1,7 +1,12 @@
-mod Dates
+mod Back
+mod EventBack
 mod Fitting
 mod GroupNames
 mod Kept
 mod Plain
 mod ReadBack
+mod RowFacts
+mod StandardFacts
+mod Tags
+mod TagsBack
 mod Texts

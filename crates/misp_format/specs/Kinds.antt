@@ -1,5 +1,5 @@
 -- The names of the categories of attributes.
-use Rattle.std.specs.Prelude.{ℕ, List, codes, Result, Ok, Err, position, slice_get}
+use Rattle.std.specs.Prelude.{ℕ, Bool, ◌||◌, List, codes, Result, Ok, Err, position, slice_get}
 use Rattle.std.specs.Option.{option_map_or}
 use Rattle.std.specs.Str.{bytes_eq}
 use Rattle.serde_json.specs.Data.{Data}
@@ -23,3 +23,7 @@ category_of d = category_in_text (text_of d)
 -- the name of the category of this number, or that of the last
 unfoldable pub category_name : ℕ → List ℕ
 category_name number = option_map_or (λ name. name.now) (slice_get CATEGORIES number) (codes "Other")
+
+-- the values of these types are files
+abbrev pub is_file_type : List ℕ → Bool
+is_file_type kind = bytes_eq kind (codes "attachment") || bytes_eq kind (codes "malware-sample")

@@ -1,5 +1,8 @@
 pub mod Body
+pub mod Brought
+pub mod Elements
 pub mod Fields
+pub mod Gathered
 pub mod Kinds
 pub mod Names
 pub mod Path

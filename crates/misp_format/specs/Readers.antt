@@ -1,12 +1,11 @@
 -- Readers that take a part of what the readers of fields take.
-use Rattle.std.specs.Prelude.{ℕ, Bool, ◌&&◌, ◌==◌, nat_lt, nat_le, List, length, Result, Ok, Err, if◌then◌else◌, ⊤}
-use Rattle.serde_json.specs.Data.{Data, null, boolean, number, string, array, object, Items, no_items, item}
+use Rattle.std.specs.Prelude.{ℕ, Bool, false, ◌&&◌, ◌==◌, nat_lt, nat_le, List, length, Option, Some, Result, Ok, Err, if◌then◌else◌}
+use Rattle.serde_json.specs.Data.{Data, null, boolean, number, string, array, object}
 use Rattle.misp_ids.specs.declared.label.Label.{Label}
 use Rattle.misp_ids.specs.declared.label.Label.TheVariants as labels
-use Rattle.misp_elem.specs.Row.{is_date, is_plain_kind}
 use Rattle.misp_fields.specs.declared.need.Need.{Need}
 use Rattle.misp_fields.specs.declared.need.Need.TheVariants as needs
-use Rattle.misp_fields.specs.Fields.{number_of, text_of, date_of, list_of}
+use Rattle.misp_fields.specs.Fields.{number_of, text_of, date_text_of}
 
 -- ---- numbers
 
@@ -15,6 +14,7 @@ abbrev pub within : ℕ → ℕ → Result ℕ Need → Result ℕ Need
 within least most (Ok n) = if nat_le least n && nat_le n most then Ok n else Err needs.Range
 within least most (Err need) = Err need
 
+-- READER: a number between two, both among them
 abbrev pub number_within : ℕ → ℕ → Data → Result ℕ Need
 number_within least most d = within least most (number_of d)
 
@@ -43,38 +43,33 @@ abbrev pub fitting : (List ℕ → Bool) → Need → Result (List ℕ) Need →
 fitting fits need (Ok s) = if fits s then Ok s else Err need
 fitting fits need (Err other) = Err other
 
+-- of so many bytes
+abbrev pub is_long : ℕ → ℕ → List ℕ → Bool
+is_long least most s = nat_le least (length s) && nat_le (length s) most
+
+-- READER: a text of so many bytes
+abbrev pub text_within : ℕ → ℕ → Data → Result (List ℕ) Need
+text_within least most d = fitting (is_long least most) needs.Range (text_of d)
+
 -- READER: a text of one byte or more
 abbrev pub some_text_of : Data → Result (List ℕ) Need
 some_text_of d = fitting (λ s. nat_lt 0 (length s)) needs.Range (text_of d)
 
--- READER: a date whose day every month has; other days are read later
-abbrev pub early_date_of : Data → Result (List ℕ) Need
-early_date_of d = fitting is_date needs.Later (date_of d)
+abbrev pub some_in : Result (List ℕ) Need → Result (Option (List ℕ)) Need
+some_in (Ok s) = Ok (Some s)
+some_in (Err need) = Err need
 
--- READER: a type of 1 to 100 bytes, of those whose values are any text; other types are read later
-abbrev pub plain_kind_of : Data → Result (List ℕ) Need
-plain_kind_of d = fitting is_plain_kind needs.Later (fitting (λ s. nat_le 1 (length s) && nat_le (length s) 100) needs.Range (text_of d))
+-- READER: a date of the calendar, where there may be none
+abbrev pub some_date_of : Data → Result (Option (List ℕ)) Need
+some_date_of d = some_in (date_text_of d)
 
--- READER: a value of such a type
-abbrev pub plain_value_of : Data → Result (List ℕ) Need
-plain_value_of d = fitting (λ s. nat_lt 0 (length s)) needs.Length (text_of d)
+-- ---- files
 
--- ---- what is dropped or read later
-
--- READER: no file. The bytes of one are read later, and other values are dropped.
-abbrev pub no_file_of : Data → Result ⊤ Need
-no_file_of null = Ok tt
-no_file_of (boolean b) = Ok tt
-no_file_of (number n) = Ok tt
-no_file_of (string s) = if nat_lt 0 (length s) then Err needs.Later else Ok tt
-no_file_of (array ds) = Ok tt
-no_file_of (object ms) = Ok tt
-
-abbrev pub empty : Result Items Need → Result ⊤ Need
-empty (Ok no_items) = Ok tt
-empty (Ok (item d ds)) = Err needs.Later
-empty (Err need) = Err need
-
--- READER: a list without items; the items are read later
-abbrev pub empty_list_of : Data → Result ⊤ Need
-empty_list_of d = empty (list_of d)
+-- a text that is not empty; other values are dropped
+abbrev pub is_file : Data → Bool
+is_file null = false
+is_file (boolean b) = false
+is_file (number n) = false
+is_file (string s) = nat_lt 0 (length s)
+is_file (array ds) = false
+is_file (object ms) = false

@@ -25,6 +25,7 @@ abbrev pub ◌>>=◌ : {A B : Type 0} → Reading A → (A → Reading B) → Re
 abbrev pub Fails : {A : Type 0} → FormatFault → Reading A → Type 0
 Fails faults.NoMemory read = Unit {0}
 Fails (faults.BadField path need) read = read ≡ Err (faults.BadField path need)
+Fails (faults.BinaryType path) read = read ≡ Err (faults.BinaryType path)
 
 -- What a function returned is what reading gives, unless memory ran out.
 abbrev pub Gives : {A : Type 0} → Reading A → Reading A → Type 0

@@ -12,6 +12,8 @@ use std::alloc::{AllocError, AllocFailed};
 pub enum FormatFault {
     /// At the first faulty place something else was needed.
     BadField { path: Text, need: Need },
+    /// At the first faulty place stands a file, or a type whose values are files.
+    BinaryType { path: Text },
     NoMemory,
 }
 

@@ -4,7 +4,7 @@ ghost use Rattle.std.specs.Prelude.{◌≡◌, position, slice_get, codes};
 ghost use Rattle.std.specs.Option.{option_map_or};
 ghost use Rattle.std.specs.Str.{bytes_eq};
 ghost use Rattle.serde_json.specs.View.{view};
-ghost use Rattle.misp_format.specs.Kinds.{category_in, category_of, category_name};
+ghost use Rattle.misp_format.specs.Kinds.{category_in, category_of, category_name, is_file_type};
 
 use misp_fields::{self as fields, Need};
 use serde_json::Value;
@@ -74,4 +74,11 @@ pub(crate) fn category_name(number: u8) -> &'static str
     ensures { result.now ≡ category_name number }
 {
     name_at(&CATEGORIES, usize::from(number))
+}
+
+/// Whether the values of this type are files.
+pub(crate) fn is_file_type(kind: &str) -> bool
+    ensures { result ≡ is_file_type kind.now }
+{
+    kind == "attachment" || kind == "malware-sample"
 }

@@ -3,6 +3,7 @@
 
 mod attribute;
 mod element;
+mod elements;
 mod event;
 mod fault;
 mod fields;
@@ -10,15 +11,20 @@ mod groups;
 mod keys;
 mod kinds;
 mod members;
+mod object;
+mod parts;
 mod path;
 mod pieces;
 mod readers;
+mod reference;
 mod replies;
 mod statement;
+mod tag;
 mod writing;
 
 pub use event::read_event;
 pub use fault::FormatFault;
+pub use parts::{PartForm, read_parts, read_tag};
 pub use replies::{write_refusal, write_saved};
 pub use writing::{put_event, write_event};
 

@@ -1,20 +1,20 @@
 //! The members of an object, read by name.
 
-ghost use Rattle.std.specs.Prelude.{◌≡◌, [], Ok, Err, map};
+ghost use Rattle.std.specs.Prelude.{◌≡◌, ◌<◌, ◌≤◌, ◌^◌, true, [], None, Ok, Err, IfOk, IfSome, length, map};
 ghost use Rattle.serde_json.specs.Data.{no_items};
 ghost use Rattle.serde_json.specs.View.{view, items_of};
 ghost use Rattle.misp_fields.specs.declared.need.Need.TheVariants as needs;
-ghost use Rattle.misp_fields.specs.Fields.{text_of, flag_of, uuid_of, list_of};
+ghost use Rattle.misp_fields.specs.Fields.{text_of, number_of, flag_of, uuid_of, optional_uuid_of, list_of};
 ghost use Rattle.misp_format.specs.declared.fault.FormatFault.TheVariants as faults;
 ghost use Rattle.misp_format.specs.Path.{path_text, member_path};
 ghost use Rattle.misp_format.specs.Body.{body_of};
-ghost use Rattle.misp_format.specs.Readers.{number_within, label_of, empty_list_of};
-ghost use Rattle.misp_format.specs.Rows.{Gives, Shows, row, at, body_at};
-ghost use Rattle.misp_format.specs.Tables.{unless_long};
+ghost use Rattle.misp_format.specs.Elements.{unless_long};
+ghost use Rattle.misp_format.specs.Readers.{number_within, label_of, is_long, text_within, some_text_of};
+ghost use Rattle.misp_format.specs.Rows.{Gives, Shows, row, must_be, at, body_at};
 
 use crate::fault::FormatFault;
 use crate::path::Path;
-use crate::readers::{empty_list, label, number_within};
+use crate::readers::{label, number_within};
 use misp_fields::{self as fields, Need, member};
 use misp_ids::{Label, Text, Uid};
 use serde_json::Value;
@@ -69,13 +69,12 @@ impl<'a> Members<'a> {
         }
     }
 
-    /// The fault of an element whose texts are longer than the limit.
-    pub(crate) fn too_long<T>(&self) -> Result<T, FormatFault>
-        ensures { Gives result (Err (faults.BadField (body_of self.now).path needs.Short)) }
+    /// A file at a member.
+    pub(crate) fn file<T>(&self, name: &str) -> Result<T, FormatFault>
+        ensures { Gives result (Err (faults.BinaryType (member_path (body_of self.now).path name.now))) }
     {
-        Err(FormatFault::BadField {
-            path: self.path.text(self.alloc)?,
-            need: Need::Short,
+        Err(FormatFault::BinaryType {
+            path: self.path.member_text(self.alloc, name)?,
         })
     }
 
@@ -84,7 +83,10 @@ impl<'a> Members<'a> {
         ensures { Gives result (unless_long (body_of self.now) bytes) }
     {
         if bytes > TEXT_LIMIT {
-            return self.too_long();
+            return Err(FormatFault::BadField {
+                path: self.path.text(self.alloc)?,
+                need: Need::Short,
+            });
         }
         Ok(())
     }
@@ -98,11 +100,44 @@ impl<'a> Members<'a> {
         }
     }
 
+    pub(crate) fn needed_uuid(&self, name: &str) -> Result<Uid, FormatFault>
+        ensures { Gives result (row (body_of self.now) name.now uuid_of (Err needs.Present)) }
+    {
+        match member(self.value, name) {
+            Some(value) => self.kept(name, fields::uuid(value)),
+            None => self.refused(name, Need::Present),
+        }
+    }
+
+    /// An identifier, or none where the text is empty or absent.
+    pub(crate) fn optional_uuid(&self, name: &str) -> Result<Option<Uid>, FormatFault>
+        ensures gives { Gives result (row (body_of self.now) name.now optional_uuid_of (Ok None)) }
+        ensures in_range { IfOk result (λ found. IfSome found (λ uuid. uuid.0 < 2 ^ 128)) }
+    {
+        match member(self.value, name) {
+            Some(value) => match fields::optional_uuid(value) {
+                Ok(uuid) => Ok(uuid),
+                Err(need) => self.refused(name, need),
+            },
+            None => Ok(None),
+        }
+    }
+
     pub(crate) fn flag(&self, name: &str, absent: bool) -> Result<bool, FormatFault>
         ensures { Gives result (row (body_of self.now) name.now flag_of (Ok absent)) }
     {
         match member(self.value, name) {
             Some(value) => self.kept(name, fields::flag(value)),
+            None => Ok(absent),
+        }
+    }
+
+    /// A number of whatever size.
+    pub(crate) fn large_number(&self, name: &str, absent: u64) -> Result<u64, FormatFault>
+        ensures { Gives result (row (body_of self.now) name.now number_of (Ok absent)) }
+    {
+        match member(self.value, name) {
+            Some(value) => self.kept(name, fields::number(value)),
             None => Ok(absent),
         }
     }
@@ -145,6 +180,51 @@ impl<'a> Members<'a> {
         }
     }
 
+    /// A text of so many bytes, which may not be absent.
+    pub(crate) fn text_within(
+        &self,
+        name: &str,
+        least: usize,
+        most: usize,
+    ) -> Result<Text, FormatFault>
+        ensures gives { Gives result (row (body_of self.now) name.now (text_within least most) must_be) }
+        ensures long { IfOk result (λ t. is_long least most t ≡ true) }
+    {
+        match member(self.value, name) {
+            Some(value) => match fields::text(value) {
+                Ok(text) if least <= text.len() && text.len() <= most => {
+                    Ok(Text::of(String::from_str(self.alloc, text)?))
+                }
+                Ok(_) => self.refused(name, Need::Range),
+                Err(need) => self.refused(name, need),
+            },
+            None => self.refused(name, Need::Present),
+        }
+    }
+
+    /// A text that is not empty, which may not be absent.
+    pub(crate) fn some_text(&self, name: &str) -> Result<Text, FormatFault>
+        ensures gives { Gives result (row (body_of self.now) name.now some_text_of must_be) }
+        ensures long { IfOk result (λ t. 1 ≤ length t) }
+    {
+        match member(self.value, name) {
+            Some(value) => match fields::text(value) {
+                Ok(text) if !text.is_empty() => Ok(Text::of(String::from_str(self.alloc, text)?)),
+                Ok(_) => self.refused(name, Need::Range),
+                Err(need) => self.refused(name, need),
+            },
+            None => self.refused(name, Need::Present),
+        }
+    }
+
+    /// How many items a list has, as a hint of the room that they need.
+    pub(crate) fn count(&self, name: &str) -> usize {
+        match member(self.value, name) {
+            Some(Value::Array(items)) => items.len(),
+            _ => 0,
+        }
+    }
+
     /// The items of a list, none where it is absent.
     pub(crate) fn list(&self, name: &str) -> Result<&'a [Value], FormatFault>
         ensures { Shows (λ vs. items_of (map view vs.now)) result (row (body_of self.now) name.now list_of (Ok no_items)) }
@@ -155,16 +235,6 @@ impl<'a> Members<'a> {
                 Err(need) => self.refused(name, need),
             },
             None => Ok(&[]),
-        }
-    }
-
-    /// A list that is empty or absent.
-    pub(crate) fn no_list(&self, name: &str) -> Result<(), FormatFault>
-        ensures { Gives result (row (body_of self.now) name.now empty_list_of (Ok tt)) }
-    {
-        match member(self.value, name) {
-            Some(value) => self.kept(name, empty_list(value)),
-            None => Ok(()),
         }
     }
 }

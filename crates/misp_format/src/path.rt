@@ -12,8 +12,10 @@ use std::fmt::Write;
 pub(crate) enum Path<'a> {
     /// The whole body.
     Body(&'static str),
-    /// An item of the list that is a member of an object.
-    Item(&'a Path<'a>, &'static str, usize),
+    /// A member of an object.
+    Member(&'a Path<'a>, &'static str),
+    /// An item of a list.
+    Item(&'a Path<'a>, usize),
 }
 
 impl Path<'_> {
@@ -22,9 +24,14 @@ impl Path<'_> {
     {
         match self {
             Path::Body(name) => out.push_str(name)?,
-            Path::Item(of, list, index) => {
+            Path::Member(of, name) => {
                 of.write_to(out)?;
-                write!(out, ".{list}[{index}]")?;
+                out.push_str(".")?;
+                out.push_str(name)?;
+            }
+            Path::Item(of, index) => {
+                of.write_to(out)?;
+                write!(out, "[{index}]")?;
             }
         }
         Ok(())

@@ -15,79 +15,110 @@ use std::test::Fail;
 
 const WORD: u128 = 0xe100_0000_0000_4000_8000_0000_0000_0000;
 
-/// A body, and the path of its first faulty place with the need there.
-const FAULTS: [(&str, &str, Need); 18] = [
-    ("[]", "Event", Need::Object),
-    ("{}", "Event.info", Need::Present),
-    ("{\"Event\":{\"info\":\"\"}}", "Event.info", Need::Range),
-    ("{\"uuid\":7,\"info\":\"\"}", "Event.uuid", Need::Uuid),
-    ("{\"info\":\"a\"}", "Event.date", Need::Later),
+/// A body, the path of its first faulty place, and the need there, or none for a file.
+const FAULTS: [(&str, &str, Option<Need>); 21] = [
+    ("[]", "Event", Some(Need::Object)),
+    ("{}", "Event.info", Some(Need::Present)),
     (
-        "{\"info\":\"a\",\"date\":\"2023-1-14\"}",
+        "{\"Event\":{\"info\":\"\"}}",
+        "Event.info",
+        Some(Need::Range),
+    ),
+    ("{\"uuid\":7,\"info\":\"\"}", "Event.uuid", Some(Need::Uuid)),
+    (
+        "{\"info\":\"a\",\"date\":\"2023-02-29\"}",
         "Event.date",
-        Need::Date,
+        Some(Need::Date),
     ),
     (
-        "{\"info\":\"a\",\"date\":\"2023-11-29\"}",
-        "Event.date",
-        Need::Later,
-    ),
-    (
-        "{\"info\":\"a\",\"date\":\"2023-11-14\",\"threat_level_id\":\"5\"}",
+        "{\"info\":\"a\",\"threat_level_id\":\"5\"}",
         "Event.threat_level_id",
-        Need::Range,
+        Some(Need::Range),
     ),
     (
-        "{\"info\":\"a\",\"date\":\"2023-11-14\",\"distribution\":\"4\"}",
+        "{\"info\":\"a\",\"distribution\":\"4\"}",
         "Event.distribution",
-        Need::Later,
+        Some(Need::Later),
     ),
     (
-        "{\"info\":\"a\",\"date\":\"2023-11-14\",\"distribution\":5}",
-        "Event.distribution",
-        Need::Range,
+        "{\"info\":\"a\",\"Tag\":[{}]}",
+        "Event.Tag[0].name",
+        Some(Need::Present),
     ),
     (
-        "{\"info\":\"a\",\"date\":\"2023-11-14\",\"Tag\":[{}]}",
-        "Event.Tag",
-        Need::Later,
+        "{\"info\":\"a\",\"Tag\":[{\"name\":\"b\",\"colour\":\"ffffff\"}]}",
+        "Event.Tag[0].colour",
+        Some(Need::Colour),
     ),
     (
-        "{\"info\":\"a\",\"date\":\"2023-11-14\",\"Attribute\":{}}",
+        "{\"info\":\"a\",\"Attribute\":{}}",
         "Event.Attribute",
-        Need::List,
+        Some(Need::List),
     ),
     (
-        "{\"info\":\"a\",\"date\":\"2023-11-14\",\"Attribute\":[7],\"Object\":[{}]}",
+        "{\"info\":\"a\",\"Attribute\":[7],\"Object\":[{}]}",
         "Event.Attribute[0]",
-        Need::Object,
+        Some(Need::Object),
     ),
     (
-        "{\"info\":\"a\",\"date\":\"2023-11-14\",\"Attribute\":[{\"type\":\"text\",\"value\":\"b\"},{\"type\":\"md5\"}]}",
-        "Event.Attribute[1].type",
-        Need::Later,
+        "{\"info\":\"a\",\"Attribute\":[{\"type\":\"text\",\"value\":\"b\"},{\"type\":\"md5\",\"value\":\"b\"}]}",
+        "Event.Attribute[1].value",
+        Some(Need::Length),
     ),
     (
-        "{\"info\":\"a\",\"date\":\"2023-11-14\",\"Attribute\":[{\"type\":\"text\",\"category\":\"person\"}]}",
+        "{\"info\":\"a\",\"Attribute\":[{\"type\":\"\"}]}",
+        "Event.Attribute[0].type",
+        Some(Need::Range),
+    ),
+    (
+        "{\"info\":\"a\",\"Attribute\":[{\"type\":\"text\",\"category\":\"person\"}]}",
         "Event.Attribute[0].category",
-        Need::Range,
+        Some(Need::Range),
     ),
     (
-        "{\"info\":\"a\",\"date\":\"2023-11-14\",\"Attribute\":[{\"type\":\"text\",\"data\":\"AA==\"}]}",
+        "{\"info\":\"a\",\"Attribute\":[{\"type\":\"text\",\"data\":\"AA==\"}]}",
         "Event.Attribute[0].data",
-        Need::Later,
+        None,
     ),
     (
-        "{\"info\":\"a\",\"date\":\"2023-11-14\",\"Attribute\":[{\"type\":\"text\",\"data\":7,\"value\":\"\"}]}",
+        "{\"info\":\"a\",\"Attribute\":[{\"type\":\"malware-sample\"}]}",
+        "Event.Attribute[0].type",
+        None,
+    ),
+    (
+        "{\"info\":\"a\",\"Attribute\":[{\"type\":\"text\",\"data\":7,\"value\":\"\"}]}",
         "Event.Attribute[0].value",
-        Need::Length,
+        Some(Need::Length),
     ),
     (
-        "{\"info\":\"a\",\"date\":\"2023-11-14\",\"Object\":[{}]}",
-        "Event.Object",
-        Need::Later,
+        "{\"info\":\"a\",\"Object\":[{}]}",
+        "Event.Object[0].name",
+        Some(Need::Present),
+    ),
+    (
+        "{\"info\":\"a\",\"Object\":[{\"name\":\"b\",\"Attribute\":[{\"type\":\"md5\",\"value\":\"\"}]}]}",
+        "Event.Object[0].Attribute[0].value",
+        Some(Need::Length),
+    ),
+    (
+        "{\"info\":\"a\",\"Object\":[{\"name\":\"b\",\"Attribute\":[{\"type\":\"port\",\"value\":\"0\"}]}]}",
+        "Event.Object[0].Attribute[0].value",
+        Some(Need::Part(1)),
+    ),
+    (
+        "{\"info\":\"a\",\"Object\":[{\"name\":\"b\",\"ObjectReference\":[{}]}]}",
+        "Event.Object[0].ObjectReference[0].referenced_uuid",
+        Some(Need::Present),
     ),
 ];
+
+fn fault(alloc: Global, path: &str, need: Option<Need>) -> Result<FormatFault, Fail> {
+    let path = Text::of(String::from_str(alloc, path)?);
+    Ok(match need {
+        Some(need) => FormatFault::BadField { path, need },
+        None => FormatFault::BinaryType { path },
+    })
+}
 
 #[test]
 fn the_first_faulty_place_is_named(rt: HostRuntime) -> Result<(), Fail> {
@@ -95,45 +126,61 @@ fn the_first_faulty_place_is_named(rt: HostRuntime) -> Result<(), Fail> {
         let value = Value::from_str(rt.alloc(), text)?;
         match read_event(rt.alloc(), &value, WORD) {
             Ok(_) => assert!(rt; false, "{text}"),
-            Err(fault) => {
-                let expected = FormatFault::BadField {
-                    path: Text::of(String::from_str(rt.alloc(), path)?),
-                    need: *need,
-                };
-                assert!(rt; fault == expected, "{text}");
-            }
+            Err(found) => { assert!(rt; found == fault(rt.alloc(), path, *need)?, "{text}") }
         }
     }
     Ok(())
 }
 
+/// An event with one attribute, an object with an attribute and a reference, and another object.
+const WHOLE: &str =
+    "{\"Event\":{\"info\":\"Wave\",\"Tag\":[{\"name\":\"b\"},{\"name\":\"a\",\"colour\":\"#FF8000\"},{\"name\":\"b\",\"exportable\":false}],\"Attribute\":[{\"type\":\"AS\",\"value\":\"as64500\"}],\"Object\":[{\"name\":\"file\",\"Attribute\":[{\"type\":\"text\",\"value\":\"x\"}],\"ObjectReference\":[{\"referenced_uuid\":\"a1000000-0000-4000-8000-000000000001\"}]},{\"name\":\"url\"}]}}";
+
+fn made(n: u32) -> ElemId {
+    ElemId(Uid::made(WORD, n))
+}
+
 #[test]
 fn elements_get_identifiers_by_their_places(rt: HostRuntime) -> Result<(), Fail> {
-    let text =
-        "{\"Event\":{\"info\":\"Wave\",\"date\":\"2023-11-14\",\"distribution\":\"1\",\"Attribute\":[{\"type\":\"text\",\"value\":\"x\"},{\"type\":\"url\",\"value\":\"y\",\"category\":\"Person\",\"distribution\":0,\"Tag\":null}]}}";
-    let value = Value::from_str(rt.alloc(), text)?;
-    match read_event(rt.alloc(), &value, WORD) {
-        Ok(read) => {
-            assert!(rt; read.event == EventId(Uid::made(WORD, 0)));
-            assert!(rt; read.label == Label::Community);
-            let places = [(1, 15, Label::Inherit), (2, 14, Label::Own)];
-            assert_eq!(rt; read.parts.as_slice().len(), 2);
-            for (part, (place, category, label)) in read
-                .parts
-                .as_slice()
-                .iter()
-                .zip(places.iter())
-            {
-                assert!(rt; part.place == Place::Attribute(ElemId(Uid::made(WORD, *place))));
-                assert!(rt; part.label == *label);
-                match &part.content {
-                    Content::Attribute(body) => assert_eq!(rt; body.category, *category),
-                    _ => assert!(rt; false),
-                }
-            }
-        }
-        Err(_) => assert!(rt; false),
+    let value = Value::from_str(rt.alloc(), WHOLE)?;
+    let read = read_event(rt.alloc(), &value, WORD).ok().ok_or("fault")?;
+    let places = [
+        (1, Place::Attribute(made(1))),
+        (2, Place::Object(made(2))),
+        (3, Place::ObjectAttribute(made(2), made(3))),
+        (5, Place::Object(made(5))),
+    ];
+    assert_eq!(rt; read.parts.as_slice().len(), 4);
+    for (part, (number, place)) in read.parts.as_slice().iter().zip(places.iter()) {
+        assert!(rt; part.number == *number && part.place == *place);
     }
+    for reference in read.references.as_slice() {
+        assert!(rt; reference.number == 4 && reference.object == made(2));
+        assert!(rt; reference.uuid == made(4) && reference.referenced == U1);
+    }
+    let body = read.body.ok_or("no body")?;
+    let tags = [("a", [255, 128, 0], true), ("b", [255, 255, 255], false)];
+    assert_eq!(rt; body.tags.as_slice().len(), 2);
+    for (tag, (name, colour, exportable)) in body.tags.as_slice().iter().zip(tags.iter()) {
+        assert!(rt; tag.name.as_str() == *name && tag.colour == *colour);
+        assert!(rt; tag.exportable == *exportable);
+    }
+    Ok(())
+}
+
+#[test]
+fn lists_of_attributes_and_tags_are_bodies(rt: HostRuntime) -> Result<(), Fail> {
+    let text = "[{\"type\":\"text\",\"value\":\"x\"},{\"type\":\"text\"}]";
+    let value = Value::from_str(rt.alloc(), text)?;
+    match read_parts(rt.alloc(), &value, E1, None, PartForm::Attributes, WORD) {
+        Ok(_) => assert!(rt; false),
+        Err(found) => {
+            assert!(rt; found == fault(rt.alloc(), "Attribute[1].value", Some(Need::Present))?)
+        }
+    }
+    let tag = Value::from_str(rt.alloc(), "{\"Tag\":{\"name\":\"a\"}}")?;
+    let tag = read_tag(rt.alloc(), &tag).ok().ok_or("fault")?;
+    assert!(rt; tag.name.as_str() == "a" && tag.exportable);
     Ok(())
 }
 
@@ -149,6 +196,7 @@ fn text(alloc: Global, bytes: &str) -> Result<Text, Fail>
     Ok(Text::of(String::from_str(alloc, bytes)?))
 }
 
+#[tactic(auto, unfolding(misp_elem::specs::Row::is_date))]
 fn event_row(alloc: Global, stamp: Stamp, never: Stamp) -> Result<Row, Fail> {
     let info = text(alloc, "Wave")?;
     let date = text(alloc, "2023-11-14")?;
@@ -177,7 +225,7 @@ fn event_row(alloc: Global, stamp: Stamp, never: Stamp) -> Result<Row, Fail> {
     }))
 }
 
-#[tactic(auto, unfolding(misp_elem::specs::Row::is_plain_kind))]
+#[tactic(auto, unfolding(misp_types::specs::Values::is_kept, misp_types::specs::Values::kept_of, misp_types::specs::Kinds::rule_of, misp_types::specs::Kinds::form_of))]
 fn attribute_row(alloc: Global, stamp: Stamp) -> Result<Row, Fail> {
     let kind = text(alloc, "text")?;
     let comment = text(alloc, "")?;

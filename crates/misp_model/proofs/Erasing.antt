@@ -19,7 +19,7 @@ use Rattle.misp_model.specs.History.{Version, tables}
 use Rattle.misp_model.specs.Passing.{Route, passing}
 use Rattle.misp_model.specs.Arrival.{counted, moved}
 use Rattle.misp_model.specs.Asking.{Scene}
-use Rattle.misp_model.specs.Dates.{date_of}
+use Rattle.misp_dates.specs.Dates.{date_of}
 use Rattle.misp_model.specs.Acts.{Caller, Deed, Asks, Misfits, Syncs, Takes_groups, Administers, Nothing, Act, World, Net, known_at, scene, brings, is_accepted, synced, synced_groups, asked, step, run, reply_to, replies_to, answer, Other}
 use Rattle.misp_model.specs.Erasure.{cut_rows, cut, cut_world, cut_body, IsClosed, HasKnown, HasPair, HasPairs, IsKept, erased_ask, erased_request, erased_deed, erased_act, erase}
 use Rattle.misp_model.proofs.Same.{same_org-sound}

@@ -13,7 +13,7 @@ use Rattle.misp_elem.specs.declared.key.KeyForm.{KeyForm as Key}
 use Rattle.misp_elem.specs.declared.key.KeyForm.TheVariants.{Reference}
 use Rattle.misp_elem.specs.declared.content.Content.TheVariants as content
 use Rattle.misp_elem.specs.declared.row.RowFields.{RowFields as Row}
-use Rattle.misp_elem.specs.declared.draft.ReferenceDraft.{ReferenceDraft}
+use Rattle.misp_elem.specs.Draft.{ReferenceDraftFields as ReferenceDraft}
 use Rattle.misp_elem.specs.Draft.{DraftFields as Draft}
 use Rattle.misp_elem.specs.Draft.{EventDraftFields as EventDraft}
 use Rattle.misp_elem.specs.Draft.{SubmissionFields as Submission}
@@ -161,6 +161,10 @@ view_of_event e rows s owner = same_from _ (cut_scene (of_event e) (seeing s row
 
 pub add_of_event : (b : Submission) (rows : List Row) (s : Scene) → IsSame (seeing s (event_rows b.event rows)) (seeing s rows) (ask.Change (AddEvent b))
 add_of_event b rows s = same_from _ (cut_scene (of_event b.event) (seeing s rows)) (seeing s rows) (ask.Change (AddEvent b)) (seeing_here b.event rows s) (add_here b (seeing s rows))
+
+pub has_target_of_event : (b : Submission) (rows : List Row) (s : Scene) (r : ReferenceDraft) →
+    has_target (seeing s (event_rows b.event rows)) b r ≡ has_target (seeing s rows) b r
+has_target_of_event b rows s r = ap (λ t. has_target t b r) (seeing_here b.event rows s) ∙ has_target_same b (seeing s rows) r
 
 pub shown_of_event : (e : EventId) (rows : List Row) (s : Scene) (owner : Option OrgId) → shown (seeing s (event_rows e rows)) e owner ≡ shown (seeing s rows) e owner
 shown_of_event e rows s owner = ap (λ t. shown t e owner) (seeing_here e rows s) ∙ shown_from_here e (seeing s rows) owner

@@ -15,7 +15,7 @@ use Rattle.misp_elem.specs.declared.key.KeyForm.TheVariants.{Element}
 use Rattle.misp_elem.specs.declared.key.ProposalName.{ProposalName}
 use Rattle.misp_elem.specs.declared.content.ProposalBody.{ProposalBody}
 use Rattle.misp_elem.specs.declared.row.RowFields.{RowFields as Row}
-use Rattle.misp_elem.specs.declared.draft.ReferenceDraft.{ReferenceDraft}
+use Rattle.misp_elem.specs.Draft.{ReferenceDraftFields as ReferenceDraft}
 use Rattle.misp_elem.specs.Draft.{SubmissionFields as Submission}
 use Rattle.misp_requests.specs.declared.change.Change.{Change}
 use Rattle.misp_requests.specs.declared.change.Change.TheVariants.{AddEvent, AddParts, EditEvent, EditAttribute, EditObject, Delete, DeleteReference, DeleteEvent, Publish}

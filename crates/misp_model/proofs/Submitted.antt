@@ -1,26 +1,27 @@
 -- An accepted request that adds an event writes keys of which its caller had none, no two of them the same.
-use Rattle.std.proofs.Common.{◌≡◌, ℕ, suc, List, [], ◌∷◌, ◌++◌, Bool, true, false, refl, ap, sym, ◌∙◌, arith, subst, map, eqb, leb, ltb}
-use Rattle.std.specs.Prelude.{◌&&◌, ◌||◌, not, Option, Some, None, option_to_list}
-use Rattle.std.specs.List.{list_any, list_all, filter, filter_map}
-use Rattle.std.proofs.lemmas.Bool.{and_parts, and_from, or_parts, or_left, not-true, not-false, eq-eqb, false≢true, false_from_ne_true}
-use Rattle.std.proofs.lemmas.List.{append-nil}
+use Rattle.std.proofs.Common.{◌≡◌, ℕ, suc, List, [], ◌∷◌, ◌++◌, Bool, true, false, refl, ap, sym, ◌∙◌, arith, subst, map, eqb, ltb}
+use Rattle.std.specs.Prelude.{◌&&◌, ◌||◌, not, cond, Option, Some, None, option_map, option_to_list}
+use Rattle.std.specs.List.{list_any, list_all, filter, filter_map, cons_option}
+use Rattle.std.proofs.lemmas.Bool.{and_parts, and_from, or_parts, or_left, not-true, not-false, eqb-true, eq-eqb, false≢true, false_from_ne_true}
 use Rattle.std.proofs.lemmas.List.Folds.{list_all-append}
+use Rattle.misp_ids.specs.declared.uid.OrgId.{OrgId}
 use Rattle.misp_ids.specs.declared.uid.EventId.{EventId}
+use Rattle.misp_ids.specs.declared.label.Label.TheVariants as labels
 use Rattle.misp_elem.specs.declared.key.Place.{Place}
-use Rattle.misp_elem.specs.declared.key.Place.TheVariants as place
 use Rattle.misp_elem.specs.declared.key.KeyForm.{KeyForm as Key}
-use Rattle.misp_elem.specs.declared.key.KeyForm.TheVariants.{Element}
+use Rattle.misp_elem.specs.declared.key.KeyForm.TheVariants.{Element, Reference, Proposal, Verdict, Sighting}
 use Rattle.misp_elem.specs.declared.content.Content.TheVariants as content
 use Rattle.misp_elem.specs.declared.row.RowFields.{RowFields as Row}
 use Rattle.misp_elem.specs.Draft.{DraftFields as Draft}
 use Rattle.misp_elem.specs.Draft.{EventDraftFields as EventDraft}
+use Rattle.misp_elem.specs.Draft.{ReferenceDraftFields as ReferenceDraft}
 use Rattle.misp_elem.specs.Draft.{SubmissionFields as Submission}
 use Rattle.misp_requests.specs.declared.change.Change.TheVariants.{AddEvent}
 use Rattle.misp_requests.specs.declared.ask.Ask.TheVariants as ask
 use Rattle.misp_model.specs.Names.{Inst, same_inst, same_org, same_event, same_key, event_of, event_key}
 use Rattle.misp_model.specs.View.{is_row_of, is_mark, has_copy, has_gone, known}
 use Rattle.misp_model.specs.History.{Version, same_cell, fresh_row, tables}
-use Rattle.misp_model.specs.Asking.{Scene, holds_copy, holds_mark, written, uuid_at, takes_uuid, is_taken, are_distinct, part_version, reference_version, parts_written, has_target, uuids_of, clashes, has_unusable, new_event, event_written, change_rules, change_writes}
+use Rattle.misp_model.specs.Asking.{Scene, holds_copy, holds_mark, written, uuid_at, takes_uuid, is_taken, are_distinct, part_version, target_of, reference_key, reference_version, parts_written, has_target, uuids_of, clashes, has_unusable, new_event, event_written, change_rules, change_writes}
 use Rattle.misp_model.specs.Acts.{is_accepted, ask_rules}
 use Rattle.misp_model.specs.Machine.{put_all}
 use Rattle.misp_model.proofs.Same.{same_key-sound}
@@ -39,10 +40,18 @@ none_either : {X : Type 0} (p q : X → Bool) (xs : List X) → list_any (λ x. 
 none_either p q [] h k = refl
 none_either p q (x ∷ xs) h k = grind (arith, none_either p q xs)
 
--- keys of one uuid
-same_uuid : (e : EventId) (p q : Place) → same_key (Element e p) (Element e q) ≡ true → eqb (uuid_at e p) (uuid_at e q) ≡ true
+-- a key takes one uuid
+one_uuid : (k : Key) (u v : ℕ) → takes_uuid u k ≡ true → takes_uuid v k ≡ true → eqb u v ≡ true
 unfolding takes_uuid
-same_uuid e p q h = ap (takes_uuid (uuid_at e q)) (same_key-sound (Element e p) (Element e q) h) ∙ eq-eqb _ _ refl
+one_uuid (Element e p) u v h l = eq-eqb u v (sym (eqb-true _ _ h) ∙ eqb-true _ _ l)
+one_uuid (Reference e x t w) u v h l = eq-eqb u v (sym (eqb-true _ _ h) ∙ eqb-true _ _ l)
+one_uuid (Proposal e n) u v h l = absurd (false≢true h)
+one_uuid (Verdict e n i o) u v h l = absurd (false≢true h)
+one_uuid (Sighting e t i o w) u v h l = absurd (false≢true h)
+
+-- equal keys have equal uuids
+same_uuid : (j k : Key) (u v : ℕ) → takes_uuid u j ≡ true → takes_uuid v k ≡ true → same_key j k ≡ true → eqb u v ≡ true
+same_uuid j k u v h l e = one_uuid k u v (sym (ap (takes_uuid u) (same_key-sound j k e)) ∙ h) l
 
 module _ (n : ℕ) (i : Inst) where
   new_both : (us vs : List Version) → AreNew n i us → AreNew n i vs → AreNew n i (us ++ vs)
@@ -53,23 +62,90 @@ module _ (n : ℕ) (i : Inst) where
   new_each f h [] = tt
   new_each f h (x ∷ xs) = (h x, new_each f h xs)
 
-module _ (s : Scene) (b : Submission) (plain : b.references ≡ []) (accepted : is_accepted s (ask.Change (AddEvent b)) ≡ true) where
+-- a version that the n-th act wrote there for this organisation, of an element or reference of this event and uuid
+record Takes (n : ℕ) (i : Inst) (o : OrgId) (e : EventId) (u : ℕ) (v : Version) : Type 0 where
+  is_new : IsNew n i v
+  owner : v.owner ≡ o
+  event : same_event (event_of v.key) e ≡ true
+  uuid : takes_uuid u v.key ≡ true
+
+module _ (n : ℕ) (i : Inst) (o : OrgId) (e : EventId) where
+  -- each version has the uuid at its place
+  abbrev Take : List ℕ → List Version → Type 0
+  Take [] [] = Unit {0}
+  Take [] (v ∷ vs) = ⊥
+  Take (u ∷ us) [] = ⊥
+  Take (u ∷ us) (v ∷ vs) = Takes n i o e u v × Take us vs
+
+  take_both : (us ws : List ℕ) (vs xs : List Version) → Take us vs → Take ws xs → Take (us ++ ws) (vs ++ xs)
+  take_both [] ws [] xs a b = b
+  take_both [] ws (v ∷ vs) xs a b = absurd a
+  take_both (u ∷ us) ws [] xs a b = absurd a
+  take_both (u ∷ us) ws (v ∷ vs) xs a b = (a.0, take_both us ws vs xs a.1 b)
+
+  take_new : (us : List ℕ) (vs : List Version) → Take us vs → AreNew n i vs
+  take_new [] [] a = tt
+  take_new [] (v ∷ vs) a = absurd a
+  take_new (u ∷ us) [] a = absurd a
+  take_new (u ∷ us) (v ∷ vs) a = (a.0.is_new, take_new us vs a.1)
+
+  -- one of another uuid is of another cell
+  one_apart : (u : ℕ) (v : Version) → takes_uuid u v.key ≡ true → (us : List ℕ) (vs : List Version) → Take us vs → list_any (eqb u) us ≡ false →
+      list_all (λ w. not (same_cell v w)) vs ≡ true
+  unfolding same_cell
+  one_apart u v t [] [] a h = refl
+  one_apart u v t [] (w ∷ vs) a h = absurd a
+  one_apart u v t (z ∷ us) [] a h = absurd a
+  one_apart u v t (z ∷ us) (w ∷ vs) a h =
+      and_from _ _
+      (ap not (false_from_ne_true _ (λ k. false≢true (sym (or_parts _ _ h).0 ∙ same_uuid v.key w.key u z t a.0.uuid (and_parts _ _ k).1))))
+      (one_apart u v t us vs a.1 (or_parts _ _ h).1)
+
+  take_apart : (us : List ℕ) (vs : List Version) → Take us vs → are_distinct us ≡ true → AreApart vs
+  unfolding are_distinct
+  take_apart [] [] a h = tt
+  take_apart [] (v ∷ vs) a h = absurd a
+  take_apart (u ∷ us) [] a h = absurd a
+  take_apart (u ∷ us) (v ∷ vs) a h = (one_apart u v a.0.uuid us vs a.1 (not-true _ (and_parts _ _ h).0), take_apart us vs a.1 (and_parts _ _ h).1)
+
+module _ (s : Scene) (b : Submission) (accepted : is_accepted s (ask.Change (AddEvent b)) ≡ true) where
   abbrev event_version : EventDraft → Version
   event_version d = written s (event_key b.event) s.now b.label (content.Event (new_event s d))
 
-  abbrev uuid_of : Draft → ℕ
-  uuid_of d = uuid_at b.event d.place
+  -- these versions have these uuids
+  abbrev have : List ℕ → List Version → Type 0
+  have us vs = Take s.act s.at s.by b.event us vs
 
-  -- what is written: the event's own version, and one for each part
-  writes_are : change_writes s (AddEvent b) ≡ map event_version (option_to_list b.body) ++ map (part_version s b.event) b.parts
-  unfolding change_writes event_written parts_written
-  writes_are =
-      ap (λ rs. map event_version (option_to_list b.body) ++ (map (part_version s b.event) b.parts ++ filter_map (reference_version s b.event b.parts) rs)) plain
-      ∙ ap (λ vs. map event_version (option_to_list b.body) ++ vs) (append-nil (map (part_version s b.event) b.parts))
+  -- each part has the uuid of its place
+  parts_have : (ds : List Draft) → have (map (λ d. uuid_at b.event d.place) ds) (map (part_version s b.event) ds)
+  unfolding written part_version takes_uuid event_of
+  parts_have [] = tt
+  parts_have (d ∷ ds) =
+      (record { is_new = record { at = refl; path = refl; came = refl; act = refl }; owner = refl; event = same_event-refl b.event; uuid = eq-eqb _ _ refl }, parts_have ds)
 
-  uuids_are : uuids_of s b ≡ map uuid_of b.parts
-  unfolding uuids_of
-  uuids_are = ap (λ rs. map uuid_of b.parts ++ map (λ r. r.uuid.0.0) (filter (has_target s b) rs)) plain ∙ append-nil (map uuid_of b.parts)
+  -- each reference that has a target has its uuid
+  references_have : (rs : List ReferenceDraft) → have (map (λ r. r.uuid.0.0) (filter (has_target s b) rs)) (filter_map (reference_version s b.event b.parts) rs)
+  unfolding written reference_version reference_key has_target takes_uuid event_of
+  references_have [] = tt
+  references_have (r ∷ rs) = one (target_of s b.event b.parts r.referenced) (references_have rs)
+    where
+      one : (t : Option Place) → have (map (λ r. r.uuid.0.0) (filter (has_target s b) rs)) (filter_map (reference_version s b.event b.parts) rs) →
+          have (map (λ r. r.uuid.0.0) (cond (elim t [ Some p ↦ true | None ↦ false ]) (r ∷ filter (has_target s b) rs) (filter (has_target s b) rs)))
+          (cons_option (option_map (λ k. written s k s.now labels.Inherit (content.Reference r.body)) (option_map (λ p. Reference b.event r.object p r.uuid) t)) (filter_map (reference_version s b.event b.parts) rs))
+      one None ih = ih
+      one (Some p) ih =
+          (record { is_new = record { at = refl; path = refl; came = refl; act = refl }; owner = refl; event = same_event-refl b.event; uuid = eq-eqb _ _ refl }, ih)
+
+  written_have : have (uuids_of s b) (parts_written s b)
+  unfolding uuids_of parts_written
+  written_have =
+      take_both s.act s.at s.by b.event _ (map (λ r. r.uuid.0.0) (filter (has_target s b) b.references)) (map (part_version s b.event) b.parts) _
+      (parts_have b.parts) (references_have b.references)
+
+  -- what is written: the event's own version, and those of the parts and references
+  writes_are : change_writes s (AddEvent b) ≡ map event_version (option_to_list b.body) ++ parts_written s b
+  unfolding change_writes event_written
+  writes_are = refl
 
   -- no rule refuses
   no_rule : (holds_copy s b.event || (holds_mark s b.event || (clashes s b || (has_unusable s b || false)))) ≡ false
@@ -79,63 +155,51 @@ module _ (s : Scene) (b : Submission) (plain : b.references ≡ []) (accepted : 
   no_clash : clashes s b ≡ false
   no_clash = (or_parts _ _ (or_parts _ _ (or_parts _ _ no_rule).1).1).0
 
-  distinct : are_distinct (map uuid_of b.parts) ≡ true
+  distinct : are_distinct (uuids_of s b) ≡ true
   unfolding clashes
-  distinct = sym (ap are_distinct uuids_are) ∙ not-false _ (or_parts _ _ no_clash).0
+  distinct = not-false _ (or_parts _ _ no_clash).0
 
-  not_taken : list_any (is_taken s b.event) (map uuid_of b.parts) ≡ false
+  not_taken : list_any (is_taken s b.event) (uuids_of s b) ≡ false
   unfolding clashes
-  not_taken = sym (ap (list_any (is_taken s b.event)) uuids_are) ∙ (or_parts _ _ no_clash).1
+  not_taken = (or_parts _ _ no_clash).1
 
   -- the caller has no row of the event
   no_event_row : list_any (is_row_of s.by (event_key b.event)) s.rows ≡ false
   unfolding holds_copy has_copy holds_mark has_gone
   no_event_row = none_either (is_row_of s.by (event_key b.event)) is_mark s.rows (or_parts _ _ no_rule).0 (or_parts _ _ (or_parts _ _ no_rule).1).0
 
-  -- nor of a place whose uuid is free
-  no_part_row : (p : Place) → is_taken s b.event (uuid_at b.event p) ≡ false → list_any (is_row_of s.by (Element b.event p)) s.rows ≡ false
-  unfolding is_taken is_row_of takes_uuid event_of
-  no_part_row p h =
-      none_implies (λ row. same_org row.owner s.by && (same_event (event_of row.key) b.event && takes_uuid (uuid_at b.event p) row.key)) (is_row_of s.by (Element b.event p))
-      (λ row k.
-      let key : row.key ≡ Element b.event p = same_key-sound row.key (Element b.event p) (and_parts _ _ k).1 in
-      and_from _ _ (and_parts _ _ k).0
-      (and_from _ _ (ap (λ x. same_event (event_of x) b.event) key ∙ same_event-refl b.event) (ap (takes_uuid (uuid_at b.event p)) key ∙ eq-eqb _ _ refl)))
+  -- nor of a key whose uuid is free
+  no_own_row : (u : ℕ) (k : Key) → same_event (event_of k) b.event ≡ true → takes_uuid u k ≡ true → is_taken s b.event u ≡ false →
+      list_any (is_row_of s.by k) s.rows ≡ false
+  unfolding is_taken is_row_of
+  no_own_row u k e t h =
+      none_implies (λ row. same_org row.owner s.by && (same_event (event_of row.key) b.event && takes_uuid u row.key)) (is_row_of s.by k)
+      (λ row l.
+      let key : row.key ≡ k = same_key-sound row.key k (and_parts _ _ l).1 in
+      and_from _ _ (and_parts _ _ l).0
+      (and_from _ _ (ap (λ x. same_event (event_of x) b.event) key ∙ e) (ap (takes_uuid u) key ∙ t)))
       s.rows (or_parts _ _ h).1
 
   are_new : AreNew s.act s.at (change_writes s (AddEvent b))
-  unfolding written part_version
+  unfolding written
   are_new =
       subst (AreNew s.act s.at) (sym writes_are)
-      (new_both s.act s.at (map event_version (option_to_list b.body)) (map (part_version s b.event) b.parts)
+      (new_both s.act s.at (map event_version (option_to_list b.body)) (parts_written s b)
       (new_each s.act s.at event_version (λ d. record { at = refl; path = refl; came = refl; act = refl }) (option_to_list b.body))
-      (new_each s.act s.at (part_version s b.event) (λ d. record { at = refl; path = refl; came = refl; act = refl }) b.parts))
+      (take_new s.act s.at s.by b.event (uuids_of s b) (parts_written s b) written_have))
 
-  -- a part's version is of another cell than the event's
-  event_apart : (d : EventDraft) (ds : List Draft) → list_any (is_taken s b.event) (map uuid_of ds) ≡ false → list_all (λ u. not (same_cell (event_version d) u)) (map (part_version s b.event) ds) ≡ true
-  unfolding same_cell written part_version is_taken uuid_at event_key
-  event_apart d [] h = refl
-  event_apart d (p ∷ ds) h =
-      and_from _ _
-      (ap not (false_from_ne_true _ (λ k. false≢true (sym (or_parts _ _ h).0 ∙ or_left _ _ (same_uuid b.event place.Event p.place (and_parts _ _ k).1)))))
-      (event_apart d ds (or_parts _ _ h).1)
+  -- the event's own uuid is none that is free
+  not_the_event : (us : List ℕ) → list_any (is_taken s b.event) us ≡ false → list_any (eqb b.event.0.0) us ≡ false
+  unfolding is_taken
+  not_the_event us h = none_implies (is_taken s b.event) (eqb b.event.0.0) (λ u e. or_left _ _ e) us h
 
-  part_apart : (p : Draft) (ds : List Draft) → list_any (eqb (uuid_of p)) (map uuid_of ds) ≡ false → list_all (λ u. not (same_cell (part_version s b.event p) u)) (map (part_version s b.event) ds) ≡ true
-  unfolding same_cell written part_version
-  part_apart p [] h = refl
-  part_apart p (q ∷ ds) h =
-      and_from _ _
-      (ap not (false_from_ne_true _ (λ k. false≢true (sym (or_parts _ _ h).0 ∙ same_uuid b.event p.place q.place (and_parts _ _ k).1))))
-      (part_apart p ds (or_parts _ _ h).1)
-
-  parts_apart : (ds : List Draft) → are_distinct (map uuid_of ds) ≡ true → AreApart (map (part_version s b.event) ds)
-  unfolding are_distinct
-  parts_apart [] h = tt
-  parts_apart (p ∷ ds) h = (part_apart p ds (not-true _ (and_parts _ _ h).0), parts_apart ds (and_parts _ _ h).1)
-
-  all_apart : (o : Option EventDraft) → AreApart (map event_version (option_to_list o) ++ map (part_version s b.event) b.parts)
-  all_apart None = parts_apart b.parts distinct
-  all_apart (Some d) = (event_apart d b.parts not_taken, parts_apart b.parts distinct)
+  all_apart : (o : Option EventDraft) → AreApart (map event_version (option_to_list o) ++ parts_written s b)
+  unfolding written takes_uuid event_key uuid_at
+  all_apart None = take_apart s.act s.at s.by b.event (uuids_of s b) (parts_written s b) written_have distinct
+  all_apart (Some d) = (
+    one_apart s.act s.at s.by b.event b.event.0.0 (event_version d) (eq-eqb _ _ refl) (uuids_of s b) (parts_written s b) written_have (not_the_event (uuids_of s b) not_taken),
+    take_apart s.act s.at s.by b.event (uuids_of s b) (parts_written s b) written_have distinct,
+  )
 
   are_apart : AreApart (change_writes s (AddEvent b))
   are_apart = subst AreApart (sym writes_are) (all_apart b.body)
@@ -147,19 +211,24 @@ module _ (s : Scene) (b : Submission) (plain : b.references ≡ []) (accepted : 
     event_free (Some d) =
         and_from _ _ (ap not (no_version log s.groups (event_version d) (sym (ap (list_any (is_row_of s.by (event_key b.event))) sees) ∙ no_event_row))) refl
 
-    parts_free : (ds : List Draft) → list_any (is_taken s b.event) (map uuid_of ds) ≡ false → are_free log (map (part_version s b.event) ds) ≡ true
-    unfolding written part_version
-    parts_free [] h = refl
-    parts_free (p ∷ ds) h =
-        and_from _ _
-        (ap not (no_version log s.groups (part_version s b.event p) (sym (ap (list_any (is_row_of s.by (Element b.event p.place))) sees) ∙ no_part_row p.place (or_parts _ _ h).0)))
-        (parts_free ds (or_parts _ _ h).1)
+    one_free : (v : Version) → v.at ≡ s.at → v.owner ≡ s.by → list_any (is_row_of s.by v.key) s.rows ≡ false → list_any (λ a. same_cell a v) log ≡ false
+    one_free v at owner h =
+        no_version log s.groups v
+        ((λ i. list_any (is_row_of (owner i) v.key) (known (tables log (at i)) s.groups (at i) (owner i))) ∙ sym (ap (list_any (is_row_of s.by v.key)) sees) ∙ h)
+
+    parts_free : (us : List ℕ) (vs : List Version) → have us vs → list_any (is_taken s b.event) us ≡ false → are_free log vs ≡ true
+    parts_free [] [] a h = refl
+    parts_free [] (v ∷ vs) a h = absurd a
+    parts_free (u ∷ us) [] a h = absurd a
+    parts_free (u ∷ us) (v ∷ vs) a h =
+        and_from _ _ (ap not (one_free v a.0.is_new.at a.0.owner (no_own_row u v.key a.0.event a.0.uuid (or_parts _ _ h).0)))
+        (parts_free us vs a.1 (or_parts _ _ h).1)
 
     all_free : are_free log (change_writes s (AddEvent b)) ≡ true
     all_free =
         ap (are_free log) writes_are
-        ∙ list_all-append (λ v. not (list_any (λ a. same_cell a v) log)) (map event_version (option_to_list b.body)) (map (part_version s b.event) b.parts)
-        ∙ and_from _ _ (event_free b.body) (parts_free b.parts not_taken)
+        ∙ list_all-append (λ v. not (list_any (λ a. same_cell a v) log)) (map event_version (option_to_list b.body)) (parts_written s b)
+        ∙ and_from _ _ (event_free b.body) (parts_free (uuids_of s b) (parts_written s b) written_have not_taken)
 
     -- each version that is written is put in its place
     pub added_tables : list_all (λ v. ltb v.act s.act) log ≡ true →

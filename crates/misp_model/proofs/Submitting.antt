@@ -14,7 +14,7 @@ use Rattle.misp_elem.specs.declared.key.KeyForm.TheVariants.{Element, Reference,
 use Rattle.misp_elem.specs.declared.row.RowFields.{RowFields as Row}
 use Rattle.misp_elem.specs.Draft.{DraftFields as Draft}
 use Rattle.misp_elem.specs.Draft.{EventDraftFields as EventDraft}
-use Rattle.misp_elem.specs.declared.draft.ReferenceDraft.{ReferenceDraft}
+use Rattle.misp_elem.specs.Draft.{ReferenceDraftFields as ReferenceDraft}
 use Rattle.misp_elem.specs.Draft.{SubmissionFields as Submission}
 use Rattle.misp_requests.specs.declared.change.Change.TheVariants.{AddEvent, AddParts}
 use Rattle.misp_requests.specs.declared.ask.Ask.TheVariants as ask

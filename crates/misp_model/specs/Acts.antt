@@ -12,7 +12,7 @@ use Rattle.misp_requests.specs.declared.ask.Ask.TheVariants as ask
 use Rattle.misp_elem.specs.declared.visible.VisibleEvent.{VisibleEvent}
 use Rattle.misp_model.specs.Names.{Inst, same_inst, same_org, same_group}
 use Rattle.misp_model.specs.Audience.{carries}
-use Rattle.misp_model.specs.Dates.{date_of}
+use Rattle.misp_dates.specs.Dates.{date_of}
 use Rattle.misp_model.specs.View.{known, is_row_of}
 use Rattle.misp_model.specs.History.{Version, tables}
 use Rattle.misp_model.specs.Passing.{Route, passing}

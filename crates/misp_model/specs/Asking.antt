@@ -23,7 +23,7 @@ use Rattle.misp_elem.specs.Row.{tags_size, text_size}
 use Rattle.misp_groups.specs.declared.group.Group.{Group}
 use Rattle.misp_elem.specs.Draft.{DraftFields as Draft}
 use Rattle.misp_elem.specs.Draft.{EventDraftFields as EventDraft}
-use Rattle.misp_elem.specs.declared.draft.ReferenceDraft.{ReferenceDraft}
+use Rattle.misp_elem.specs.Draft.{ReferenceDraftFields as ReferenceDraft}
 use Rattle.misp_elem.specs.Draft.{SubmissionFields as Submission}
 use Rattle.misp_requests.specs.declared.edit.AttributeEdit.{AttributeEdit}
 use Rattle.misp_requests.specs.declared.edit.EventEdit.{EventEdit}

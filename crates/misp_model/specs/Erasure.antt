@@ -5,7 +5,7 @@ use Rattle.misp_ids.specs.declared.uid.OrgId.{OrgId}
 use Rattle.misp_elem.specs.declared.key.KeyForm.{KeyForm as Key}
 use Rattle.misp_elem.specs.declared.key.KeyForm.TheVariants.{Element, Reference, Proposal, Verdict, Sighting}
 use Rattle.misp_elem.specs.declared.row.RowFields.{RowFields as Row}
-use Rattle.misp_elem.specs.declared.draft.ReferenceDraft.{ReferenceDraft}
+use Rattle.misp_elem.specs.Draft.{ReferenceDraftFields as ReferenceDraft}
 use Rattle.misp_elem.specs.Draft.{SubmissionFields as Submission}
 use Rattle.misp_requests.specs.declared.change.Change.TheVariants.{AddEvent, AddParts, EditEvent, EditAttribute, EditObject, Delete, DeleteReference, DeleteEvent, Publish}
 use Rattle.misp_requests.specs.declared.change.Change.TheVariants as change

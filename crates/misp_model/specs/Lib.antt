@@ -1,6 +1,5 @@
 pub mod Names
 pub mod Order
-pub mod Dates
 pub mod Audience
 pub mod View
 pub mod History

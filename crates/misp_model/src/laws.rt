@@ -56,19 +56,19 @@ pub fn one_version_more()
         (tables log i) }
 {}
 
-/// An accepted request that adds an event without references puts each of its versions in its place
-/// as a row, at its instance alone.
+/// An accepted request that adds an event puts each of its versions in its place as a row, at its
+/// instance alone.
 pub fn an_added_event_is_put_row_by_row()
-    ensures here { (n : ℕ) (w : World) (act : Act) (c : Caller) (b : Submission) → b.references ≡ [] →
+    ensures here { (n : ℕ) (w : World) (act : Act) (c : Caller) (b : Submission) →
         is_accepted (scene n w act c) (ask.Change (AddEvent b)) ≡ true →
         list_all (λ v. ltb v.act n) w.log ≡ true →
         tables (w.log ++ change_writes (scene n w act c) (AddEvent b)) act.at
         ≡ put_all (map fresh_row (change_writes (scene n w act c) (AddEvent b))) (tables w.log act.at) }
     ensures elsewhere { (n : ℕ) (w : World) (act : Act) (c : Caller) (b : Submission) (j : Inst) →
-        b.references ≡ [] → is_accepted (scene n w act c) (ask.Change (AddEvent b)) ≡ true →
+        is_accepted (scene n w act c) (ask.Change (AddEvent b)) ≡ true →
         same_inst act.at j ≡ false →
         tables (w.log ++ change_writes (scene n w act c) (AddEvent b)) j ≡ tables w.log j }
-    ensures acts { (n : ℕ) (w : World) (act : Act) (c : Caller) (b : Submission) → b.references ≡ [] →
+    ensures acts { (n : ℕ) (w : World) (act : Act) (c : Caller) (b : Submission) →
         is_accepted (scene n w act c) (ask.Change (AddEvent b)) ≡ true →
         list_all (λ v. ltb v.act n) w.log ≡ true →
         list_all (λ v. ltb v.act (suc n)) (w.log ++ change_writes (scene n w act c) (AddEvent b)) ≡ true }

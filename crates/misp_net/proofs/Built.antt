@@ -1,14 +1,13 @@
 -- What a body brings is built.
-use Rattle.std.proofs.Common.{◌≡◌, ℕ, length, codes, None, Ok, Err, refl}
+use Rattle.std.proofs.Common.{◌≡◌, ℕ, codes, None, Ok, Err, refl}
 use Rattle.misp_ids.specs.Uid.{made_uid}
-use Rattle.misp_ids.specs.declared.label.Label.TheVariants as labels
-use Rattle.misp_fields.specs.declared.need.Need.TheVariants as needs
-use Rattle.misp_fields.specs.Fields.{uuid_of, optional_uuid_of}
-use Rattle.misp_format.specs.Readers.{number_within, label_of, some_text_of, early_date_of, empty_list_of}
+use Rattle.misp_fields.specs.Fields.{uuid_of}
 use Rattle.serde_json.specs.Data.{Data}
 use Rattle.misp_elem.specs.Draft.{SubmissionFields}
-use Rattle.misp_format.specs.Rows.{Reading, ◌>>=◌, row, must_be, body_at}
-use Rattle.misp_format.specs.Tables.{event_at, unwrapped, unless_long, attributes_at}
+use Rattle.misp_format.specs.Rows.{Reading, ◌>>=◌, row, body_at}
+use Rattle.misp_format.specs.Gathered.{none_from}
+use Rattle.misp_format.specs.Elements.{attributes_at, objects_at}
+use Rattle.misp_format.specs.Tables.{event_at, event_itself_at, unwrapped}
 use Rattle.misp_core.specs.Answers.{IsAdded}
 
 -- what holds of all that follows holds of what is read in the end
@@ -26,16 +25,9 @@ ok_keeps P x holds y h = let same : x ≡ y = cc in rw (← same) holds
 pub event_built : (word : ℕ) (d : Data) (s : SubmissionFields) → event_at word d ≡ Ok s → IsAdded s
 unfolding event_at
 event_built word d s h =
-    bind_keeps IsAdded (body_at (codes "Event") (unwrapped d)) _ (λ it.
+    bind_keeps IsAdded (body_at (codes "Event") (unwrapped (codes "Event") d)) _ (λ it.
     bind_keeps IsAdded (row it (codes "uuid") uuid_of (Ok (made_uid word 0))) _ (λ uuid.
-    bind_keeps IsAdded (row it (codes "info") some_text_of must_be) _ (λ info.
-    bind_keeps IsAdded (row it (codes "date") early_date_of (Err needs.Later)) _ (λ date.
-    bind_keeps IsAdded (row it (codes "threat_level_id") (number_within 1 4) (Ok 4)) _ (λ threat_level_id.
-    bind_keeps IsAdded (row it (codes "analysis") (number_within 0 2) (Ok 0)) _ (λ analysis.
-    bind_keeps IsAdded (row it (codes "distribution") (label_of 4) (Ok labels.Own)) _ (λ label.
-    bind_keeps IsAdded (row it (codes "extends_uuid") optional_uuid_of (Ok None)) _ (λ extends_uuid.
-    bind_keeps IsAdded (row it (codes "Tag") empty_list_of (Ok tt)) _ (λ no_tags.
-    bind_keeps IsAdded (unless_long it (length info)) _ (λ fits.
-    bind_keeps IsAdded (attributes_at word it) _ (λ parts.
-    bind_keeps IsAdded (row it (codes "Object") empty_list_of (Ok tt)) _ (λ no_objects.
-    ok_keeps IsAdded _ (refl, refl))))))))))))) s h
+    bind_keeps IsAdded (event_itself_at it) _ (λ event.
+    bind_keeps IsAdded (attributes_at word None it (none_from 1)) _ (λ attributes.
+    bind_keeps IsAdded (objects_at word it attributes) _ (λ elements.
+    ok_keeps IsAdded _ refl))))) s h

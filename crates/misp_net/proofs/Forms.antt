@@ -30,6 +30,7 @@ BuiltForm (Err refusal) = Unit {0}
 asked_built : (read : Result Submission FormatFault) → ((s : Submission) → read ≡ Ok s → IsAdded s) → BuiltAsk (asked read)
 asked_built (Ok s) built = built s refl
 asked_built (Err (faults.BadField path need)) built = tt
+asked_built (Err (faults.BinaryType path)) built = tt
 asked_built (Err faults.NoMemory) built = tt
 
 added_built : (word : ℕ) (value : Reading Data) → BuiltAsk (added_by word value)

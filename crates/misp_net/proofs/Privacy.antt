@@ -9,7 +9,7 @@ use Rattle.misp_orgs.specs.declared.key.Caller.{Caller}
 use Rattle.misp_script.specs.Step.{DeedData}
 use Rattle.misp_script.specs.Step as deeds
 use Rattle.misp_model.specs.Names.{same_org}
-use Rattle.misp_model.specs.Dates.{date_of}
+use Rattle.misp_dates.specs.Dates.{date_of}
 use Rattle.misp_model.specs.View.{known}
 use Rattle.misp_model.specs.History.{tables}
 use Rattle.misp_model.specs.Acts.{World, scene, known_at, step}

@@ -51,6 +51,7 @@ value_by_form (Some value) = tt
 asked_by_form : (read : Result Submission FormatFault) → ByForm (asked read)
 asked_by_form (Ok submission) = tt
 asked_by_form (Err (faults.BadField path need)) = inl refl
+asked_by_form (Err (faults.BinaryType path)) = inl refl
 asked_by_form (Err faults.NoMemory) = inr refl
 
 added_by_form : (word : ℕ) (value : Reading Data) → ByForm value → ByForm (added_by word value)

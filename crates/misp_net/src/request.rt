@@ -87,6 +87,10 @@ fn fault(alloc: Global, fault: FormatFault) -> AskFault
             }),
             Err(_) => AskFault::NoMemory,
         },
+        FormatFault::BinaryType { path } => AskFault::Refused(Refusal {
+            name: RuleName::BinaryType,
+            place: path,
+        }),
         FormatFault::NoMemory => AskFault::NoMemory,
     }
 }

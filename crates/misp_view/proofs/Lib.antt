@@ -1,6 +1,15 @@
 pub mod Pairs
+pub mod SpotSets
+pub mod Granted
+pub mod Origins
+pub mod Cuts
+pub mod Telling
+pub mod Grouping
+pub mod Showing
+pub mod StatementKeys
+pub mod Forming
+pub mod Wholeness
 pub mod Candidates
 pub mod Choosing
 pub mod Sorting
-pub mod Plain
 pub mod InScene

@@ -1,53 +1,69 @@
--- A stable sort by a number of a list that was turned round is the list in order.
-use Rattle.std.proofs.Common.{◌≡◌, ℕ, ◌<◌, ◌≤◌, Bool, true, false, refl, ap, sym, ◌∙◌, cond, List, [], ◌∷◌, ◌++◌, length, get_or, arith, eqb, ltb, append-nil, inl, inr, map}
-use Rattle.std.specs.Prelude.{◌⊎◌, suc, reverse}
+-- A stable sort of a list that was turned round is the list in order.
+use Rattle.std.proofs.Common.{◌≡◌, ℕ, ◌<◌, ◌≤◌, Bool, true, false, refl, ap, sym, ◌∙◌, cond, List, [], ◌∷◌, ◌++◌, length, get_or, arith, append-nil, map}
+use Rattle.std.specs.Prelude.{suc, reverse, not}
+use Rattle.std.specs.Cmp.{IsStrictWeakOrder}
 use Rattle.std.specs.List.{filter, list_all}
-use Rattle.std.specs.List.Sorted.{IsNonDecreasingBy, IsStableByKey, ties}
-use Rattle.std.specs.Ordering.{nat_cmp, is_lt}
-use Rattle.std.proofs.lemmas.Bool.{cases_order, ltb-true, ltb-false, eq-eqb, ne_eqb, eqb-true, and_parts, and_from}
-use Rattle.std.proofs.lemmas.Bool.Decides.{nat_tests}
+use Rattle.std.specs.List.Sorted.{IsSortedBy, IsStableBy, ties}
+use Rattle.std.proofs.lemmas.Bool.{and_parts, and_from, false≢true}
 use Rattle.std.proofs.lemmas.List.{reverse-append}
+use Rattle.std.proofs.lemmas.List.Sorted.{sorted_far}
 use Rattle.misp_model.specs.Order.{put, in_order}
 use Rattle.misp_model.proofs.Lists.{filter-append}
 
-module _ {X : Type 0} (key : X → ℕ) where
-  -- the elements with this key
-  abbrev same : ℕ → X → Bool
-  same k y = eqb k (key y)
+module _ {X : Type 0} (before : X → X → Bool) (o : IsStrictWeakOrder before) where
+  -- the elements that tie with this one
+  abbrev same : X → X → Bool
+  same = ties before
 
-  abbrev before : X → X → Bool
-  before x y = ltb (key x) (key y)
-
-  -- no key of these is below
-  abbrev AllFrom : ℕ → List X → Type 0
-  AllFrom k [] = Unit {0}
-  AllFrom k (y ∷ ys) = (k ≤ key y) × AllFrom k ys
+  -- none of these goes before it
+  abbrev AllFrom : X → List X → Type 0
+  AllFrom x [] = Unit {0}
+  AllFrom x (y ∷ ys) = (before y x ≡ false) × AllFrom x ys
 
   abbrev Rises : List X → Type 0
   Rises [] = Unit {0}
-  Rises (y ∷ ys) = AllFrom (key y) ys × Rises ys
+  Rises (y ∷ ys) = AllFrom y ys × Rises ys
 
-  all_from : (k : ℕ) (ys : List X) → ((j : ℕ) (d : X) → j < length ys → k ≤ key (get_or ys j d)) → AllFrom k ys
-  all_from k [] h = tt
-  all_from k (y ∷ ys) h = (h 0 y (omega arith), all_from k ys (λ j d lt. h (suc j) d (omega arith)))
+  all_from : (x : X) (ys : List X) → ((j : ℕ) (d : X) → j < length ys → before (get_or ys j d) x ≡ false) → AllFrom x ys
+  all_from x [] h = tt
+  all_from x (y ∷ ys) h = (h 0 y (omega arith), all_from x ys (λ j d lt. h (suc j) d (omega arith)))
 
-  rises : (ys : List X) → IsNonDecreasingBy key ys → Rises ys
+  Far : List X → Type 0
+  Far ys = (i j : ℕ) (d : X) → i ≤ j → j < length ys → before (get_or ys j d) (get_or ys i d) ≡ false
+
+  rises : (ys : List X) → Far ys → Rises ys
+  unfolding Far
   rises [] h = tt
-  rises (y ∷ ys) h = (all_from (key y) ys (λ j d lt. h 0 (suc j) d (omega arith) (omega arith)), rises ys (λ i j d le lt. h (suc i) (suc j) d (omega arith) (omega arith)))
+  rises (y ∷ ys) h = (all_from y ys (λ j d lt. h 0 (suc j) d (omega arith) (omega arith)), rises ys (λ i j d le lt. h (suc i) (suc j) d (omega arith) (omega arith)))
 
-  weaker : (m k : ℕ) (ys : List X) → m ≤ k → AllFrom k ys → AllFrom m ys
-  weaker m k [] le h = tt
-  weaker m k (y ∷ ys) le h = let a : k ≤ key y = h.0 in (omega arith, weaker m k ys le h.1)
+  weaker : (m x : X) (ys : List X) → before x m ≡ false → AllFrom x ys → AllFrom m ys
+  weaker m x [] le h = tt
+  weaker m x (y ∷ ys) le h = (o.chain y x m h.0 le, weaker m x ys le h.1)
 
-  none_below : (k m : ℕ) (ys : List X) → k < m → AllFrom m ys → filter (same k) ys ≡ []
-  none_below k m [] lt h = refl
-  none_below k m (y ∷ ys) lt h =
-      let a : m ≤ key y = h.0 in
-      rw (ne_eqb k (key y) (λ e. absurd (omega arith))) (none_below k m ys lt h.1)
+  -- what goes before one goes before what is not before that one
+  passes : (x y z : X) → before x y ≡ true → before z y ≡ false → before x z ≡ true
+  passes x y z h k = one (before x z) refl
+    where
+      one : (b : Bool) → before x z ≡ b → b ≡ true
+      one true e = refl
+      one false e = absurd (false≢true (sym (o.chain x z y e k) ∙ h))
 
-  -- ---- the list in order rises, and has the elements of each key from the last to the first
+  none_below : (x y : X) (ys : List X) → before x y ≡ true → AllFrom y ys → filter (same x) ys ≡ []
+  none_below x y [] lt h = refl
+  none_below x y (z ∷ ys) lt h =
+      let a : before x z ≡ true = passes x y z lt h.0 in
+      rw a (none_below x y ys lt h.1)
 
-  all_from_put : (m : ℕ) (x : X) (ys : List X) → m ≤ key x → AllFrom m ys → AllFrom m (put before x ys)
+  itself : (x : X) → before x x ≡ false
+  itself x = one (before x x) refl
+    where
+      one : (b : Bool) → before x x ≡ b → b ≡ false
+      one true e = absurd (false≢true (sym (o.one_way x x e) ∙ e))
+      one false e = refl
+
+  -- ---- the list in order rises, and has the elements that tie from the last to the first
+
+  all_from_put : (m x : X) (ys : List X) → before x m ≡ false → AllFrom m ys → AllFrom m (put before x ys)
   unfolding put
   all_from_put m x [] le h = (le, tt)
   all_from_put m x (y ∷ ys) le h = one (before x y) (all_from_put m x ys le h.1)
@@ -62,15 +78,15 @@ module _ {X : Type 0} (key : X → ℕ) where
   rises_put x (y ∷ ys) r = one (before x y) refl (rises_put x ys r.1)
     where
       one : (b : Bool) → before x y ≡ b → Rises (put before x ys) → Rises (cond b (x ∷ y ∷ ys) (y ∷ put before x ys))
-      one true e g = let lt : key x < key y = ltb-true _ _ e in let le : key x ≤ key y = omega arith in ((le, weaker (key x) (key y) ys le r.0), r)
-      one false e g = (all_from_put (key y) x ys (ltb-false _ _ e) r.0, g)
+      one true e g = ((o.one_way x y e, weaker x y ys (o.one_way x y e) r.0), r)
+      one false e g = (all_from_put y x ys e r.0, g)
 
   rises_all : (xs : List X) → Rises (in_order before xs)
   unfolding in_order
   rises_all [] = tt
   rises_all (x ∷ xs) = rises_put x (in_order before xs) (rises_all xs)
 
-  same_put : (k : ℕ) (x : X) (ys : List X) → Rises ys → filter (same k) (put before x ys) ≡ filter (same k) ys ++ cond (same k x) (x ∷ []) []
+  same_put : (k x : X) (ys : List X) → Rises ys → filter (same k) (put before x ys) ≡ filter (same k) ys ++ cond (same k x) (x ∷ []) []
   unfolding put
   same_put k x [] r = refl
   same_put k x (y ∷ ys) r = one (before x y) refl (same_put k x ys r.1)
@@ -78,11 +94,17 @@ module _ {X : Type 0} (key : X → ℕ) where
       F : List X
       F = filter (same k) (y ∷ ys)
 
-      two : (b : Bool) → same k x ≡ b → key x < key y → cond b (x ∷ F) F ≡ F ++ cond b (x ∷ []) []
+      two : (b : Bool) → same k x ≡ b → before x y ≡ true → cond b (x ∷ F) F ≡ F ++ cond b (x ∷ []) []
       two true e lt =
-          let is : k ≡ key x = eqb-true _ _ e in
-          let none : F ≡ [] = none_below k (key y) (y ∷ ys) (omega arith) (omega arith, r.0) in
+          let apart : (not (before k x) ≡ true) × (not (before x k) ≡ true) = and_parts _ _ e in
+          let lies : before k y ≡ true = four (before x k) (before k y) refl refl apart.1 in
+          let none : F ≡ [] = none_below k y (y ∷ ys) lies (itself y, r.0) in
           ap (λ l. x ∷ l) none ∙ ap (λ l. l ++ x ∷ []) (sym none)
+        where
+          four : (a b : Bool) → before x k ≡ a → before k y ≡ b → not a ≡ true → b ≡ true
+          four a true f g h = refl
+          four false false f g h = absurd (false≢true (sym (o.chain x k y f g) ∙ lt))
+          four true false f g h = absurd (false≢true h)
       two false e lt = sym (append-nil F)
 
       three : (b : Bool) (t : List X) → cond b (y ∷ (filter (same k) ys ++ t)) (filter (same k) ys ++ t) ≡ cond b (y ∷ filter (same k) ys) (filter (same k) ys) ++ t
@@ -91,10 +113,10 @@ module _ {X : Type 0} (key : X → ℕ) where
 
       one : (b : Bool) → before x y ≡ b → filter (same k) (put before x ys) ≡ filter (same k) ys ++ cond (same k x) (x ∷ []) [] →
           filter (same k) (cond b (x ∷ y ∷ ys) (y ∷ put before x ys)) ≡ F ++ cond (same k x) (x ∷ []) []
-      one true e ih = two (same k x) refl (ltb-true _ _ e)
+      one true e ih = two (same k x) refl e
       one false e ih = ap (λ l. cond (same k y) (y ∷ l) l) ih ∙ three (same k y) (cond (same k x) (x ∷ []) [])
 
-  same_all : (k : ℕ) (xs : List X) → filter (same k) (in_order before xs) ≡ filter (same k) (reverse xs)
+  same_all : (k : X) (xs : List X) → filter (same k) (in_order before xs) ≡ filter (same k) (reverse xs)
   unfolding in_order
   same_all k [] = refl
   same_all k (x ∷ xs) =
@@ -102,7 +124,7 @@ module _ {X : Type 0} (key : X → ℕ) where
       ∙ ap (λ l. l ++ cond (same k x) (x ∷ []) []) (same_all k xs)
       ∙ sym (ap (filter (same k)) (reverse-append (x ∷ []) xs) ∙ filter-append (same k) (reverse xs) (x ∷ []))
 
-  -- ---- two rising lists with the same elements of each key are equal
+  -- ---- two rising lists with the same elements that tie are equal
 
   tail_same : (b : Bool) (y : X) (ys zs : List X) → cond b (y ∷ ys) ys ≡ cond b (y ∷ zs) zs → ys ≡ zs
   tail_same true y ys zs h = cc
@@ -111,34 +133,30 @@ module _ {X : Type 0} (key : X → ℕ) where
   not_nil : (y : X) (ys : List X) → y ∷ ys ≡ [] → ⊥
   not_nil y ys h = cc
 
-  here : (y : X) (ys : List X) → filter (same (key y)) (y ∷ ys) ≡ y ∷ filter (same (key y)) ys
-  here y ys = rw (eq-eqb (key y) (key y) refl) refl
+  tie : (x y : X) → before x y ≡ false → before y x ≡ false → same x y ≡ true
+  tie x y h k = rw (h, k) refl
 
-  unique : (ys zs : List X) → Rises ys → Rises zs → ((x : X) → filter (same (key x)) ys ≡ filter (same (key x)) zs) → ys ≡ zs
+  here : (y : X) (ys : List X) → filter (same y) (y ∷ ys) ≡ y ∷ filter (same y) ys
+  here y ys = rw (tie y y (itself y) (itself y)) refl
+
+  unique : (ys zs : List X) → Rises ys → Rises zs → ((x : X) → filter (same x) ys ≡ filter (same x) zs) → ys ≡ zs
   unique [] [] r s h = refl
   unique [] (z ∷ zs) r s h = absurd (not_nil z _ (sym (here z zs) ∙ sym (h z)))
   unique (y ∷ ys) [] r s h = absurd (not_nil y _ (sym (here y ys) ∙ h y))
-  unique (y ∷ ys) (z ∷ zs) r s h = one (cases_order (key y) (key z)) (unique ys zs r.1 s.1)
+  unique (y ∷ ys) (z ∷ zs) r s h = one (before y z) (before z y) refl refl (unique ys zs r.1 s.1)
     where
-      one : (key y ≡ key z) ⊎ ((key y < key z) ⊎ (key z < key y)) → (((x : X) → filter (same (key x)) ys ≡ filter (same (key x)) zs) → ys ≡ zs) → y ∷ ys ≡ z ∷ zs
-      one (inl e) ih =
-          let both : y ∷ filter (same (key y)) ys ≡ z ∷ filter (same (key y)) zs = sym (here y ys) ∙ h y ∙ ap (λ b. cond b (z ∷ filter (same (key y)) zs) (filter (same (key y)) zs)) (eq-eqb _ _ e) in
+      one : (a b : Bool) → before y z ≡ a → before z y ≡ b → (((x : X) → filter (same x) ys ≡ filter (same x) zs) → ys ≡ zs) → y ∷ ys ≡ z ∷ zs
+      one false false e f ih =
+          let both : y ∷ filter (same y) ys ≡ z ∷ filter (same y) zs = sym (here y ys) ∙ h y ∙ ap (λ b. cond b (z ∷ filter (same y) zs) (filter (same y) zs)) (tie y z e f) in
           let first : y ≡ z = cc in
-          let rest : ys ≡ zs = ih (λ x. tail_same (same (key x) y) y _ _ (h x ∙ ap (λ w. cond (same (key x) w) (w ∷ filter (same (key x)) zs) (filter (same (key x)) zs)) (sym first))) in
+          let rest : ys ≡ zs = ih (λ x. tail_same (same x y) y _ _ (h x ∙ ap (λ w. cond (same x w) (w ∷ filter (same x) zs) (filter (same x) zs)) (sym first))) in
           cc
-      one (inr (inl lt)) ih = absurd (not_nil y _ (sym (here y ys) ∙ h y ∙ none_below (key y) (key z) (z ∷ zs) lt (omega arith, s.0)))
-      one (inr (inr lt)) ih = absurd (not_nil z _ (sym (here z zs) ∙ sym (h z) ∙ none_below (key z) (key y) (y ∷ ys) lt (omega arith, r.0)))
+      one true b e f ih = absurd (not_nil y _ (sym (here y ys) ∙ h y ∙ none_below y z (z ∷ zs) e (itself z, s.0)))
+      one false true e f ih = absurd (not_nil z _ (sym (here z zs) ∙ sym (h z) ∙ none_below z y (y ∷ ys) f (itself y, r.0)))
 
-  ties_same : (x y : X) → ties (λ a b. is_lt (nat_cmp (key a) (key b))) x y ≡ same (key x) y
-  ties_same x y = grind (arith, nat_tests)
-
-  filter_by : (p q : X → Bool) → ((x : X) → p x ≡ q x) → (xs : List X) → filter p xs ≡ filter q xs
-  filter_by p q h [] = refl
-  filter_by p q h (x ∷ xs) = rw (h x, filter_by p q h xs) refl
-
-  pub stable_sort : (xs ys : List X) → IsNonDecreasingBy key ys → IsStableByKey key nat_cmp (reverse xs) ys → ys ≡ in_order before xs
-  stable_sort xs ys r s = unique ys (in_order before xs) (rises ys r) (rises_all xs)
-      (λ x. sym (filter_by _ _ (ties_same x) ys) ∙ s x ∙ filter_by _ _ (ties_same x) (reverse xs) ∙ sym (same_all (key x) xs))
+  pub stable_sort : (xs ys : List X) → IsSortedBy before ys → IsStableBy before (reverse xs) ys → ys ≡ in_order before xs
+  unfolding Far
+  stable_sort xs ys r s = unique ys (in_order before xs) (rises ys (sorted_far before o ys r)) (rises_all xs) (λ x. s x ∙ sym (same_all x xs))
 
 module _ {X Y : Type 0} (f : X → Y) where
   put_map : (before : Y → Y → Bool) (x : X) (ys : List X) → map f (put (λ a b. before (f a) (f b)) x ys) ≡ put before (f x) (map f ys)
@@ -172,7 +190,7 @@ module _ {X : Type 0} (p r : X → X → Bool) (q : X → Bool) (agree : (a b : 
   put_same x [] h k = refl
   put_same x (y ∷ ys) h k = let both : (q y ≡ true) × (list_all q ys ≡ true) = and_parts _ _ k in rw (agree x y h both.0, put_same x ys h both.1) refl
 
-  all_in_order : (xs : List X) → list_all q xs ≡ true → list_all q (in_order r xs) ≡ true
+  pub all_in_order : (xs : List X) → list_all q xs ≡ true → list_all q (in_order r xs) ≡ true
   unfolding in_order
   all_in_order [] k = refl
   all_in_order (x ∷ xs) k = let both : (q x ≡ true) × (list_all q xs ≡ true) = and_parts _ _ k in all_put x (in_order r xs) both.0 (all_in_order xs both.1)

@@ -1,3 +1,12 @@
 pub mod View
+pub mod Kinds
+pub mod Order
 pub mod Table
+pub mod Spots
+pub mod Grants
+pub mod Sight
+pub mod Parts
+pub mod Statements
 pub mod Form
+pub mod Inside
+pub mod Whole

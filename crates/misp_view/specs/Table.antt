@@ -1,5 +1,5 @@
 -- Sets of owners and events.
-use Rattle.std.specs.Prelude.{◌≡◌, ℕ, Bool, List, [], Option, Some, None}
+use Rattle.std.specs.Prelude.{◌≡◌, ℕ, Bool, List, Option, Some, None}
 use Rattle.std.specs.declared.cmp.Ordering.{Ordering}
 use Rattle.std.specs.Ordering.{nat_cmp, ordering_then}
 use Rattle.std.specs.BTreeSet.{BTreeSet, contains}
@@ -9,8 +9,7 @@ use Rattle.misp_elem.specs.declared.key.Place.TheVariants.{Event, Object, Attrib
 use Rattle.misp_elem.specs.declared.key.KeyForm.{KeyForm as Key}
 use Rattle.misp_elem.specs.declared.key.KeyForm.TheVariants.{Element, Reference, Proposal, Verdict, Sighting}
 use Rattle.misp_elem.specs.declared.row.RowFields.{RowFields as Row}
-use Rattle.misp_model.specs.Names.{Inst, event_key}
-use Rattle.misp_model.specs.View.{has_copy, has_open}
+use Rattle.misp_model.specs.View.{has_copy, has_gone}
 
 -- the event, where the key is that of an event itself
 abbrev pub event_itself : Key → Option EventId
@@ -35,6 +34,6 @@ has_pair pairs e w = contains pair_cmp pairs (e.0.0, w.0.0)
 abbrev pub IsCopies : BTreeSet (ℕ × ℕ) → List Row → Type 0
 IsCopies pairs rows = (e : EventId) (w : OrgId) → has_pair pairs e w ≡ has_copy rows w e
 
--- the set has those whose row of the event itself is open to the organisation
-abbrev pub IsOpenings : BTreeSet (ℕ × ℕ) → Inst → OrgId → List Row → Type 0
-IsOpenings pairs i o rows = (e : EventId) (w : OrgId) → has_pair pairs e w ≡ has_open rows [] i o w (event_key e)
+-- the set has those whose copy is gone
+abbrev pub IsMarks : BTreeSet (ℕ × ℕ) → List Row → Type 0
+IsMarks pairs rows = (e : EventId) (w : OrgId) → has_pair pairs e w ≡ has_gone rows w e

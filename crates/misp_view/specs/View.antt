@@ -1,5 +1,5 @@
 -- The scene of one event's rows.
-use Rattle.std.specs.Prelude.{◌≡◌, Bool, ◌&&◌, cond, List, [], Option, Some, None}
+use Rattle.std.specs.Prelude.{◌≡◌, Bool, not, ◌&&◌, cond, List, [], Option, Some, None}
 use Rattle.std.specs.List.{list_any}
 use Rattle.misp_ids.specs.declared.uid.OrgId.{OrgId}
 use Rattle.misp_ids.specs.declared.uid.EventId.{EventId}
@@ -17,6 +17,10 @@ scene_of at by rows =
 -- the owner has a deleted row of the key
 abbrev pub has_deleted : List Row → OrgId → Key → Bool
 has_deleted rows w k = list_any (λ row. is_row_of w k row && is_deleted row) rows
+
+-- the owner has no deleted row of the key
+unfoldable pub is_kept : List Row → OrgId → Key → Bool
+is_kept rows w k = not (has_deleted rows w k)
 
 -- it is a granted row of the event itself
 unfoldable pub is_granted_itself : Inst → OrgId → EventId → List Row → Row → Bool

@@ -1,12 +1,13 @@
-//! Which copies there are of an event.
+//! Which copies there are of an event, and what stands in them.
 
 ghost use Rattle.std.specs.Prelude.{◌≡◌, []};
+ghost use Rattle.misp_elem.specs.declared.key.KeyForm.TheVariants.{Element};
 ghost use Rattle.misp_model.specs.Names.{event_key};
 ghost use Rattle.misp_model.specs.View.{has_copy, has_gone, has_open};
 ghost use Rattle.misp_view.specs.View.{has_deleted};
 
-use crate::rows::{is_deleted, is_event_row, is_mark, is_open};
-use misp_elem::Row;
+use crate::rows::{is_deleted, is_event_row, is_mark, is_open, is_row_at};
+use misp_elem::{Place, Row};
 use misp_ids::{EventId, InstId, OrgId};
 
 /// Whether the owner has a copy that is not gone.
@@ -27,24 +28,24 @@ pub(crate) fn has_gone(rows: &[Row], owner: &OrgId, event: &EventId) -> bool
         .any(|row| is_event_row(row, owner, event) && is_mark(row))
 }
 
-/// Whether the owner's row of the event itself is deleted.
-pub(crate) fn has_deleted_event(rows: &[Row], owner: &OrgId, event: &EventId) -> bool
-    ensures { result ≡ has_deleted rows.now owner.now (event_key event.now) }
+/// Whether the owner has a deleted row of the element at this place.
+pub(crate) fn has_deleted(rows: &[Row], owner: &OrgId, event: &EventId, place: &Place) -> bool
+    ensures { result ≡ has_deleted rows.now owner.now (Element event.now place.now) }
 {
-    rows.iter()
-        .any(|row| is_event_row(row, owner, event) && is_deleted(row))
+    rows.iter().any(|row| is_row_at(row, owner, event, place) && is_deleted(row))
 }
 
-/// Whether the owner's row of the event itself is open to the organisation.
+/// Whether the owner has a row of the element at this place that is open to the organisation.
 #[tactic(auto, unfolding(misp_model::specs::View::has_open))]
-pub(crate) fn has_open_event(
+pub(crate) fn has_open(
     rows: &[Row],
     here: &InstId,
     org: &OrgId,
     owner: &OrgId,
     event: &EventId,
+    place: &Place,
 ) -> bool
-    ensures { result ≡ has_open rows.now [] here.now org.now owner.now (event_key event.now) }
+    ensures { result ≡ has_open rows.now [] here.now org.now owner.now (Element event.now place.now) }
 {
-    rows.iter().any(|row| is_event_row(row, owner, event) && is_open(row, here, org))
+    rows.iter().any(|row| is_row_at(row, owner, event, place) && is_open(row, here, org))
 }

@@ -1,17 +1,22 @@
 //! The form in which an organisation sees an event.
 
-ghost use Rattle.std.specs.Prelude.{◌≡◌, IfOk};
+ghost use Rattle.std.specs.Prelude.{◌≡◌, IfOk, IfSome, OnOk};
+ghost use Rattle.misp_elem.specs.Row.{AreRows};
+ghost use Rattle.misp_elem.specs.Visible.{IsWhole};
+ghost use Rattle.misp_view.specs.Whole.{IsUnmixed};
 ghost use Rattle.std.specs.List.{find};
 ghost use Rattle.std.specs.Option.{option_copied};
-ghost use Rattle.misp_model.specs.Shown.{event_row, form_of, shown};
+ghost use Rattle.misp_model.specs.Shown.{creator, event_row, form_of, shown};
 ghost use Rattle.misp_view.specs.View.{scene_of};
 ghost use Rattle.misp_view.specs.Form.{is_granted_row_of};
 
-use crate::attributes::attributes;
 use crate::choice::chosen_row;
 use crate::granting::row_granted;
-use crate::rows::is_event_row;
-use misp_elem::{Row, VisibleEvent};
+use crate::inside::inside_of;
+use crate::rows::{copy, is_event_row};
+use crate::sight::Sight;
+use crate::statements::{on_event, proposals, sightings, told};
+use misp_elem::{Content, Row, VisibleEvent};
 use misp_ids::{EventId, InstId, Items, NoMemory, OrgId, Text};
 use std::alloc::Global;
 
@@ -60,6 +65,17 @@ fn event_row<'a>(
     }
 }
 
+// Who created the event, by its row.
+#[tactic(auto, unfolding(misp_model::specs::Shown::creator))]
+fn creator(row: &Row) -> OrgId
+    ensures { result ≡ creator row.now }
+{
+    match &row.content {
+        Content::Event(body) => body.orgc,
+        _ => row.owner,
+    }
+}
+
 // The form of one copy, by its row of the event itself.
 fn form(
     alloc: Global,
@@ -69,15 +85,27 @@ fn form(
     event: &EventId,
     row: &Row,
 ) -> Result<VisibleEvent, NoMemory>
-    ensures { IfOk result (λ form. form ≡ form_of (scene_of here.now org.now rows.now) event.now row.now) }
+    ensures form { IfOk result (λ form. form ≡ form_of (scene_of here.now org.now rows.now) event.now row.now) }
+    ensures rows { OnOk result (AreRows rows.now) }
 {
-    let attributes = attributes(alloc, rows, here, org, event, &row.owner)?;
+    let sight = Sight::of(alloc, rows, here, org, event, &row.owner)?;
+    let told = told(alloc, &sight, rows)?;
+    let proposals = proposals(alloc, told.as_slice(), &creator(row))?;
+    let sightings = sightings(alloc, told.as_slice())?;
+    let inside = inside_of(
+        alloc,
+        rows,
+        &sight,
+        proposals.as_slice(),
+        sightings.as_slice(),
+    )?;
+    let on_event = on_event(alloc, proposals.as_slice(), event)?;
     Ok(VisibleEvent {
-        row: row.clone()?,
+        row: copy(row)?,
         org_name: Text::of(String::new(alloc)),
-        attributes,
-        objects: Items::of(Vec::new(alloc)),
-        proposals: Items::of(Vec::new(alloc)),
+        attributes: inside.attributes,
+        objects: inside.objects,
+        proposals: on_event,
         group_names: Items::of(Vec::new(alloc)),
     })
 }
@@ -93,7 +121,8 @@ pub fn shown(
     event: &EventId,
     owner: Option<OrgId>,
 ) -> Result<Option<VisibleEvent>, NoMemory>
-    ensures { IfOk result (λ seen. seen ≡ shown (scene_of here.now org.now rows.now) event.now owner) }
+    ensures seen { IfOk result (λ seen. seen ≡ shown (scene_of here.now org.now rows.now) event.now owner) }
+    ensures whole { IsUnmixed event.now rows.now → IfOk result (λ seen. IfSome seen IsWhole) }
 {
     match event_row(rows, here, org, event, owner) {
         Some(row) => Ok(Some(form(alloc, rows, here, org, event, row)?)),

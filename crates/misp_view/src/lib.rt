@@ -6,8 +6,18 @@ mod choice;
 mod copies;
 mod form;
 mod granting;
+mod grants;
+mod inside;
+mod kinds;
 mod knowing;
+mod objects;
+mod order;
+mod parts;
 mod rows;
+mod sight;
+mod spots;
+mod standing;
+mod statements;
 mod table;
 
 pub use choice::chosen;

@@ -1,13 +1,16 @@
 //! What one row says.
 
-ghost use Rattle.std.specs.Prelude.{◌≡◌, []};
-ghost use Rattle.misp_model.specs.Names.{event_key, event_of, same_key, same_org};
+ghost use Rattle.std.specs.Prelude.{◌≡◌, [], IfOk};
+ghost use Rattle.misp_elem.specs.declared.key.KeyForm.TheVariants.{Element};
+ghost use Rattle.misp_model.specs.Names.{event_key, event_of, same_key, same_org, same_place};
+ghost use Rattle.misp_model.specs.History.{is_statement};
+ghost use Rattle.misp_view.specs.Kinds.{is_upper, is_link};
 ghost use Rattle.misp_model.specs.Audience.{label_opens};
 ghost use Rattle.misp_view.specs.Table.{event_itself};
 ghost use Rattle.misp_model.specs.View.{is_row_of, is_mark, is_deleted, row_is_open};
 
-use misp_elem::{Content, KeyForm, Place, Row};
-use misp_ids::{EventId, InstId, Label, OrgId};
+use misp_elem::{Content, Key, KeyForm, Place, Row, compare_keys};
+use misp_ids::{EventId, InstId, Label, NoMemory, OrgId};
 
 /// Whether it is the mark of a deleted event.
 #[tactic(auto, unfolding(misp_model::specs::View::is_mark))]
@@ -97,10 +100,133 @@ pub(crate) fn is_owned(row: &Row, owner: &OrgId) -> bool
     row.owner == *owner
 }
 
+/// Whether the two are the same organisation.
+#[tactic(auto, unfolding(misp_model::specs::Names::same_org))]
+pub(crate) fn is_same_org(a: &OrgId, b: &OrgId) -> bool
+    ensures { result ≡ same_org a.now b.now }
+{
+    a == b
+}
+
+/// Whether the organisation is its owner.
+#[tactic(auto, unfolding(misp_model::specs::Names::same_org))]
+pub(crate) fn is_of(org: &OrgId, row: &Row) -> bool
+    ensures { result ≡ same_org org.now row.now.owner }
+{
+    *org == row.owner
+}
+
 /// Whether it is the owner's row of the event itself.
 #[tactic(auto, unfolding(misp_model::specs::View::is_row_of))]
 pub(crate) fn is_event_row(row: &Row, owner: &OrgId, event: &EventId) -> bool
     ensures { result ≡ is_row_of owner.now (event_key event.now) row.now }
 {
     is_owned(row, owner) && is_itself(row, event)
+}
+
+/// Whether two places of an event are the same.
+#[tactic(auto, unfolding(misp_model::specs::Names::same_place, misp_model::specs::Names::same_elem))]
+pub(crate) fn same_place(a: &Place, b: &Place) -> bool
+    ensures { result ≡ same_place a.now b.now }
+{
+    match a {
+        Place::Event => matches!(b, Place::Event),
+        Place::Object(x) => match b {
+            Place::Object(y) => x == y,
+            _ => false,
+        },
+        Place::Attribute(x) => match b {
+            Place::Attribute(y) => x == y,
+            _ => false,
+        },
+        Place::ObjectAttribute(x, a) => match b {
+            Place::ObjectAttribute(y, b) => x == y && a == b,
+            _ => false,
+        },
+    }
+}
+
+/// Whether it is a row of the element at this place.
+#[tactic(auto, unfolding(misp_model::specs::Names::same_key, misp_model::specs::Names::same_event))]
+pub(crate) fn is_at(row: &Row, event: &EventId, place: &Place) -> bool
+    ensures { result ≡ same_key row.now.key (Element event.now place.now) }
+{
+    match &row.key.form {
+        KeyForm::Element {
+            event: of,
+            place: at,
+        } => of == event && same_place(at, place),
+        _ => false,
+    }
+}
+
+/// Whether it is the owner's row of the element at this place.
+#[tactic(auto, unfolding(misp_model::specs::View::is_row_of))]
+pub(crate) fn is_row_at(row: &Row, owner: &OrgId, event: &EventId, place: &Place) -> bool
+    ensures { result ≡ is_row_of owner.now (Element event.now place.now) row.now }
+{
+    is_owned(row, owner) && is_at(row, event, place)
+}
+
+/// Whether it is of an event itself or of an object.
+#[tactic(auto, unfolding(crate::specs::Kinds::is_upper))]
+pub(crate) fn is_upper(row: &Row) -> bool
+    ensures { result ≡ is_upper row.now.key }
+{
+    match &row.key.form {
+        KeyForm::Element {
+            place: Place::Event | Place::Object(_),
+            ..
+        } => true,
+        _ => false,
+    }
+}
+
+/// Whether it is a reference or a statement.
+#[tactic(auto, unfolding(crate::specs::Kinds::is_link))]
+pub(crate) fn is_link(row: &Row) -> bool
+    ensures { result ≡ is_link row.now.key }
+{
+    !matches!(&row.key.form, KeyForm::Element { .. })
+}
+
+/// Whether it is a proposal, a verdict or a sighting.
+#[tactic(auto, unfolding(misp_model::specs::History::is_statement))]
+pub(crate) fn is_statement(row: &Row) -> bool
+    ensures { result ≡ is_statement row.now.key }
+{
+    !matches!(
+        &row.key.form,
+        KeyForm::Element { .. } | KeyForm::Reference { .. }
+    )
+}
+
+/// Whether the two have the same key.
+pub(crate) fn have_same_key(a: &Key, b: &Key) -> bool
+    ensures { result ≡ same_key a.now b.now }
+{
+    let _first = a.form;
+    let _second = b.form;
+    compare_keys(a, b).is_eq()
+}
+
+/// Whether it is the row of the element at this place.
+#[tactic(auto, unfolding(misp_model::specs::Names::same_key, misp_model::specs::Names::same_event))]
+pub(crate) fn is_target(event: &EventId, place: &Place, row: &Row) -> bool
+    ensures { result ≡ same_key (Element event.now place.now) row.now.key }
+{
+    match &row.key.form {
+        KeyForm::Element {
+            event: of,
+            place: at,
+        } => event == of && same_place(place, at),
+        _ => false,
+    }
+}
+
+/// The same row once more.
+pub(crate) fn copy(row: &Row) -> Result<Row, NoMemory>
+    ensures { IfOk result (λ copy. copy ≡ row.now) }
+{
+    Ok(row.clone()?)
 }

@@ -1,15 +1,15 @@
-//! The copies of all owners, found once for each owner.
+//! The copies of all owners and those that are gone, found once for each owner.
 
 ghost use Rattle.std.specs.Prelude.{◌≡◌, Bool, ◌&&◌, ◌||◌, IfOk, OnOk};
 ghost use Rattle.misp_ids.specs.declared.uid.OrgId.{OrgId as Owner};
 ghost use Rattle.misp_ids.specs.declared.uid.EventId.{EventId as Event};
 ghost use Rattle.misp_model.specs.Names.{event_key, same_event, same_org};
 ghost use Rattle.misp_model.specs.View.{is_row_of};
-ghost use Rattle.misp_view.specs.Table.{has_pair, IsCopies, IsOpenings};
+ghost use Rattle.misp_view.specs.Table.{has_pair, IsCopies, IsMarks};
 
-use crate::rows::{event_itself, is_mark, is_open};
+use crate::rows::{event_itself, is_mark};
 use misp_elem::Row;
-use misp_ids::{EventId, InstId, NoMemory, OrgId};
+use misp_ids::{EventId, NoMemory, OrgId};
 use std::alloc::Global;
 use std::collections::BTreeSet;
 
@@ -53,18 +53,13 @@ pub(crate) fn copies(alloc: Global, rows: &[Row]) -> Result<Pairs, NoMemory>
     Ok(pairs)
 }
 
-/// Those whose row of the event itself is open to the organisation.
-pub(crate) fn openings(
-    alloc: Global,
-    rows: &[Row],
-    here: &InstId,
-    org: &OrgId,
-) -> Result<Pairs, NoMemory>
-    ensures { IfOk result (λ pairs. IsOpenings pairs here.now org.now rows.now) }
+/// Those whose copy is gone.
+pub(crate) fn marks(alloc: Global, rows: &[Row]) -> Result<Pairs, NoMemory>
+    ensures { IfOk result (λ pairs. IsMarks pairs rows.now) }
 {
     let mut pairs = BTreeSet::new(alloc);
     for row in rows {
-        add(&mut pairs, row, is_open(row, here, org))?;
+        add(&mut pairs, row, is_mark(row))?;
     }
     Ok(pairs)
 }

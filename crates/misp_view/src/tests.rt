@@ -1,5 +1,5 @@
 use super::*;
-use misp_elem::{Row, decode};
+use misp_elem::{Row, VisibleEvent, decode};
 use misp_ids::{EventId, InstId, OrgId, Uid};
 use std::alloc::{AllocError, Global};
 use std::test::*;
@@ -13,8 +13,6 @@ const GAMMA: u128 = 0xc;
 const DELTA: u128 = 0xd;
 
 const EVENT: u128 = 0xe1;
-
-const ATTRIBUTES: [u128; 4] = [0x41, 0x42, 0x43, 0x44];
 
 // The labels, by their numbers.
 const OWN: u8 = 0;
@@ -34,33 +32,48 @@ fn put_text(out: &mut Vec<u8>, text: &[u8]) -> Result<(), AllocError> {
     out.extend_from_slice(text)
 }
 
-/// What stands before a row's content.
+/// What stands before a row's content. The key is spelled without the event.
 fn front(
     alloc: Global,
     owner: u128,
-    attribute: Option<u128>,
+    kind: u8,
+    key: &[u8],
     last: [u8; 3],
 ) -> Result<Vec<u8>, AllocError> {
     let [stamp, label, flags] = last;
     let mut out = Vec::from_slice(alloc, &[1])?;
     put_uid(&mut out, owner)?;
-    out.push(0)?;
+    out.push(kind)?;
     put_uid(&mut out, EVENT)?;
-    match attribute {
-        Some(uid) => {
-            out.push(2)?;
-            put_uid(&mut out, uid)?;
-        }
-        None => {
-            out.push(0)?;
-        }
-    }
+    out.extend_from_slice(key)?;
     out.extend_from_slice(&[0, 0, 0, 0, 0, 0, 0, stamp, label, flags])?;
     Ok(out)
 }
 
+/// A key's spelling without the event: a number before each identifier, or none.
+fn key(
+    alloc: Global,
+    first: Option<u8>,
+    object: Option<u128>,
+    second: Option<u8>,
+    uid: u128,
+) -> Result<Vec<u8>, AllocError> {
+    let mut out = Vec::new(alloc);
+    if let Some(number) = first {
+        out.push(number)?;
+    }
+    if let Some(object) = object {
+        put_uid(&mut out, object)?;
+    }
+    if let Some(number) = second {
+        out.push(number)?;
+    }
+    put_uid(&mut out, uid)?;
+    Ok(out)
+}
+
 fn event(alloc: Global, owner: u128, last: [u8; 3]) -> Result<Vec<u8>, AllocError> {
-    let mut out = front(alloc, owner, None, last)?;
+    let mut out = front(alloc, owner, 0, &[0], last)?;
     out.push(0)?;
     put_text(&mut out, b"A report")?;
     put_text(&mut out, b"2024-01-01")?;
@@ -72,19 +85,23 @@ fn event(alloc: Global, owner: u128, last: [u8; 3]) -> Result<Vec<u8>, AllocErro
 }
 
 fn mark(alloc: Global, owner: u128) -> Result<Vec<u8>, AllocError> {
-    let mut out = front(alloc, owner, None, [30, OWN, 0])?;
+    let mut out = front(alloc, owner, 0, &[0], [30, OWN, 0])?;
     out.push(7)?;
     Ok(out)
 }
 
+/// An attribute, in an object or outside.
 fn attribute(
     alloc: Global,
     owner: u128,
+    object: Option<u128>,
     uid: u128,
-    label: u8,
-    deleted: u8,
+    last: [u8; 2],
 ) -> Result<Vec<u8>, AllocError> {
-    let mut out = front(alloc, owner, Some(uid), [10, label, 0])?;
+    let [label, deleted] = last;
+    let form = if object.is_some() { 3 } else { 2 };
+    let key = key(alloc, Some(form), object, None, uid)?;
+    let mut out = front(alloc, owner, 0, key.as_slice(), [10, label, 0])?;
     out.push(2)?;
     put_text(&mut out, b"text")?;
     out.extend_from_slice(&[3, 1])?;
@@ -95,26 +112,93 @@ fn attribute(
     Ok(out)
 }
 
-fn read(alloc: Global, bytes: Vec<u8>) -> Result<Row, Fail> {
-    Ok(
-        decode(alloc, bytes.as_slice())
-            .ok()
-            .ok_or("the bytes are a row")?,
-    )
+fn object(alloc: Global, owner: u128, uid: u128, label: u8) -> Result<Vec<u8>, AllocError> {
+    let key = key(alloc, Some(1), None, None, uid)?;
+    let mut out = front(alloc, owner, 0, key.as_slice(), [10, label, 0])?;
+    out.push(1)?;
+    put_text(&mut out, b"file")?;
+    put_text(&mut out, b"")?;
+    put_text(&mut out, b"")?;
+    put_text(&mut out, b"")?;
+    out.extend_from_slice(&[0, 0, 0, 0, 0, 0, 0, 0, 0, 0])?;
+    Ok(out)
 }
 
-/// Alpha has a copy for itself alone, Beta a carried one of a later stamp, and Gamma a mark.
+/// A reference from an object to an attribute outside objects.
+fn reference(
+    alloc: Global,
+    owner: u128,
+    object: u128,
+    target: u128,
+    uid: u128,
+) -> Result<Vec<u8>, AllocError> {
+    let mut key = key(alloc, None, Some(object), Some(2), target)?;
+    put_uid(&mut key, uid)?;
+    let mut out = front(alloc, owner, 1, key.as_slice(), [10, INHERIT, 0])?;
+    out.push(3)?;
+    put_text(&mut out, b"relates-to")?;
+    put_text(&mut out, b"")?;
+    out.push(0)?;
+    Ok(out)
+}
+
+/// A row of the table.
+#[derive(Clone, Copy)]
+enum Item {
+    /// Of the event itself: the owner; stamp, label and flags.
+    Event(u128, [u8; 3]),
+    /// The owner.
+    Mark(u128),
+    /// The owner, the object, the attribute; label, and whether it is deleted.
+    Attribute(u128, Option<u128>, u128, [u8; 2]),
+    /// Of Beta's: the object and its label.
+    Object(u128, u8),
+    /// From Beta's first object to an attribute outside objects.
+    Reference(u128, u128),
+}
+
+/// Alpha has a copy for itself alone, Beta a carried one of a later stamp, and Gamma a mark. Beta has two
+/// objects, the second for itself alone. From the first a reference leads to an attribute that is for
+/// Beta alone, and one to an attribute for all.
+const TABLE: [Item; 15] = [
+    Item::Event(ALPHA, [10, OWN, 0]),
+    Item::Attribute(ALPHA, None, 0x41, [ALL, 0]),
+    Item::Event(BETA, [20, COMMUNITY, 2]),
+    Item::Attribute(BETA, None, 0x44, [INHERIT, 0]),
+    Item::Attribute(BETA, None, 0x41, [OWN, 0]),
+    Item::Attribute(BETA, None, 0x42, [ALL, 1]),
+    Item::Attribute(BETA, None, 0x43, [ALL, 0]),
+    Item::Mark(GAMMA),
+    Item::Object(0x51, INHERIT),
+    Item::Object(0x52, OWN),
+    Item::Attribute(BETA, Some(0x51), 0x46, [ALL, 0]),
+    Item::Attribute(BETA, Some(0x52), 0x47, [ALL, 0]),
+    Item::Attribute(BETA, Some(0x51), 0x45, [OWN, 0]),
+    Item::Reference(0x41, 0x61),
+    Item::Reference(0x43, 0x62),
+];
+
+fn bytes_of(alloc: Global, item: Item) -> Result<Vec<u8>, AllocError> {
+    match item {
+        Item::Event(owner, last) => event(alloc, owner, last),
+        Item::Mark(owner) => mark(alloc, owner),
+        Item::Attribute(owner, object, uid, last) => attribute(alloc, owner, object, uid, last),
+        Item::Object(uid, label) => object(alloc, BETA, uid, label),
+        Item::Reference(target, uid) => reference(alloc, BETA, 0x51, target, uid),
+    }
+}
+
+fn row_of(alloc: Global, item: Item) -> Result<Row, Fail> {
+    let bytes = bytes_of(alloc, item)?;
+    let row = decode(alloc, bytes.as_slice()).ok();
+    Ok(row.ok_or("the bytes are a row")?)
+}
+
 fn table(alloc: Global) -> Result<Vec<Row>, Fail> {
-    let [first, second, third, fourth] = ATTRIBUTES;
     let mut rows = Vec::new(alloc);
-    rows.push(read(alloc, event(alloc, ALPHA, [10, OWN, 0])?)?)?;
-    rows.push(read(alloc, attribute(alloc, ALPHA, first, ALL, 0)?)?)?;
-    rows.push(read(alloc, event(alloc, BETA, [20, COMMUNITY, 2])?)?)?;
-    rows.push(read(alloc, attribute(alloc, BETA, fourth, INHERIT, 0)?)?)?;
-    rows.push(read(alloc, attribute(alloc, BETA, first, OWN, 0)?)?)?;
-    rows.push(read(alloc, attribute(alloc, BETA, second, ALL, 1)?)?)?;
-    rows.push(read(alloc, attribute(alloc, BETA, third, ALL, 0)?)?)?;
-    rows.push(read(alloc, mark(alloc, GAMMA)?)?)?;
+    for item in &TABLE {
+        rows.push(row_of(alloc, *item)?)?;
+    }
     Ok(rows)
 }
 
@@ -122,36 +206,62 @@ fn here() -> Result<InstId, Fail> {
     Ok(InstId::read("north").ok_or("that is a name")?)
 }
 
+fn seen(
+    alloc: Global,
+    rows: &[Row],
+    org: u128,
+    owner: Option<OrgId>,
+) -> Result<Option<VisibleEvent>, Fail> {
+    let event = EventId(Uid(EVENT));
+    let seen = shown(alloc, rows, &here()?, &OrgId(Uid(org)), &event, owner).ok();
+    Ok(seen.ok_or("memory is there")?)
+}
+
+/// How many rows an organisation knows.
+fn count_known(alloc: Global, org: u128) -> Result<usize, Fail> {
+    let rows = table(alloc)?;
+    let known = known(alloc, rows, &here()?, &OrgId(Uid(org))).ok();
+    Ok(known.ok_or("memory is there")?.len())
+}
+
+/// How many attributes and objects show, and how many attributes and references of the first object.
+fn counts(event: &VisibleEvent) -> [usize; 4] {
+    let objects = event.objects.as_slice();
+    let (inner, references) = match objects.first() {
+        Some(object) => (
+            object.attributes.as_slice().len(),
+            object.references.as_slice().len(),
+        ),
+        None => (0, 0),
+    };
+    [
+        event.attributes.as_slice().len(),
+        objects.len(),
+        inner,
+        references,
+    ]
+}
+
 #[test]
 fn each_sees_what_is_open_to_it(rt: HostRuntime) -> Result<(), Fail> {
-    let here = here()?;
-    let event = EventId(Uid(EVENT));
-    for (org, count, attributes) in [(ALPHA, 6, 2), (BETA, 5, 3), (GAMMA, 5, 2), (DELTA, 4, 2)] {
-        let org = OrgId(Uid(org));
-        let rows = table(rt.alloc())?;
-        assert_eq!(rt;
-            chosen(rows.as_slice(), &here, &org, &event),
-            Some(OrgId(Uid(BETA)))
-        );
-        let seen = shown(rt.alloc(), rows.as_slice(), &here, &org, &event, None);
-        let seen = seen
-            .ok()
-            .ok_or("memory is there")?
-            .ok_or("a copy is granted")?;
+    let rows = table(rt.alloc())?;
+    for (org, known, shown) in [
+        (ALPHA, 9, [2, 1, 1, 1]),
+        (BETA, 12, [3, 2, 2, 2]),
+        (GAMMA, 8, [2, 1, 1, 1]),
+        (DELTA, 7, [2, 1, 1, 1]),
+    ] {
+        let seen = seen(rt.alloc(), rows.as_slice(), org, None)?;
+        let seen = seen.ok_or("a copy is granted")?;
         assert_eq!(rt; seen.row.owner, OrgId(Uid(BETA)));
-        assert_eq!(rt; seen.attributes.as_slice().len(), attributes);
-        let known = known(rt.alloc(), rows, &here, &org)
-            .ok()
-            .ok_or("memory is there")?;
-        assert_eq!(rt; known.len(), count);
+        assert_eq!(rt; counts(&seen), shown);
+        assert_eq!(rt; count_known(rt.alloc(), org)?, known);
     }
     Ok(())
 }
 
 #[test]
 fn a_copy_may_be_named(rt: HostRuntime) -> Result<(), Fail> {
-    let here = here()?;
-    let event = EventId(Uid(EVENT));
     let rows = table(rt.alloc())?;
     let rows = rows.as_slice();
     for (org, owner, is_granted) in [
@@ -159,31 +269,8 @@ fn a_copy_may_be_named(rt: HostRuntime) -> Result<(), Fail> {
         (DELTA, ALPHA, false),
         (GAMMA, GAMMA, false),
     ] {
-        let owner = Some(OrgId(Uid(owner)));
-        let seen = shown(rt.alloc(), rows, &here, &OrgId(Uid(org)), &event, owner);
-        assert_eq!(rt; seen.ok().ok_or("memory is there")?.is_some(), is_granted);
-    }
-    Ok(())
-}
-
-#[test]
-fn what_is_deleted_is_not_live(rt: HostRuntime) -> Result<(), Fail> {
-    let here = here()?;
-    let rows = table(rt.alloc())?;
-    let rows = rows.as_slice();
-    for (row, is_granted, is_live) in [
-        (0, false, true),
-        (3, true, true),
-        (4, false, true),
-        (5, true, false),
-        (7, false, false),
-    ] {
-        let row = rows.get(row).ok_or("the row is there")?;
-        assert_eq!(rt;
-            row_granted(rows, &here, &OrgId(Uid(DELTA)), row),
-            is_granted
-        );
-        assert_eq!(rt; live(rows, row), is_live);
+        let seen = seen(rt.alloc(), rows, org, Some(OrgId(Uid(owner))))?;
+        assert_eq!(rt; seen.is_some(), is_granted);
     }
     Ok(())
 }

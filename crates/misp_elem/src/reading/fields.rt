@@ -3,17 +3,17 @@
 ghost use Rattle.std.specs.Prelude.{◌≡◌, ◌-◌, length, true, false, MatchOption};
 ghost use Rattle.std.specs.Int.{w32, w64};
 ghost use Rattle.misp_elem.specs.Row.{is_text};
-ghost use Rattle.misp_elem.specs.Reading.{Reads, Gives, number_at, between_at, stamp_at, text_at, date_at, plain_kind_at, flag_at, optional_at};
+ghost use Rattle.misp_elem.specs.Reading.{Reads, Gives, number_at, between_at, stamp_at, text_at, date_at, flag_at, optional_at};
 
 use crate::fault::{BadField, Stop};
-use crate::forms::{is_date, is_plain_kind};
 use crate::reading::Reader;
+use misp_dates::is_date;
 use misp_ids::{Stamp, Text, Uid};
 use std::alloc::Global;
 use std::str;
 
 /// The text that these bytes are, if they are text of so many bytes.
-fn text_within(bytes: &[u8], least: usize, most: usize) -> Option<&str>
+pub(super) fn text_within(bytes: &[u8], least: usize, most: usize) -> Option<&str>
     ensures { MatchOption result (is_text least most bytes.now ≡ false) (λ text. (text.now ≡ bytes.now) × (is_text least most bytes.now ≡ true)) }
 {
     if bytes.len() < least || most < bytes.len() {
@@ -44,7 +44,7 @@ impl Reader<'_> {
         Ok(u32::from_be_bytes([front[0], front[1], front[2], front[3]]))
     }
 
-    fn u64(&mut self) -> Result<u64, BadField>
+    pub(super) fn u64(&mut self) -> Result<u64, BadField>
         ensures { Reads result self.new (number_at w64 self.old) }
     {
         if self.rest.len() < 8 {
@@ -128,17 +128,5 @@ impl Reader<'_> {
             return Err(bad);
         }
         Ok(date)
-    }
-
-    #[tactic(auto, unfolding(crate::specs::Reading::plain_kind_at))]
-    pub(super) fn plain_kind(&mut self, alloc: Global) -> Result<Text, Stop>
-        ensures { Gives result self.new (plain_kind_at self.old) }
-    {
-        let bad = Stop::Bad(self.bad());
-        let kind = self.text(alloc, 1, 10)?;
-        if !is_plain_kind(kind.as_str()) {
-            return Err(bad);
-        }
-        Ok(kind)
     }
 }

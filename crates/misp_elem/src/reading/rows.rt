@@ -3,20 +3,16 @@
 ghost use Rattle.std.specs.Prelude.{◌≡◌, List, IfOk, Ok};
 ghost use Rattle.misp_elem.specs.declared.row.RowFields.{RowFields};
 ghost use Rattle.misp_elem.specs.Spelling as spelling;
-ghost use Rattle.misp_elem.specs.Row.{fits, barred_labels, label_kind, IsRow};
+ghost use Rattle.misp_elem.specs.Row.{barred_labels, label_kind, IsRow};
 ghost use Rattle.misp_elem.specs.Reading.{Reads, Gives, GivesAll, Answers, answer};
-ghost use Rattle.misp_elem.specs.RowReading.{group_at, label_at, flags_at, event_body_at, attribute_body_at, content_at, fields_at, row_at, row_of};
+ghost use Rattle.misp_elem.specs.RowReading.{group_at, label_at, flags_at, fields_at, row_at, row_of};
 
-use crate::content::{AttributeBody, Content, EventBody};
 use crate::fault::{BadField, DecodeFault, Stop};
 use crate::key::{KeyForm, Place};
 use crate::reading::Reader;
-use crate::reading::fields::room_after;
 use crate::row::{Row, RowFields};
 use misp_ids::{GroupId, Label};
 use std::alloc::Global;
-
-const TEXT_LIMIT: usize = 16384;
 
 /// What the labels of rows of this key may not be.
 fn barred(key: &KeyForm) -> &'static [u8]
@@ -42,20 +38,6 @@ fn kind_of(label: &Label) -> u8
         Label::All => 3,
         Label::Group(_) => 4,
         Label::Inherit => 5,
-    }
-}
-
-/// Whether a row of this key, label and flags may have a content of this kind.
-fn is_fit(key: &KeyForm, label: u8, flags: (bool, bool), kind: u8) -> bool
-    ensures { result ≡ fits key.now label flags kind }
-{
-    match key {
-        KeyForm::Element { place, .. } => match place {
-            Place::Event => kind == 0 || kind == 7 && label == 0 && !flags.0 && !flags.1,
-            Place::Attribute(_) => kind == 2,
-            _ => false,
-        },
-        _ => false,
     }
 }
 
@@ -99,79 +81,6 @@ impl Reader<'_> {
             1 => Ok((true, false)),
             2 => Ok((false, true)),
             3 => Ok((true, true)),
-            _ => Err(bad),
-        }
-    }
-
-    #[tactic(auto, unfolding(crate::specs::RowReading::event_body_at))]
-    fn event_body(&mut self, alloc: Global) -> Result<EventBody, Stop>
-        ensures { Gives result self.new (event_body_at self.old) }
-    {
-        let info = self.text(alloc, 1, TEXT_LIMIT)?;
-        let date = self.date(alloc)?;
-        let threat_level_id = self.between(1, 4)?;
-        let analysis = self.between(0, 2)?;
-        let publish_stamp = self.stamp()?;
-        let extends_uuid = self.optional_uid()?;
-        let orgc = self.org()?;
-        let orgc_name = self.text(alloc, 0, 64)?;
-        let tags = self.tags(alloc, room_after(TEXT_LIMIT, &info))?;
-        Ok(EventBody {
-            info,
-            date,
-            threat_level_id,
-            analysis,
-            publish_stamp,
-            extends_uuid,
-            orgc,
-            orgc_name,
-            tags,
-        })
-    }
-
-    #[tactic(auto, unfolding(crate::specs::RowReading::attribute_body_at))]
-    fn attribute_body(&mut self, alloc: Global) -> Result<AttributeBody, Stop>
-        ensures { Gives result self.new (attribute_body_at self.old) }
-    {
-        let kind = self.plain_kind(alloc)?;
-        let category = self.between(0, 15)?;
-        let to_ids = self.flag()?;
-        let after_kind = room_after(TEXT_LIMIT, &kind);
-        let comment = self.text(alloc, 0, after_kind)?;
-        let deleted = self.flag()?;
-        let after_comment = room_after(after_kind, &comment);
-        let value = self.text(alloc, 1, after_comment)?;
-        let tags = self.tags(alloc, room_after(after_comment, &value))?;
-        Ok(AttributeBody {
-            kind,
-            category,
-            to_ids,
-            comment,
-            deleted,
-            value,
-            tags,
-        })
-    }
-
-    #[tactic(auto, unfolding(crate::specs::RowReading::content_at))]
-    fn content(
-        &mut self,
-        alloc: Global,
-        key: &KeyForm,
-        label: u8,
-        flags: (bool, bool),
-    ) -> Result<Content, Stop>
-        ensures { Gives result self.new (content_at key.now label flags self.old) }
-    {
-        let bad = Stop::Bad(self.bad());
-        let kind = self.byte()?;
-        if !is_fit(key, label, flags, kind) {
-            return Err(bad);
-        }
-        match kind {
-            0 => Ok(Content::Event(self.event_body(alloc)?)),
-            2 => Ok(Content::Attribute(self.attribute_body(alloc)?)),
-            7 => Ok(Content::Gone),
             _ => Err(bad),
         }
     }

@@ -1,14 +1,29 @@
-use Rattle.std.proofs.Common.{◌∙◌}
+use Rattle.std.proofs.Common.{◌∙◌, sym, subst}
+use Rattle.std.specs.Option.{IfSome}
+use Rattle.std.specs.Prelude.{Option, true, ◌≡◌}
+use Rattle.misp_elem.specs.declared.key.Place.{Place}
+use Rattle.misp_dates.specs.Dates.{date_of}
+use Rattle.misp_model.specs.Asking.{Scene, is_place_of}
+use Rattle.misp_edit.specs.Adding.{scene_of}
+use Rattle.misp_edit.specs.Targets.{target_in, target_places}
+use Rattle.misp_edit.proofs.TargetLemmas.{found_is, target_is}
 use Rattle.misp_edit.proofs.RowLemmas.{added_rows_are}
 use Rattle.misp_edit.proofs.adding.add_event.Goals as goal
 
 pub returns-in-Err-clause-err : goal.returns-in-Err-clause-err
-returns-in-Err-clause-err c = λ act today.
-    c.in-Err.ensures.err act c.args.here.now c.args.name.now c.args.now today
+returns-in-Err-clause-err c = λ act.
+    c.in-Err.ensures.err act c.args.here.now c.args.name.now c.args.now (date_of c.args.now)
+
+pub added_rows-requires-clause-targets : goal.added_rows-requires-clause-targets
+added_rows-requires-clause-targets c = λ u.
+    let aims : Option Place → Type 0 = λ o. IfSome o (λ place. is_place_of u place ≡ true) in
+    subst aims (sym (c.in-Ok.ensures.targets u)) (found_is u (target_places c.args.rows.now c.args.org.now c.args.submission.event c.args.submission.parts))
 
 pub returns-in_ok-added_rows-in-Ok-clause-ok : goal.returns-in_ok-added_rows-in-Ok-clause-ok
-returns-in_ok-added_rows-in-Ok-clause-ok c = λ act today. (
-  c.in-Ok.ensures.ok act c.args.here.now c.args.name.now c.args.now today,
-  c.in_ok-added_rows-in-Ok.ensures.all today
-      ∙ added_rows_are act c.args.here.now c.args.org.now c.args.name.now c.args.now today c.args.rows.now c.args.submission c.requires.references,
-)
+returns-in_ok-added_rows-in-Ok-clause-ok c = λ act.
+    let s : Scene = scene_of act c.args.here.now c.args.org.now c.args.name.now c.args.now (date_of c.args.now) c.args.rows.now in (
+      c.in-Ok.ensures.ok act c.args.here.now c.args.name.now c.args.now (date_of c.args.now),
+      c.in_ok-added_rows-in-Ok.ensures.all
+          ∙ added_rows_are act c.args.here.now c.args.org.now c.args.name.now c.args.now (date_of c.args.now) c.args.rows.now c.args.submission (target_in c.in-Ok.targets)
+          (λ u. c.in-Ok.ensures.targets u ∙ sym (target_is s c.args.submission.event u c.args.submission.parts)),
+    )

@@ -1,4 +1,4 @@
-use Rattle.std.proofs.Common.{◌≡◌, sym, ◌∙◌, arith}
+use Rattle.std.proofs.Common.{arith}
 use Rattle.misp_ids.specs.contracts.uid.GroupIdOrd.TheImpl as group_order
 use Rattle.misp_format.proofs.GroupNames.{same_by_order, one_more, all_names}
 use Rattle.misp_format.proofs.groups.group_names.Goals as goal

@@ -1,14 +1,23 @@
-use Rattle.std.proofs.Common.{ap, sym, ◌∙◌}
+use Rattle.std.proofs.Common.{◌≡◌, ap, sym, ◌∙◌, subst}
+use Rattle.std.specs.Prelude.{Some}
 use Rattle.std.specs.Option.{option_copied}
+use Rattle.misp_model.specs.Shown.{event_row}
 use Rattle.misp_view.specs.View.{scene_of}
-use Rattle.misp_view.proofs.Plain.{shown_some, shown_none}
+use Rattle.misp_elem.specs.Visible.{IsWhole}
+use Rattle.misp_view.proofs.Forming.{shown_some, shown_none}
+use Rattle.misp_view.proofs.Wholeness.{whole_is}
 use Rattle.misp_view.proofs.form.shown.Goals as goal
 
 pub returns-in_ok-form-in-Some : goal.returns-in_ok-form-in-Some
 returns-in_ok-form-in-Some c =
-    shown_some (scene_of c.args.here.now c.args.org.now c.args.rows.now) c.args.event.now c.args.owner c.in-Some.row.now c.in_ok-form-in-Some.field-0
-    (sym c.event_row.ensures ∙ ap option_copied c.in-Some.is) c.in_ok-form-in-Some.ensures
+    let found : event_row (scene_of c.args.here.now c.args.org.now c.args.rows.now) c.args.event.now c.args.owner ≡ Some c.in-Some.row.now = sym c.event_row.ensures ∙ ap option_copied c.in-Some.is in
+    record {
+      seen = shown_some (scene_of c.args.here.now c.args.org.now c.args.rows.now) c.args.event.now c.args.owner c.in-Some.row.now c.in_ok-form-in-Some.field-0 found c.in_ok-form-in-Some.ensures.form;
+      whole = λ unmixed. subst IsWhole (sym c.in_ok-form-in-Some.ensures.form) (whole_is c.args.here.now c.args.org.now c.args.rows.now c.args.event.now c.in_ok-form-in-Some.ensures.rows unmixed c.args.owner c.in-Some.row.now found);
+    }
 
 pub returns-in-None : goal.returns-in-None
-returns-in-None c =
-    shown_none (scene_of c.args.here.now c.args.org.now c.args.rows.now) c.args.event.now c.args.owner (sym c.event_row.ensures ∙ ap option_copied c.in-None.is)
+returns-in-None c = record {
+  seen = shown_none (scene_of c.args.here.now c.args.org.now c.args.rows.now) c.args.event.now c.args.owner (sym c.event_row.ensures ∙ ap option_copied c.in-None.is);
+  whole = λ unmixed. tt;
+}

@@ -1,13 +1,14 @@
-use Rattle.std.proofs.Common.{rules, [], ap, ◌∙◌}
+use Rattle.std.specs.Prelude.{◌||◌}
+use Rattle.std.proofs.Common.{rules, ◌∙◌, subst, List}
 use Rattle.std.proofs.lemmas.Fn.{filter_same}
-use Rattle.misp_model.specs.Names.{event_key}
-use Rattle.misp_model.specs.View.{is_known, known, has_copy, has_open}
-use Rattle.misp_view.specs.Table.{IsCopies, IsOpenings}
+use Rattle.misp_elem.specs.declared.row.RowFields.{RowFields as Row}
+use Rattle.misp_model.specs.Names.{same_org}
+use Rattle.misp_view.specs.Grants.{IsGrants, granted_in}
+use Rattle.misp_view.proofs.Granted.{known_is}
 use Rattle.misp_view.proofs.knowing.known.Goals as goal
 
 pub returns : goal.returns
-unfolding known
 returns c =
-    let a : IsCopies c.in_ok-copied.copied c.args.rows.items = λ e w. c.in_ok-copied.ensures e w ∙ ap (λ rows. has_copy rows w e) c.as_slice.ensures.value in
-    let b : IsOpenings c.in_ok-opened.opened c.args.here.now c.args.org.now c.args.rows.items = λ e w. c.in_ok-opened.ensures e w ∙ ap (λ rows. has_open rows [] c.args.here.now c.args.org.now w (event_key e)) c.as_slice-2.ensures.value in
-    filter_same _ (is_known c.args.rows.items [] c.args.here.now c.args.org.now) _ (λ x r f k. search (rules, a, b)) _ _ c.retain.ensures.filtered
+    let of_rows : IsGrants c.in_ok-grants.grants c.args.here.now c.args.org.now c.args.rows.items = subst (λ (rows : List Row). IsGrants c.in_ok-grants.grants c.args.here.now c.args.org.now rows) c.as_slice.ensures.value c.in_ok-grants.ensures in
+    filter_same _ (λ row. same_org row.owner c.args.org.now || granted_in c.in_ok-grants.grants c.args.here.now c.args.org.now row) _ (λ x r f k. search rules) _ _ c.retain.ensures.filtered
+    ∙ known_is c.args.here.now c.args.org.now c.args.rows.items c.in_ok-grants.grants of_rows

@@ -1,0 +1,148 @@
+-- What rows of a whole event are known to be.
+use Rattle.std.proofs.Common.{◌≡◌, ℕ, ◌+◌, ◌-◌, ◌≤◌, Bool, true, false, ◌&&◌, List, [], length, Option, Some, None, refl, subst, arith}
+use Rattle.std.specs.Prelude.{nat_lt, nat_le, ◌==◌}
+use Rattle.std.proofs.lemmas.Bool.{and_parts}
+use Rattle.std.proofs.lemmas.Bool.Decides.{nat_tests}
+use Rattle.misp_ids.specs.declared.uid.EventId.{EventId}
+use Rattle.misp_ids.specs.declared.uid.ElemId.{ElemId}
+use Rattle.misp_elem.specs.declared.key.Place.{Place}
+use Rattle.misp_elem.specs.declared.key.Place.TheVariants as places
+use Rattle.misp_elem.specs.declared.key.KeyForm.{KeyForm}
+use Rattle.misp_elem.specs.declared.key.KeyForm.TheVariants.{Element, Reference}
+use Rattle.misp_elem.specs.declared.content.EventBody.{EventBody}
+use Rattle.misp_elem.specs.declared.content.ObjectBody.{ObjectBody}
+use Rattle.misp_elem.specs.declared.content.AttributeBody.{AttributeBody}
+use Rattle.misp_elem.specs.declared.content.ReferenceBody.{ReferenceBody}
+use Rattle.misp_elem.specs.declared.content.Content.{Content}
+use Rattle.misp_elem.specs.declared.content.Content.TheVariants as contents
+use Rattle.misp_elem.specs.declared.row.RowFields.{RowFields}
+use Rattle.misp_elem.specs.Key.{IsUid, IsKey, IsPlace}
+use Rattle.misp_elem.specs.Row.{IsRow, IsText, IsContent, IsContentOf, IsEventBody, IsObjectBody, IsAttributeBody, IsReferenceBody, content_kind, label_kind, text_limit, text_size, tags_size}
+use Rattle.misp_elem.specs.Visible.{place_in}
+use Rattle.misp_format.proofs.TagsBack.{tags_room}
+
+-- ---- texts
+
+upto : (n m : ℕ) → nat_le n m ≡ true → n ≤ m
+upto n m h = grind (arith, nat_tests)
+
+pub most_of : (least most : ℕ) (text : List ℕ) → IsText least most text → length text ≤ most
+most_of least most text h =
+    let lengths : (nat_le least (length text) && nat_le (length text) most) ≡ true = (and_parts _ _ h).0 in
+    upto (length text) most (and_parts _ _ lengths).1
+
+pub least_of : (least most : ℕ) (text : List ℕ) → IsText least most text → least ≤ length text
+least_of least most text h =
+    let lengths : (nat_le least (length text) && nat_le (length text) most) ≡ true = (and_parts _ _ h).0 in
+    upto least (length text) (and_parts _ _ lengths).0
+
+pub not_longer : (n : ℕ) → n ≤ text_limit → nat_lt text_limit n ≡ false
+not_longer n h = grind (arith, nat_tests)
+
+pub attribute_size : (b : AttributeBody) → IsAttributeBody b → nat_lt text_limit (text_size (contents.Attribute b)) ≡ false
+unfolding text_size
+attribute_size b h =
+    let kind = most_of 1 100 b.kind h.0 in
+    let comment = most_of 0 (text_limit - length b.kind) b.comment h.1.1.1.0 in
+    let value = most_of 0 (text_limit - length b.kind - length b.comment) b.value (and_parts _ _ h.1.1.1.1.1.0).0 in
+    let tags = tags_room (text_limit - length b.kind - length b.comment - length b.value) [] b.tags h.1.1.1.1.1.1.1 in
+    not_longer (length b.kind + length b.comment + length b.value + tags_size b.tags) (omega arith)
+
+pub reference_size : (b : ReferenceBody) → IsReferenceBody b → nat_lt text_limit (text_size (contents.Reference b)) ≡ false
+unfolding text_size
+reference_size b h =
+    let relationship = most_of 0 text_limit b.relationship_type h.0 in
+    let comment = most_of 0 (text_limit - length b.relationship_type) b.comment h.1.0 in
+    not_longer (length b.relationship_type + length b.comment) (omega arith)
+
+pub object_size : (b : ObjectBody) → IsObjectBody b → nat_lt text_limit (text_size (contents.Object b)) ≡ false
+unfolding text_size
+object_size b h =
+    let name = most_of 1 text_limit b.name h.0 in
+    let meta_category = most_of 0 (text_limit - length b.name) b.meta_category h.1.0 in
+    let description = most_of 0 (text_limit - length b.name - length b.meta_category) b.description h.1.1.0 in
+    let comment = most_of 0 (text_limit - length b.name - length b.meta_category - length b.description) b.comment h.1.1.1.0 in
+    not_longer (length b.name + length b.meta_category + length b.description + length b.comment) (omega arith)
+
+pub event_size : (b : EventBody) → IsEventBody b → nat_lt text_limit (length b.info + tags_size b.tags) ≡ false
+event_size b h =
+    let info = most_of 1 text_limit b.info h.0 in
+    let tags = tags_room (text_limit - length b.info) [] b.tags h.1.1.1.1.1.1.1.1.1 in
+    not_longer (length b.info + tags_size b.tags) (omega arith)
+
+-- ---- contents
+
+attribute_content : (content : Content) → (content_kind content == 2) ≡ true → IsContent true content → (b : AttributeBody) × ((content ≡ contents.Attribute b) × IsAttributeBody b)
+attribute_content (contents.Event b) h is = absurd cc
+attribute_content (contents.Object b) h is = absurd cc
+attribute_content (contents.Attribute b) h is = (b, (refl, is))
+attribute_content (contents.Reference b) h is = absurd cc
+attribute_content (contents.Proposal b) h is = absurd cc
+attribute_content (contents.Verdict b) h is = absurd cc
+attribute_content (contents.Sighting b) h is = absurd cc
+attribute_content contents.Gone h is = absurd cc
+
+object_content : (content : Content) → (content_kind content == 1) ≡ true → IsContent true content → (b : ObjectBody) × ((content ≡ contents.Object b) × IsObjectBody b)
+object_content (contents.Event b) h is = absurd cc
+object_content (contents.Object b) h is = (b, (refl, is))
+object_content (contents.Attribute b) h is = absurd cc
+object_content (contents.Reference b) h is = absurd cc
+object_content (contents.Proposal b) h is = absurd cc
+object_content (contents.Verdict b) h is = absurd cc
+object_content (contents.Sighting b) h is = absurd cc
+object_content contents.Gone h is = absurd cc
+
+reference_content : (content : Content) → (content_kind content == 3) ≡ true → IsContent true content → (b : ReferenceBody) × ((content ≡ contents.Reference b) × IsReferenceBody b)
+reference_content (contents.Event b) h is = absurd cc
+reference_content (contents.Object b) h is = absurd cc
+reference_content (contents.Attribute b) h is = absurd cc
+reference_content (contents.Reference b) h is = (b, (refl, is))
+reference_content (contents.Proposal b) h is = absurd cc
+reference_content (contents.Verdict b) h is = absurd cc
+reference_content (contents.Sighting b) h is = absurd cc
+reference_content contents.Gone h is = absurd cc
+
+event_content : (content : Content) → content_kind content ≡ 0 → IsContent true content → (b : EventBody) × ((content ≡ contents.Event b) × IsEventBody b)
+event_content (contents.Event b) h is = (b, (refl, is))
+event_content (contents.Object b) h is = absurd (omega arith)
+event_content (contents.Attribute b) h is = absurd (omega arith)
+event_content (contents.Reference b) h is = absurd (omega arith)
+event_content (contents.Proposal b) h is = absurd (omega arith)
+event_content (contents.Verdict b) h is = absurd (omega arith)
+event_content (contents.Sighting b) h is = absurd (omega arith)
+event_content contents.Gone h is = absurd (omega arith)
+
+-- ---- by the keys of rows
+
+of_key : (key : KeyForm) (r : RowFields) → IsRow r → r.key ≡ key → IsContentOf key (label_kind r.label) (r.held, r.carried) r.content
+of_key key r row is = subst (λ k. IsContentOf k (label_kind r.label) (r.held, r.carried) r.content) is row.1.1.1.1.1
+
+in_either : (event : EventId) (object : Option ElemId) (uuid : ElemId) (label : ℕ) (flags : Bool × Bool) (content : Content)
+    → IsContentOf (Element event (place_in object uuid)) label flags content → ((content_kind content == 2) ≡ true) × IsContent true content
+in_either event None uuid label flags content h = h
+in_either event (Some o) uuid label flags content h = h
+
+pub attribute_of_row : (event : EventId) (object : Option ElemId) (uuid : ElemId) (r : RowFields) → IsRow r → r.key ≡ Element event (place_in object uuid)
+    → (b : AttributeBody) × ((r.content ≡ contents.Attribute b) × IsAttributeBody b)
+attribute_of_row event object uuid r row key =
+    let fits = in_either event object uuid (label_kind r.label) (r.held, r.carried) r.content (of_key (Element event (place_in object uuid)) r row key) in
+    attribute_content r.content fits.0 fits.1
+
+pub object_of_row : (event : EventId) (uuid : ElemId) (r : RowFields) → IsRow r → r.key ≡ Element event (places.Object uuid)
+    → (b : ObjectBody) × ((r.content ≡ contents.Object b) × IsObjectBody b)
+object_of_row event uuid r row key = let fits = of_key (Element event (places.Object uuid)) r row key in object_content r.content fits.0 fits.1
+
+pub reference_of_row : (event : EventId) (owner : ElemId) (target : Place) (uuid : ElemId) (r : RowFields) → IsRow r → r.key ≡ Reference event owner target uuid
+    → (b : ReferenceBody) × ((r.content ≡ contents.Reference b) × IsReferenceBody b)
+reference_of_row event owner target uuid r row key = let fits = of_key (Reference event owner target uuid) r row key in reference_content r.content fits.0 fits.1
+
+pub event_of_row : (event : EventId) (r : RowFields) → IsRow r → r.key ≡ Element event places.Event → content_kind r.content ≡ 0
+    → (b : EventBody) × ((r.content ≡ contents.Event b) × IsEventBody b)
+event_of_row event r row key kind = event_content r.content kind (of_key (Element event places.Event) r row key).1
+
+pub key_of_row : (key : KeyForm) (r : RowFields) → IsRow r → r.key ≡ key → IsKey key
+key_of_row key r row is = subst IsKey is row.1.0
+
+pub uuid_in_place : (object : Option ElemId) (uuid : ElemId) → IsPlace (place_in object uuid) → IsUid uuid.0
+uuid_in_place None uuid h = h
+uuid_in_place (Some o) uuid h = h.1

@@ -1,0 +1,58 @@
+-- Bodies that the tables read, so that a wrong default or a wrong order in the specs does not check.
+use Rattle.std.proofs.Common.{◌≡◌, [], ◌∷◌, map, Ok, Err, None, Some, refl, false, true}
+use Rattle.std.specs.Prelude.{codes}
+use Rattle.serde_json.specs.Data.{string, boolean, array, object, no_items, item, no_members, member}
+use Rattle.misp_ids.specs.declared.label.Label.TheVariants as labels
+use Rattle.misp_ids.specs.Uid.{made_uid}
+use Rattle.misp_types.specs.Kinds.{rule_of, form_of}
+use Rattle.misp_types.specs.Values.{kept_of}
+use Rattle.misp_elem.specs.declared.key.Place.TheVariants as places
+use Rattle.misp_elem.specs.declared.content.Content.TheVariants as contents
+use Rattle.misp_elem.specs.Row.{text_size, tags_size}
+use Rattle.misp_fields.specs.declared.need.Need.TheVariants as needs
+use Rattle.misp_format.specs.declared.fault.FormatFault.TheVariants as faults
+use Rattle.misp_format.specs.Path.{member_path, item_path}
+use Rattle.misp_format.specs.Kinds.{category_of}
+use Rattle.misp_format.specs.Elements.{attribute_at, attributes_at, objects_at, tag_at, tags_at, object_at, object_and_others_at, reference_at, references_at}
+use Rattle.misp_format.specs.Tables.{event_at, event_itself_at}
+
+pub known_categories : map (λ name. category_of (string name)) (codes "Internal reference" ∷ codes "Targeting data" ∷ codes "Antivirus detection" ∷ codes "Payload delivery" ∷ codes "Artifacts dropped" ∷ codes "Payload installation" ∷ codes "Persistence mechanism" ∷ codes "Network activity" ∷ codes "Payload type" ∷ codes "Attribution" ∷ codes "External analysis" ∷ codes "Financial fraud" ∷ codes "Support Tool" ∷ codes "Social network" ∷ codes "Person" ∷ codes "Other" ∷ codes "other" ∷ [])
+    ≡ Ok 0 ∷ Ok 1 ∷ Ok 2 ∷ Ok 3 ∷ Ok 4 ∷ Ok 5 ∷ Ok 6 ∷ Ok 7 ∷ Ok 8 ∷ Ok 9 ∷ Ok 10 ∷ Ok 11 ∷ Ok 12 ∷ Ok 13 ∷ Ok 14 ∷ Ok 15 ∷ Err needs.Range ∷ []
+known_categories = refl
+
+-- an event that says nothing but its title
+pub known_event : event_at 0 (object (member (codes "info") (string (codes "Wave")) no_members))
+    ≡ Ok (record {
+      event = record { 0 = made_uid 0 0 };
+      body = Some (record { info = codes "Wave"; date = None; threat_level_id = 4; analysis = 0; extends_uuid = None; tags = [] });
+      label = labels.Own;
+      parts = [];
+      references = [];
+    })
+unfolding event_at event_itself_at tags_at attributes_at objects_at tags_size
+known_event = refl
+
+-- an attribute that has no more than its type and its value
+pub known_attribute : attribute_at (codes "Attribute") None 0 0 (object (member (codes "type") (string (codes "domain")) (member (codes "value") (string (codes "Example.ORG")) no_members)))
+    ≡ Ok (record {
+      number = 0;
+      place = places.Attribute (record { 0 = made_uid 0 0 });
+      label = labels.Inherit;
+      content = contents.Attribute (record { kind = codes "domain"; category = 15; to_ids = false; comment = []; deleted = false; value = codes "example.org"; tags = [] });
+    })
+unfolding attribute_at tags_at text_size tags_size kept_of rule_of form_of
+known_attribute = refl
+
+-- a tag that has no more than its name
+pub known_tag : tag_at (codes "Tag") (object (member (codes "name") (string (codes "tlp:green")) no_members))
+    ≡ Ok (record { name = codes "tlp:green"; colour = 255 ∷ 255 ∷ 255 ∷ []; exportable = true })
+unfolding tag_at
+known_tag = refl
+
+-- of two faults the one whose member is read first
+pub known_faults : (event_at 0 (object (member (codes "analysis") (boolean true) (member (codes "info") (string []) no_members)))
+    ≡ Err (faults.BadField (codes "Event.info") needs.Range))
+    × (event_at 0 (object (member (codes "Event") (object (member (codes "Object") (array (item (object (member (codes "Attribute") (array (item (object (member (codes "type") (string (codes "md5")) (member (codes "value") (string (codes "abc")) no_members))) no_items)) (member (codes "name") (string (codes "file")) no_members))) no_items)) (member (codes "info") (string (codes "Wave")) no_members))) no_members))
+    ≡ Err (faults.BadField (member_path (item_path (member_path (item_path (member_path (codes "Event") (codes "Object")) 0) (codes "Attribute")) 0) (codes "value")) needs.Length))
+unfolding event_at event_itself_at tags_at attributes_at objects_at object_and_others_at object_at attribute_at text_size tags_size kept_of rule_of form_of
+known_faults = (refl, refl)

@@ -1,0 +1,99 @@
+-- The part of a rising list that has one number.
+use Rattle.std.proofs.Common.{◌≡◌, ℕ, zero, suc, ◌+◌, ◌-◌, ◌<◌, ◌≤◌, Bool, true, false, refl, ap, sym, ◌∙◌, cond, List, [], ◌∷◌, length, get_or, take, drop, arith, eqb, ltb, leb, map, inl, inr, subst}
+use Rattle.std.specs.Prelude.{◌⊎◌}
+use Rattle.std.specs.List.{filter}
+use Rattle.std.specs.List.Sorted.{IsPartitionPoint, IsStableByKey, ties}
+use Rattle.std.specs.Ordering.{nat_cmp, is_lt}
+use Rattle.std.proofs.lemmas.Bool.{eqb-true}
+use Rattle.std.proofs.lemmas.Bool.Decides.{nat_tests}
+use Rattle.std.proofs.lemmas.List.{get_or-drop, take_rest, length-drop}
+use Rattle.misp_model.proofs.Lists.{filter-map}
+
+module _ {X : Type 0} where
+  -- what passes stands in front
+  filter_take : (p : X → Bool) (zs : List X) (n : ℕ) → ((k : ℕ) (d : X) → k < n → k < length zs → p (get_or zs k d) ≡ true) →
+      ((k : ℕ) (d : X) → n ≤ k → k < length zs → p (get_or zs k d) ≡ false) → filter p zs ≡ take n zs
+  filter_take p [] zero h k = refl
+  filter_take p [] (suc n) h k = refl
+  filter_take p (z ∷ zs) zero h k = rw (k 0 z (omega arith) (omega arith)) (filter_take p zs zero (λ j d a b. absurd (omega arith)) (λ j d a b. k (suc j) d (omega arith) (omega arith)))
+  filter_take p (z ∷ zs) (suc n) h k = rw (h 0 z (omega arith) (omega arith)) (ap (λ l. z ∷ l) (filter_take p zs n (λ j d a b. h (suc j) d (omega arith) (omega arith)) (λ j d a b. k (suc j) d (omega arith) (omega arith))))
+
+  -- what does not pass stands in front
+  filter_drop : (p : X → Bool) (zs : List X) (n : ℕ) → ((k : ℕ) (d : X) → k < n → k < length zs → p (get_or zs k d) ≡ false) → filter p zs ≡ filter p (drop n zs)
+  filter_drop p [] zero h = refl
+  filter_drop p [] (suc n) h = refl
+  filter_drop p (z ∷ zs) zero h = refl
+  filter_drop p (z ∷ zs) (suc n) h = rw (h 0 z (omega arith) (omega arith)) (filter_drop p zs n (λ j d a b. h (suc j) d (omega arith) (omega arith)))
+
+module _ {X : Type 0} (key : X → ℕ) (g : ℕ) where
+  abbrev here : X → Bool
+  here x = eqb g (key x)
+
+  below_not : (x : X) → ltb (key x) g ≡ true → here x ≡ false
+  below_not x h = grind (arith, nat_tests)
+
+  above_not : (x : X) → leb (key x) g ≡ false → here x ≡ false
+  above_not x h = grind (arith, nat_tests)
+
+  between_is : (x : X) → ltb (key x) g ≡ false → leb (key x) g ≡ true → here x ≡ true
+  between_is x h k = grind (arith, nat_tests)
+
+  pub cut_is : (xs : List X) (low count : ℕ) → low ≤ length xs → count ≤ length (drop low xs) →
+      IsPartitionPoint (λ x. ltb (key x) g ≡ true) (λ x. ltb (key x) g ≡ false) xs low →
+      IsPartitionPoint (λ x. leb (key x) g ≡ true) (λ x. leb (key x) g ≡ false) (drop low xs) count →
+      take count (drop low xs) ≡ filter here xs
+  cut_is xs low count a b h k =
+      sym (filter_drop here xs low (λ j d lt within. below_not _ (h.0 j d (omega arith) lt))
+      ∙ filter_take here (drop low xs) count
+      (λ j d lt within. between_is _ (ap (λ x. ltb (key x) g) (get_or-drop low xs j d) ∙ h.1 (low + j) d (omega arith) (omega (arith, long j within))) (k.0 j d (omega arith) lt))
+      (λ j d le within. above_not _ (k.1 j d le within)))
+    where
+      long : (j : ℕ) → j < length (drop low xs) → low + j < length xs
+      long j within = omega (arith, length-drop low xs)
+
+-- the same where the rest is cut out by its length, and each is looked at through a map
+pub cut_map : {X Y : Type 0} (f : X → Y) (key : Y → ℕ) (g h : ℕ) → g ≡ h → (xs : List X) (low count : ℕ) → low ≤ length xs → count ≤ length (take (length xs - low) (drop low xs)) →
+    IsPartitionPoint (λ x. ltb (key (f x)) g ≡ true) (λ x. ltb (key (f x)) g ≡ false) xs low →
+    IsPartitionPoint (λ x. leb (key (f x)) g ≡ true) (λ x. leb (key (f x)) g ≡ false) (take (length xs - low) (drop low xs)) count →
+    map f (take count (take (length xs - low) (drop low xs))) ≡ filter (λ y. eqb h (key y)) (map f xs)
+cut_map f key g h e xs low count a b p q =
+    ap (λ l. map f (take count l)) (take_rest xs low)
+    ∙ ap (map f) (cut_is (λ x. key (f x)) g xs low count a (subst (λ l. count ≤ length l) (take_rest xs low) b) p
+    (subst (λ l. IsPartitionPoint (λ x. leb (key (f x)) g ≡ true) (λ x. leb (key (f x)) g ≡ false) l count) (take_rest xs low) q))
+    ∙ sym (filter-map f (λ y. eqb g (key y)) xs)
+    ∙ ap (λ k. filter (λ y. eqb k (key y)) (map f xs)) e
+
+module _ {X : Type 0} (key : X → ℕ) where
+  -- an element with this number, or none
+  found : (g : ℕ) (xs : List X) → (filter (λ x. eqb g (key x)) xs ≡ []) ⊎ ((x : X) × (key x ≡ g))
+  found g [] = inl refl
+  found g (x ∷ xs) = one (eqb g (key x)) refl (found g xs)
+    where
+      one : (b : Bool) → eqb g (key x) ≡ b → (filter (λ y. eqb g (key y)) xs ≡ []) ⊎ ((y : X) × (key y ≡ g)) → (cond b (x ∷ filter (λ y. eqb g (key y)) xs) (filter (λ y. eqb g (key y)) xs) ≡ []) ⊎ ((y : X) × (key y ≡ g))
+      one true e r = inr (x, sym (eqb-true _ _ e))
+      one false e r = r
+
+  tie_is : (x y : X) → ties (λ a b. is_lt (nat_cmp (key a) (key b))) x y ≡ eqb (key x) (key y)
+  tie_is x y = grind (arith, nat_tests)
+
+  filter_by : (p q : X → Bool) → ((x : X) → p x ≡ q x) → (xs : List X) → filter p xs ≡ filter q xs
+  filter_by p q h [] = refl
+  filter_by p q h (x ∷ xs) = rw (h x, filter_by p q h xs) refl
+
+  pub stable_parts : (xs ys : List X) → IsStableByKey key nat_cmp xs ys → (g : ℕ) → filter (λ x. eqb g (key x)) ys ≡ filter (λ x. eqb g (key x)) xs
+  stable_parts xs ys s g = one (found g ys) (found g xs)
+    where
+      at : (x : X) → key x ≡ g → filter (λ y. eqb g (key y)) ys ≡ filter (λ y. eqb g (key y)) xs
+      at x e = subst (λ h. filter (λ y. eqb h (key y)) ys ≡ filter (λ y. eqb h (key y)) xs) e (sym (filter_by _ _ (tie_is x) ys) ∙ s x ∙ filter_by _ _ (tie_is x) xs)
+
+      one : (filter (λ x. eqb g (key x)) ys ≡ []) ⊎ ((x : X) × (key x ≡ g)) → (filter (λ x. eqb g (key x)) xs ≡ []) ⊎ ((x : X) × (key x ≡ g)) →
+          filter (λ x. eqb g (key x)) ys ≡ filter (λ x. eqb g (key x)) xs
+      one (inr m) r = at m.0 m.1
+      one (inl a) (inr m) = at m.0 m.1
+      one (inl a) (inl b) = a ∙ sym b
+
+-- the same where each is looked at through a map
+pub stable_parts_map : {X Y : Type 0} (f : X → Y) (key : Y → ℕ) (xs ys : List X) → IsStableByKey (λ x. key (f x)) nat_cmp xs ys → (g : ℕ) →
+    filter (λ y. eqb g (key y)) (map f ys) ≡ filter (λ y. eqb g (key y)) (map f xs)
+stable_parts_map f key xs ys s g =
+    filter-map f (λ y. eqb g (key y)) ys ∙ ap (map f) (stable_parts (λ x. key (f x)) xs ys s g) ∙ sym (filter-map f (λ y. eqb g (key y)) xs)

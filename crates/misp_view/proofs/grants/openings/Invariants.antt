@@ -1,0 +1,6 @@
+use Rattle.std.proofs.Common.{take}
+use Rattle.misp_view.specs.Grants.{IsOpenings}
+use Rattle.misp_view.proofs.grants.openings.Given as goal
+
+abbrev pub invariant-loop-row : goal.invariant-loop-row
+invariant-loop-row l = IsOpenings l.spots l.here l.org l.linked (take l.row-index l.rows)

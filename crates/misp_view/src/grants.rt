@@ -1,0 +1,136 @@
+//! What is granted to an organisation, found once for all rows.
+
+ghost use Rattle.std.specs.Prelude.{◌≡◌, ◌&&◌, ◌||◌, [], IfOk};
+ghost use Rattle.std.specs.List.{list_any};
+ghost use Rattle.misp_model.specs.History as history;
+ghost use Rattle.misp_model.specs.View.{row_is_open};
+ghost use Rattle.misp_view.specs.Kinds as kinds;
+ghost use Rattle.misp_view.specs.Grants.{IsOpenings, IsGranted, IsGrants, element_in, granted_in};
+
+use crate::rows::{event_of, is_link, is_of, is_open, is_statement, is_upper};
+use crate::spots::{Spots, add, add_own, has_spot, parents};
+use crate::table::{Pairs, copies, has};
+use misp_elem::{KeyForm, Row};
+use misp_ids::{InstId, NoMemory, OrgId};
+use std::alloc::Global;
+use std::collections::BTreeSet;
+
+/// Those of whom there is a copy that is not gone, what is open to the organisation in each copy,
+/// and the elements that are granted to it in some copy. The last is empty where there are no
+/// statements, and of attributes the second has none where nothing has a target.
+#[derive(Drop)]
+pub(crate) struct Grants {
+    pub(crate) copied: Pairs,
+    pub(crate) opened: Spots,
+    pub(crate) granted: Spots,
+}
+
+/// Whether there is a reference or a statement.
+pub(crate) fn are_linked(rows: &[Row]) -> bool
+    ensures { result ≡ list_any (λ row. kinds.is_link row.key) rows.now }
+{
+    rows.iter().any(|row| is_link(row))
+}
+
+// Whether there is a statement.
+fn are_told(rows: &[Row]) -> bool
+    ensures { result ≡ list_any (λ row. history.is_statement row.key) rows.now }
+{
+    rows.iter().any(|row| is_statement(row))
+}
+
+// Whether it is open to the organisation, and is of an event or an object, or something is linked.
+fn is_opening(row: &Row, here: &InstId, org: &OrgId, linked: bool) -> bool
+    ensures { result ≡ (row_is_open [] here.now org.now row.now && (linked || kinds.is_upper row.now.key)) }
+{
+    is_open(row, here, org) && (linked || is_upper(row))
+}
+
+// What is open to the organisation in each copy: events and objects, and where they are linked
+// attributes too.
+fn openings(
+    alloc: Global,
+    rows: &[Row],
+    here: &InstId,
+    org: &OrgId,
+    linked: bool,
+) -> Result<Spots, NoMemory>
+    ensures { IfOk result (λ spots. IsOpenings spots here.now org.now linked rows.now) }
+{
+    let mut spots = BTreeSet::new(alloc);
+    for row in rows {
+        let wanted = is_opening(row, here, org, linked);
+        add_own(&mut spots, row, wanted)?;
+    }
+    Ok(spots)
+}
+
+// Whether a row is granted as that of an element or a reference is.
+#[tactic(auto, unfolding(crate::specs::Grants::element_in))]
+fn is_element_granted(copied: &Pairs, opened: &Spots, here: &InstId, org: &OrgId, row: &Row) -> bool
+    ensures { result ≡ element_in copied.now opened.now here.now org.now row.now }
+{
+    has(copied, &event_of(row), &row.owner)
+        && is_open(row, here, org)
+        && parents(opened, &row.owner, row, true)
+}
+
+// The elements that are granted to the organisation in some copy, where they are told of.
+fn granted(
+    alloc: Global,
+    rows: &[Row],
+    copied: &Pairs,
+    opened: &Spots,
+    here: &InstId,
+    org: &OrgId,
+    told: bool,
+) -> Result<Spots, NoMemory>
+    ensures { IfOk result (λ spots. IsGranted spots copied.now opened.now here.now org.now told rows.now) }
+{
+    let mut spots = BTreeSet::new(alloc);
+    for row in rows {
+        let wanted = told && is_element_granted(copied, opened, here, org, row);
+        add(&mut spots, org, row, wanted)?;
+    }
+    Ok(spots)
+}
+
+impl Grants {
+    /// What is granted to the organisation of these rows.
+    pub(crate) fn of(
+        alloc: Global,
+        rows: &[Row],
+        here: &InstId,
+        org: &OrgId,
+    ) -> Result<Grants, NoMemory>
+        ensures { IfOk result (λ grants. IsGrants grants here.now org.now rows.now) }
+    {
+        let copied = copies(alloc, rows)?;
+        let opened = openings(alloc, rows, here, org, are_linked(rows))?;
+        let granted = granted(alloc, rows, &copied, &opened, here, org, are_told(rows))?;
+        Ok(Grants {
+            copied,
+            opened,
+            granted,
+        })
+    }
+
+    /// Whether one of the rows is granted to the organisation.
+    #[tactic(auto, unfolding(crate::specs::Grants::granted_in, crate::specs::Grants::granted_as))]
+    pub(crate) fn has(&self, here: &InstId, org: &OrgId, row: &Row) -> bool
+        ensures { result ≡ granted_in self.now here.now org.now row.now }
+    {
+        match &row.key.form {
+            KeyForm::Element { .. } | KeyForm::Reference { .. } => {
+                is_element_granted(&self.copied, &self.opened, here, org, row)
+            }
+            KeyForm::Proposal { event, name } | KeyForm::Verdict { event, name, .. } => {
+                is_of(org, row) || has_spot(&self.granted, org, event, &name.target)
+            }
+            KeyForm::Sighting { event, target, .. } => {
+                is_of(org, row)
+                    || has(&self.copied, event, org) && has_spot(&self.granted, org, event, target)
+            }
+        }
+    }
+}

@@ -1,0 +1,119 @@
+//! The rows that show, by their kinds.
+
+ghost use Rattle.std.specs.Prelude.{◌≡◌, ◌&&◌, map, IfOk};
+ghost use Rattle.std.specs.List.{filter};
+ghost use Rattle.misp_model.specs.Shown.{is_plain_attribute, is_object};
+ghost use Rattle.misp_view.specs.Sight.{is_inner, is_seen_reference, is_of_kind, is_one};
+
+use crate::sight::Sight;
+use crate::spots::{Spots, has_spot};
+use misp_elem::{KeyForm, Place, Row};
+use misp_ids::{EventId, NoMemory, OrgId};
+use std::alloc::Global;
+
+/// Attributes outside objects, objects, attributes in objects, and references whose target shows.
+#[derive(Clone, Copy)]
+pub(crate) enum Kind {
+    Attribute,
+    Object,
+    Inner,
+    Reference,
+}
+
+// Whether it is an attribute of the event outside objects.
+#[tactic(auto, unfolding(misp_model::specs::Shown::is_plain_attribute, misp_model::specs::Names::same_event))]
+fn is_plain_attribute(row: &Row, event: &EventId) -> bool
+    ensures { result ≡ is_plain_attribute event.now row.now.key }
+{
+    match &row.key.form {
+        KeyForm::Element {
+            event: of,
+            place: Place::Attribute(_),
+        } => of == event,
+        _ => false,
+    }
+}
+
+// Whether it is an object of the event.
+#[tactic(auto, unfolding(misp_model::specs::Shown::is_object, misp_model::specs::Names::same_event))]
+fn is_object(row: &Row, event: &EventId) -> bool
+    ensures { result ≡ is_object event.now row.now.key }
+{
+    match &row.key.form {
+        KeyForm::Element {
+            event: of,
+            place: Place::Object(_),
+        } => of == event,
+        _ => false,
+    }
+}
+
+// Whether it is an attribute in an object of the event.
+#[tactic(auto, unfolding(crate::specs::Sight::is_inner, misp_model::specs::Names::same_event))]
+fn is_inner(row: &Row, event: &EventId) -> bool
+    ensures { result ≡ is_inner event.now row.now.key }
+{
+    match &row.key.form {
+        KeyForm::Element {
+            event: of,
+            place: Place::ObjectAttribute(_, _),
+        } => of == event,
+        _ => false,
+    }
+}
+
+// Whether it is a reference of the event whose target shows.
+#[tactic(auto, unfolding(crate::specs::Sight::is_seen_reference, misp_model::specs::Names::same_event))]
+fn is_seen_reference(row: &Row, owner: &OrgId, event: &EventId, seen: &Spots) -> bool
+    ensures { result ≡ is_seen_reference seen.now owner.now event.now row.now.key }
+{
+    match &row.key.form {
+        KeyForm::Reference {
+            event: of,
+            target,
+            ..
+        } => of == event && has_spot(seen, owner, event, target),
+        _ => false,
+    }
+}
+
+// Whether it is of this kind.
+#[tactic(auto, unfolding(crate::specs::Sight::is_of_kind))]
+fn is_of_kind(kind: Kind, row: &Row, owner: &OrgId, event: &EventId, seen: &Spots) -> bool
+    ensures { result ≡ is_of_kind kind seen.now owner.now event.now row.now.key }
+{
+    match kind {
+        Kind::Attribute => is_plain_attribute(row, event),
+        Kind::Object => is_object(row, event),
+        Kind::Inner => is_inner(row, event),
+        Kind::Reference => is_seen_reference(row, owner, event, seen),
+    }
+}
+
+// Whether it shows, and is of this kind.
+#[tactic(auto, unfolding(crate::specs::Sight::is_one))]
+fn is_one(kind: Kind, sight: &Sight, seen: &Spots, row: &Row) -> bool
+    ensures { result ≡ is_one kind sight.now seen.now row.now }
+{
+    let is_kind = is_of_kind(kind, row, &sight.owner, &sight.event, seen);
+    is_kind && sight.shows(row)
+}
+
+/// The rows that show and are of this kind, in the order in which they stand.
+pub(crate) fn collect<'a>(
+    alloc: Global,
+    kind: Kind,
+    sight: &Sight,
+    seen: &Spots,
+    rows: &'a [Row],
+) -> Result<Vec<&'a Row>, NoMemory>
+    ensures { IfOk result (λ list. map (λ r. r.now) list.items ≡ filter (is_one kind sight.now seen.now) rows.now) }
+{
+    let mut list = Vec::new(alloc);
+    for row in rows {
+        if is_one(kind, sight, seen, row) {
+            list.push(row)?;
+        }
+    }
+    Ok(list)
+}
