@@ -1,5 +1,5 @@
 -- What a source describes, and the line that tells where it does not.
-use Rattle.std.specs.Prelude.{◌≡◌, ℕ, List, length, take, drop, nat_lt, Ok, Err, if◌then◌else◌}
+use Rattle.std.specs.Prelude.{◌≡◌, ℕ, List, length, take, drop, nat_lt, codes, Ok, Err, if◌then◌else◌}
 use Rattle.std.specs.declared.option.Option.{Option}
 use Rattle.std.specs.Io.KnownBytes.{Appends}
 use Rattle.misp_script.specs.declared.description.Description.{Description}
@@ -54,3 +54,13 @@ abbrev pub IsPartly :
 IsPartly (Ok net) source old new before after = HasWritten source old new (AppendsSome before after)
 IsPartly (Err (faults.Bad path need)) source old new before after = AppendsSome before after (fault_line path need)
 IsPartly (Err faults.NoMemory) source old new before after = ⊥
+
+-- what is written of a description that has no fault
+abbrev pub ok_line : List ℕ
+ok_line = codes "ok\n"
+
+-- some of that line, or of the line of the fault, were written
+abbrev pub IsPartlyChecked : Reading Description → Option (List ℕ) → Option (List ℕ) → Type 0
+IsPartlyChecked (Ok net) before after = AppendsSome before after ok_line
+IsPartlyChecked (Err (faults.Bad path need)) before after = AppendsSome before after (fault_line path need)
+IsPartlyChecked (Err faults.NoMemory) before after = ⊥

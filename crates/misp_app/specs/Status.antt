@@ -1,5 +1,5 @@
 -- How a run ends.
-use Rattle.std.specs.Prelude.{◌≡◌, ℕ, List, [], ◌∷◌, codes}
+use Rattle.std.specs.Prelude.{ℕ}
 use Rattle.misp_app.specs.declared.status.Status.{Status}
 use Rattle.misp_app.specs.declared.status.Status.TheVariants.{Done, Usage, ReadFault, WriteFault, BadDescription, OutOfMemory, TooMuch}
 
@@ -22,10 +22,6 @@ IsReadEnd WriteFault = ⊥
 IsReadEnd BadDescription = ⊥
 IsReadEnd OutOfMemory = Unit {0}
 IsReadEnd TooMuch = Unit {0}
-
--- the words of a command line are accepted
-abbrev pub AreAccepted : List (List ℕ) → Type 0
-AreAccepted words = words ≡ codes "net" ∷ []
 
 -- nothing was written
 abbrev pub IsSilent : Status → Type 0

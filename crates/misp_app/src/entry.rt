@@ -1,12 +1,15 @@
 //! The top call.
 
-ghost use Rattle.std.specs.Prelude.{◌≡◌, ◌≤◌, ◌↔◌, ◌⊎◌, IfErr, IfSome, OnOk, IsTrue, ◌<◌, length, map, vec_len, string_bytes};
+ghost use Rattle.std.specs.Prelude.{◌≡◌, ◌≤◌, ◌↔◌, ◌⊎◌, None, Some, IfErr, IfSome, OnOk, IsSome, ◌<◌, length, map, vec_len, string_bytes};
 ghost use Rattle.misp_outside.specs.Causes.{Rose};
 ghost use Rattle.std.specs.Io.KnownBytes.{Appends};
 ghost use Rattle.misp_net.specs.Hosts.{stocks};
-ghost use Rattle.misp_app.specs.Source.{described, described_status, status_of, IsTold, HasWritten, IsPartly};
-ghost use Rattle.misp_app.specs.Status.{AreAccepted, IsStopped, IsSilent, IsStill, IsSourceEnd};
+ghost use Rattle.misp_app.specs.Source.{described, described_status, status_of, ok_line, IsTold, HasWritten, IsPartly, IsPartlyChecked};
+ghost use Rattle.misp_app.specs.Words.{command_of};
+ghost use Rattle.misp_app.specs.Status.{IsStopped, IsSilent, IsStill, IsSourceEnd};
 
+use crate::checking::check_source;
+use crate::command::{Command, command_of};
 use crate::fault::{put, tell_fault};
 use crate::reading::read_all;
 use crate::{KEEPERS, MAX_SOURCE, Status};
@@ -15,8 +18,8 @@ use misp_outside::{Carry, Clock, Dial, Door, Keeper, Sink, Source};
 use misp_script::{DescFault, read_description, split_source};
 use std::alloc::Global;
 
-/// Does all that the program does: reads the source, runs its script over the keepers, and writes
-/// the lines.
+/// Does all that the program does: reads the source, runs its script over the keepers and writes
+/// the lines, or checks its description.
 pub fn run<S: Source, W: Sink, K: Keeper, C: Carry, D: Door, L: Dial, T: Clock>(
     alloc: Global,
     words: &[String],
@@ -31,8 +34,8 @@ pub fn run<S: Source, W: Sink, K: Keeper, C: Carry, D: Door, L: Dial, T: Clock>(
     requires { KEEPERS ≤ vec_len keepers.old }
 
     // The words and the source decide how it ends, where no fault and no want of memory does.
-    ensures usage { result ≡ Status.Usage ↔ ¬ AreAccepted (map string_bytes words.now) }
-    ensures status { AreAccepted (map string_bytes words.now) → IfSome (S.left source.old)
+    ensures usage { result ≡ Status.Usage ↔ command_of (map string_bytes words.now) ≡ None }
+    ensures status { IsSome (command_of (map string_bytes words.now)) → IfSome (S.left source.old)
         (λ left. IsStopped result ⊎ (result ≡ status_of left)) }
 
     // A fault is answered only where a count rose.
@@ -44,13 +47,24 @@ pub fn run<S: Source, W: Sink, K: Keeper, C: Carry, D: Door, L: Dial, T: Clock>(
 
     // The lines written and what is held follow from the source, and from what stopped each line;
     // and what an organisation was never granted changes none of its replies.
-    ensures done { result ≡ Status.Done → IfSome (S.left source.old) (λ left.
+    ensures done { command_of (map string_bytes words.now) ≡ Some Command.Net →
+        result ≡ Status.Done → IfSome (S.left source.old) (λ left.
         HasWritten left (stocks K.held K.faults keepers.old.items)
         (stocks K.held K.faults keepers.new.items)
         (Appends (W.written sink.old) (W.written sink.new))) }
-    ensures partly { result ≡ Status.WriteFault → IfSome (S.left source.old) (λ left.
+    ensures partly { command_of (map string_bytes words.now) ≡ Some Command.Net →
+        result ≡ Status.WriteFault → IfSome (S.left source.old) (λ left.
         IsPartly (described left) left (stocks K.held K.faults keepers.old.items)
         (stocks K.held K.faults keepers.new.items) (W.written sink.old) (W.written sink.new)) }
+
+    // A check writes that the description is one, and asks no keeper.
+    ensures checked { command_of (map string_bytes words.now) ≡ Some Command.Check →
+        result ≡ Status.Done → Appends (W.written sink.old) (W.written sink.new) ok_line }
+    ensures partly_checked { command_of (map string_bytes words.now) ≡ Some Command.Check →
+        result ≡ Status.WriteFault → IfSome (S.left source.old) (λ left.
+        IsPartlyChecked (described left) (W.written sink.old) (W.written sink.new)) }
+    ensures still_checked { command_of (map string_bytes words.now) ≡ Some Command.Check →
+        keepers.new.items ≡ keepers.old.items }
 
     // Of a description that is none the first fault is told.
     ensures bad { result ≡ Status.BadDescription →
@@ -62,30 +76,25 @@ pub fn run<S: Source, W: Sink, K: Keeper, C: Carry, D: Door, L: Dial, T: Clock>(
     ensures untouched { (carry.new ≡ carry.old) × (door.new ≡ door.old)
         × (dial.new ≡ dial.old) × (clock.new ≡ clock.old) }
 {
-    if !are_accepted(words) {
+    let Some(command) = command_of(words) else {
         return Status::Usage;
-    }
+    };
     let bytes = match read_all(alloc, source) {
         Ok(bytes) => bytes,
         Err(status) => return status,
     };
-    match run_source(alloc, &bytes, sink, keepers) {
+    let ended = match command {
+        Command::Net => run_source(alloc, &bytes, sink, keepers),
+        Command::Check => check_source(alloc, &bytes, sink),
+    };
+    match ended {
         Ok(()) => Status::Done,
         Err(status) => status,
     }
 }
 
-fn are_accepted(words: &[String]) -> bool
-    ensures { IsTrue result ↔ AreAccepted (map string_bytes words.now) }
-{
-    match words {
-        [word] => word.as_str() == "net",
-        _ => false,
-    }
-}
-
 // Runs what the source said.
-#[tactic(auto, using(crate::proofs::Sole::one_is_distinct))]
+#[tactic(auto, using(misp_net::proofs::Apart::net_is_distinct))]
 fn run_source<W: Sink, K: Keeper>(
     alloc: Global,
     bytes: &[u8],

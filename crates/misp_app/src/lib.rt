@@ -1,12 +1,15 @@
 //! The top call: reads a source, runs what it says over the keepers, and writes the lines.
 #![tactic(auto)]
 
+mod checking;
+mod command;
 mod entry;
 mod fault;
 mod reading;
 mod status;
 mod writing;
 
+pub use command::Command;
 pub use entry::run;
 pub use status::Status;
 

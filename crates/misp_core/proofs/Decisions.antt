@@ -12,7 +12,7 @@ use Rattle.misp_elem.specs.Row.{AreRows}
 use Rattle.misp_requests.specs.declared.ask.Ask.TheVariants.{View}
 use Rattle.misp_requests.specs.declared.ask.Ask.TheVariants as asks
 use Rattle.misp_requests.specs.declared.change.Change.TheVariants.{AddEvent}
-use Rattle.misp_orgs.specs.declared.admin.Admin.{Admin}
+use Rattle.misp_orgs.specs.Admin.{AdminFields as Admin}
 use Rattle.misp_model.specs.History.{Version, fresh_row}
 use Rattle.misp_model.specs.Asking.{Scene, Rule, first_rule, event_written, change_rules, change_writes}
 use Rattle.misp_model.specs.Asking as asking

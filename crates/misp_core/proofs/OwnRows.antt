@@ -13,7 +13,7 @@ use Rattle.misp_requests.specs.declared.ask.Ask.TheVariants.{View}
 use Rattle.misp_requests.specs.declared.ask.Ask.TheVariants as asks
 use Rattle.misp_requests.specs.declared.change.Change.TheVariants.{AddEvent}
 use Rattle.misp_requests.specs.declared.change.Change.TheVariants as changes
-use Rattle.misp_orgs.specs.declared.admin.Admin.{Admin}
+use Rattle.misp_orgs.specs.Admin.{AdminFields as Admin}
 use Rattle.misp_model.specs.Names.{same_org, same_event, event_of}
 use Rattle.misp_model.specs.View.{known}
 use Rattle.misp_model.specs.History.{fresh_row}

@@ -8,7 +8,7 @@ use Rattle.misp_requests.specs.declared.ask.Ask.TheVariants.{View}
 use Rattle.misp_requests.specs.declared.ask.Ask.TheVariants as asks
 use Rattle.misp_requests.specs.declared.change.Change.TheVariants.{AddEvent}
 use Rattle.misp_requests.specs.declared.change.Change.TheVariants as changes
-use Rattle.misp_orgs.specs.declared.admin.Admin.{Admin}
+use Rattle.misp_orgs.specs.Admin.{AdminFields as Admin}
 use Rattle.misp_outside.specs.declared.fault.KeeperFault.{KeeperFault}
 use Rattle.misp_outside.specs.declared.fault.KeeperFault.TheVariants as stops
 use Rattle.misp_outside.specs.declared.row.RawRow.{RawRow}

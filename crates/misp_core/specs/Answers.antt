@@ -20,8 +20,8 @@ use Rattle.misp_requests.specs.declared.ask.Ask.{Ask}
 use Rattle.misp_requests.specs.declared.ask.Ask.TheVariants.{View}
 use Rattle.misp_requests.specs.declared.ask.Ask.TheVariants as asks
 use Rattle.misp_requests.specs.declared.change.Change.TheVariants.{AddEvent}
-use Rattle.misp_orgs.specs.declared.admin.Admin.{Admin}
-use Rattle.misp_orgs.specs.declared.key.Caller.{Caller}
+use Rattle.misp_orgs.specs.Admin.{AdminFields as Admin}
+use Rattle.misp_orgs.specs.Keys.{CallerFields as Caller}
 use Rattle.misp_orgs.specs.Org.{name_of}
 use Rattle.misp_dates.specs.Dates.{date_of}
 use Rattle.misp_model.specs.View.{known}

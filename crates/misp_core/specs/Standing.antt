@@ -1,7 +1,7 @@
 -- What an instance is seen as.
 use Rattle.std.specs.Prelude.{ℕ, List}
 use Rattle.std.specs.declared.option.Option.{Option}
-use Rattle.misp_orgs.specs.declared.admin.Admin.{Admin}
+use Rattle.misp_orgs.specs.Admin.{AdminFields as Admin}
 use Rattle.misp_outside.specs.Held.{Held}
 
 -- its name, its administration, what its keeper holds, where the keeper tells it, and how often the keeper has failed

@@ -117,6 +117,13 @@ fn saved(event: EventId, rows: Vec<Row>) -> Verdict
     }
 }
 
+// Whose a request is.
+fn asker(caller: &Caller) -> OrgId
+    ensures { result ≡ caller.now.org }
+{
+    caller.org
+}
+
 fn event_in(submission: &Submission) -> EventId
     ensures { result ≡ submission.now.event }
 {
@@ -138,9 +145,10 @@ fn add(
         (scene_with n (site here.now admin.now caller.now now) rows.now)
         admin.now (asks.Change (AddEvent submission))) }
 {
-    let name = name_text(alloc, admin, &caller.org)?;
+    let org = asker(caller);
+    let name = name_text(alloc, admin, &org)?;
     let event = event_in(&submission);
-    match add_event(alloc, submission, &caller.org, &name, here, now, rows) {
+    match add_event(alloc, submission, &org, &name, here, now, rows) {
         Ok(added) => Ok(saved(event, added)),
         Err(fault) => {
             let refusal = refusal(alloc, fault)?;
@@ -178,7 +186,8 @@ fn view(
     ensures { (n : ℕ) → IfOk result (IsDecision
         (scene_with n (site here.now admin.now caller.now now) rows.now) admin.now (View event.now owner)) }
 {
-    match shown(alloc, rows, here, &caller.org, event, owner)? {
+    let org = asker(caller);
+    match shown(alloc, rows, here, &org, event, owner)? {
         Some(seen) => {
             let name = name_text(alloc, admin, &holder(&seen))?;
             let seen = named(seen, name);
@@ -227,7 +236,8 @@ fn decide(
     requires { IsBuilt ask }
     ensures { (n : ℕ) → IfOk result (IsVerdict n (site here.now admin.now caller.now now) ask (Ok rows.items)) }
 {
-    let rows = known(alloc, rows, here, &caller.org)?;
+    let org = asker(caller);
+    let rows = known(alloc, rows, here, &org)?;
     decide_known(alloc, here, admin, caller, now, ask, &rows)
 }
 

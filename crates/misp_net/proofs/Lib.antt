@@ -9,3 +9,4 @@ pub mod Courses
 pub mod Refusing
 pub mod Privacy
 pub mod Fronts
+pub mod Apart

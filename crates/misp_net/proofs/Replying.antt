@@ -1,14 +1,17 @@
 -- The reply to a request by its form.
-use Rattle.std.proofs.Common.{◌≡◌, ◌⊎◌, ℕ, List, refl, sym, ap, subst, inl, inr, Option, Some, None, Result, Ok, Err}
-use Rattle.std.specs.Prelude.{IfSome}
+use Rattle.std.proofs.Common.{◌≡◌, ◌⊎◌, ℕ, Bool, true, false, List, refl, sym, ap, subst, inl, inr, Option, Some, None, Result, Ok, Err}
+use Rattle.std.specs.Prelude.{IfSome, bytes_eq, if◌then◌else◌}
 use Rattle.misp_elem.specs.declared.refusal.Refusal.{Refusal}
+use Rattle.misp_elem.specs.declared.refusal.RuleName.{RuleName}
 use Rattle.misp_elem.specs.declared.refusal.RuleName.TheVariants as rules
 use Rattle.misp_elem.specs.Draft.{SubmissionFields as Submission}
 use Rattle.misp_format.specs.declared.fault.FormatFault.{FormatFault}
 use Rattle.misp_format.specs.declared.fault.FormatFault.TheVariants as faults
 use Rattle.misp_format.specs.Tables.{event_at}
-use Rattle.misp_orgs.specs.declared.admin.Admin.{Admin}
-use Rattle.misp_orgs.specs.declared.key.Caller.{Caller}
+use Rattle.misp_orgs.specs.Admin.{AdminFields as Admin}
+use Rattle.misp_orgs.specs.Keys.{CallerFields as Caller}
+use Rattle.misp_orgs.specs.declared.role.Perm.{Perm}
+use Rattle.misp_orgs.specs.Roles.{permits}
 use Rattle.misp_outside.specs.Held.{Held}
 use Rattle.misp_requests.specs.declared.ask.Ask.{Ask}
 use Rattle.misp_script.specs.Step.{RequestData}
@@ -22,18 +25,19 @@ use Rattle.misp_net.specs.declared.route.Route.{Route}
 use Rattle.misp_net.specs.declared.route.Route.TheVariants.{AddEvent, ViewEvent}
 use Rattle.misp_net.specs.declared.request.AskFault.{AskFault}
 use Rattle.misp_net.specs.declared.request.AskFault.TheVariants as stops
-use Rattle.misp_net.specs.Route.{route_of}
+use Rattle.misp_net.specs.Route.{path_of, path_route, method_of, by_method, route_of, permission_of}
 use Rattle.misp_net.specs.Hosts.{Host, host_of}
 use Rattle.misp_net.specs.Request.{Reading, Gives, bare, json_in, json_or_refusal, added, added_by, asked, ask_of}
+use Rattle.misp_net.proofs.Forms.{allowed}
 use Rattle.misp_net.specs.Answering.{Asked, caller_in, by_body, by_route, form_of, fault_reply, reply_by, IsReplied}
 
 -- an ask is answered by the instance
-pub by_step : (n : ℕ) (i : Standing) (now : ℕ) (form : Reading Asked) (asked : Asked) (reply : Reply) (old new : Option Held)
-    → form ≡ Ok asked → IfSome old (λ held. IsAnswered n (site_at i asked.0 now) asked.1 held reply new)
-    → IfSome old (λ held. IsReplied n (host_of i) now form held reply new)
-by_step n i now form asked reply None new is answered = tt
-by_step n i now form asked reply (Some held) new is answered =
-    subst (λ f. IsReplied n (host_of i) now f held reply new) (sym is)
+pub by_step : (n : ℕ) (i : Standing) (now : ℕ) (request : RequestData) (word : ℕ) (admin : Admin) (asked : Asked) (reply : Reply) (old new : Option Held)
+    → admin ≡ i.admin → form_of admin request word ≡ Ok asked → IfSome old (λ held. IsAnswered n (site_at i asked.0 now) asked.1 held reply new)
+    → IfSome old (λ held. IsReplied n (host_of i) now (form_of i.admin request word) held reply new)
+by_step n i now request word admin asked reply None new same is answered = tt
+by_step n i now request word admin asked reply (Some held) new same is answered =
+    subst (λ f. IsReplied n (host_of i) now f held reply new) (sym (subst (λ a. form_of a request word ≡ Ok asked) same is))
     (record { reply_is = answered.reply_is; left = answered.left; are_rows = answered.are_rows })
 
 -- a refusal by the form of a request comes from no keeper, and from memory only where memory ran out
@@ -61,20 +65,41 @@ added_by_form word (Err refusal) formed = formed
 ask_by_form : (route : Route) (body : List ℕ) (word : ℕ) → ByForm (ask_of route body word)
 unfolding added json_in
 ask_by_form AddEvent body word = added_by_form word _ (value_by_form _)
-ask_by_form (ViewEvent event) body word = tt
+ask_by_form (ViewEvent event owner) body word = tt
 
-body_by_form : (caller : Caller) (ask : Reading Ask) → ByForm ask → ByForm (by_body caller ask)
-body_by_form caller (Ok ask) formed = tt
-body_by_form caller (Err refusal) formed = formed
+allowed_by_form : (may : Bool) (caller : Caller) (perm : Perm) (ask : Ask) → ByForm (allowed may caller perm ask)
+allowed_by_form true caller perm ask = tt
+allowed_by_form false caller perm ask = inl refl
 
-route_by_form : (route : Option Route) (caller : Option Caller) (body : List ℕ) (word : ℕ) → ByForm (by_route route caller body word)
-route_by_form None caller body word = inl refl
-route_by_form (Some route) None body word = inl refl
-route_by_form (Some route) (Some caller) body word = body_by_form caller (ask_of route body word) (ask_by_form route body word)
+body_by_form : (caller : Caller) (perm : Perm) (ask : Reading Ask) → ByForm ask → ByForm (by_body caller perm ask)
+body_by_form caller perm (Ok ask) formed = allowed_by_form (permits caller.role perm) caller perm ask
+body_by_form caller perm (Err refusal) formed = formed
+
+-- the rule of a path that is none, or of another method, stops no request
+abbrev ByRoute : Result Route RuleName → Type 0
+ByRoute (Ok route) = Unit {0}
+ByRoute (Err rule) = IsFormal (bare rule)
+
+method_by_form : (same : Bool) (route : Route) → ByRoute (if same then Ok route else Err rules.NoMethod)
+method_by_form true route = tt
+method_by_form false route = inl refl
+
+path_by_form : (method : List ℕ) (route : Option Route) → ByRoute (by_method method route)
+path_by_form method None = inl refl
+path_by_form method (Some route) = method_by_form (bytes_eq method (method_of route)) route
+
+target_by_form : (method target : List ℕ) → ByRoute (route_of method target)
+unfolding route_of
+target_by_form method target = path_by_form method (path_route (path_of target))
+
+route_by_form : (route : Result Route RuleName) (caller : Option Caller) (body : List ℕ) (word : ℕ) → ByRoute route → ByForm (by_route route caller body word)
+route_by_form (Err rule) caller body word formed = formed
+route_by_form (Ok route) None body word formed = inl refl
+route_by_form (Ok route) (Some caller) body word formed = body_by_form caller (permission_of route) (ask_of route body word) (ask_by_form route body word)
 
 form_by_form : (admin : Admin) (request : RequestData) (word : ℕ) → ByForm (form_of admin request word)
 unfolding form_of
-form_by_form admin request word = route_by_form (route_of request.method request.target) (caller_in admin request.key) request.body word
+form_by_form admin request word = route_by_form (route_of request.method request.target) (caller_in admin request.key) request.body word (target_by_form request.method request.target)
 
 -- such a refusal is the stated one
 formal_reply : (n : ℕ) (host : Host) (now : ℕ) (held : Held) (refusal : Refusal) → IsFormal refusal

@@ -5,7 +5,7 @@ use Rattle.std.proofs.lemmas.List.{get_or-set_same, get_or-set_other, set-get_or
 use Rattle.std.specs.Prelude.{ltb, slice_set}
 use Rattle.std.specs.List.{list_all}
 use Rattle.misp_elem.specs.Row.{AreRows}
-use Rattle.misp_orgs.specs.declared.key.Caller.{Caller}
+use Rattle.misp_orgs.specs.Keys.{CallerFields as Caller}
 use Rattle.misp_outside.specs.Held.{Held, nothing_held}
 use Rattle.misp_script.specs.Step.{DeedData, IsPlaced}
 use Rattle.misp_script.specs.Step as deeds

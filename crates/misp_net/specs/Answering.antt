@@ -1,12 +1,15 @@
 -- What a request is by its form, and what it is replied.
-use Rattle.std.specs.Prelude.{◌≡◌, ℕ, List, [], Option, Some, None, Ok, Err, if◌then◌else◌}
+use Rattle.std.specs.Prelude.{◌≡◌, ℕ, List, [], Option, Some, None, Result, Ok, Err, if◌then◌else◌}
 use Rattle.misp_ids.specs.Names.{is_api_key}
 use Rattle.misp_elem.specs.declared.refusal.Refusal.{Refusal}
+use Rattle.misp_elem.specs.declared.refusal.RuleName.{RuleName}
 use Rattle.misp_elem.specs.declared.refusal.RuleName.TheVariants as rules
 use Rattle.misp_elem.specs.declared.row.RowFields.{RowFields as Row}
 use Rattle.misp_elem.specs.Row.{AreRows}
-use Rattle.misp_orgs.specs.declared.admin.Admin.{Admin}
-use Rattle.misp_orgs.specs.declared.key.Caller.{Caller}
+use Rattle.misp_orgs.specs.Admin.{AdminFields as Admin}
+use Rattle.misp_orgs.specs.Keys.{CallerFields as Caller}
+use Rattle.misp_orgs.specs.declared.role.Perm.{Perm}
+use Rattle.misp_orgs.specs.Roles.{permits, perm_name}
 use Rattle.misp_orgs.specs.Admin.{who_of}
 use Rattle.misp_outside.specs.Held.{Held}
 use Rattle.misp_requests.specs.declared.ask.Ask.{Ask}
@@ -19,7 +22,7 @@ use Rattle.misp_net.specs.declared.route.Route.{Route}
 use Rattle.misp_net.specs.declared.request.AskFault.{AskFault}
 use Rattle.misp_net.specs.declared.request.AskFault.TheVariants as stops
 use Rattle.misp_net.specs.Hosts.{Host}
-use Rattle.misp_net.specs.Route.{route_of}
+use Rattle.misp_net.specs.Route.{route_of, permission_of}
 use Rattle.misp_net.specs.Request.{Reading, bare, ask_of}
 
 -- who asks with a text as key, which may be none that a key could be
@@ -31,19 +34,28 @@ caller_in admin (Some text) = if is_api_key text then who_of admin text else Non
 abbrev pub Asked : Type 0
 Asked = Caller × Ask
 
-abbrev pub by_body : Caller → Reading Ask → Reading Asked
-by_body caller (Ok ask) = Ok (caller, ask)
-by_body caller (Err refusal) = Err refusal
+-- the refusal of what a role does not permit
+abbrev pub no_permission : Perm → Refusal
+no_permission perm = record { name = rules.NoPermission; place = perm_name perm }
+
+-- what is asked, where the role of the caller permits it
+abbrev pub permitted : Caller → Perm → Ask → Reading Asked
+permitted caller perm ask = if permits caller.role perm then Ok (caller, ask) else Err (no_permission perm)
+
+abbrev pub by_body : Caller → Perm → Reading Ask → Reading Asked
+by_body caller perm (Ok ask) = permitted caller perm ask
+by_body caller perm (Err refusal) = Err refusal
 
 abbrev pub by_key : Option Caller → Route → List ℕ → ℕ → Reading Asked
 by_key None route body word = Err (bare rules.NoKey)
-by_key (Some caller) route body word = by_body caller (ask_of route body word)
+by_key (Some caller) route body word = by_body caller (permission_of route) (ask_of route body word)
 
-abbrev pub by_route : Option Route → Option Caller → List ℕ → ℕ → Reading Asked
-by_route None caller body word = Err (bare rules.NoRoute)
-by_route (Some route) caller body word = by_key caller route body word
+abbrev pub by_route : Result Route RuleName → Option Caller → List ℕ → ℕ → Reading Asked
+by_route (Err rule) caller body word = Err (bare rule)
+by_route (Ok route) caller body word = by_key caller route body word
 
--- what a request is by its form: first its route must be one, then its key, then its body
+-- what a request is by its form: first its route must be one, then its key, then its body, and last the role of its
+-- caller must permit it
 unfoldable pub form_of : Admin → RequestData → ℕ → Reading Asked
 form_of admin request word = by_route (route_of request.method request.target) (caller_in admin request.key) request.body word
 

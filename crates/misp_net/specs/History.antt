@@ -3,7 +3,7 @@ use Rattle.std.specs.Prelude.{◌≡◌, ℕ, suc, ◌<◌, Bool, true, false, l
 use Rattle.std.specs.List.{list_all}
 use Rattle.misp_ids.specs.declared.uid.OrgId.{OrgId}
 use Rattle.misp_elem.specs.declared.refusal.RuleName.TheVariants as rules
-use Rattle.misp_orgs.specs.declared.key.Caller.{Caller}
+use Rattle.misp_orgs.specs.Keys.{CallerFields as Caller}
 use Rattle.misp_outside.specs.Held.{nothing_held}
 use Rattle.misp_script.specs.Step.{DeedData, RequestData}
 use Rattle.misp_script.specs.Step as deeds

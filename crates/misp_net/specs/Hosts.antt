@@ -2,7 +2,7 @@
 use Rattle.std.specs.Prelude.{◌≡◌, ℕ, List, [], map, slice_index, slice_index_or}
 use Rattle.std.specs.declared.option.Option.{Option}
 use Rattle.std.specs.declared.option.Option.TheVariants.{Some}
-use Rattle.misp_orgs.specs.declared.admin.Admin.{Admin}
+use Rattle.misp_orgs.specs.Admin.{AdminFields as Admin}
 use Rattle.misp_outside.specs.Held.{Held, nothing_held}
 use Rattle.misp_script.specs.declared.description.Description.{Description}
 use Rattle.misp_script.specs.declared.description.Entry.{Entry}
@@ -27,7 +27,7 @@ abbrev pub described_hosts : Description → List Host
 described_hosts net = map described_host net.instances
 
 abbrev pub nobody : Host
-nobody = record { name = []; admin = record { orgs = []; keys = [] } }
+nobody = record { name = []; admin = record { orgs = []; keys = []; links = [] } }
 
 -- the instance of a place
 abbrev pub host_at : ℕ → List Host → Host

@@ -70,4 +70,4 @@ added body word = added_by word (json_in body)
 -- what a request of this route asks
 abbrev pub ask_of : Route → List ℕ → ℕ → Reading Ask
 ask_of AddEvent body word = added body word
-ask_of (ViewEvent event) body word = Ok (View event None)
+ask_of (ViewEvent event owner) body word = Ok (View event owner)

@@ -1,10 +1,18 @@
--- Which request a method and a target are.
-use Rattle.std.specs.Prelude.{ℕ, ◌==◌, ◌&&◌, Bool, List, take, drop, position, codes, bytes_eq, Option, Some, None, option_map, if◌then◌else◌}
+-- Which request a method and a target are, and what a role has to permit for it.
+use Rattle.std.specs.Prelude.{ℕ, ◌+◌, ◌==◌, Bool, List, take, drop, position, codes, bytes_eq, Option, Some, None, option_map, Result, Ok, Err, if◌then◌else◌}
 use Rattle.std.specs.Option.{option_map_or}
+use Rattle.misp_ids.specs.declared.uid.Uid.{Uid}
 use Rattle.misp_ids.specs.declared.uid.EventId.{EventId}
+use Rattle.misp_ids.specs.declared.uid.OrgId.{OrgId}
 use Rattle.misp_ids.specs.Uid.{read_uid}
+use Rattle.misp_elem.specs.declared.refusal.RuleName.{RuleName}
+use Rattle.misp_elem.specs.declared.refusal.RuleName.TheVariants.{NoRoute, NoMethod}
+use Rattle.misp_orgs.specs.declared.role.Perm.{Perm}
+use Rattle.misp_orgs.specs.declared.role.Perm.TheVariants.{Read, Write}
 use Rattle.misp_net.specs.declared.route.Route.{Route}
 use Rattle.misp_net.specs.declared.route.Route.TheVariants.{AddEvent, ViewEvent}
+
+-- ---- targets
 
 abbrev pub is_question_mark : ℕ → Bool
 is_question_mark byte = byte == 63
@@ -13,14 +21,55 @@ is_question_mark byte = byte == 63
 abbrev pub path_of : List ℕ → List ℕ
 path_of target = option_map_or (λ at. take at target) (position is_question_mark target) target
 
--- the event of a path `/events/view/{event}`
-abbrev pub event_in : List ℕ → Option EventId
-event_in path =
-    if bytes_eq (take 13 path) (codes "/events/view/") then option_map (λ u. record { 0 = u }) (read_uid (drop 13 path)) else None
+-- ---- paths
 
--- `POST /events/add` and `GET /events/view/{event}`, whatever stands behind a `?`
-unfoldable pub route_of : List ℕ → List ℕ → Option Route
-route_of method target =
-    if bytes_eq method (codes "POST") && bytes_eq (path_of target) (codes "/events/add") then Some AddEvent
-    else if bytes_eq method (codes "GET") then option_map ViewEvent (event_in (path_of target))
-    else None
+abbrev pub is_slash : ℕ → Bool
+is_slash byte = byte == 47
+
+-- the view of an event: the chosen copy, or that of an owner
+abbrev pub view_of : Uid → Option OrgId → Route
+view_of event owner = ViewEvent (record { 0 = event }) owner
+
+-- the owner must be one
+abbrev pub with_owner : Uid → Option Uid → Option Route
+with_owner event owner = option_map (λ org. view_of event (Some (record { 0 = org }))) owner
+
+-- and so must the event
+abbrev pub owned_view : Option Uid → Option Uid → Option Route
+owned_view None owner = None
+owned_view (Some event) owner = with_owner event owner
+
+-- of a text that is an event, or an event and an owner with the first `/` between them
+abbrev pub view_at : List ℕ → Option ℕ → Option Route
+view_at text None = option_map (λ event. view_of event None) (read_uid text)
+view_at text (Some at) = owned_view (read_uid (take at text)) (read_uid (drop (at + 1) text))
+
+-- what is viewed by a path `/events/view/{event}` or `/events/view/{event}/{owner}`
+abbrev pub view_in : List ℕ → Option Route
+view_in path =
+    if bytes_eq (take 13 path) (codes "/events/view/") then view_at (drop 13 path) (position is_slash (drop 13 path)) else None
+
+-- what a path is for
+unfoldable pub path_route : List ℕ → Option Route
+path_route path = if bytes_eq path (codes "/events/add") then Some AddEvent else view_in path
+
+-- ---- routes
+
+-- by which method it is asked for
+abbrev pub method_of : Route → List ℕ
+method_of AddEvent = codes "POST"
+method_of (ViewEvent event owner) = codes "GET"
+
+-- the path must be for something, and the method be its own
+abbrev pub by_method : List ℕ → Option Route → Result Route RuleName
+by_method method None = Err NoRoute
+by_method method (Some route) = if bytes_eq method (method_of route) then Ok route else Err NoMethod
+
+-- the route of a path and its method, whatever stands behind a `?`; a path that is none, or another method, is refused
+unfoldable pub route_of : List ℕ → List ℕ → Result Route RuleName
+route_of method target = by_method method (path_route (path_of target))
+
+-- what a role has to permit for it
+abbrev pub permission_of : Route → Perm
+permission_of AddEvent = Write
+permission_of (ViewEvent event owner) = Read

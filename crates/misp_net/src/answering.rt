@@ -1,20 +1,20 @@
 //! Answers a request at an instance.
 
-ghost use Rattle.std.specs.Prelude.{◌≡◌, ℕ, IfOk, IfSome, option_map};
+ghost use Rattle.std.specs.Prelude.{◌≡◌, ℕ, Err, IfOk, IfSome, option_map};
 ghost use Rattle.misp_outside.specs.Causes.{HasCause};
 ghost use Rattle.misp_script.specs.Step.{request_data};
 ghost use Rattle.misp_core.specs.Answers.{IsBuilt};
 ghost use Rattle.misp_core.specs.Outcome.{ByKeeper, outcome_of, IsRefused};
-ghost use Rattle.misp_net.specs.Answering.{caller_in, form_of, fault_reply, IsReplied};
+ghost use Rattle.misp_net.specs.Answering.{Asked, caller_in, no_permission, permitted, form_of, fault_reply, IsReplied};
 ghost use Rattle.misp_net.specs.Hosts.{host_of};
-ghost use Rattle.misp_net.specs.Request.{Gives};
+ghost use Rattle.misp_net.specs.Request.{Reading, Gives};
 
 use crate::request::{AskFault, bare, read_ask};
 use crate::route::Route;
 use misp_core::{Instance, Reply};
-use misp_elem::RuleName;
-use misp_ids::{ApiKey, Stamp};
-use misp_orgs::{Admin, Caller};
+use misp_elem::{Refusal, RuleName};
+use misp_ids::{ApiKey, Stamp, Text};
+use misp_orgs::{Admin, Caller, Perm, may};
 use misp_outside::Keeper;
 use misp_requests::Ask;
 use misp_script::RequestLine;
@@ -32,7 +32,32 @@ fn caller(admin: &Admin, key: &Option<&str>) -> Option<Caller>
     }
 }
 
-// The ask of a request, and whose it is: first its route must be one, then its key, then its body.
+fn no_permission(alloc: Global, perm: Perm) -> AskFault
+    ensures { (read : Reading Asked) → read ≡ Err (no_permission perm) → Gives (Err result) read }
+{
+    match String::from_str(alloc, perm.text()) {
+        Ok(name) => AskFault::Refused(Refusal {
+            name: RuleName::NoPermission,
+            place: Text::of(name),
+        }),
+        Err(_) => AskFault::NoMemory,
+    }
+}
+
+// What is asked, where the role of the caller permits it.
+fn permitted(alloc: Global, caller: Caller, perm: Perm, ask: Ask) -> Result<(Caller, Ask), AskFault>
+    ensures form { Gives result (permitted caller perm ask) }
+    ensures ask { IfOk result (λ asked. asked.1 ≡ ask) }
+{
+    if may(caller.role, perm) {
+        Ok((caller, ask))
+    } else {
+        Err(no_permission(alloc, perm))
+    }
+}
+
+// The ask of a request, and whose it is: first its route must be one, then its key, then its body,
+// and last the role of its caller must permit it.
 #[tactic(auto, unfolding(crate::specs::Answering::form_of))]
 fn form(
     alloc: Global,
@@ -43,14 +68,15 @@ fn form(
     ensures form { Gives result (form_of admin.now (request_data request.now) word) }
     ensures built { IfOk result (λ asked. IsBuilt asked.1) }
 {
-    let Some(route) = Route::of(request.method, request.target) else {
-        return Err(AskFault::Refused(bare(alloc, RuleName::NoRoute)));
+    let route = match Route::of(request.method, request.target) {
+        Ok(route) => route,
+        Err(rule) => return Err(AskFault::Refused(bare(alloc, rule))),
     };
     let Some(caller) = caller(admin, &request.key) else {
         return Err(AskFault::Refused(bare(alloc, RuleName::NoKey)));
     };
     match read_ask(alloc, route, request.body, word) {
-        Ok(ask) => Ok((caller, ask)),
+        Ok(ask) => permitted(alloc, caller, route.permission(), ask),
         Err(fault) => Err(fault),
     }
 }

@@ -115,6 +115,6 @@ pub fn read_ask(alloc: Global, route: Route, body: &[u8], word: u128) -> Result<
 {
     match route {
         Route::AddEvent => added(alloc, body, word),
-        Route::ViewEvent(event) => Ok(Ask::View { event, owner: None }),
+        Route::ViewEvent(event, owner) => Ok(Ask::View { event, owner }),
     }
 }

@@ -1,15 +1,18 @@
 //! Routes.
 
-ghost use Rattle.std.specs.Prelude.{◌≡◌, ℕ, codes, option_map};
-ghost use Rattle.misp_net.specs.Route.{route_of, path_of, event_in};
+ghost use Rattle.std.specs.Prelude.{◌≡◌, position};
+ghost use Rattle.misp_net.specs.Route.{path_of, view_at, view_in, path_route, method_of, route_of, permission_of, is_slash};
 
-use misp_ids::{EventId, Uid};
+use misp_elem::RuleName;
+use misp_ids::{EventId, OrgId, Uid};
+use misp_orgs::Perm;
 
 /// What a request asks for, by its method and path.
 #[derive(Clone, Copy, Debug, PartialEq, Eq)]
 pub enum Route {
     AddEvent,
-    ViewEvent(EventId),
+    /// An event: the chosen copy, or that of this owner.
+    ViewEvent(EventId, Option<OrgId>),
 }
 
 /// What stands before the first `?`.
@@ -22,31 +25,78 @@ fn path_of(target: &str) -> &str
     }
 }
 
-fn event_in(path: &str) -> Option<EventId>
-    ensures { result ≡ event_in path.now }
+// The view of an event, or of the copy of an owner.
+fn view_at(text: &str) -> Option<Route>
+    ensures { result ≡ view_at text.now (position is_slash text.now) }
+{
+    match text.split_once('/') {
+        Some((event, owner)) => match (Uid::read(event), Uid::read(owner)) {
+            (Some(event), Some(owner)) => {
+                Some(Route::ViewEvent(EventId(event), Some(OrgId(owner))))
+            }
+            _ => None,
+        },
+        None => match Uid::read(text) {
+            Some(event) => Some(Route::ViewEvent(EventId(event), None)),
+            None => None,
+        },
+    }
+}
+
+fn view_in(path: &str) -> Option<Route>
+    ensures { result ≡ view_in path.now }
 {
     match path.strip_prefix("/events/view/") {
-        Some(text) => Uid::read(text).map(EventId),
+        Some(text) => view_at(text),
         None => None,
     }
 }
 
+#[tactic(auto, unfolding(crate::specs::Route::path_route))]
+fn path_route(path: &str) -> Option<Route>
+    ensures { result ≡ path_route path.now }
+{
+    if path == "/events/add" {
+        Some(Route::AddEvent)
+    } else {
+        view_in(path)
+    }
+}
+
 impl Route {
-    /// The route of a method and a target, if there is one.
+    fn method(self) -> &'static str
+        ensures { result.now ≡ method_of self }
+    {
+        match self {
+            Route::AddEvent => "POST",
+            Route::ViewEvent(_, _) => "GET",
+        }
+    }
+
+    /// The route of a method and a target, or the rule by which they are refused.
     #[tactic(auto, unfolding(crate::specs::Route::route_of))]
-    pub fn of(method: &str, target: &str) -> Option<Route>
+    pub fn of(method: &str, target: &str) -> Result<Route, RuleName>
         ensures { result ≡ route_of method.now target.now }
     {
-        let path = path_of(target);
-        if method == "POST" && path == "/events/add" {
-            return Some(Route::AddEvent);
+        match path_route(path_of(target)) {
+            Some(route) => {
+                if method == route.method() {
+                    Ok(route)
+                } else {
+                    Err(RuleName::NoMethod)
+                }
+            }
+            None => Err(RuleName::NoRoute),
         }
-        if method != "GET" {
-            return None;
-        }
-        match event_in(path) {
-            Some(event) => Some(Route::ViewEvent(event)),
-            None => None,
+    }
+
+    /// What a role has to permit for it.
+    pub fn permission(self) -> Perm
+        ensures { result ≡ permission_of self }
+    {
+        match self {
+            Route::AddEvent => Perm::Write,
+            Route::ViewEvent(_, _) => Perm::Read,
         }
     }
 }

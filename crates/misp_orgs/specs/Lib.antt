@@ -1,2 +1,5 @@
 pub mod Admin
+pub mod Keys
+pub mod Order
 pub mod Org
+pub mod Roles

@@ -11,7 +11,7 @@ pub record OrgFields : Type 0 where
 abbrev pub IsOrg : OrgFields → Type 0
 IsOrg o = length o.name ≤ NAME_LIMIT
 
--- the first organisation of this uuid
+-- the organisation of this uuid
 abbrev pub org_of : List OrgFields → OrgId → Option OrgFields
 org_of orgs uuid = find (λ o. o.uuid.0.0 == uuid.0.0) orgs
 

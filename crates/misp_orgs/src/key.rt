@@ -1,20 +1,12 @@
-//! Keys, and what they permit.
+//! Keys, and who asks with them.
 
+use crate::role::Role;
 use misp_ids::{ApiKey, InstId, OrgId};
-
-/// What a key permits.
-#[derive(Clone, Copy, Debug, PartialEq, Eq)]
-pub enum Role {
-    Reader,
-    User,
-    Publisher,
-    OrgAdmin,
-    /// For the synchronisation with another instance.
-    Sync,
-    SiteAdmin,
-}
+use std::marker::Model;
 
 /// A key of an organisation at an instance.
+///
+/// A contract sees it as its fields.
 #[derive(Clone, Copy, Debug, PartialEq, Eq)]
 pub struct KeyRecord {
     pub key: ApiKey,
@@ -24,9 +16,37 @@ pub struct KeyRecord {
     pub partner: Option<InstId>,
 }
 
+impl Model for KeyRecord {
+    ghost use Rattle.misp_orgs.specs.Keys.{KeyFields, IsKey};
+
+    ghost Value = { KeyFields };
+
+    ghost view = { λ k. record { key = k.key; org = k.org; role = k.role; partner = k.partner } };
+
+    ghost invariant = { λ k. IsKey (record { key = k.key; org = k.org; role = k.role; partner = k.partner }) };
+
+    ghost inverse = { λ v. record { key = v.key; org = v.org; role = v.role; partner = v.partner } };
+}
+
 /// Who asks.
+///
+/// A contract sees it as its fields.
 #[derive(Clone, Copy, Debug, PartialEq, Eq)]
 pub struct Caller {
     pub org: OrgId,
     pub role: Role,
+    /// The instance that asks with a key for synchronisation.
+    pub partner: Option<InstId>,
+}
+
+impl Model for Caller {
+    ghost use Rattle.misp_orgs.specs.Keys.{CallerFields, IsCaller};
+
+    ghost Value = { CallerFields };
+
+    ghost view = { λ c. record { org = c.org; role = c.role; partner = c.partner } };
+
+    ghost invariant = { λ c. IsCaller (record { org = c.org; role = c.role; partner = c.partner }) };
+
+    ghost inverse = { λ v. record { org = v.org; role = v.role; partner = v.partner } };
 }

@@ -1,10 +1,14 @@
-//! What is set up at an instance: its organisations, and the keys by which they ask.
+//! What is set up at an instance: its organisations, the keys by which they ask, and its links.
 #![tactic(auto)]
 
 mod admin;
 mod key;
+mod link;
 mod org;
+mod role;
 
 pub use admin::Admin;
-pub use key::{Caller, KeyRecord, Role};
+pub use key::{Caller, KeyRecord};
+pub use link::Link;
 pub use org::{NAME_LIMIT, Org};
+pub use role::{Perm, Role, may};

@@ -1,6 +1,10 @@
 mod Cutting
 mod Digits
+mod Distinct
 mod Documents
+mod Lookups
 mod Marks
+mod Parts
+mod Steps
 mod Visible
-pub mod Few
+pub mod Nets

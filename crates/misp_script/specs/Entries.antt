@@ -1,8 +1,8 @@
 -- The entries of a list of tables, and their members.
-use Rattle.std.specs.Prelude.{ℕ, ◌+◌, Bool, List, [], ◌∷◌, ◌++◌, codes, decimal, bytes_eq, Option, is_some, Ok, ⊤, if◌then◌else◌}
+use Rattle.std.specs.Prelude.{ℕ, ◌+◌, Bool, List, [], ◌∷◌, ◌++◌, codes, decimal, bytes_eq, Option, is_some, None, Ok, ⊤, if◌then◌else◌}
 use Rattle.std.specs.List.{list_any}
 use Rattle.std.specs.Option.{option_map_or}
-use Rattle.toml.specs.Data.{Data, Members, no_members, member, get, as_str, as_table}
+use Rattle.toml.specs.Data.{Data, Members, no_members, member, get, as_str, as_bool, as_table}
 use Rattle.toml.specs.View.{view}
 use Rattle.misp_script.specs.declared.fault.DescNeed.{DescNeed}
 use Rattle.misp_script.specs.declared.fault.DescNeed.TheVariants as needs
@@ -47,6 +47,18 @@ text_at it name = option_map_or (text_of (member_path it.path name)) (get name i
 -- the text of a member, which is empty where there is none
 abbrev pub text_or_none_at : Body → List ℕ → Reading (List ℕ)
 text_or_none_at it name = option_map_or (text_of (member_path it.path name)) (get name it.value) (Ok [])
+
+-- the text of a member, if it has one
+abbrev pub text_in : Body → List ℕ → Option (List ℕ)
+text_in it name = option_map_or as_str (get name it.value) None
+
+-- a flag at a member's path
+abbrev pub flag_of : List ℕ → Data → Reading Bool
+flag_of path d = or_bad path needs.Flag (as_bool d)
+
+-- the flag of a member, or what it is where there is none
+abbrev pub flag_or_at : Body → List ℕ → Bool → Reading Bool
+flag_or_at it name other = option_map_or (flag_of (member_path it.path name)) (get name it.value) (Ok other)
 
 -- what a member says, or its need
 abbrev pub said : {A : Type 0} → Body → List ℕ → DescNeed → Option A → Reading A

@@ -19,7 +19,6 @@ need_name needs.Key = codes "key"
 need_name needs.Role = codes "role"
 need_name needs.Known = codes "known"
 need_name needs.Distinct = codes "distinct"
-need_name needs.Later = codes "later"
 
 -- a value, or the first fault
 abbrev pub Reading : Type 0 → Type 0

@@ -1,22 +1,23 @@
 -- What a description says: the first fault of the whole, or its instances.
-use Rattle.std.specs.Prelude.{ℕ, ◌+◌, ◌==◌, ◌&&◌, Bool, true, false, not, nat_lt, List, [], ◌∷◌, length, map, filter, codes, bytes_eq, Ok, is_some, if◌then◌else◌, ⊤}
+use Rattle.std.specs.Prelude.{ℕ, ◌&&◌, Bool, true, false, nat_lt, List, [], ◌∷◌, length, map, filter, codes, bytes_eq, Ok, is_some, if◌then◌else◌, ⊤}
 use Rattle.std.specs.Option.{option_map_or}
 use Rattle.std.specs.Str.{is_utf8}
 use Rattle.toml.specs.Data.{Data, Items, no_items, item, Members, no_members, member, get_member, as_array, as_table}
 use Rattle.toml.specs.Parse.{parse_document}
-use Rattle.misp_orgs.specs.declared.key.Role.{Role}
-use Rattle.misp_orgs.specs.declared.key.Role.TheVariants as roles
-use Rattle.misp_orgs.specs.declared.key.KeyRecord.{KeyRecord}
+use Rattle.misp_orgs.specs.declared.link.Link.{Link}
+use Rattle.misp_orgs.specs.Keys.{KeyFields}
+use Rattle.misp_orgs.specs.Admin.{AreDistinct, admin_of}
 use Rattle.misp_orgs.specs.Org.{OrgFields}
 use Rattle.misp_script.specs.declared.description.Description.{Description}
 use Rattle.misp_script.specs.declared.description.Entry.{Entry}
 use Rattle.misp_script.specs.declared.description.Host.{Host}
 use Rattle.misp_script.specs.declared.description.HostKey.{HostKey}
+use Rattle.misp_script.specs.declared.description.HostLink.{HostLink}
 use Rattle.misp_script.specs.declared.document.TheConstants.{ORG_LIMIT, INSTANCE_LIMIT, KEY_LIMIT, LINK_LIMIT}
 use Rattle.misp_script.specs.declared.fault.DescNeed.TheVariants as needs
 use Rattle.misp_script.specs.Faults.{Reading, ◌>>=◌, bad, or_bad, bad_if}
-use Rattle.misp_script.specs.Entries.{entry_path, member_path, named_among, each}
-use Rattle.misp_script.specs.Tables.{next_org, next_host, next_key}
+use Rattle.misp_script.specs.Entries.{named_among, each}
+use Rattle.misp_script.specs.Tables.{next_org, next_host, next_key, next_link}
 
 -- ---- the text
 
@@ -68,36 +69,27 @@ within_limits ms = do
   keys ← at_most KEY_LIMIT (codes "key") (entries_at (codes "key") ms)
   at_most LINK_LIMIT (codes "link") (entries_at (codes "link") ms)
 
--- ---- what is not read yet
-
-abbrev pub is_publisher : Role → Bool
-is_publisher roles.Publisher = true
-is_publisher role = false
-
--- each key from this number on is a publisher's
-abbrev pub publishers : ℕ → List HostKey → Reading ⊤
-publishers n [] = Ok tt
-publishers n (k ∷ ks) = if is_publisher k.key.role then publishers (n + 1) ks else bad (member_path (entry_path (codes "key") n) (codes "role")) needs.Later
-
--- no link, one instance, and only publishers
-abbrev pub read_now : List Data → List Host → List HostKey → Reading ⊤
-read_now links hosts keys = do
-  no_link ← bad_if (nat_lt 0 (length links)) (codes "link") needs.Later
-  one ← bad_if (not (length hosts == 1)) (codes "instance") needs.Later
-  publishers 0 keys
-
 -- ---- the whole
 
 -- the keys of the instance of this name
-abbrev pub keys_of : List HostKey → List ℕ → List KeyRecord
+abbrev pub keys_of : List HostKey → List ℕ → List KeyFields
 keys_of keys name = map (λ k. k.key) (filter (λ k. bytes_eq k.at name) keys)
 
--- an instance knows every organisation, and its keys are those of its name
-abbrev pub instance_of : List OrgFields → List HostKey → Host → Entry
-instance_of orgs keys host = record { name = host.name; address = host.address; admin = record { orgs = orgs; keys = keys_of keys host.name } }
+-- its links
+abbrev pub links_of : List HostLink → List ℕ → List Link
+links_of links name = map (λ l. l.link) (filter (λ l. bytes_eq l.at name) links)
 
-abbrev pub instances_of : List OrgFields → List HostKey → List Host → List Entry
-instances_of orgs keys hosts = map (instance_of orgs keys) hosts
+-- at no instance an identifier, a key or the name of a link stands twice
+abbrev pub AreApart : List OrgFields → List HostKey → List HostLink → Type 0
+AreApart orgs keys links = (name : List ℕ) → AreDistinct orgs (keys_of keys name) (links_of links name)
+
+-- an instance knows every organisation; its keys and links are those of its name
+abbrev pub instance_of : List OrgFields → List HostKey → List HostLink → Host → Entry
+instance_of orgs keys links host =
+    record { name = host.name; address = host.address; admin = admin_of orgs (keys_of keys host.name) (links_of links host.name) }
+
+abbrev pub instances_of : List OrgFields → List HostKey → List HostLink → List Host → List Entry
+instances_of orgs keys links hosts = map (instance_of orgs keys links) hosts
 
 unfoldable pub network_at : Members → Reading Description
 network_at ms = do
@@ -106,8 +98,8 @@ network_at ms = do
   orgs ← each next_org 0 [] (entries_at (codes "org") ms)
   hosts ← each next_host 0 [] (entries_at (codes "instance") ms)
   keys ← each (next_key orgs hosts) 0 [] (entries_at (codes "key") ms)
-  now ← read_now (entries_at (codes "link") ms) hosts keys
-  Ok (record { instances = instances_of orgs keys hosts })
+  links ← each (next_link orgs hosts) 0 [] (entries_at (codes "link") ms)
+  Ok (record { instances = instances_of orgs keys links hosts })
 
 -- what the bytes of a description say
 unfoldable pub description_at : List ℕ → Reading Description

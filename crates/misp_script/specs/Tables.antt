@@ -1,6 +1,7 @@
 -- THE TABLES of a description: the members of each, in the order in which they are read.
-use Rattle.std.specs.Prelude.{ℕ, ◌==◌, ◌&&◌, Bool, not, nat_le, nat_lt, List, [], ◌∷◌, ◌++◌, length, codes, bytes_eq, find, Option, Some, None, option_map, Ok, if◌then◌else◌}
+use Rattle.std.specs.Prelude.{ℕ, ◌==◌, ◌&&◌, Bool, not, nat_le, nat_lt, List, [], ◌∷◌, ◌++◌, length, codes, bytes_eq, find, Option, Some, None, option_map, is_some, true, false, Ok, if◌then◌else◌}
 use Rattle.std.specs.List.{list_any}
+use Rattle.std.specs.Option.{option_map_or}
 use Rattle.std.specs.Str.{chars}
 use Rattle.std.specs.Char.{is_control}
 use Rattle.toml.specs.Data.{Data}
@@ -8,15 +9,16 @@ use Rattle.misp_ids.specs.declared.uid.Uid.{Uid}
 use Rattle.misp_ids.specs.declared.uid.OrgId.{OrgId}
 use Rattle.misp_ids.specs.Uid.{read_uid}
 use Rattle.misp_ids.specs.Names.{is_inst_name, is_api_key}
-use Rattle.misp_orgs.specs.declared.key.Role.{Role}
-use Rattle.misp_orgs.specs.declared.key.Role.TheVariants as roles
+use Rattle.misp_orgs.specs.declared.role.Role.{Role}
+use Rattle.misp_orgs.specs.declared.role.Role.TheVariants as roles
 use Rattle.misp_orgs.specs.declared.org.TheConstants.{NAME_LIMIT}
 use Rattle.misp_orgs.specs.Org.{OrgFields}
 use Rattle.misp_script.specs.declared.description.Host.{Host}
 use Rattle.misp_script.specs.declared.description.HostKey.{HostKey}
+use Rattle.misp_script.specs.declared.description.HostLink.{HostLink}
 use Rattle.misp_script.specs.declared.fault.DescNeed.TheVariants as needs
 use Rattle.misp_script.specs.Faults.{Reading, ◌>>=◌}
-use Rattle.misp_script.specs.Entries.{Body, entry_of, has, text_at, text_or_none_at, said, refused_if, no_other}
+use Rattle.misp_script.specs.Entries.{Body, entry_of, has, text_in, text_at, text_or_none_at, flag_or_at, said, refused_if, no_other}
 
 -- ---- organisations
 
@@ -27,11 +29,17 @@ is_org_name text = nat_lt 0 (length text) && nat_le (length text) NAME_LIMIT && 
 abbrev pub org_name_of : List ℕ → Option (List ℕ)
 org_name_of text = if is_org_name text then Some text else None
 
-abbrev pub has_name : List OrgFields → List ℕ → Bool
-has_name orgs name = list_any (λ o. bytes_eq o.name name) orgs
+-- the organisation of this name
+abbrev pub org_named : List OrgFields → List ℕ → Option OrgId
+org_named orgs text = option_map (λ o. o.uuid) (find (λ o. bytes_eq o.name text) orgs)
 
-abbrev pub has_uuid : List OrgFields → Uid → Bool
-has_uuid orgs uuid = list_any (λ o. o.uuid.0.0 == uuid.0) orgs
+-- there is one
+abbrev pub has_name : List OrgFields → List ℕ → Bool
+has_name orgs name = is_some (org_named orgs name)
+
+-- one has the identifier of this number
+abbrev pub has_number : List OrgFields → ℕ → Bool
+has_number orgs number = list_any (λ o. o.uuid.0.0 == number) orgs
 
 abbrev pub org_name_at : Body → Reading (List ℕ)
 org_name_at it = text_at it (codes "name") >>= λ text. said it (codes "name") needs.Name (org_name_of text)
@@ -44,7 +52,7 @@ org_at before it = do
   name ← org_name_at it
   new_name ← refused_if (has_name before name) it (codes "name") needs.Distinct
   uuid ← uuid_at it
-  new_uuid ← refused_if (has_uuid before uuid) it (codes "uuid") needs.Distinct
+  new_uuid ← refused_if (has_number before uuid.0) it (codes "uuid") needs.Distinct
   no_more ← no_other it (codes "name" ∷ codes "uuid" ∷ [])
   Ok (record { uuid = record { 0 = uuid }; name = name })
 
@@ -92,10 +100,6 @@ role_of text =
 abbrev pub host_of : List Host → List ℕ → Option (List ℕ)
 host_of hosts text = option_map (λ h. h.name) (find (λ h. bytes_eq h.name text) hosts)
 
--- the organisation of this name
-abbrev pub org_named : List OrgFields → List ℕ → Option OrgId
-org_named orgs text = option_map (λ o. o.uuid) (find (λ o. bytes_eq o.name text) orgs)
-
 -- the instance has the key
 abbrev pub has_key : List HostKey → List ℕ → List ℕ → Bool
 has_key keys at key = list_any (λ k. bytes_eq k.key.key key && bytes_eq k.at at) keys
@@ -103,8 +107,8 @@ has_key keys at key = list_any (λ k. bytes_eq k.key.key key && bytes_eq k.at at
 abbrev pub known_host_at : List Host → Body → List ℕ → Reading (List ℕ)
 known_host_at hosts it name = text_at it name >>= λ text. said it name needs.Known (host_of hosts text)
 
-abbrev pub known_org_at : List OrgFields → Body → Reading OrgId
-known_org_at orgs it = text_at it (codes "org") >>= λ text. said it (codes "org") needs.Known (org_named orgs text)
+abbrev pub known_org_at : List OrgFields → Body → List ℕ → Reading OrgId
+known_org_at orgs it name = text_at it name >>= λ text. said it name needs.Known (org_named orgs text)
 
 abbrev pub api_key_at : Body → Reading (List ℕ)
 api_key_at it = text_at it (codes "key") >>= λ text. said it (codes "key") needs.Key (key_of text)
@@ -125,7 +129,7 @@ key_at orgs hosts before it = do
   at ← known_host_at hosts it (codes "instance")
   key ← api_key_at it
   new ← refused_if (has_key before at key) it (codes "key") needs.Distinct
-  org ← known_org_at orgs it
+  org ← known_org_at orgs it (codes "org")
   role ← role_at it
   partner ← partner_at hosts it role
   no_more ← no_other it (codes "instance" ∷ codes "key" ∷ codes "org" ∷ codes "role" ∷ codes "partner" ∷ [])
@@ -133,3 +137,34 @@ key_at orgs hosts before it = do
 
 abbrev pub next_key : List OrgFields → List Host → ℕ → List HostKey → Data → Reading (List HostKey)
 next_key orgs hosts n before d = key_at orgs hosts before (entry_of (codes "key") n d) >>= λ key. Ok (before ++ key ∷ [])
+
+-- ---- links
+
+-- the instance has a link of this name
+abbrev pub has_link : List HostLink → List ℕ → List ℕ → Bool
+has_link links at name = list_any (λ l. bytes_eq l.link.name name && bytes_eq l.at at) links
+
+-- the instance that a member names, if it names one
+abbrev pub host_in : List Host → Body → List ℕ → Option (List ℕ)
+host_in hosts it name = option_map_or (host_of hosts) (text_in it name) None
+
+-- the instance whose link it is has one of this name already
+abbrev pub is_taken : List Host → List HostLink → Body → List ℕ → Bool
+is_taken hosts before it name = option_map_or (λ at. has_link before at name) (host_in hosts it (codes "at")) false
+
+unfoldable pub link_at : List OrgFields → List Host → List HostLink → Body → Reading HostLink
+link_at orgs hosts before it = do
+  name ← host_name_at it
+  new ← refused_if (is_taken hosts before it name) it (codes "name") needs.Distinct
+  at ← known_host_at hosts it (codes "at")
+  peer ← known_host_at hosts it (codes "to")
+  other ← refused_if (bytes_eq peer at) it (codes "to") needs.Distinct
+  key ← api_key_at it
+  holder ← known_org_at orgs it (codes "holder")
+  push_org ← known_org_at orgs it (codes "push_org")
+  on ← flag_or_at it (codes "on") true
+  no_more ← no_other it (codes "name" ∷ codes "at" ∷ codes "to" ∷ codes "key" ∷ codes "holder" ∷ codes "push_org" ∷ codes "on" ∷ [])
+  Ok (record { at = at; link = record { name = name; peer = peer; key = key; holder = holder; push_org = push_org; on = on } })
+
+abbrev pub next_link : List OrgFields → List Host → ℕ → List HostLink → Data → Reading (List HostLink)
+next_link orgs hosts n before d = link_at orgs hosts before (entry_of (codes "link") n d) >>= λ link. Ok (before ++ link ∷ [])

@@ -4,7 +4,7 @@ ghost use Rattle.std.specs.Prelude.{◌≡◌, IfOk};
 ghost use Rattle.misp_script.specs.Names.{names_of};
 
 use misp_ids::{InstId, Items, NoMemory, Text};
-use misp_orgs::{Admin, KeyRecord};
+use misp_orgs::{Admin, KeyRecord, Link};
 use std::alloc::Global;
 
 /// The instances of a network, in the order in which they are listed.
@@ -46,4 +46,11 @@ pub(crate) struct Host {
 pub(crate) struct HostKey {
     pub(crate) at: InstId,
     pub(crate) key: KeyRecord,
+}
+
+/// A link, and the instance whose link it is.
+#[derive(Clone, Copy, Debug)]
+pub(crate) struct HostLink {
+    pub(crate) at: InstId,
+    pub(crate) link: Link,
 }

@@ -28,8 +28,6 @@ pub enum DescNeed {
     Known,
     /// A value that no entry before has.
     Distinct,
-    /// Something that is not read yet.
-    Later,
 }
 
 impl DescNeed {
@@ -51,7 +49,6 @@ impl DescNeed {
             DescNeed::Role => "role",
             DescNeed::Known => "known",
             DescNeed::Distinct => "distinct",
-            DescNeed::Later => "later",
         }
     }
 }

@@ -1,18 +1,80 @@
 //! The list `key`.
 
-ghost use Rattle.std.specs.Prelude.{◌≡◌, ◌&&◌, [], map, bytes_eq};
+ghost use Rattle.std.specs.Prelude.{◌≡◌, [], ◌∷◌, ◌++◌, Ok, map};
 ghost use Rattle.toml.specs.View.{view};
 ghost use Rattle.misp_script.specs.Faults.{Gives, Shows};
 ghost use Rattle.misp_script.specs.Entries.{body_of, each};
-ghost use Rattle.misp_script.specs.Tables.{role_of, host_of, org_named, has_key, known_host_at, known_org_at, api_key_at, role_at, no_partner_at, partner_at, key_at, next_key};
+ghost use Rattle.misp_script.specs.Tables.{role_of, has_key, known_host_at, known_org_at, api_key_at, role_at, no_partner_at, partner_at, key_at, next_key};
 
-use crate::description::{Host, HostKey};
+use crate::description::HostKey;
 use crate::fault::{DescFault, DescNeed};
+use crate::host_table::HostList;
 use crate::listed::Listed;
+use crate::org_table::OrgList;
+use crate::pairs::{Pairs, has_pair, put_pair};
 use misp_ids::{ApiKey, InstId, OrgId};
-use misp_orgs::{KeyRecord, Org, Role};
+use misp_orgs::{KeyRecord, Role};
 use std::alloc::Global;
+use std::collections::BTreeSet;
+use std::marker::Model;
 use toml::Value;
+
+/// Keys in the order in which they are listed, and what tells whether an instance has a key.
+///
+/// A contract sees the list.
+#[derive(Drop)]
+pub(crate) struct HostKeys {
+    list: Vec<HostKey>,
+    taken: Pairs,
+}
+
+impl Model for HostKeys {
+    ghost use Rattle.std.specs.Prelude.{List};
+    ghost use Rattle.misp_script.specs.declared.description.HostKey.{HostKey};
+    ghost use Rattle.misp_script.specs.Known.{KnowsKeys};
+
+    ghost Value = { List HostKey };
+
+    ghost view = { λ k. k.list.items };
+
+    ghost invariant = { λ k. KnowsKeys k.list.items k.taken };
+}
+
+impl HostKeys {
+    fn new(alloc: Global) -> HostKeys
+        ensures { result ≡ [] }
+    {
+        HostKeys {
+            list: Vec::new(alloc),
+            taken: BTreeSet::new(alloc),
+        }
+    }
+
+    pub(crate) fn as_slice(&self) -> &[HostKey]
+        ensures { result.now ≡ self.now }
+    {
+        self.list.as_slice()
+    }
+
+    fn has(&self, alloc: Global, at: &InstId, key: &ApiKey) -> Result<bool, DescFault>
+        ensures { Gives result (Ok (has_key self.now at.now key.now)) }
+    {
+        has_pair(alloc, &self.taken, at.text(), key.text())
+    }
+
+    // With another at the end.
+    fn with(self, alloc: Global, next: HostKey) -> Result<HostKeys, DescFault>
+        ensures { Gives result (Ok (self ++ next ∷ [])) }
+    {
+        let HostKeys {
+            mut list,
+            mut taken,
+        } = self;
+        put_pair(alloc, &mut taken, next.at.text(), next.key.key.text())?;
+        list.push(next)?;
+        Ok(HostKeys { list, taken })
+    }
+}
 
 fn role_of(text: &str) -> Option<Role>
     ensures { result ≡ role_of text.now }
@@ -34,51 +96,21 @@ fn role_of(text: &str) -> Option<Role>
     }
 }
 
-fn host_of(hosts: &[Host], text: &str) -> Option<InstId>
-    ensures { result ≡ host_of hosts.now text.now }
-{
-    match hosts.iter().find(|host| host.name.text() == text) {
-        Some(host) => Some(host.name),
-        None => None,
-    }
-}
-
-fn org_named(orgs: &[Org], text: &str) -> Option<OrgId>
-    ensures { result ≡ org_named orgs.now text.now }
-{
-    match orgs.iter().find(|org| org.name.as_str() == text) {
-        Some(org) => Some(org.uuid),
-        None => None,
-    }
-}
-
-fn is_key_of(key: &HostKey, at: &InstId, text: &ApiKey) -> bool
-    ensures { result ≡ (bytes_eq key.now.key.key text.now && bytes_eq key.now.at at.now) }
-{
-    key.key.key == *text && key.at.text() == at.text()
-}
-
-fn has_key(keys: &[HostKey], at: &InstId, text: &ApiKey) -> bool
-    ensures { result ≡ has_key keys.now at.now text.now }
-{
-    keys.iter().any(|key| is_key_of(key, at, text))
-}
-
-fn known_host(hosts: &[Host], it: &Listed<'_>, name: &str) -> Result<InstId, DescFault>
+pub(crate) fn known_host(hosts: &HostList, it: &Listed<'_>, name: &str) -> Result<InstId, DescFault>
     ensures { Gives result (known_host_at hosts.now (body_of it.now) name.now) }
 {
     let text = it.text(name)?;
-    it.said(name, DescNeed::Known, host_of(hosts, text))
+    it.said(name, DescNeed::Known, hosts.named(text))
 }
 
-fn known_org(orgs: &[Org], it: &Listed<'_>) -> Result<OrgId, DescFault>
-    ensures { Gives result (known_org_at orgs.now (body_of it.now)) }
+pub(crate) fn known_org(orgs: &OrgList, it: &Listed<'_>, name: &str) -> Result<OrgId, DescFault>
+    ensures { Gives result (known_org_at orgs.now (body_of it.now) name.now) }
 {
-    let text = it.text("org")?;
-    it.said("org", DescNeed::Known, org_named(orgs, text))
+    let text = it.text(name)?;
+    it.said(name, DescNeed::Known, orgs.named(text))
 }
 
-fn api_key(it: &Listed<'_>) -> Result<ApiKey, DescFault>
+pub(crate) fn api_key(it: &Listed<'_>) -> Result<ApiKey, DescFault>
     ensures { Gives result (api_key_at (body_of it.now)) }
 {
     let text = it.text("key")?;
@@ -100,7 +132,7 @@ fn no_partner(it: &Listed<'_>) -> Result<Option<InstId>, DescFault>
 }
 
 /// The partner of a key for synchronisation. No other key has one.
-fn partner(hosts: &[Host], it: &Listed<'_>, role: Role) -> Result<Option<InstId>, DescFault>
+fn partner(hosts: &HostList, it: &Listed<'_>, role: Role) -> Result<Option<InstId>, DescFault>
     ensures { Gives result (partner_at hosts.now (body_of it.now) role) }
 {
     match role {
@@ -115,17 +147,18 @@ fn partner(hosts: &[Host], it: &Listed<'_>, role: Role) -> Result<Option<InstId>
 /// A key, after those that stand before it in the list.
 #[tactic(auto, unfolding(crate::specs::Tables::key_at))]
 fn key(
-    orgs: &[Org],
-    hosts: &[Host],
-    before: &[HostKey],
+    orgs: &OrgList,
+    hosts: &HostList,
+    before: &HostKeys,
     it: &Listed<'_>,
 ) -> Result<HostKey, DescFault>
     ensures { Gives result (key_at orgs.now hosts.now before.now (body_of it.now)) }
 {
     let at = known_host(hosts, it, "instance")?;
     let key = api_key(it)?;
-    it.refused_if(has_key(before, &at, &key), "key", DescNeed::Distinct)?;
-    let org = known_org(orgs, it)?;
+    let taken = before.has(it.alloc, &at, &key)?;
+    it.refused_if(taken, "key", DescNeed::Distinct)?;
+    let org = known_org(orgs, it, "org")?;
     let role = role(it)?;
     let partner = partner(hosts, it, role)?;
     it.no_other(&["instance", "key", "org", "role", "partner"])?;
@@ -143,13 +176,13 @@ fn key(
 /// The keys of the list.
 pub(crate) fn keys(
     alloc: Global,
-    orgs: &[Org],
-    hosts: &[Host],
+    orgs: &OrgList,
+    hosts: &HostList,
     list: &[Value],
-) -> Result<Vec<HostKey>, DescFault>
-    ensures { Shows (λ keys. keys.items) result (each (next_key orgs.now hosts.now) 0 [] (map view list.now)) }
+) -> Result<HostKeys, DescFault>
+    ensures { Gives result (each (next_key orgs.now hosts.now) 0 [] (map view list.now)) }
 {
-    let mut keys = Vec::new(alloc);
+    let mut keys = HostKeys::new(alloc);
     for (index, value) in list.iter().enumerate() {
         let it = Listed {
             alloc,
@@ -157,8 +190,8 @@ pub(crate) fn keys(
             index,
             value,
         };
-        let next = key(orgs, hosts, keys.as_slice(), &it)?;
-        keys.push(next)?;
+        let next = key(orgs, hosts, &keys, &it)?;
+        keys = keys.with(alloc, next)?;
     }
     Ok(keys)
 }

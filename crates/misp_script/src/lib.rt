@@ -10,10 +10,12 @@ mod host_table;
 mod key_table;
 mod line;
 mod lines;
+mod link_table;
 mod listed;
 mod network;
 mod numbers;
 mod org_table;
+mod pairs;
 mod source;
 mod step;
 

@@ -1,10 +1,10 @@
 //! The entries of lists, and their members.
 
-ghost use Rattle.std.specs.Prelude.{◌≡◌, ◌∷◌, Err, map, IfOk};
+ghost use Rattle.std.specs.Prelude.{◌≡◌, ◌∷◌, Err, map, option_map, IfOk};
 ghost use Rattle.toml.specs.View.{view};
 ghost use Rattle.toml.specs.View.{table_view};
 ghost use Rattle.misp_script.specs.Faults.{Gives, Shows, bad};
-ghost use Rattle.misp_script.specs.Entries.{entry_path, member_path, body_of, has, text_at, text_or_none_at, said, refused_if, named_among, none_beside, no_other};
+ghost use Rattle.misp_script.specs.Entries.{entry_path, member_path, body_of, has, text_in, text_at, text_or_none_at, flag_or_at, said, refused_if, named_among, none_beside, no_other};
 
 use crate::fault::{DescFault, DescNeed};
 use misp_ids::Text;
@@ -117,6 +117,26 @@ impl<'a> Listed<'a> {
                 None => self.refused(name, DescNeed::Text),
             },
             None => Ok(""),
+        }
+    }
+
+    /// The text of a member, if it has one.
+    pub(crate) fn text_in(&self, name: &str) -> Option<&'a str>
+        ensures { option_map (λ text. text.now) result ≡ text_in (body_of self.now) name.now }
+    {
+        match self.value.get(name) {
+            Some(value) => value.as_str(),
+            None => None,
+        }
+    }
+
+    /// The flag of a member, or what it is where there is none.
+    pub(crate) fn flag_or(&self, name: &str, other: bool) -> Result<bool, DescFault>
+        ensures { Gives result (flag_or_at (body_of self.now) name.now other) }
+    {
+        match self.value.get(name) {
+            Some(value) => self.said(name, DescNeed::Flag, value.as_bool()),
+            None => Ok(other),
         }
     }
 

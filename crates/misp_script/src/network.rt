@@ -1,58 +1,22 @@
 //! Reads a description.
 
-ghost use Rattle.std.specs.Prelude.{◌≡◌, IfOk, Ok, length, map};
-ghost use Rattle.toml.specs.View.{table_view, view};
+ghost use Rattle.std.specs.Prelude.{◌≡◌, IfOk, Ok};
+ghost use Rattle.toml.specs.View.{table_view};
 ghost use Rattle.misp_script.specs.Faults.{Gives, Shows};
-ghost use Rattle.misp_script.specs.Network.{is_publisher, publishers, read_now, keys_of, instance_of, instances_of, network_at, description_at};
+ghost use Rattle.misp_script.specs.Network.{keys_of, links_of, AreApart, instance_of, instances_of, network_at, description_at};
+ghost use Rattle.misp_script.specs.Names.{IsNet};
 
-use crate::description::{Description, Entry, Host, HostKey};
-use crate::document::{all_known, document, entries, refused_if, within_limits};
-use crate::fault::{DescFault, DescNeed};
+use crate::description::{Description, Entry, Host, HostKey, HostLink};
+use crate::document::{all_known, document, entries, within_limits};
+use crate::fault::DescFault;
 use crate::host_table::hosts;
 use crate::key_table::keys;
-use crate::listed::path_of;
+use crate::link_table::links;
 use crate::org_table::orgs;
 use misp_ids::{InstId, Items};
-use misp_orgs::{Admin, KeyRecord, Org, Role};
+use misp_orgs::{Admin, KeyRecord, Link, Org};
 use std::alloc::Global;
-use toml::{Table, Value};
-
-fn is_publisher(role: Role) -> bool
-    ensures { result ≡ is_publisher role }
-{
-    match role {
-        Role::Publisher => true,
-        _ => false,
-    }
-}
-
-fn publishers(alloc: Global, keys: &[HostKey]) -> Result<(), DescFault>
-    ensures { Gives result (publishers 0 keys.now) }
-{
-    for (index, key) in keys.iter().enumerate() {
-        if !is_publisher(key.key.role) {
-            return Err(DescFault::Bad {
-                path: path_of(alloc, "key", index, "role")?,
-                need: DescNeed::Later,
-            });
-        }
-    }
-    Ok(())
-}
-
-/// Nothing is there that is not read yet.
-fn read_now(
-    alloc: Global,
-    links: &[Value],
-    hosts: &[Host],
-    keys: &[HostKey],
-) -> Result<(), DescFault>
-    ensures { Gives result (read_now (map view links.now) hosts.now keys.now) }
-{
-    refused_if(alloc, !links.is_empty(), "link", DescNeed::Later)?;
-    refused_if(alloc, hosts.len() != 1, "instance", DescNeed::Later)?;
-    publishers(alloc, keys)
-}
+use toml::Table;
 
 fn copied(alloc: Global, orgs: &[Org]) -> Result<Vec<Org>, DescFault>
     ensures { Shows (λ copy. copy.items) result (Ok orgs.now) }
@@ -77,33 +41,54 @@ fn keys_of(alloc: Global, keys: &[HostKey], name: &InstId) -> Result<Vec<KeyReco
     Ok(own)
 }
 
+/// The links of an instance.
+fn links_of(alloc: Global, links: &[HostLink], name: &InstId) -> Result<Vec<Link>, DescFault>
+    ensures { Shows (λ own. own.items) result (Ok (links_of links.now name.now)) }
+{
+    let mut own = Vec::new(alloc);
+    for link in links {
+        if link.at.text() == name.text() {
+            own.push(link.link)?;
+        }
+    }
+    Ok(own)
+}
+
 /// An instance, which knows every organisation.
-fn instance(alloc: Global, orgs: &[Org], keys: &[HostKey], host: Host) -> Result<Entry, DescFault>
-    ensures { Gives result (Ok (instance_of orgs.now keys.now host)) }
+fn instance(
+    alloc: Global,
+    orgs: &[Org],
+    keys: &[HostKey],
+    links: &[HostLink],
+    host: Host,
+) -> Result<Entry, DescFault>
+    requires { AreApart orgs.now keys.now links.now }
+    ensures { Gives result (Ok (instance_of orgs.now keys.now links.now host)) }
 {
     let keys = keys_of(alloc, keys, &host.name)?;
+    let links = links_of(alloc, links, &host.name)?;
     let orgs = copied(alloc, orgs)?;
     Ok(Entry {
         name: host.name,
         address: host.address,
-        admin: Admin {
-            orgs: Items::of(orgs),
-            keys: Items::of(keys),
-        },
+        admin: Admin::made(orgs, keys, links)?,
     })
 }
 
 fn instances(
     alloc: Global,
     orgs: &[Org],
-    hosts: Vec<Host>,
     keys: &[HostKey],
+    links: &[HostLink],
+    hosts: Vec<Host>,
 ) -> Result<Vec<Entry>, DescFault>
-    ensures { Shows (λ entries. entries.items) result (Ok (instances_of orgs.now keys.now hosts.items)) }
+    requires { AreApart orgs.now keys.now links.now }
+    ensures { Shows (λ entries. entries.items) result
+        (Ok (instances_of orgs.now keys.now links.now hosts.items)) }
 {
     let mut entries = Vec::new(alloc);
     for host in hosts {
-        entries.push(instance(alloc, orgs, keys, host)?)?;
+        entries.push(instance(alloc, orgs, keys, links, host)?)?;
     }
     Ok(entries)
 }
@@ -116,19 +101,15 @@ fn network(alloc: Global, table: &Table) -> Result<Description, DescFault>
     within_limits(alloc, table)?;
     let orgs = orgs(alloc, entries(table, "org"))?;
     let hosts = hosts(alloc, entries(table, "instance"))?;
-    let keys = keys(
+    let keys = keys(alloc, &orgs, &hosts, entries(table, "key"))?;
+    let links = links(alloc, &orgs, &hosts, entries(table, "link"))?;
+    let instances = instances(
         alloc,
         orgs.as_slice(),
-        hosts.as_slice(),
-        entries(table, "key"),
-    )?;
-    read_now(
-        alloc,
-        entries(table, "link"),
-        hosts.as_slice(),
         keys.as_slice(),
+        links.as_slice(),
+        hosts.into_vec(),
     )?;
-    let instances = instances(alloc, orgs.as_slice(), hosts, keys.as_slice())?;
     Ok(Description {
         instances: Items::of(instances),
     })
@@ -143,10 +124,10 @@ fn described(alloc: Global, bytes: &[u8]) -> Result<Description, DescFault>
 }
 
 /// The network that the bytes of a description describe, or the first fault.
-#[tactic(auto, using(crate::proofs::Few::one_instance))]
+#[tactic(auto, using(crate::proofs::Nets::is_net))]
 pub fn read_description(alloc: Global, bytes: &[u8]) -> Result<Description, DescFault>
     ensures description { Gives result (description_at bytes.now) }
-    ensures few { IfOk result (λ net. length net.instances ≡ 1) }
+    ensures net { IfOk result IsNet }
 {
     described(alloc, bytes)
 }

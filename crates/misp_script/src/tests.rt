@@ -8,8 +8,13 @@ const ORG: &str = "[[org]]\nname = 'A'\nuuid = 'aaaaaaaa-0000-4000-8000-00000000
 
 const HOST: &str = "[[instance]]\nname = 'one'\n";
 
+const TWO: &str = "[[instance]]\nname = 'two'\n";
+
 const KEY: &str =
     "[[key]]\ninstance = 'one'\nkey = 'kkkkkkkkkkkkkkkkkkkkkkkkkkkkkkkkkkkkkkkk'\norg = 'A'\n";
+
+const LINK: &str =
+    "[[link]]\nname = 'l'\nat = 'one'\nto = 'two'\nkey = 'kkkkkkkkkkkkkkkkkkkkkkkkkkkkkkkkkkkkkkkk'\nholder = 'A'\npush_org = 'A'\n";
 
 /// What a description is read as: what it brings, or its fault.
 fn shown(alloc: Global, text: &str) -> Result<String, Fail> {
@@ -21,7 +26,8 @@ fn shown(alloc: Global, text: &str) -> Result<String, Fail> {
                 let address = entry.address.as_str();
                 let orgs = entry.admin.orgs.as_slice().len();
                 let keys = entry.admin.keys.as_slice().len();
-                write!(out, "{name}@{address} {orgs} {keys}")?;
+                let links = entry.admin.links.as_slice().len();
+                write!(out, "{name}@{address} {orgs} {keys} {links};")?;
             }
         }
         Err(DescFault::Bad { path, need }) => {
@@ -38,12 +44,16 @@ fn shown(alloc: Global, text: &str) -> Result<String, Fail> {
 fn each_need_is_told_with_its_path(rt: HostRuntime) -> Result<(), Fail> {
     let alloc = rt.alloc();
     let rows = [
+        ("", ""),
         (
-            "{org}{host}address = 'here'\n{key}role = 'publisher'\n",
-            "one@here 1 1",
+            "{org}{host}address = 'here'\n{key}role = 'publisher'\n{two}{link}on = false\n",
+            "one@here 1 1 1;two@ 1 0 0;",
+        ),
+        (
+            "{org}{host}{two}{key}role = 'sync'\npartner = 'two'\n",
+            "one@ 1 1 0;two@ 1 0 0;",
         ),
         ("x = [", "- toml"),
-        ("{org}", "instance later"),
         ("zzz = 1\nkeys = []\n", "keys member"),
         ("org = [1]\n", "org member"),
         ("instance = 7\n", "instance member"),
@@ -90,18 +100,40 @@ fn each_need_is_told_with_its_path(rt: HostRuntime) -> Result<(), Fail> {
             "key[1].key distinct",
         ),
         ("{org}{host}{key}role = 'user'\nx = 1\n", "key[0].x member"),
-        ("{org}{host}{key}role = 'user'\n", "key[0].role later"),
+        ("{link}", "link[0].at known"),
+        ("[[link]]\nat = 'one'\n", "link[0].name present"),
+        ("[[link]]\nname = 'L'\n", "link[0].name name"),
+        ("{host}{link}", "link[0].to known"),
         (
-            "{org}{host}{key}role = 'sync'\npartner = 'one'\n",
-            "key[0].role later",
+            "{host}[[link]]\nname = 'l'\nat = 'one'\nto = 'one'\n",
+            "link[0].to distinct",
         ),
-        ("{org}{host}[[link]]\n", "link later"),
-        ("{host}[[instance]]\nname = 'two'\n", "instance later"),
+        (
+            "{host}{two}[[link]]\nname = 'l'\nat = 'one'\nto = 'two'\nkey = 'k'\n",
+            "link[0].key key",
+        ),
+        ("{host}{two}{link}", "link[0].holder known"),
+        ("{org}{host}{two}{link}on = 1\n", "link[0].on flag"),
+        ("{org}{host}{two}{link}role = 1\n", "link[0].role member"),
+        (
+            "{org}{host}{two}{link}[[link]]\nname = 'l'\nat = 'one'\n",
+            "link[1].name distinct",
+        ),
+        (
+            "{org}{host}{two}{link}[[link]]\nname = 'l'\nat = 'two'\n",
+            "link[1].to present",
+        ),
+        (
+            "{org}{host}{two}{link}[[link]]\nname = 'l'\nat = 1\n",
+            "link[1].at text",
+        ),
     ];
     for (text, told) in &rows {
         let text = text.replace(alloc, "{org}", ORG)?;
         let text = text.as_str().replace(alloc, "{host}", HOST)?;
+        let text = text.as_str().replace(alloc, "{two}", TWO)?;
         let text = text.as_str().replace(alloc, "{key}", KEY)?;
+        let text = text.as_str().replace(alloc, "{link}", LINK)?;
         let is = shown(alloc, text.as_str())?;
         assert!(rt; is.as_str() == *told, "{text} is {is}");
     }

@@ -3,17 +3,21 @@
 use crate::Status;
 
 /// What the names in the texts of the table stand for, in the order in which they are put in.
-pub(super) const NAMES: [(&str, &str); 25] = [
+pub(super) const NAMES: [(&str, &str); 31] = [
     (
         "{net}",
         "[[org]]\nname = 'Alpha'\nuuid = '{oa}'\n[[org]]\nname = 'Beta'\nuuid = '{ob}'\n\
-         [[instance]]\nname = 'a'\n\
+         [[instance]]\nname = 'a'\n[[instance]]\nname = 'b'\n\
          [[key]]\ninstance = 'a'\nkey = '{ka}'\norg = 'Alpha'\nrole = 'publisher'\n\
-         [[key]]\ninstance = 'a'\nkey = '{kb}'\norg = 'Beta'\nrole = 'publisher'\n",
+         [[key]]\ninstance = 'a'\nkey = '{kb}'\norg = 'Beta'\nrole = 'publisher'\n\
+         [[key]]\ninstance = 'a'\nkey = '{kr}'\norg = 'Alpha'\nrole = 'reader'\n\
+         [[key]]\ninstance = 'a'\nkey = '{ks}'\norg = 'Alpha'\nrole = 'siteadmin'\n\
+         [[key]]\ninstance = 'b'\nkey = '{ko}'\norg = 'Alpha'\nrole = 'user'\n",
     ),
     ("{A adds}", "{step} req a {ka} POST /events/add"),
     ("{B adds}", "{step} req a {kb} POST /events/add"),
     ("{B views}", "{step} req a {kb} GET /events/view/"),
+    ("{reader adds}", "{step} req a {kr} POST /events/add"),
     ("{step}", "1700000000 00000000000000000000000000000000"),
     (
         "{wave}",
@@ -47,7 +51,9 @@ pub(super) const NAMES: [(&str, &str); 25] = [
          'timestamp':'1700000000','uuid':'{e1}'}}",
     ),
     ("{hidden}", "404 {'name':'NotGranted','place':'','rule':9}"),
+    ("{no key}", "403 {'name':'NoKey','place':'','rule':1}"),
     ("{no route}", "404 {'name':'NoRoute','place':'','rule':4}"),
+    ("{no json}", "400 {'name':'BadJson','place':'','rule':6}"),
     (
         "{no keeper}",
         "503 {'name':'KeeperFault','place':'','rule':26}",
@@ -64,6 +70,9 @@ pub(super) const NAMES: [(&str, &str); 25] = [
     ("{u1}", "a1000000-0000-4000-8000-000000000001"),
     ("{ka}", "AAAAAAAAAAAAAAAAAAAAAAAAAAAAAAAAAAAAAAAA"),
     ("{kb}", "BBBBBBBBBBBBBBBBBBBBBBBBBBBBBBBBBBBBBBBB"),
+    ("{kr}", "RRRRRRRRRRRRRRRRRRRRRRRRRRRRRRRRRRRRRRRR"),
+    ("{ks}", "SSSSSSSSSSSSSSSSSSSSSSSSSSSSSSSSSSSSSSSS"),
+    ("{ko}", "OOOOOOOOOOOOOOOOOOOOOOOOOOOOOOOOOOOOOOOO"),
     ("'", "\""),
 ];
 
@@ -84,7 +93,7 @@ pub(super) struct Case<'a> {
 
 const NONE: [u64; 3] = [0, 0, 0];
 
-pub(super) const CASES: [Case<'static>; 17] = [
+pub(super) const CASES: [Case<'static>; 22] = [
     Case {
         words: "net",
         source: "{net}---\n{A adds} {wave}\n{B views}{e1}\n",
@@ -116,18 +125,41 @@ pub(super) const CASES: [Case<'static>; 17] = [
     // Each rule before those that follow.
     Case {
         words: "net",
-        source: "{net}---\n{step} req a - GET /nothing {\n{step} req a {ka} GET /events/add\n\
-                 {step} req a - POST /events/add {\n{A adds} {\n{A adds} {nameless}\n\
-                 {A adds} {twice}\n{B views}{e1}",
+        source: "{net}---\n{step} req a - GET /nothing {\n{step} req a - GET /events/add\n\
+                 {step} req a - POST /events/add {\n{reader adds} {\n{reader adds} {nameless}\n\
+                 {reader adds} {twice}\n{A adds} {twice}\n{B views}{e1}",
         len: 0,
         fails: NONE,
         status: Status::Done,
-        written: "1 {no route}\n2 {no route}\n3 403 {'name':'NoKey','place':'','rule':1}\n\
-                  4 400 {'name':'BadJson','place':'','rule':6}\n\
-                  5 400 {'name':'BadField','place':'Event.info range','rule':7}\n\
-                  6 409 {'name':'ElementExists','place':'{u1}','rule':14}\n\
-                  7 {hidden}\n",
+        written: "1 {no route}\n2 405 {'name':'NoMethod','place':'','rule':5}\n3 {no key}\n\
+                  4 {no json}\n5 400 {'name':'BadField','place':'Event.info range','rule':7}\n\
+                  6 403 {'name':'NoPermission','place':'Write','rule':8}\n\
+                  7 409 {'name':'ElementExists','place':'{u1}','rule':14}\n8 {hidden}\n",
         batches: 1,
+    },
+    // A reader views and does not add, and who sets up does not view.
+    Case {
+        words: "net",
+        source: "{net}---\n{A adds} {own}\n{step} req a {kr} GET /events/view/{e1}/{ob}\n\
+                 {step} req a {ks} GET /events/view/{e1}\n",
+        len: 0,
+        fails: NONE,
+        status: Status::Done,
+        written: "1 {saved}\n2 {hidden}\n\
+                  3 403 {'name':'NoPermission','place':'Read','rule':8}\n",
+        batches: 2,
+    },
+    // The copy of an owner, and another instance.
+    Case {
+        words: "net",
+        source: "{net}---\n{A adds} {wave}\n{B views}{e1}/{oa}\n{B views}{e1}/{ob}\n\
+                 {B views}{e1}/Beta\n{step} req b {ka} GET /events/view/{e1}\n\
+                 {step} req b {ko} GET /events/view/{e1}\n",
+        len: 0,
+        fails: NONE,
+        status: Status::Done,
+        written: "1 {saved}\n2 {shown}\n3 {hidden}\n4 {no route}\n5 {no key}\n6 {hidden}\n",
+        batches: 2,
     },
     Case {
         words: "net",
@@ -164,6 +196,34 @@ pub(super) const CASES: [Case<'static>; 17] = [
         fails: NONE,
         status: Status::BadDescription,
         written: "bad description: org[0].uuid present\n",
+        batches: 1,
+    },
+    // A check runs nothing.
+    Case {
+        words: "check",
+        source: "{net}---\n{A adds} {wave}\n",
+        len: 0,
+        fails: NONE,
+        status: Status::Done,
+        written: "ok\n",
+        batches: 1,
+    },
+    Case {
+        words: "check",
+        source: "[[instance]]\nname = 'a'\n[[key]]\ninstance = 'a'\nkey = '{ka}'\norg = 'Nobody'\n",
+        len: 0,
+        fails: NONE,
+        status: Status::BadDescription,
+        written: "bad description: key[0].org known\n",
+        batches: 1,
+    },
+    Case {
+        words: "check",
+        source: "{net}",
+        len: 0,
+        fails: [0, 1, 0],
+        status: Status::WriteFault,
+        written: "",
         batches: 1,
     },
     // Other words, also over a source and a sink that fail.

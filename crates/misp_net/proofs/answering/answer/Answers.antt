@@ -1,5 +1,5 @@
 use native.Mathlib.Omega.{arith}
-use Rattle.std.proofs.Common.{◌≡◌, Ok, Err, subst}
+use Rattle.std.proofs.Common.{◌≡◌, Err, subst}
 use Rattle.misp_script.specs.Step.{request_data}
 use Rattle.misp_core.specs.Outcome.{ByKeeper, outcome_of}
 use Rattle.misp_net.specs.Request.{Gives}
@@ -8,11 +8,8 @@ use Rattle.misp_net.proofs.Replying.{by_step, refused_by_form, no_keeper}
 use Rattle.misp_net.proofs.answering.answer.Goals as goal
 
 pub returns-in-Ok-clause-replied : goal.returns-in-Ok-clause-replied
-returns-in-Ok-clause-replied g c = λ n. by_step n c.args.instance.now c.args.now
-    (form_of c.args.instance.now.admin (request_data c.args.request.now) c.args.word)
-    (c.in-Ok.caller, c.in-Ok.ask) _ _ _
-    (subst (λ admin. form_of admin (request_data c.args.request.now) c.args.word ≡ Ok (c.in-Ok.caller, c.in-Ok.ask)) c.admin.ensures c.in-Ok.ensures.form)
-    (c.step.ensures.answered n)
+returns-in-Ok-clause-replied g c = λ n. by_step n c.args.instance.now c.args.now (request_data c.args.request.now) c.args.word
+    _ _ _ _ _ c.admin.ensures c.in-Ok.ensures.form (c.step.ensures.answered n)
 
 pub returns-in-Err-clause-replied : goal.returns-in-Err-clause-replied
 returns-in-Err-clause-replied g c = λ n.

@@ -6,4 +6,4 @@ use Rattle.misp_script.proofs.key_table.keys.Given as goal
 
 -- what is left to read, onto what was read, is all
 abbrev pub invariant-loop-index : goal.invariant-loop-index
-invariant-loop-index l = each (next_key l.orgs l.hosts) l.index l.keys.items (map view (drop l.index l.list)) ≡ each (next_key l.orgs l.hosts) 0 [] (map view l.list)
+invariant-loop-index l = each (next_key l.orgs l.hosts) l.index l.keys (map view (drop l.index l.list)) ≡ each (next_key l.orgs l.hosts) 0 [] (map view l.list)

@@ -6,4 +6,4 @@ use Rattle.misp_script.proofs.org_table.orgs.Given as goal
 
 -- what is left to read, onto what was read, is all
 abbrev pub invariant-loop-index : goal.invariant-loop-index
-invariant-loop-index l = each next_org l.index l.orgs.items (map view (drop l.index l.list)) ≡ each next_org 0 [] (map view l.list)
+invariant-loop-index l = each next_org l.index l.orgs (map view (drop l.index l.list)) ≡ each next_org 0 [] (map view l.list)

@@ -1,0 +1,16 @@
+use Rattle.std.proofs.Common.{rules}
+use Rattle.std.specs.Ordering.{is_lt}
+use Rattle.std.specs.Cmp.{IsTotalOrder}
+use Rattle.std.proofs.lemmas.Cmp.{on_total, nat_cmp_total}
+use Rattle.std.proofs.lemmas.Fn.{always_returns_same}
+use Rattle.std.proofs.lemmas.Result.{on_ok_weaker}
+use Rattle.misp_orgs.specs.Admin.{by_uuid}
+use Rattle.misp_orgs.proofs.Sorting.{weak, sorted_in_order}
+use Rattle.misp_orgs.proofs.admin.sort_orgs.Goals as goal
+
+pub returns : goal.returns
+returns c =
+    let total : IsTotalOrder by_uuid = on_total (λ x. x.uuid.0.0) nat_cmp_total in
+    let compares = always_returns_same _ _ _ (λ a r t called. search rules) in
+    let stable = c.sort_by.ensures.stable (λ a b. is_lt (by_uuid a b)) (weak by_uuid total) compares in
+    on_ok_weaker c.sort_by.result (λ sorted. sorted_in_order by_uuid total c.args.orgs.now.items c.sort_by.new.self.items (sorted (λ a b. is_lt (by_uuid a b)) (weak by_uuid total) compares) stable) c.sort_by.ensures.sorted

@@ -1,0 +1,65 @@
+//! Roles, and what they permit.
+
+ghost use Rattle.std.specs.Prelude.{◌≡◌};
+ghost use Rattle.misp_orgs.specs.Roles.{permits, perm_name};
+
+/// In which role a key asks.
+#[derive(Clone, Copy, Debug, PartialEq, Eq)]
+pub enum Role {
+    Reader,
+    User,
+    Publisher,
+    OrgAdmin,
+    /// For the synchronisation with another instance.
+    Sync,
+    SiteAdmin,
+}
+
+/// What a role permits.
+#[derive(Clone, Copy, Debug, PartialEq, Eq)]
+pub enum Perm {
+    /// To view and to search.
+    Read,
+    /// To add and to change one's own elements.
+    Write,
+    /// To propose changes of others' elements.
+    Propose,
+    /// To add sightings.
+    Sight,
+    /// To release an event.
+    Publish,
+    /// To hand over and to take in as another instance.
+    Sync,
+    Admin,
+}
+
+impl Perm {
+    /// The name of the permission.
+    #[tactic(auto, unfolding(crate::specs::Roles::perm_name))]
+    pub fn text(self) -> &'static str
+        ensures { result.now ≡ perm_name self }
+    {
+        match self {
+            Perm::Read => "Read",
+            Perm::Write => "Write",
+            Perm::Propose => "Propose",
+            Perm::Sight => "Sight",
+            Perm::Publish => "Publish",
+            Perm::Sync => "Sync",
+            Perm::Admin => "Admin",
+        }
+    }
+}
+
+/// Whether a role permits it.
+pub fn may(role: Role, perm: Perm) -> bool
+    ensures { result ≡ permits role perm }
+{
+    match role {
+        Role::Reader => matches!(perm, Perm::Read),
+        Role::User => matches!(perm, Perm::Read | Perm::Write | Perm::Propose | Perm::Sight),
+        Role::Publisher | Role::OrgAdmin => !matches!(perm, Perm::Sync | Perm::Admin),
+        Role::Sync => !matches!(perm, Perm::Admin),
+        Role::SiteAdmin => matches!(perm, Perm::Admin),
+    }
+}
