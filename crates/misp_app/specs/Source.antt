@@ -27,7 +27,8 @@ described_status (Err fault) = BadDescription
 
 -- how a run of this source ends, unless a fault or the want of memory stops it
 abbrev pub status_of : List ℕ → Status
-status_of source = if nat_lt MAX_SOURCE (length source) then TooMuch else described_status (described source)
+status_of source =
+    if nat_lt MAX_SOURCE (length source) then TooMuch else described_status (described source)
 
 -- it has a first fault, and the line of that fault was written
 abbrev pub IsTold : Reading Description → Option (List ℕ) → Option (List ℕ) → Type 0
@@ -35,8 +36,8 @@ IsTold (Ok net) old new = ⊥
 IsTold (Err (faults.Bad path need)) old new = Appends old new (fault_line path need)
 IsTold (Err faults.NoMemory) old new = ⊥
 
--- The source describes a network, its script was run over the first keepers, and its lines were written so. The other
--- keepers are as they were.
+-- The source describes a network, its script was run over the first keepers, and its lines were
+-- written so. The other keepers are as they were.
 pub record HasWritten (source : List ℕ) (old new : List Stock)
     (Writes : List ℕ → Type 0) : Type 0 where
   pub net : Description
@@ -50,9 +51,11 @@ pub record HasWritten (source : List ℕ) (old new : List Stock)
 
 -- some of the lines, or of the line of the fault, were written
 abbrev pub IsPartly :
-    Reading Description → List ℕ → List Stock → List Stock → Option (List ℕ) → Option (List ℕ) → Type 0
+    Reading Description → List ℕ → List Stock → List Stock
+    → Option (List ℕ) → Option (List ℕ) → Type 0
 IsPartly (Ok net) source old new before after = HasWritten source old new (AppendsSome before after)
-IsPartly (Err (faults.Bad path need)) source old new before after = AppendsSome before after (fault_line path need)
+IsPartly (Err (faults.Bad path need)) source old new before after =
+    AppendsSome before after (fault_line path need)
 IsPartly (Err faults.NoMemory) source old new before after = ⊥
 
 -- what is written of a description that has no fault
@@ -62,5 +65,6 @@ ok_line = codes "ok\n"
 -- some of that line, or of the line of the fault, were written
 abbrev pub IsPartlyChecked : Reading Description → Option (List ℕ) → Option (List ℕ) → Type 0
 IsPartlyChecked (Ok net) before after = AppendsSome before after ok_line
-IsPartlyChecked (Err (faults.Bad path need)) before after = AppendsSome before after (fault_line path need)
+IsPartlyChecked (Err (faults.Bad path need)) before after =
+    AppendsSome before after (fault_line path need)
 IsPartlyChecked (Err faults.NoMemory) before after = ⊥

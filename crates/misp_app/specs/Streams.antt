@@ -11,4 +11,5 @@ AppendsSome old new bytes = (n : ℕ) × Appends old new (take n bytes)
 
 -- the line that tells the first fault of a description: its path, and what was needed there
 abbrev pub fault_line : List ℕ → DescNeed → List ℕ
-fault_line path need = codes "bad description: " ++ path ++ codes " " ++ need_name need ++ codes "\n"
+fault_line path need =
+    codes "bad description: " ++ path ++ codes " " ++ need_name need ++ codes "\n"

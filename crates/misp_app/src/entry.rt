@@ -120,7 +120,8 @@ fn run_source<W: Sink, K: Keeper>(
     ensures bad { result ≡ Err Status.BadDescription →
         IsTold (described bytes.now) (W.written sink.old) (W.written sink.new) }
     ensures places { vec_len keepers.new ≡ vec_len keepers.old }
-    ensures still { IfErr result (λ status. IsStill status → keepers.new.items ≡ keepers.old.items) }
+    ensures still { IfErr result (λ status.
+        IsStill status → keepers.new.items ≡ keepers.old.items) }
 {
     let (description, script) = split_source(bytes);
     match read_description(alloc, description) {

@@ -16,7 +16,8 @@ pub(crate) fn read_all<S: Source>(alloc: Global, source: &mut S) -> Result<Vec<u
     ensures bound { IfOk result (λ bytes. vec_len bytes ≤ MAX_SOURCE) }
     ensures too_much { result ≡ Err Status.TooMuch →
         IfSome (S.left source.old) (λ left. MAX_SOURCE < length left) }
-    ensures cause { HasCause (S.faults source.old) (S.faults source.new) (result ≡ Err Status.ReadFault) }
+    ensures cause { HasCause (S.faults source.old) (S.faults source.new)
+        (result ≡ Err Status.ReadFault) }
     ensures others { IfErr result IsReadEnd }
 {
     let mut bytes = Vec::new(alloc);

@@ -17,13 +17,17 @@ days_in_month year month =
 
 -- the calendar has this day
 abbrev pub is_day : Day → Bool
-is_day d = nat_le 1 d.month && nat_le d.month 12 && nat_le 1 d.day && nat_le d.day (days_in_month d.year d.month)
+is_day d =
+    nat_le 1 d.month && nat_le d.month 12
+    && nat_le 1 d.day && nat_le d.day (days_in_month d.year d.month)
 
 -- the next day of its month, or the first of the next month, or that of the next year
 abbrev pub day_after : Day → Day
 day_after d =
-    if nat_lt d.day (days_in_month d.year d.month) then record { year = d.year; month = d.month; day = d.day + 1 }
-    else (if nat_lt d.month 12 then record { year = d.year; month = d.month + 1; day = 1 } else record { year = d.year + 1; month = 1; day = 1 })
+    if nat_lt d.day (days_in_month d.year d.month)
+    then record { year = d.year; month = d.month; day = d.day + 1 }
+    else (if nat_lt d.month 12 then record { year = d.year; month = d.month + 1; day = 1 }
+    else record { year = d.year + 1; month = 1; day = 1 })
 
 -- the day so many days after 1970-01-01
 unfoldable pub nth_day : ℕ → Day
@@ -43,12 +47,17 @@ two_digits tens ones = 10 * (tens - 48) + (ones - 48)
 -- the day that four, two and two digits write
 abbrev pub day_of : ℕ → ℕ → ℕ → ℕ → ℕ → ℕ → ℕ → ℕ → Day
 day_of y1 y2 y3 y4 m1 m2 d1 d2 =
-    record { year = 100 * two_digits y1 y2 + two_digits y3 y4; month = two_digits m1 m2; day = two_digits d1 d2 }
+    record {
+      year = 100 * two_digits y1 y2 + two_digits y3 y4;
+      month = two_digits m1 m2;
+      day = two_digits d1 d2;
+    }
 
 -- the day that a text of the form `YYYY-MM-DD` names, whether or not the calendar has it
 abbrev pub day_in : List ℕ → Option Day
 day_in (y1 ∷ y2 ∷ y3 ∷ y4 ∷ h1 ∷ m1 ∷ m2 ∷ h2 ∷ d1 ∷ d2 ∷ []) =
-    if (are_digits y1 y2 && are_digits y3 y4 && (h1 == 45) && are_digits m1 m2 && (h2 == 45) && are_digits d1 d2)
+    if (are_digits y1 y2 && are_digits y3 y4 && (h1 == 45)
+    && are_digits m1 m2 && (h2 == 45) && are_digits d1 d2)
     then Some (day_of y1 y2 y3 y4 m1 m2 d1 d2) else None
 day_in text = None
 
@@ -63,7 +72,9 @@ in_two_digits n = (48 + n / 10) ∷ (48 + n % 10) ∷ []
 -- a day as `YYYY-MM-DD`
 abbrev pub date_text : Day → List ℕ
 date_text d =
-    in_two_digits (d.year / 100) ++ in_two_digits (d.year % 100) ++ codes "-" ++ in_two_digits d.month ++ codes "-" ++ in_two_digits d.day
+    in_two_digits (d.year / 100) ++ in_two_digits (d.year % 100)
+    ++ codes "-" ++ in_two_digits d.month
+    ++ codes "-" ++ in_two_digits d.day
 
 -- ---- moments
 

@@ -19,13 +19,23 @@ use Rattle.misp_edit.specs.declared.fault.AddFault.TheVariants.{EventExists, Eve
 -- the surroundings of a request at an instance that has no groups
 abbrev pub scene_of : ℕ → Inst → OrgId → List ℕ → Stamp → List ℕ → List Row → Scene
 scene_of act at by by_name now today rows =
-    record { act = act; at = at; by = by; by_name = by_name; now = now; today = today; rows = rows; groups = [] }
+    record {
+      act = act;
+      at = at;
+      by = by;
+      by_name = by_name;
+      now = now;
+      today = today;
+      rows = rows;
+      groups = [];
+    }
 
 -- the rule that refuses to add the event, if there is one
 abbrev pub refusing : Scene → Submission → Option Rule
 refusing s b = first_rule (change_rules s (AddEvent b))
 
--- the uuids of the parts, and of the references that have a target, each with its place in reading order
+-- the uuids of the parts, and of the references that have a target, each with its place
+-- in reading order
 unfoldable pub numbered_uuids : Scene → Submission → List (ℕ × ℕ)
 numbered_uuids s b =
     map (λ d. (d.number, uuid_at b.event d.place)) b.parts
@@ -50,7 +60,8 @@ is_clash s e p = is_taken s e p.1 || list_any (eqb p.1) p.0
 
 -- the first such uuid, in reading order
 unfoldable pub first_clash : Scene → Submission → Option ℕ
-first_clash s b = option_map (λ p. p.1) (find (is_clash s b.event) (with_those_before [] (read_uuids s b)))
+first_clash s b =
+    option_map (λ p. p.1) (find (is_clash s b.event) (with_those_before [] (read_uuids s b)))
 
 -- the labels of a body, the event's before those of the parts
 unfoldable pub labels_of : Submission → List Label
@@ -64,8 +75,10 @@ first_unusable s b = find (λ l. not (is_usable s l)) (labels_of b)
 abbrev pub Refuses : Scene → Submission → AddFault → Type 0
 Refuses s b EventExists = refusing s b ≡ Some rule.EventExists
 Refuses s b EventGone = refusing s b ≡ Some rule.EventGone
-Refuses s b (ElementExists u) = (refusing s b ≡ Some rule.ElementExists) × (first_clash s b ≡ Some u.0)
-Refuses s b (GroupNotUsable g) = (refusing s b ≡ Some rule.GroupNotUsable) × (first_unusable s b ≡ Some (labels.Group g))
+Refuses s b (ElementExists u) =
+    (refusing s b ≡ Some rule.ElementExists) × (first_clash s b ≡ Some u.0)
+Refuses s b (GroupNotUsable g) =
+    (refusing s b ≡ Some rule.GroupNotUsable) × (first_unusable s b ≡ Some (labels.Group g))
 Refuses s b NoMemory = Unit {0}
 
 -- no rule refuses, and these are the rows of what is written

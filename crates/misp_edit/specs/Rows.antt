@@ -19,12 +19,21 @@ use Rattle.misp_model.specs.History.{is_gone}
 
 -- a row that is not published
 abbrev pub held_row : OrgId → Key → ℕ → Label → Content → Row
-held_row w k now l c = record { owner = w; key = k; stamp = now; label = l; held = true; carried = false; content = c }
+held_row w k now l c =
+    record { owner = w; key = k; stamp = now; label = l; held = true; carried = false; content = c }
 
 -- a new row of the owner
 unfoldable pub new_row : OrgId → EventId → ℕ → Place → Label → Content → Row
 new_row w e now p l c =
-    record { owner = w; key = Element e p; stamp = now; label = l; held = not (is_gone c); carried = false; content = c }
+    record {
+      owner = w;
+      key = Element e p;
+      stamp = now;
+      label = l;
+      held = not (is_gone c);
+      carried = false;
+      content = c;
+    }
 
 -- the row of a part
 unfoldable pub part_row : OrgId → EventId → ℕ → Draft → Row
@@ -51,14 +60,17 @@ body_of w name today d =
 
 -- the event's own row
 unfoldable pub event_row : OrgId → List ℕ → List ℕ → EventId → ℕ → Label → EventDraft → Row
-event_row w name today e now l d = new_row w e now places.Event l (contents.Event (body_of w name today d))
+event_row w name today e now l d =
+    new_row w e now places.Event l (contents.Event (body_of w name today d))
 
 -- the row of a reference that has this target
 unfoldable pub reference_row : OrgId → EventId → ℕ → ReferenceDraft → Place → Row
-reference_row w e now r t = held_row w (Reference e r.object t r.uuid) now labels.Inherit (contents.Reference r.body)
+reference_row w e now r t =
+    held_row w (Reference e r.object t r.uuid) now labels.Inherit (contents.Reference r.body)
 
 -- the same, where it has a target
-unfoldable pub row_with_target : (ElemId → Option Place) → OrgId → EventId → ℕ → ReferenceDraft → Option Row
+unfoldable pub row_with_target :
+    (ElemId → Option Place) → OrgId → EventId → ℕ → ReferenceDraft → Option Row
 row_with_target target w e now r = option_map (reference_row w e now r) (target r.referenced)
 
 -- the label is a group's
@@ -66,8 +78,11 @@ abbrev pub is_group : Label → Bool
 is_group (labels.Group g) = true
 is_group label = false
 
--- the row of the event, where the body has it, those of the parts, and those of the references that have a target
-unfoldable pub added_rows : (ElemId → Option Place) → OrgId → List ℕ → List ℕ → ℕ → Submission → List Row
+-- the row of the event, where the body has it, those of the parts, and those of the references
+-- that have a target
+unfoldable pub added_rows :
+    (ElemId → Option Place) → OrgId → List ℕ → List ℕ → ℕ → Submission → List Row
 added_rows target w name today now b =
-    map (λ d. event_row w name today b.event now b.label d) (option_to_list b.body) ++ map (part_row w b.event now) b.parts
+    map (λ d. event_row w name today b.event now b.label d) (option_to_list b.body)
+    ++ map (part_row w b.event now) b.parts
     ++ filter_map (row_with_target target w b.event now) b.references

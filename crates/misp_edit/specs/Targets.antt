@@ -29,9 +29,11 @@ element_place (Sighting e t i o u) = None
 -- the place of a live element of the owner's copy of the event
 unfoldable pub live_place : List Row → OrgId → EventId → Row → Option Place
 live_place rows w e row =
-    cond (same_org row.owner w && (same_event (event_of row.key) e && is_live rows row)) (element_place row.key) None
+    cond (same_org row.owner w && (same_event (event_of row.key) e && is_live rows row))
+    (element_place row.key) None
 
--- the places that a reference can name: those of the parts, and those of the live elements of the owner's copy
+-- the places that a reference can name: those of the parts, and those of the live elements
+-- of the owner's copy
 unfoldable pub target_places : List Row → OrgId → EventId → List Draft → List Place
 target_places rows w e parts = map (λ d. d.place) parts ++ filter_map (live_place rows w e) rows
 
@@ -46,7 +48,8 @@ target_in targets u = tree.get nat_cmp targets u.0.0
 
 -- each place that it has is of its uuid
 abbrev pub AreOfTheirUuids : BTreeMap ℕ Place → Type 0
-AreOfTheirUuids targets = (u : ElemId) → IfSome (target_in targets u) (λ place. is_place_of u place ≡ true)
+AreOfTheirUuids targets =
+    (u : ElemId) → IfSome (target_in targets u) (λ place. is_place_of u place ≡ true)
 
 -- of each uuid it has the first of these places
 abbrev pub AreTargets : BTreeMap ℕ Place → List Place → Type 0
@@ -58,7 +61,8 @@ is_deleted_object w e x row = is_row_of w (Element e (places.Object x)) row && i
 
 -- a set has the deleted objects of the owner's copy
 abbrev pub AreDeleted : BTreeSet ℕ → List Row → OrgId → EventId → Type 0
-AreDeleted deleted rows w e = (x : ElemId) → contains nat_cmp deleted x.0.0 ≡ list_any (is_deleted_object w e x) rows
+AreDeleted deleted rows w e =
+    (x : ElemId) → contains nat_cmp deleted x.0.0 ≡ list_any (is_deleted_object w e x) rows
 
 -- an attribute of an object that a set has
 unfoldable pub is_under : (ℕ → Bool) → Place → Bool
@@ -67,8 +71,10 @@ is_under deleted (places.Object x) = false
 is_under deleted (places.Attribute a) = false
 is_under deleted (places.ObjectAttribute x a) = deleted x.0.0
 
--- the place of an element of the owner's copy, where neither it nor its object is deleted, of which a set has the deleted ones
+-- the place of an element of the owner's copy, where neither it nor its object is deleted,
+-- of which a set has the deleted ones
 unfoldable pub kept_place : (ℕ → Bool) → OrgId → EventId → Row → Option Place
 kept_place deleted w e row =
-    cond (same_org row.owner w && (same_event (event_of row.key) e && (not (is_deleted row) && not (is_under deleted (place_in row.key)))))
+    cond (same_org row.owner w && (same_event (event_of row.key) e
+    && (not (is_deleted row) && not (is_under deleted (place_in row.key)))))
     (element_place row.key) None

@@ -15,9 +15,11 @@ abbrev pub is_at : Option ℕ → ℕ → Bool
 is_at None u = false
 is_at (Some v) u = eqb v u
 
--- the row is one of the owner's copy of the event, and its key is that of an element or reference of this uuid
+-- the row is one of the owner's copy of the event, and its key is that of an element or reference
+-- of this uuid
 unfoldable pub has_uuid : OrgId → EventId → ℕ → Row → Bool
-has_uuid w e u row = same_org row.owner w && (same_event (event_of row.key) e && takes_uuid u row.key)
+has_uuid w e u row =
+    same_org row.owner w && (same_event (event_of row.key) e && takes_uuid u row.key)
 
 -- the uuid is the event's own, or the owner's copy has it
 unfoldable pub is_used : List Row → OrgId → EventId → ℕ → Bool
@@ -33,7 +35,8 @@ reference_uuid target r = option_map (λ t. (r.number, r.uuid.0.0)) (target r.re
 
 -- those of the parts, and of the references that have a target
 unfoldable pub numbered_in : (ElemId → Option Place) → Submission → List (ℕ × ℕ)
-numbered_in target b = map (part_uuid b.event) b.parts ++ filter_map (reference_uuid target) b.references
+numbered_in target b =
+    map (part_uuid b.event) b.parts ++ filter_map (reference_uuid target) b.references
 
 -- the first of these that is used or stood before
 unfoldable pub clash_in : (ℕ → Bool) → List ℕ → Option ℕ

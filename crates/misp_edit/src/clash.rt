@@ -53,8 +53,8 @@ fn own_uuid(row: &Row, owner: OrgId, event: EventId) -> Option<u128>
 
 // With the uuid in the row, if there is one.
 fn note(used: &mut BTreeSet<u128>, row: &Row, owner: OrgId, event: EventId) -> Result<(), NoMemory>
-    ensures { OnOk result ((u : ℕ) →
-        contains nat_cmp used.new u ≡ (contains nat_cmp used.old u || has_uuid owner event u row.now)) }
+    ensures { OnOk result ((u : ℕ) → contains nat_cmp used.new u
+        ≡ (contains nat_cmp used.old u || has_uuid owner event u row.now)) }
 {
     if let Some(uuid) = own_uuid(row, owner, event) {
         used.insert(uuid)?;

@@ -30,9 +30,11 @@ fn first_group_of(parts: &[Draft]) -> Option<GroupId>
     None
 }
 
-// The group that the first of the labels which are groups' names, the event's label before the parts'.
+// The group that the first of the labels which are groups' names, the event's label before
+// the parts'.
 pub(crate) fn first_group(label: Label, parts: &[Draft]) -> Option<GroupId>
-    ensures { option_map labels.Group result ≡ find is_group (label ∷ map (λ d. d.label) parts.now) }
+    ensures { option_map labels.Group result
+        ≡ find is_group (label ∷ map (λ d. d.label) parts.now) }
 {
     match group_in(label) {
         Some(group) => Some(group),

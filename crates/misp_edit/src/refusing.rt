@@ -24,9 +24,11 @@ pub(crate) fn admitted(
     ensures err { (act : ℕ) (at : Inst) (name : List ℕ) (now : Stamp) (today : List ℕ) →
         IfErr result (Refuses (scene_of act at owner name now today rows.now) submission.now) }
     ensures ok { (act : ℕ) (at : Inst) (name : List ℕ) (now : Stamp) (today : List ℕ) →
-        OnOk result (refusing (scene_of act at owner name now today rows.now) submission.now ≡ None) }
+        OnOk result
+        (refusing (scene_of act at owner name now today rows.now) submission.now ≡ None) }
     ensures targets { IfOk result (λ targets.
-        AreTargets targets (target_places rows.now owner submission.now.event submission.now.parts)) }
+        AreTargets targets
+        (target_places rows.now owner submission.now.event submission.now.parts)) }
 {
     let event = submission.event;
     if has_copy(rows, owner, event) {

@@ -205,8 +205,8 @@ const GROUPS: Label = Label::Group(GROUP);
 
 const UNUSABLE: AddFault = AddFault::GroupNotUsable(GROUP);
 
-/// The caller and what it knows, the event's label, the uuids of two objects, the label of the second,
-/// a reference, and the fault.
+/// The caller and what it knows, the event's label, the uuids of two objects, the label of
+/// the second, a reference, and the fault.
 const CASES: [(
     OrgId,
     Known,

@@ -45,7 +45,9 @@ list_of d = or_need needs.List (as_array d)
 
 -- 1 to 20 decimal digits of a number below 2 ^ 64
 abbrev pub is_number_text : List ℕ → Bool
-is_number_text s = nat_lt 0 (length s) && nat_le (length s) 20 && list_all is_ascii_digit s && nat_lt (digits_value 10 s) (2 ^ 64)
+is_number_text s =
+    nat_lt 0 (length s) && nat_le (length s) 20 && list_all is_ascii_digit s
+    && nat_lt (digits_value 10 s) (2 ^ 64)
 
 abbrev pub number_in : List ℕ → Result ℕ Need
 number_in s = if is_number_text s then Ok (digits_value 10 s) else Err needs.Number
@@ -71,7 +73,9 @@ flag_num (negative z) = Err needs.Flag
 flag_num (float x) = Err needs.Flag
 
 abbrev pub flag_in : List ℕ → Result Bool Need
-flag_in s = if bytes_eq s (codes "0") then Ok false else (if bytes_eq s (codes "1") then Ok true else Err needs.Flag)
+flag_in s =
+    if bytes_eq s (codes "0") then Ok false
+    else (if bytes_eq s (codes "1") then Ok true else Err needs.Flag)
 
 abbrev pub flag_of : Data → Result Bool Need
 flag_of null = Err needs.Flag

@@ -55,7 +55,14 @@ reference_body content = record { relationship_type = []; comment = []; deleted 
 
 -- a reference, at a place in reading order
 abbrev pub reference_draft : ℕ → RowFields → ReferenceDraftFields
-reference_draft n r = record { number = n; object = owner_of r.key; uuid = record { 0 = key_uuid r.key }; referenced = record { 0 = target_of r.key }; body = reference_body r.content }
+reference_draft n r =
+    record {
+      number = n;
+      object = owner_of r.key;
+      uuid = record { 0 = key_uuid r.key };
+      referenced = record { 0 = target_of r.key };
+      body = reference_body r.content;
+    }
 
 -- ---- each element has the next place
 
@@ -67,7 +74,9 @@ and_reference g r = with_reference g (reference_draft (place g) r)
 
 -- an object, and then its attributes and its references
 abbrev pub and_object : Gathered → VisibleObject → Gathered
-and_object g o = fold and_reference (fold and_attribute (with_part g (draft_of (place g) o.row)) o.attributes) o.references
+and_object g o =
+    fold and_reference (fold and_attribute (with_part g (draft_of (place g) o.row)) o.attributes)
+    o.references
 
 -- the attributes of an event, and then its objects
 abbrev pub elements_of : VisibleEvent → Gathered
@@ -76,7 +85,15 @@ elements_of e = fold and_object (fold and_attribute (none_from 1) e.attributes) 
 -- ---- events
 
 abbrev pub event_draft : EventBody → EventDraftFields
-event_draft b = record { info = b.info; date = Some b.date; threat_level_id = b.threat_level_id; analysis = b.analysis; extends_uuid = b.extends_uuid; tags = b.tags }
+event_draft b =
+    record {
+      info = b.info;
+      date = Some b.date;
+      threat_level_id = b.threat_level_id;
+      analysis = b.analysis;
+      extends_uuid = b.extends_uuid;
+      tags = b.tags;
+    }
 
 abbrev pub body_in : Content → Option EventDraftFields
 body_in (contents.Event b) = Some (event_draft b)
@@ -84,4 +101,6 @@ body_in content = None
 
 -- BROUGHT: the event as its row has it, and its elements in the order in which they are shown
 abbrev pub brought : VisibleEvent → SubmissionFields
-brought e = submission_of (record { 0 = key_uuid e.row.key }) (body_in e.row.content) e.row.label (elements_of e)
+brought e =
+    submission_of (record { 0 = key_uuid e.row.key }) (body_in e.row.content) e.row.label
+    (elements_of e)

@@ -32,11 +32,15 @@ use Rattle.misp_format.specs.Rows.{Reading, ◌>>=◌, row, must_be, body_at, ea
 
 -- the texts of an element together have no more bytes than the limit
 abbrev pub unless_long : Body → ℕ → Reading ⊤
-unless_long it bytes = if nat_lt text_limit bytes then Err (faults.BadField it.path needs.Short) else Ok tt
+unless_long it bytes =
+    if nat_lt text_limit bytes then Err (faults.BadField it.path needs.Short)
+    else Ok tt
 
 -- a file at a member is refused
 abbrev pub unless_file : Body → List ℕ → Bool → Reading ⊤
-unless_file it name is_file = if is_file then Err (faults.BinaryType (member_path it.path name)) else Ok tt
+unless_file it name is_file =
+    if is_file then Err (faults.BinaryType (member_path it.path name))
+    else Ok tt
 
 -- ---- tags
 
@@ -89,13 +93,18 @@ kind_at it = do
 
 -- no file stands in `data`
 abbrev pub no_file_at : Body → Reading ⊤
-no_file_at it = unless_file it (codes "data") (unwrap_or (option_map is_file (member_of (codes "data") it.value)) false)
+no_file_at it =
+    unless_file it (codes "data")
+    (unwrap_or (option_map is_file (member_of (codes "data") it.value)) false)
 
 -- what is wrong with a value
 abbrev pub value_refused : {A : Type 0} → Body → ValueFault → Reading A
-value_refused it values.WrongLength = Err (faults.BadField (member_path it.path (codes "value")) needs.Length)
-value_refused it (values.WrongDigit n) = Err (faults.BadField (member_path it.path (codes "value")) (needs.Digit n))
-value_refused it (values.WrongPart n) = Err (faults.BadField (member_path it.path (codes "value")) (needs.Part n))
+value_refused it values.WrongLength =
+    Err (faults.BadField (member_path it.path (codes "value")) needs.Length)
+value_refused it (values.WrongDigit n) =
+    Err (faults.BadField (member_path it.path (codes "value")) (needs.Digit n))
+value_refused it (values.WrongPart n) =
+    Err (faults.BadField (member_path it.path (codes "value")) (needs.Part n))
 value_refused it values.BinaryType = Err (faults.BinaryType (member_path it.path (codes "value")))
 value_refused it values.NoMemory = Err faults.NoMemory
 
@@ -123,9 +132,22 @@ attribute_at path object word n d = do
   no_file ← no_file_at it
   value ← value_at kind it
   tags ← tags_at it
-  content ← Ok (contents.Attribute (record { kind = kind; category = category; to_ids = to_ids; comment = comment; deleted = deleted; value = value; tags = tags }))
+  content ← Ok (contents.Attribute (record {
+    kind = kind;
+    category = category;
+    to_ids = to_ids;
+    comment = comment;
+    deleted = deleted;
+    value = value;
+    tags = tags;
+  }))
   fits ← unless_long it (text_size content)
-  Ok (record { number = n; place = place_in object (record { 0 = uuid }); label = label; content = content })
+  Ok (record {
+    number = n;
+    place = place_in object (record { 0 = uuid });
+    label = label;
+    content = content;
+  })
 
 -- the attribute at a place of the list, after what was read before it
 abbrev pub next_attribute : ℕ → Option ElemId → List ℕ → ℕ → Gathered → Data → Reading Gathered
@@ -152,7 +174,13 @@ reference_at path object word n d = do
   deleted ← row it (codes "deleted") flag_of (Ok false)
   body ← Ok (record { relationship_type = relationship_type; comment = comment; deleted = deleted })
   fits ← unless_long it (text_size (contents.Reference body))
-  Ok (record { number = n; object = object; uuid = record { 0 = uuid }; referenced = record { 0 = referenced }; body = body })
+  Ok (record {
+    number = n;
+    object = object;
+    uuid = record { 0 = uuid };
+    referenced = record { 0 = referenced };
+    body = body;
+  })
 
 abbrev pub next_reference : ℕ → ElemId → List ℕ → ℕ → Gathered → Data → Reading Gathered
 next_reference word object path n so_far d = do
@@ -178,7 +206,15 @@ object_at uuid n it = do
   template_version ← row it (codes "template_version") number_of (Ok 0)
   label ← row it (codes "distribution") (label_of 5) (Ok labels.Inherit)
   deleted ← row it (codes "deleted") flag_of (Ok false)
-  content ← Ok (contents.Object (record { name = name; meta_category = meta_category; description = description; comment = comment; template_uuid = template_uuid; template_version = template_version; deleted = deleted }))
+  content ← Ok (contents.Object (record {
+    name = name;
+    meta_category = meta_category;
+    description = description;
+    comment = comment;
+    template_uuid = template_uuid;
+    template_version = template_version;
+    deleted = deleted;
+  }))
   fits ← unless_long it (text_size content)
   Ok (record { number = n; place = places.Object uuid; label = label; content = content })
 

@@ -17,7 +17,9 @@ abbrev pub place : Gathered → ℕ
 place g = g.first + length g.parts + length g.references
 
 abbrev pub with_part : Gathered → DraftFields → Gathered
-with_part g part = record { first = g.first; parts = g.parts ++ part ∷ []; references = g.references }
+with_part g part =
+    record { first = g.first; parts = g.parts ++ part ∷ []; references = g.references }
 
 abbrev pub with_reference : Gathered → ReferenceDraftFields → Gathered
-with_reference g reference = record { first = g.first; parts = g.parts; references = g.references ++ reference ∷ [] }
+with_reference g reference =
+    record { first = g.first; parts = g.parts; references = g.references ++ reference ∷ [] }

@@ -22,7 +22,8 @@ category_of d = category_in_text (text_of d)
 
 -- the name of the category of this number, or that of the last
 unfoldable pub category_name : ℕ → List ℕ
-category_name number = option_map_or (λ name. name.now) (slice_get CATEGORIES number) (codes "Other")
+category_name number =
+    option_map_or (λ name. name.now) (slice_get CATEGORIES number) (codes "Other")
 
 -- the values of these types are files
 abbrev pub is_file_type : List ℕ → Bool

@@ -52,7 +52,9 @@ must_be = Err needs.Present
 
 -- the value at a path, which must be an object
 abbrev pub body_at : List ℕ → Data → Reading Body
-body_at path d = if is_some (as_object d) then Ok (record { path = path; value = d }) else Err (faults.BadField path needs.Object)
+body_at path d =
+    if is_some (as_object d) then Ok (record { path = path; value = d })
+    else Err (faults.BadField path needs.Object)
 
 -- EACH: the items in order, each with its place in the list, onto what was read before
 abbrev pub each : {S : Type 0} → (ℕ → S → Data → Reading S) → ℕ → S → Items → Reading S

@@ -26,11 +26,19 @@ unwrapped name d = unwrap_or (member_of name d) d
 
 -- the elements that were read, for this event
 abbrev pub submission_of : EventId → Option EventDraftFields → Label → Gathered → SubmissionFields
-submission_of event body label g = record { event = event; body = body; label = label; parts = g.parts; references = g.references }
+submission_of event body label g =
+    record {
+      event = event;
+      body = body;
+      label = label;
+      parts = g.parts;
+      references = g.references;
+    }
 
 -- ---- events
 
--- EVENT: but for its attributes and objects, and its label. Without a date it has that of the moment.
+-- EVENT: but for its attributes and objects, and its label. Without a date it has that of the
+-- moment.
 unfoldable pub event_itself_at : Body → Reading (EventDraftFields × Label)
 event_itself_at it = do
   info ← row it (codes "info") some_text_of must_be
@@ -41,10 +49,20 @@ event_itself_at it = do
   extends_uuid ← row it (codes "extends_uuid") optional_uuid_of (Ok None)
   tags ← tags_at it
   fits ← unless_long it (length info + tags_size tags)
-  Ok (record { info = info; date = date; threat_level_id = threat_level_id; analysis = analysis; extends_uuid = extends_uuid; tags = tags }, label)
+  Ok (
+    record {
+      info = info;
+      date = date;
+      threat_level_id = threat_level_id;
+      analysis = analysis;
+      extends_uuid = extends_uuid;
+      tags = tags;
+    },
+    label,
+  )
 
--- what a body brings: an event, which has the place 0, and its elements in reading order. What comes without an
--- identifier gets the one that is made of word and its place.
+-- what a body brings: an event, which has the place 0, and its elements in reading order. What
+-- comes without an identifier gets the one that is made of word and its place.
 unfoldable pub event_at : ℕ → Data → Reading SubmissionFields
 event_at word d = do
   it ← body_at (codes "Event") (unwrapped (codes "Event") d)
@@ -58,8 +76,11 @@ event_at word d = do
 
 -- one attribute, or each of a list
 abbrev pub attribute_or_list : Option Items → Option ElemId → ℕ → Data → Reading Gathered
-attribute_or_list None object word d = attribute_at (codes "Attribute") object word 0 d >>= λ attribute. Ok (with_part (none_from 0) attribute)
-attribute_or_list (Some items) object word d = each (next_attribute word object (codes "Attribute")) 0 (none_from 0) items
+attribute_or_list None object word d =
+    attribute_at (codes "Attribute") object word 0 d
+    >>= λ attribute. Ok (with_part (none_from 0) attribute)
+attribute_or_list (Some items) object word d =
+    each (next_attribute word object (codes "Attribute")) 0 (none_from 0) items
 
 -- ATTRIBUTES: an attribute, or a list of them, of this object or outside objects
 abbrev pub attribute_body_at : Option ElemId → ℕ → Data → Reading Gathered
@@ -68,7 +89,9 @@ attribute_body_at object word d = attribute_or_list (as_array d) object word d
 -- a reference of this object; there is none without an object
 abbrev pub reference_body_at : Option ElemId → ℕ → Data → Reading Gathered
 reference_body_at None word d = Ok (none_from 0)
-reference_body_at (Some object) word d = reference_at (codes "ObjectReference") object word 0 d >>= λ reference. Ok (with_reference (none_from 0) reference)
+reference_body_at (Some object) word d =
+    reference_at (codes "ObjectReference") object word 0 d
+    >>= λ reference. Ok (with_reference (none_from 0) reference)
 
 -- an attribute may have an object, an object has none, and a reference has one
 abbrev pub is_form_for : Option ElemId → PartForm → Bool
@@ -78,13 +101,18 @@ is_form_for object forms.Reference = is_some object
 
 -- the elements of a body of this form, an object with its attributes and references
 abbrev pub elements_at : Option ElemId → PartForm → ℕ → Data → Reading Gathered
-elements_at object forms.Attributes word d = attribute_body_at object word (unwrapped (codes "Attribute") d)
-elements_at object forms.Object word d = object_and_others_at word (codes "Object") (none_from 0) (unwrapped (codes "Object") d)
-elements_at object forms.Reference word d = reference_body_at object word (unwrapped (codes "ObjectReference") d)
+elements_at object forms.Attributes word d =
+    attribute_body_at object word (unwrapped (codes "Attribute") d)
+elements_at object forms.Object word d =
+    object_and_others_at word (codes "Object") (none_from 0) (unwrapped (codes "Object") d)
+elements_at object forms.Reference word d =
+    reference_body_at object word (unwrapped (codes "ObjectReference") d)
 
 -- PARTS: what a body brings for an event that is there
 unfoldable pub parts_at : EventId → Option ElemId → PartForm → ℕ → Data → Reading SubmissionFields
-parts_at event object form word d = elements_at object form word d >>= λ elements. Ok (submission_of event None labels.Inherit elements)
+parts_at event object form word d =
+    elements_at object form word d
+    >>= λ elements. Ok (submission_of event None labels.Inherit elements)
 
 -- ---- tags
 

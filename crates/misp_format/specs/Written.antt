@@ -76,7 +76,8 @@ reference_with stamp referenced uuid (contents.Reference b) = object (
 reference_with stamp referenced uuid content = null
 
 abbrev pub reference_of : ℕ → KeyForm → Content → Data
-reference_of stamp (keys.Reference event owner target uuid) content = reference_with stamp (place_uuid event target) uuid content
+reference_of stamp (keys.Reference event owner target uuid) content =
+    reference_with stamp (place_uuid event target) uuid content
 reference_of stamp key content = null
 
 unfoldable pub reference_data : RowFields → Data
@@ -185,7 +186,8 @@ object_data names o = object_of names o o.row.content
 
 -- the attributes that are shown, those in objects included
 unfoldable pub attribute_count : VisibleEvent → ℕ
-attribute_count e = length e.attributes + sum_by (λ (o : VisibleObject). length o.attributes) e.objects
+attribute_count e =
+    length e.attributes + sum_by (λ (o : VisibleObject). length o.attributes) e.objects
 
 -- its lists and organisations, and then other members
 abbrev pub event_lists : GroupNames → VisibleEvent → EventBody → Members → Members

@@ -163,7 +163,8 @@ pub(crate) fn attributes_in(
     elements: &mut Elements,
 ) -> Result<(), FormatFault>
     ensures { Shows (λ _. elements.new) result
-        (each (next_attribute word object (path_text path.now)) 0 elements.old (items_of (map view list.now))) }
+        (each (next_attribute word object (path_text path.now)) 0 elements.old
+        (items_of (map view list.now))) }
 {
     for (index, value) in list.iter().enumerate() {
         let path = Path::Item(&*path, index);

@@ -82,7 +82,8 @@ fn attribute_with(
     attribute: &VisibleAttribute,
     body: &AttributeBody,
 ) -> Result<Value, NoMemory>
-    ensures { IfOk result (λ v. view v ≡ attribute_with (names_in names.now) attribute.now body.now) }
+    ensures { IfOk result (λ v. view v
+        ≡ attribute_with (names_in names.now) attribute.now body.now) }
 {
     let mut it = attribute_fields(alloc, attribute, body)?;
     sharing_group(alloc, &mut it, names, &attribute.row.label)?;
@@ -108,7 +109,8 @@ pub(crate) fn attribute_values(
     names: &GroupNames,
     attributes: &[VisibleAttribute],
 ) -> Result<Vec<Value>, NoMemory>
-    ensures { IfOk result (λ vs. map view vs.items ≡ map (attribute_data (names_in names.now)) attributes.now) }
+    ensures { IfOk result (λ vs. map view vs.items
+        ≡ map (attribute_data (names_in names.now)) attributes.now) }
 {
     let mut values = Vec::new(alloc);
     for attribute in attributes {
@@ -124,7 +126,8 @@ fn object_fields(
     object: &VisibleObject,
     body: &ObjectBody,
 ) -> Result<Fields, NoMemory>
-    ensures { IfOk result (λ it. members_of it ≡ object_members (names_in names.now) object.now body.now) }
+    ensures { IfOk result (λ it. members_of it
+        ≡ object_members (names_in names.now) object.now body.now) }
 {
     let mut it = Fields::new(alloc);
     it.list(

@@ -25,7 +25,8 @@ impl Model for Elements {
 
     ghost Value = { Gathered };
 
-    ghost view = { λ e. record { first = e.first; parts = e.parts.items; references = e.references.items } };
+    ghost view = { λ e.
+        record { first = e.first; parts = e.parts.items; references = e.references.items } };
 }
 
 impl Elements {

@@ -27,28 +27,32 @@ impl Fields {
     }
 
     pub(crate) fn value(&mut self, name: &str, value: Value) -> Result<(), NoMemory>
-        ensures { OnOk result (members_of self.new ≡ with name.now (view value) (members_of self.old)) }
+        ensures { OnOk result (members_of self.new
+            ≡ with name.now (view value) (members_of self.old)) }
     {
         serde_json::put(&mut self.members, self.alloc, name, value)?;
         Ok(())
     }
 
     pub(crate) fn text(&mut self, name: &str, text: &str) -> Result<(), NoMemory>
-        ensures { OnOk result (members_of self.new ≡ with name.now (string text.now) (members_of self.old)) }
+        ensures { OnOk result (members_of self.new
+            ≡ with name.now (string text.now) (members_of self.old)) }
     {
         let value = Value::try_from_str(self.alloc, text)?;
         self.value(name, value)
     }
 
     pub(crate) fn flag(&mut self, name: &str, flag: bool) -> Result<(), NoMemory>
-        ensures { OnOk result (members_of self.new ≡ with name.now (boolean flag) (members_of self.old)) }
+        ensures { OnOk result (members_of self.new
+            ≡ with name.now (boolean flag) (members_of self.old)) }
     {
         self.value(name, Value::Bool(flag))
     }
 
     /// A number, as a text.
     pub(crate) fn number(&mut self, name: &str, number: u64) -> Result<(), NoMemory>
-        ensures { OnOk result (members_of self.new ≡ with name.now (number_data number) (members_of self.old)) }
+        ensures { OnOk result (members_of self.new
+            ≡ with name.now (number_data number) (members_of self.old)) }
     {
         let text = format!(in self.alloc; "{number}")?;
         self.value(name, Value::String(text))
@@ -56,13 +60,15 @@ impl Fields {
 
     /// A number, as a number.
     pub(crate) fn count(&mut self, name: &str, number: u64) -> Result<(), NoMemory>
-        ensures { OnOk result (members_of self.new ≡ with name.now (count_data number) (members_of self.old)) }
+        ensures { OnOk result (members_of self.new
+            ≡ with name.now (count_data number) (members_of self.old)) }
     {
         self.value(name, Value::from(number))
     }
 
     pub(crate) fn uuid(&mut self, name: &str, uuid: &Uid) -> Result<(), NoMemory>
-        ensures { OnOk result (members_of self.new ≡ with name.now (uuid_data uuid.now) (members_of self.old)) }
+        ensures { OnOk result (members_of self.new
+            ≡ with name.now (uuid_data uuid.now) (members_of self.old)) }
     {
         let text = uuid.to_text(self.alloc)?;
         self.text(name, text.as_str())
@@ -70,7 +76,8 @@ impl Fields {
 
     /// An identifier, or an empty text where there is none.
     pub(crate) fn optional_uuid(&mut self, name: &str, uuid: &Option<Uid>) -> Result<(), NoMemory>
-        ensures { OnOk result (members_of self.new ≡ with name.now (optional_uuid_data uuid.now) (members_of self.old)) }
+        ensures { OnOk result (members_of self.new
+            ≡ with name.now (optional_uuid_data uuid.now) (members_of self.old)) }
     {
         match uuid {
             Some(uuid) => self.uuid(name, uuid),
@@ -87,7 +94,8 @@ impl Fields {
 
     /// An organisation, and the name that it is known by.
     pub(crate) fn org(&mut self, name: &str, org: &OrgId, org_name: &str) -> Result<(), NoMemory>
-        ensures { OnOk result (members_of self.new ≡ with name.now (org_data org.now org_name.now) (members_of self.old)) }
+        ensures { OnOk result (members_of self.new
+            ≡ with name.now (org_data org.now org_name.now) (members_of self.old)) }
     {
         let value = org_value(self.alloc, org, org_name)?;
         self.value(name, value)

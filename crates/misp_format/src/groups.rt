@@ -55,7 +55,8 @@ pub(crate) fn sharing_group(
     names: &GroupNames,
     label: &Label,
 ) -> Result<(), NoMemory>
-    ensures { OnOk result (members_of it.new ≡ with_group (names_in names.now) label.now (members_of it.old)) }
+    ensures { OnOk result (members_of it.new
+        ≡ with_group (names_in names.now) label.now (members_of it.old)) }
 {
     match label {
         Label::Group(group) => {

@@ -60,7 +60,8 @@ pub(crate) fn put_row(it: &mut Fields, row: &Row) -> Result<(), NoMemory>
 
 /// The member `Org`: the holder, and the name that it is known by.
 pub(crate) fn put_owner(it: &mut Fields, row: &Row, name: &str) -> Result<(), NoMemory>
-    ensures { OnOk result (members_of it.new ≡ put (codes "Org") (org_data row.now.owner name.now) (members_of it.old)) }
+    ensures { OnOk result (members_of it.new
+        ≡ put (codes "Org") (org_data row.now.owner name.now) (members_of it.old)) }
 {
     it.org("Org", &row.owner, name)
 }

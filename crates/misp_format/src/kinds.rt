@@ -60,7 +60,8 @@ pub(crate) fn category(value: &Value) -> Result<u8, Need>
 
 /// The name at a place of a list, or that of the last category.
 fn name_at(names: &[&'static str], number: usize) -> &'static str
-    ensures { result.now ≡ option_map_or (λ name. name.now) (slice_get names.now number) (codes "Other") }
+    ensures { result.now
+        ≡ option_map_or (λ name. name.now) (slice_get names.now number) (codes "Other") }
 {
     match names.get(number) {
         Some(name) => name,

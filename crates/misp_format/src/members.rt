@@ -51,7 +51,8 @@ impl<'a> Members<'a> {
 
     /// The fault of a member.
     pub(crate) fn refused<T>(&self, name: &str, need: Need) -> Result<T, FormatFault>
-        ensures { Gives result (Err (faults.BadField (member_path (body_of self.now).path name.now) need)) }
+        ensures { Gives result
+            (Err (faults.BadField (member_path (body_of self.now).path name.now) need)) }
     {
         Err(FormatFault::BadField {
             path: self.path.member_text(self.alloc, name)?,
@@ -71,7 +72,8 @@ impl<'a> Members<'a> {
 
     /// A file at a member.
     pub(crate) fn file<T>(&self, name: &str) -> Result<T, FormatFault>
-        ensures { Gives result (Err (faults.BinaryType (member_path (body_of self.now).path name.now))) }
+        ensures { Gives result
+            (Err (faults.BinaryType (member_path (body_of self.now).path name.now))) }
     {
         Err(FormatFault::BinaryType {
             path: self.path.member_text(self.alloc, name)?,
@@ -149,7 +151,8 @@ impl<'a> Members<'a> {
         most: u8,
         absent: u8,
     ) -> Result<u8, FormatFault>
-        ensures { Gives result (row (body_of self.now) name.now (number_within least most) (Ok absent)) }
+        ensures { Gives result
+            (row (body_of self.now) name.now (number_within least most) (Ok absent)) }
     {
         match member(self.value, name) {
             Some(value) => self.kept(name, number_within(value, least, most)),
@@ -187,7 +190,8 @@ impl<'a> Members<'a> {
         least: usize,
         most: usize,
     ) -> Result<Text, FormatFault>
-        ensures gives { Gives result (row (body_of self.now) name.now (text_within least most) must_be) }
+        ensures gives { Gives result
+            (row (body_of self.now) name.now (text_within least most) must_be) }
         ensures long { IfOk result (λ t. is_long least most t ≡ true) }
     {
         match member(self.value, name) {
@@ -227,7 +231,8 @@ impl<'a> Members<'a> {
 
     /// The items of a list, none where it is absent.
     pub(crate) fn list(&self, name: &str) -> Result<&'a [Value], FormatFault>
-        ensures { Shows (λ vs. items_of (map view vs.now)) result (row (body_of self.now) name.now list_of (Ok no_items)) }
+        ensures { Shows (λ vs. items_of (map view vs.now)) result
+            (row (body_of self.now) name.now list_of (Ok no_items)) }
     {
         match member(self.value, name) {
             Some(value) => match fields::list(value) {

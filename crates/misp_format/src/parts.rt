@@ -52,7 +52,8 @@ fn attribute_body(
 }
 
 fn object_body(alloc: Global, value: &Value, word: u128) -> Result<Elements, FormatFault>
-    ensures { Gives result (object_and_others_at word (codes "Object") (none_from 0) (view value.now)) }
+    ensures { Gives result
+        (object_and_others_at word (codes "Object") (none_from 0) (view value.now)) }
 {
     let path = Path::Body("Object");
     let mut elements = Elements::none_from(alloc, 0);

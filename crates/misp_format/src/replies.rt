@@ -39,7 +39,8 @@ pub fn write_saved(
     // The text, byte for byte.
     ensures text { IfOk result (λ b. b.items ≡ compact_text (saved_data elements event.now stamp)) }
     // It is read to the same data.
-    ensures reads_back { IfOk result (λ b. read b.items ≡ Some (saved_data elements event.now stamp)) }
+    ensures reads_back { IfOk result (λ b. read b.items
+        ≡ Some (saved_data elements event.now stamp)) }
 {
     let value = saved_value(alloc, elements, event, stamp)?;
     Ok(value.to_vec(alloc)?)

@@ -134,7 +134,8 @@ pub fn write_event(alloc: Global, event: &VisibleEvent) -> Result<Vec<u8>, NoMem
     // It is read to the same data.
     ensures reads_back { IfOk result (λ b. read b.items ≡ Some (body_data event.now)) }
     // A whole event without groups is read again as it is, whatever the word.
-    ensures same { IfOk result (λ b. IsWhole event.now → HasNoGroups event.now → (d : Data) → read b.items ≡ Some d
+    ensures same { IfOk result (λ b. IsWhole event.now → HasNoGroups event.now
+        → (d : Data) → read b.items ≡ Some d
         → (word : ℕ) → event_at word d ≡ Ok (brought event.now)) }
 {
     let mut text = Vec::new(alloc);

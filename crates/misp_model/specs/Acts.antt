@@ -45,7 +45,8 @@ pub record World : Type 0 where
   pub log : List Version
   pub groups : Inst → List Group
 
--- a synchronisation's route, where it is not refused; it is read off the links, the keys and the groups
+-- a synchronisation's route, where it is not refused; it is read off the links, the keys and the
+-- groups
 abbrev pub Net : Type 0
 Net = Way → Inst → Inst → (Inst → List Group) → Option Route
 
@@ -56,11 +57,21 @@ known_at w i o = known (tables w.log i) (w.groups i) i o
 -- the n-th act's surroundings, seen by its caller
 unfoldable pub scene : ℕ → World → Act → Caller → Scene
 scene n w act c =
-    record { act = n; at = act.at; by = c.org; by_name = c.name; now = act.now; today = date_of act.now; rows = known_at w act.at c.org; groups = w.groups act.at }
+    record {
+      act = n;
+      at = act.at;
+      by = c.org;
+      by_name = c.name;
+      now = act.now;
+      today = date_of act.now;
+      rows = known_at w act.at c.org;
+      groups = w.groups act.at;
+    }
 
 -- the rules that refuse a request
 unfoldable pub ask_rules : Scene → Ask → List (Bool × Rule)
-ask_rules s (View e owner) = (elim (shown s e owner) [ None ↦ true | Some v ↦ false ], NotGranted) ∷ []
+ask_rules s (View e owner) =
+    (elim (shown s e owner) [ None ↦ true | Some v ↦ false ], NotGranted) ∷ []
 ask_rules s (ask.Change c) = change_rules s c
 ask_rules s (Propose d) = propose_rules s d
 ask_rules s (Judge e n accept) = judge_rules s e n accept
@@ -96,7 +107,9 @@ pub data Reply : Type 0 where
 
 -- the arrivals among these that are newer than what is held
 unfoldable pub newer : Scene → List Version → List Version
-newer s vs = filter (λ v. not (list_any (λ row. is_row_of s.by v.key row && leb v.stamp row.stamp) s.rows)) vs
+newer s vs =
+    filter
+    (λ v. not (list_any (λ row. is_row_of s.by v.key row && leb v.stamp row.stamp) s.rows)) vs
 
 -- the answer where no rule refuses
 unfoldable pub ok_answer : Scene → Ask → Reply
@@ -116,7 +129,8 @@ answer s a = elim (first_rule (ask_rules s a)) [ None ↦ ok_answer s a | Some r
 unfoldable pub take_group : List Group → Group → List Group
 take_group groups g =
     cond (list_any (λ h. same_group h.id g.id) groups)
-    (map (λ h. cond (same_group h.id g.id && (h.carried && ltb h.modified g.modified)) (record g { carried = true }) h) groups)
+    (map (λ h. cond (same_group h.id g.id && (h.carried && ltb h.modified g.modified))
+    (record g { carried = true }) h) groups)
     (groups ++ record g { carried = true } ∷ [])
 
 unfoldable pub take_groups : List Group → List Group → List Group
@@ -125,25 +139,29 @@ take_groups groups (g ∷ gs) = take_groups (take_group groups g) gs
 
 -- a group that take_group takes, and how many of these are taken
 unfoldable pub takes_group : List Group → Group → Bool
-takes_group groups g = list_all (λ h. not (same_group h.id g.id) || h.carried && ltb h.modified g.modified) groups
+takes_group groups g =
+    list_all (λ h. not (same_group h.id g.id) || h.carried && ltb h.modified g.modified) groups
 
 unfoldable pub count_taken : List Group → List Group → ℕ
 count_taken groups [] = 0
 count_taken groups (g ∷ gs) = cond (takes_group groups g) 1 0 + count_taken (take_group groups g) gs
 
--- the rules that refuse an administration: it is not the creator's; the added group is known; the edited one is not, was carried here, or has the last stamp
+-- the rules that refuse an administration: it is not the creator's; the added group is known; the
+-- edited one is not, was carried here, or has the last stamp
 unfoldable pub administration_fails : OrgId → Bool → Group → List Group → Bool
 administration_fails by add g groups =
     not (same_org by g.id.creator)
     || cond add (list_any (λ h. same_group h.id g.id) groups)
-    (not (list_any (λ h. same_group h.id g.id && (not h.carried && not (eqb h.modified last_stamp))) groups))
+    (not (list_any
+    (λ h. same_group h.id g.id && (not h.carried && not (eqb h.modified last_stamp))) groups))
 
 -- the groups after an administration
 unfoldable pub administered : Stamp → OrgId → Bool → Group → List Group → List Group
 administered now by add g groups =
     cond (administration_fails by add g groups) groups
     (cond add (groups ++ record g { carried = false; modified = now } ∷ [])
-    (map (λ h. cond (same_group h.id g.id) (record g { carried = false; modified = next_stamp now h.modified }) h) groups))
+    (map (λ h. cond (same_group h.id g.id)
+    (record g { carried = false; modified = next_stamp now h.modified }) h) groups))
 
 -- the groups of all instances, with those of one instead
 unfoldable pub with_groups : (Inst → List Group) → Inst → List Group → Inst → List Group
@@ -152,12 +170,14 @@ with_groups groups i new j = cond (same_inst j i) new (groups j)
 -- a synchronisation: first the groups that carry, then all that passes and counts
 unfoldable pub synced_groups : (Inst → List Group) → Route → Inst → List Group
 synced_groups groups r =
-    with_groups groups r.into (take_groups (groups r.into) (filter (λ g. carries g r.«for» r.dest) (groups r.from)))
+    with_groups groups r.into
+    (take_groups (groups r.into) (filter (λ g. carries g r.«for» r.dest) (groups r.from)))
 
 unfoldable pub synced : ℕ → World → Route → World
 synced n w r =
     record {
-      log = w.log ++ counted (tables w.log r.into) (synced_groups w.groups r r.into) (map (moved n r) (passing w.log (w.groups r.from) r));
+      log = w.log ++ counted (tables w.log r.into) (synced_groups w.groups r r.into)
+          (map (moved n r) (passing w.log (w.groups r.from) r));
       groups = synced_groups w.groups r;
     }
 
@@ -172,8 +192,11 @@ step net n w act =
       | Asks c a ↦ asked w (scene n w act c) a
       | Misfits c ↦ w
       | Syncs way link ↦ elim (net way act.at link w.groups) [ None ↦ w | Some r ↦ synced n w r ]
-      | Takes_groups c gs ↦ record w { groups = with_groups w.groups act.at (take_groups (w.groups act.at) gs) }
-      | Administers o add g ↦ record w { groups = with_groups w.groups act.at (administered act.now o add g (w.groups act.at)) }
+      | Takes_groups c gs ↦
+          record w { groups = with_groups w.groups act.at (take_groups (w.groups act.at) gs) }
+      | Administers o add g ↦ record w {
+        groups = with_groups w.groups act.at (administered act.now o add g (w.groups act.at));
+      }
       | Nothing ↦ w
     ]
 
@@ -189,7 +212,8 @@ reply_to o n w act =
       | Asks c a ↦ cond (same_org c.org o) (Some (answer (scene n w act c) a)) None
       | Misfits c ↦ cond (same_org c.org o) (Some Other) None
       | Syncs way link ↦ None
-      | Takes_groups c gs ↦ cond (same_org c.org o) (Some (Taken (count_taken (w.groups act.at) gs))) None
+      | Takes_groups c gs ↦
+          cond (same_org c.org o) (Some (Taken (count_taken (w.groups act.at) gs))) None
       | Administers by add g ↦ None
       | Nothing ↦ None
     ]
@@ -197,4 +221,5 @@ reply_to o n w act =
 -- all replies to the organisation, act by act
 unfoldable pub replies_to : OrgId → Net → ℕ → World → List Act → List (Option Reply)
 replies_to o net n w [] = []
-replies_to o net n w (act ∷ acts) = reply_to o n w act ∷ replies_to o net (suc n) (step net n w act) acts
+replies_to o net n w (act ∷ acts) =
+    reply_to o n w act ∷ replies_to o net (suc n) (step net n w act) acts

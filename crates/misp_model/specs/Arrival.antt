@@ -23,18 +23,21 @@ is_made_at i (Sighting e t j v u) = same_inst j i
 -- what an arrival has to meet whatever else arrives
 unfoldable pub is_welcome : List Row → List Group → Version → Bool
 is_welcome rows groups v =
-    not (has_gone rows v.owner (event_of v.key)) && (not (has_home rows v.owner (event_of v.key)) || is_statement v.key)
+    not (has_gone rows v.owner (event_of v.key))
+    && (not (has_home rows v.owner (event_of v.key)) || is_statement v.key)
     && not (is_made_at v.at v.key) && label_is_known groups (label_now v)
 
 -- the holder has a version of the event, or one comes that counts
 unfoldable pub has_event : List Row → List Group → List Version → Version → Bool
 has_event rows groups coming v =
     has_copy rows v.owner (event_of v.key)
-    || list_any (λ u. same_key u.key (event_key (event_of v.key)) && is_welcome rows groups u) coming
+    || list_any
+    (λ u. same_key u.key (event_key (event_of v.key)) && is_welcome rows groups u) coming
 
 -- the arrival counts
 unfoldable pub counts : List Row → List Group → List Version → Version → Bool
-counts rows groups coming v = is_welcome rows groups v && (is_statement v.key || has_event rows groups coming v)
+counts rows groups coming v =
+    is_welcome rows groups v && (is_statement v.key || has_event rows groups coming v)
 
 -- those of the arrivals that count
 unfoldable pub counted : List Row → List Group → List Version → List Version
@@ -47,4 +50,14 @@ moved n route v = record v { at = route.into; owner = route.holder; path = n ∷
 -- a row as it is handed in by the n-th act
 unfoldable pub handed_in : ℕ → Inst → OrgId → Row → Version
 handed_in n i w row =
-    record { at = i; owner = w; key = row.key; stamp = row.stamp; label = row.label; content = row.content; came = Handed_in; act = n; path = [] }
+    record {
+      at = i;
+      owner = w;
+      key = row.key;
+      stamp = row.stamp;
+      label = row.label;
+      content = row.content;
+      came = Handed_in;
+      act = n;
+      path = [];
+    }

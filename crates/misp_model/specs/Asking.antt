@@ -40,7 +40,8 @@ use Rattle.misp_model.specs.Audience.{group_passes, allows}
 use Rattle.misp_model.specs.View.{is_row_of, has_copy, has_home, has_gone, granted, element_granted, granted_somewhere, is_live, is_least}
 use Rattle.misp_model.specs.History.{Version, Written, Published}
 
--- a request's surroundings: its number, where and by whom, the moment and its date, and the rows and groups that it can look at
+-- a request's surroundings: its number, where and by whom, the moment and its date, and the rows
+-- and groups that it can look at
 pub record Scene : Type 0 where
   pub act : ℕ
   pub at : Inst
@@ -52,7 +53,8 @@ pub record Scene : Type 0 where
   pub groups : List Group
 
 pub data Rule : Type 0 where
-  NotGranted NotOwner LockedCopy EventExists EventGone ElementExists GroupNotUsable OlderTime TimeLimit ProposalExists ProposalClosed ElementFull : Rule
+  NotGranted NotOwner LockedCopy EventExists EventGone ElementExists GroupNotUsable OlderTime
+      TimeLimit ProposalExists ProposalClosed ElementFull : Rule
 
 -- the first of these rules whose test holds
 unfoldable pub first_rule : List (Bool × Rule) → Option Rule
@@ -75,7 +77,10 @@ sees s k = granted_somewhere s.rows s.groups s.at s.by k
 
 -- the key is granted to the caller in some copy, and live there
 unfoldable pub sees_live : Scene → Key → Bool
-sees_live s k = list_any (λ row. same_key row.key k && (element_granted s.rows s.groups s.at s.by row && is_live s.rows row)) s.rows
+sees_live s k =
+    list_any (λ row.
+    same_key row.key k
+    && (element_granted s.rows s.groups s.at s.by row && is_live s.rows row)) s.rows
 
 -- the caller's own row of the key
 unfoldable pub own_row : Scene → Key → Option Row
@@ -105,7 +110,17 @@ next_stamp now old = max now (old + 1)
 -- a version that the caller writes
 unfoldable pub written : Scene → Key → Stamp → Label → Content → Version
 written s k stamp l c =
-    record { at = s.at; owner = s.by; key = k; stamp = stamp; label = l; content = c; came = Written; act = s.act; path = [] }
+    record {
+      at = s.at;
+      owner = s.by;
+      key = k;
+      stamp = stamp;
+      label = l;
+      content = c;
+      came = Written;
+      act = s.act;
+      path = [];
+    }
 
 -- a row of the caller, as a change of it: later, and with another content
 unfoldable pub changed : Scene → Row → Label → Content → Version
@@ -128,7 +143,10 @@ takes_uuid u (Sighting e t i o v) = false
 
 -- the own copy has the uuid, deleted or not
 unfoldable pub is_taken : Scene → EventId → ℕ → Bool
-is_taken s e u = eqb e.0.0 u || list_any (λ row. same_org row.owner s.by && (same_event (event_of row.key) e && takes_uuid u row.key)) s.rows
+is_taken s e u =
+    eqb e.0.0 u
+    || list_any (λ row.
+    same_org row.owner s.by && (same_event (event_of row.key) e && takes_uuid u row.key)) s.rows
 
 -- no number stands twice
 unfoldable pub are_distinct : List ℕ → Bool
@@ -158,14 +176,21 @@ place_in (Proposal e n) = n.target
 place_in (Verdict e n i o) = n.target
 place_in (Sighting e t i o v) = t
 
--- what a reference names: the part of that uuid in the same body, or the live element of the own copy
+-- what a reference names: the part of that uuid in the same body, or the live element of the own
+-- copy
 unfoldable pub target_in_copy : Scene → EventId → ElemId → Option Place
 target_in_copy s e u =
     option_map (λ row. place_in row.key)
-    (find (λ row. same_org row.owner s.by && (same_event (event_of row.key) e && (is_target_key u row.key && is_live s.rows row))) s.rows)
+    (find (λ row.
+    same_org row.owner s.by
+    && (same_event (event_of row.key) e && (is_target_key u row.key && is_live s.rows row))) s.rows)
 
 unfoldable pub target_of : Scene → EventId → List Draft → ElemId → Option Place
-target_of s e parts u = elim (find (λ d. is_place_of u d.place) parts) [ Some d ↦ Some d.place | None ↦ target_in_copy s e u ]
+target_of s e parts u =
+    elim (find (λ d. is_place_of u d.place) parts) [
+      | Some d ↦ Some d.place
+      | None ↦ target_in_copy s e u
+    ]
 
 -- the versions of a body's parts
 unfoldable pub part_version : Scene → EventId → Draft → Version
@@ -173,16 +198,20 @@ part_version s e d = written s (Element e d.place) s.now d.label d.content
 
 -- the key of a reference, where it has a target
 unfoldable pub reference_key : Scene → EventId → List Draft → ReferenceDraft → Option Key
-reference_key s e parts r = option_map (λ t. Reference e r.object t r.uuid) (target_of s e parts r.referenced)
+reference_key s e parts r =
+    option_map (λ t. Reference e r.object t r.uuid) (target_of s e parts r.referenced)
 
 -- the version of a reference, where it has a target
 unfoldable pub reference_version : Scene → EventId → List Draft → ReferenceDraft → Option Version
 reference_version s e parts r =
-    option_map (λ k. written s k s.now label.Inherit (content.Reference r.body)) (reference_key s e parts r)
+    option_map (λ k. written s k s.now label.Inherit (content.Reference r.body))
+    (reference_key s e parts r)
 
 -- the parts and references of a body as versions; a reference without a target is none
 unfoldable pub parts_written : Scene → Submission → List Version
-parts_written s b = map (part_version s b.event) b.parts ++ filter_map (reference_version s b.event b.parts) b.references
+parts_written s b =
+    map (part_version s b.event) b.parts
+    ++ filter_map (reference_version s b.event b.parts) b.references
 
 -- the reference has a target
 unfoldable pub has_target : Scene → Submission → ReferenceDraft → Bool
@@ -220,7 +249,9 @@ new_event s d =
 -- the versions of an added event
 unfoldable pub event_written : Scene → Submission → List Version
 event_written s b =
-    map (λ d. written s (event_key b.event) s.now b.label (content.Event (new_event s d))) (option_to_list b.body) ++ parts_written s b
+    map (λ d. written s (event_key b.event) s.now b.label (content.Event (new_event s d)))
+    (option_to_list b.body)
+    ++ parts_written s b
 
 -- a value that an edit may give
 unfoldable pub given : {A : Type 0} → Option A → A → A
@@ -262,7 +293,11 @@ edited_event e b =
 
 -- the object after an edit
 unfoldable pub edited_object : ObjectEdit → ObjectBody → ObjectBody
-edited_object e b = record b { comment = given e.comment b.comment; description = given e.description b.description }
+edited_object e b =
+    record b {
+      comment = given e.comment b.comment;
+      description = given e.description b.description;
+    }
 
 unfoldable pub at_event : (EventBody → EventBody) → Content → Content
 at_event f (content.Event b) = content.Event (f b)
@@ -353,7 +388,8 @@ is_at_limit s k = own_row_is s k (λ row. eqb row.stamp last_stamp)
 
 -- the own row of a key, changed
 unfoldable pub changed_row : Scene → Key → (Row → Label) → (Content → Content) → List Version
-changed_row s k l c = map (λ row. changed s row (l row) (c row.content)) (option_to_list (own_row s k))
+changed_row s k l c =
+    map (λ row. changed s row (l row) (c row.content)) (option_to_list (own_row s k))
 
 -- the edit gives a label that is not usable
 unfoldable pub wants_unusable : Scene → Option Label → Bool
@@ -387,13 +423,18 @@ part_fits s b (place.Object x) = true
 part_fits s b (place.Attribute a) = true
 part_fits s b (place.ObjectAttribute x a) = object_is_there s b x
 
--- a reference of an object that the body brings, or one that has a target, of a live object of the own copy
+-- a reference of an object that the body brings, or one that has a target, of a live object of the
+-- own copy
 unfoldable pub reference_fits : Scene → Submission → ReferenceDraft → Bool
-reference_fits s b r = brings_object b r.object || own_live s (Element b.event (place.Object r.object)) && has_target s b r
+reference_fits s b r =
+    brings_object b r.object
+    || own_live s (Element b.event (place.Object r.object)) && has_target s b r
 
--- each part and each reference has its object there, and a reference of an object of the own copy its target
+-- each part and each reference has its object there, and a reference of an object of the own copy
+-- its target
 unfoldable pub fits_parts : Scene → Submission → Bool
-fits_parts s b = list_all (λ d. part_fits s b d.place) b.parts && list_all (reference_fits s b) b.references
+fits_parts s b =
+    list_all (λ d. part_fits s b d.place) b.parts && list_all (reference_fits s b) b.references
 
 -- the caller's own live reference of this object and uuid, whatever its target
 unfoldable pub is_reference_named : EventId → ElemId → ElemId → Key → Bool
@@ -404,47 +445,77 @@ is_reference_named e y v (Verdict f n i o) = false
 is_reference_named e y v (Sighting f t i o u) = false
 
 unfoldable pub own_reference : Scene → EventId → ElemId → ElemId → Option Row
-own_reference s e x u = find (λ row. same_org row.owner s.by && (is_reference_named e x u row.key && is_live s.rows row)) s.rows
+own_reference s e x u =
+    find (λ row.
+    same_org row.owner s.by && (is_reference_named e x u row.key && is_live s.rows row)) s.rows
 
 unfoldable pub row_passes : (Row → Bool) → Option Row → Bool
 row_passes test None = false
 row_passes test (Some row) = test row
 
--- the rules that refuse an edit of one row: who may, the label, the stamp that it gives, the limit of stamps, the limit of texts
-unfoldable pub edit_rules : Scene → EventId → Key → Bool → Option Label → Option Stamp → (Content → Content) → List (Bool × Rule)
+-- the rules that refuse an edit of one row: who may, the label, the stamp that it gives, the limit
+-- of stamps, the limit of texts
+unfoldable pub edit_rules : Scene → EventId → Key → Bool → Option Label → Option Stamp
+    → (Content → Content) → List (Bool × Rule)
 edit_rules s e k fits l t f =
     bars s e fits
-    ++ (wants_unusable s l, GroupNotUsable) ∷ (own_row_is s k (is_newer_than t), OlderTime) ∷ (is_at_limit s k, TimeLimit)
+    ++ (wants_unusable s l, GroupNotUsable) ∷ (own_row_is s k (is_newer_than t), OlderTime)
+    ∷ (is_at_limit s k, TimeLimit)
     ∷ (own_row_is s k (λ row. is_too_long (f row.content)), ElementFull) ∷ []
 
 -- the rules that refuse a change, in their order
 unfoldable pub change_rules : Scene → Change → List (Bool × Rule)
 change_rules s (AddEvent b) =
-    (holds_copy s b.event, EventExists) ∷ (holds_mark s b.event, EventGone) ∷ (clashes s b, ElementExists) ∷ (has_unusable s b, GroupNotUsable) ∷ []
-change_rules s (AddParts e b) = bars s b.event (fits_parts s b) ++ (clashes s b, ElementExists) ∷ (has_unusable s b, GroupNotUsable) ∷ []
-change_rules s (EditEvent e edit) = edit_rules s e (event_key e) true edit.label edit.stamp (at_event (edited_event edit))
-change_rules s (EditAttribute e p edit) = edit_rules s e (Element e p) (own_live s (Element e p)) edit.label edit.stamp (at_attribute (edited edit))
+    (holds_copy s b.event, EventExists) ∷ (holds_mark s b.event, EventGone)
+    ∷ (clashes s b, ElementExists) ∷ (has_unusable s b, GroupNotUsable) ∷ []
+change_rules s (AddParts e b) =
+    bars s b.event (fits_parts s b)
+    ++ (clashes s b, ElementExists) ∷ (has_unusable s b, GroupNotUsable) ∷ []
+change_rules s (EditEvent e edit) =
+    edit_rules s e (event_key e) true edit.label edit.stamp (at_event (edited_event edit))
+change_rules s (EditAttribute e p edit) =
+    edit_rules s e (Element e p) (own_live s (Element e p)) edit.label edit.stamp
+    (at_attribute (edited edit))
 change_rules s (EditObject e x edit) =
-    edit_rules s e (Element e (place.Object x)) (own_live s (Element e (place.Object x))) edit.label edit.stamp (at_object (edited_object edit))
-change_rules s (Delete e p) = edit_rules s e (Element e p) (own_live s (Element e p)) None None as_deleted
+    edit_rules s e (Element e (place.Object x)) (own_live s (Element e (place.Object x)))
+    edit.label edit.stamp (at_object (edited_object edit))
+change_rules s (Delete e p) =
+    edit_rules s e (Element e p) (own_live s (Element e p)) None None as_deleted
 change_rules s (DeleteReference e x u) =
-    bars s e (row_passes (λ row. true) (own_reference s e x u)) ++ (row_passes (λ row. eqb row.stamp last_stamp) (own_reference s e x u), TimeLimit) ∷ []
-change_rules s (change.Tag e p tag) = edit_rules s e (Element e p) (own_live s (Element e p)) None None (at_tags (tagged tag))
+    bars s e (row_passes (λ row. true) (own_reference s e x u))
+    ++ (row_passes (λ row. eqb row.stamp last_stamp) (own_reference s e x u), TimeLimit) ∷ []
+change_rules s (change.Tag e p tag) =
+    edit_rules s e (Element e p) (own_live s (Element e p)) None None (at_tags (tagged tag))
 change_rules s (change.Untag e p name) =
-    bars s e (own_live s (Element e p)) ++ (own_row_is s (Element e p) (λ row. has_tag name row && eqb row.stamp last_stamp), TimeLimit) ∷ []
+    bars s e (own_live s (Element e p))
+    ++ (own_row_is s (Element e p) (λ row. has_tag name row && eqb row.stamp last_stamp), TimeLimit)
+    ∷ []
 change_rules s (DeleteEvent e) =
-    (not (holds_copy s e) && not (sees s (event_key e)), NotGranted) ∷ (not (holds_copy s e) && sees s (event_key e), NotOwner)
+    (not (holds_copy s e) && not (sees s (event_key e)), NotGranted)
+    ∷ (not (holds_copy s e) && sees s (event_key e), NotOwner)
     ∷ (is_at_limit s (event_key e), TimeLimit) ∷ []
 change_rules s (Publish e) = bars s e true ++ (is_at_limit s (event_key e), TimeLimit) ∷ []
 
 -- the row is a held one of the caller's copy, and not the event's
 unfoldable pub is_held_in : Scene → EventId → Row → Bool
-is_held_in s e row = same_org row.owner s.by && (same_event (event_of row.key) e && (row.held && not (same_key row.key (event_key e))))
+is_held_in s e row =
+    same_org row.owner s.by
+    && (same_event (event_of row.key) e && (row.held && not (same_key row.key (event_key e))))
 
 -- a row as a publishing lets it out
 unfoldable pub let_out_row : Scene → Row → Version
 let_out_row s row =
-    record { at = s.at; owner = s.by; key = row.key; stamp = row.stamp; label = row.label; content = row.content; came = Published; act = s.act; path = [] }
+    record {
+      at = s.at;
+      owner = s.by;
+      key = row.key;
+      stamp = row.stamp;
+      label = row.label;
+      content = row.content;
+      came = Published;
+      act = s.act;
+      path = [];
+    }
 
 -- the held rows of the caller's copy but the event's, as a publishing lets them out
 unfoldable pub let_out : Scene → EventId → List Version
@@ -458,21 +529,31 @@ as_published v = record v { came = Published }
 unfoldable pub change_writes : Scene → Change → List Version
 change_writes s (AddEvent b) = event_written s b
 change_writes s (AddParts e b) = parts_written s b
-change_writes s (EditEvent e edit) = changed_row s (event_key e) (λ row. given edit.label row.label) (at_event (edited_event edit))
-change_writes s (EditObject e x edit) = changed_row s (Element e (place.Object x)) (λ row. given edit.label row.label) (at_object (edited_object edit))
+change_writes s (EditEvent e edit) =
+    changed_row s (event_key e) (λ row. given edit.label row.label) (at_event (edited_event edit))
+change_writes s (EditObject e x edit) =
+    changed_row s (Element e (place.Object x)) (λ row. given edit.label row.label)
+    (at_object (edited_object edit))
 change_writes s (Delete e p) = changed_row s (Element e p) (λ row. row.label) as_deleted
-change_writes s (DeleteReference e x u) = map (λ row. changed s row row.label (as_deleted row.content)) (option_to_list (own_reference s e x u))
-change_writes s (change.Tag e p tag) = changed_row s (Element e p) (λ row. row.label) (at_tags (tagged tag))
+change_writes s (DeleteReference e x u) =
+    map (λ row. changed s row row.label (as_deleted row.content))
+    (option_to_list (own_reference s e x u))
+change_writes s (change.Tag e p tag) =
+    changed_row s (Element e p) (λ row. row.label) (at_tags (tagged tag))
 change_writes s (change.Untag e p name) =
-    cond (own_row_is s (Element e p) (has_tag name)) (changed_row s (Element e p) (λ row. row.label) (at_tags (untagged name))) []
-change_writes s (EditAttribute e p edit) = changed_row s (Element e p) (λ row. given edit.label row.label) (at_attribute (edited edit))
+    cond (own_row_is s (Element e p) (has_tag name))
+    (changed_row s (Element e p) (λ row. row.label) (at_tags (untagged name))) []
+change_writes s (EditAttribute e p edit) =
+    changed_row s (Element e p) (λ row. given edit.label row.label) (at_attribute (edited edit))
 change_writes s (DeleteEvent e) = changed_row s (event_key e) (λ row. label.Own) (λ c. content.Gone)
 change_writes s (Publish e) =
-    map as_published (changed_row s (event_key e) (λ row. row.label) (at_publishing s.now)) ++ let_out s e
+    map as_published (changed_row s (event_key e) (λ row. row.label) (at_publishing s.now))
+    ++ let_out s e
 
 -- the key of the caller's own proposal
 unfoldable pub proposal_key : Scene → ProposalDraft → Key
-proposal_key s d = Proposal d.event (record { target = d.target; at = s.at; by = s.by; uuid = d.uuid })
+proposal_key s d =
+    Proposal d.event (record { target = d.target; at = s.at; by = s.by; uuid = d.uuid })
 
 -- what a statement on a place wants: the event granted, or the element granted and live
 unfoldable pub sees_target : Scene → EventId → Place → Bool
@@ -488,7 +569,9 @@ propose_rules s d =
 
 unfoldable pub propose_writes : Scene → ProposalDraft → List Version
 propose_writes s d =
-    written s (proposal_key s d) s.now label.Inherit (content.Proposal (record d.body { by_name = s.by_name })) ∷ []
+    written s (proposal_key s d) s.now label.Inherit
+    (content.Proposal (record d.body { by_name = s.by_name }))
+    ∷ []
 
 -- the key of the caller's own sighting
 unfoldable pub sighting_key : Scene → EventId → Place → SightingDraft → Key
@@ -496,12 +579,18 @@ sighting_key s e t d = Sighting e t s.at s.by d.uuid
 
 unfoldable pub sight_rules : Scene → EventId → Place → SightingDraft → List (Bool × Rule)
 sight_rules s e t d =
-    (not (sees_live s (Element e t)), NotGranted) ∷ (holds_mark s e, EventGone) ∷ (list_any (is_row_of s.by (sighting_key s e t d)) s.rows, ElementExists) ∷ []
+    (not (sees_live s (Element e t)), NotGranted) ∷ (holds_mark s e, EventGone)
+    ∷ (list_any (is_row_of s.by (sighting_key s e t d)) s.rows, ElementExists) ∷ []
 
 unfoldable pub sight_writes : Scene → EventId → Place → SightingDraft → List Version
 sight_writes s e t d =
     written s (sighting_key s e t d) s.now label.Inherit
-    (content.Sighting (record { by_name = s.by_name; kind = d.kind; date = elim d.date [ Some x ↦ x | None ↦ s.now ]; source = d.source }))
+    (content.Sighting (record {
+      by_name = s.by_name;
+      kind = d.kind;
+      date = elim d.date [ Some x ↦ x | None ↦ s.now ];
+      source = d.source;
+    }))
     ∷ []
 
 -- the place that the acceptance of a proposal changes or makes
@@ -516,11 +605,18 @@ judged_place n = judged_at n.target n.uuid
 
 -- the proposal is for a new attribute
 unfoldable pub is_for_new : ProposalName → Bool
-is_for_new n = elim n.target [ place.Event ↦ true | place.Object x ↦ false | place.Attribute a ↦ false | place.ObjectAttribute x a ↦ false ]
+is_for_new n =
+    elim n.target [
+      | place.Event ↦ true
+      | place.Object x ↦ false
+      | place.Attribute a ↦ false
+      | place.ObjectAttribute x a ↦ false
+    ]
 
 -- the proposal as the caller sees it: the row of the least owner whose row is granted
 unfoldable pub proposal_row : Scene → EventId → ProposalName → Option Row
-proposal_row s e n = find (λ row. same_key row.key (Proposal e n) && is_least s.rows s.groups s.at s.by row) s.rows
+proposal_row s e n =
+    find (λ row. same_key row.key (Proposal e n) && is_least s.rows s.groups s.at s.by row) s.rows
 
 -- the body in a proposal's row
 unfoldable pub proposal_body : Content → Option ProposalBody
@@ -537,11 +633,26 @@ proposal_body content.Gone = None
 unfoldable pub accepted : ProposalBody → AttributeBody → AttributeBody
 accepted p b =
     cond p.remove (record b { deleted = true })
-    (record b { kind = p.kind; category = p.category; to_ids = p.to_ids; comment = p.comment; value = p.value })
+    (record b {
+      kind = p.kind;
+      category = p.category;
+      to_ids = p.to_ids;
+      comment = p.comment;
+      value = p.value;
+    })
 
 -- a new attribute as the proposal makes it
 unfoldable pub made : ProposalBody → AttributeBody
-made p = record { kind = p.kind; category = p.category; to_ids = p.to_ids; comment = p.comment; deleted = false; value = p.value; tags = [] }
+made p =
+    record {
+      kind = p.kind;
+      category = p.category;
+      to_ids = p.to_ids;
+      comment = p.comment;
+      deleted = false;
+      value = p.value;
+      tags = [];
+    }
 
 unfoldable pub body_seen : Scene → EventId → ProposalName → Option ProposalBody
 body_seen s e n = elim (proposal_row s e n) [ None ↦ None | Some row ↦ proposal_body row.content ]
@@ -549,7 +660,8 @@ body_seen s e n = elim (proposal_row s e n) [ None ↦ None | Some row ↦ propo
 -- the change that an acceptance writes
 unfoldable pub acceptance : Scene → EventId → ProposalName → ProposalBody → List Version
 acceptance s e n p =
-    cond (is_for_new n) (written s (Element e (judged_place n)) s.now label.Inherit (content.Attribute (made p)) ∷ [])
+    cond (is_for_new n)
+    (written s (Element e (judged_place n)) s.now label.Inherit (content.Attribute (made p)) ∷ [])
     (changed_row s (Element e (judged_place n)) (λ row. row.label) (at_attribute (accepted p)))
 
 unfoldable pub judge_writes : Scene → EventId → ProposalName → Bool → List Version
@@ -560,7 +672,8 @@ judge_writes s e n accept =
 -- the proposal is granted, and its target is live in the own copy
 unfoldable pub can_judge : Scene → EventId → ProposalName → Bool
 can_judge s e n =
-    list_any (λ row. same_key row.key (Proposal e n) && granted s.rows s.groups s.at s.by row) s.rows
+    list_any
+    (λ row. same_key row.key (Proposal e n) && granted s.rows s.groups s.at s.by row) s.rows
     && (is_for_new n || own_live s (Element e n.target))
 
 unfoldable pub judge_rules : Scene → EventId → ProposalName → Bool → List (Bool × Rule)
@@ -569,4 +682,12 @@ judge_rules s e n accept =
     ++ (accept && (is_for_new n && is_taken s e (uuid_at e (judged_place n))), ElementExists)
     ∷ (accept && is_at_limit s (Element e (judged_place n)), TimeLimit)
     ∷ (list_any (is_row_of s.by (Verdict e n s.at s.by)) s.rows, ProposalClosed)
-    ∷ (accept && elim (body_seen s e n) [ None ↦ false | Some p ↦ own_row_is s (Element e (judged_place n)) (λ row. is_too_long (at_attribute (accepted p) row.content)) ], ElementFull) ∷ []
+    ∷ (
+      accept && elim (body_seen s e n) [
+        | None ↦ false
+        | Some p ↦ own_row_is s (Element e (judged_place n))
+            (λ row. is_too_long (at_attribute (accepted p) row.content))
+      ],
+      ElementFull,
+    )
+    ∷ []

@@ -10,9 +10,13 @@ use Rattle.misp_ids.specs.declared.label.Way.TheVariants.{Pull, Push}
 use Rattle.misp_groups.specs.declared.group.Group.{Group}
 use Rattle.misp_model.specs.Names.{Inst, same_inst, same_org, same_group}
 
--- the group is active, and the organisation is in it or the instance is one of its servers with all organisations
+-- the group is active, and the organisation is in it or the instance is one of its servers with all
+-- organisations
 unfoldable pub allows : Group → OrgId → Inst → Bool
-allows g o i = g.active && (list_any (λ m. same_org m.org o) g.orgs || list_any (λ s. same_inst s.name i && s.all_orgs) g.servers)
+allows g o i =
+    g.active
+    && (list_any (λ m. same_org m.org o) g.orgs
+    || list_any (λ s. same_inst s.name i && s.all_orgs) g.servers)
 
 -- the group carries what the organisation takes to the instance
 unfoldable pub carries : Group → OrgId → Inst → Bool

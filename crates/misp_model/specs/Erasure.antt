@@ -31,7 +31,8 @@ cut_world keep w = record w { log = cut keep w.log }
 
 -- the reference has a target, and its key is kept
 unfoldable pub keeps_reference : (Key → Bool) → Scene → Submission → ReferenceDraft → Bool
-keeps_reference keep s b r = elim (reference_key s b.event b.parts r) [ None ↦ false | Some k ↦ keep k ]
+keeps_reference keep s b r =
+    elim (reference_key s b.event b.parts r) [ None ↦ false | Some k ↦ keep k ]
 
 -- a body with only those parts and references whose keys are kept
 unfoldable pub cut_body : (Key → Bool) → Scene → Submission → Submission
@@ -54,32 +55,45 @@ where_kept false a = None
 -- what is left of another's accepted request
 unfoldable pub erased_ask : (Key → Bool) → Scene → Ask → Option Ask
 erased_ask keep s (View e owner) = None
-erased_ask keep s (ask.Change (AddEvent b)) = where_kept (keep (event_key b.event)) (ask.Change (AddEvent (cut_body keep s b)))
+erased_ask keep s (ask.Change (AddEvent b)) =
+    where_kept (keep (event_key b.event)) (ask.Change (AddEvent (cut_body keep s b)))
 erased_ask keep s (ask.Change (AddParts e b)) =
     let left : Submission = cut_body keep s b in
-    where_kept (not (is_empty left.parts && is_empty left.references)) (ask.Change (AddParts e left))
-erased_ask keep s (ask.Change (EditEvent e edit)) = where_kept (keep (event_key e)) (ask.Change (EditEvent e edit))
-erased_ask keep s (ask.Change (EditObject e x edit)) = where_kept (keep (Element e (place.Object x))) (ask.Change (EditObject e x edit))
-erased_ask keep s (ask.Change (Delete e p)) = where_kept (keep (Element e p)) (ask.Change (Delete e p))
+    where_kept (not (is_empty left.parts && is_empty left.references))
+    (ask.Change (AddParts e left))
+erased_ask keep s (ask.Change (EditEvent e edit)) =
+    where_kept (keep (event_key e)) (ask.Change (EditEvent e edit))
+erased_ask keep s (ask.Change (EditObject e x edit)) =
+    where_kept (keep (Element e (place.Object x))) (ask.Change (EditObject e x edit))
+erased_ask keep s (ask.Change (Delete e p)) =
+    where_kept (keep (Element e p)) (ask.Change (Delete e p))
 erased_ask keep s (ask.Change (DeleteReference e x u)) =
-    where_kept (row_passes (λ row. keep row.key) (own_reference s e x u)) (ask.Change (DeleteReference e x u))
-erased_ask keep s (ask.Change (change.Tag e p tag)) = where_kept (keep (Element e p)) (ask.Change (change.Tag e p tag))
-erased_ask keep s (ask.Change (change.Untag e p name)) = where_kept (keep (Element e p)) (ask.Change (change.Untag e p name))
+    where_kept (row_passes (λ row. keep row.key) (own_reference s e x u))
+    (ask.Change (DeleteReference e x u))
+erased_ask keep s (ask.Change (change.Tag e p tag)) =
+    where_kept (keep (Element e p)) (ask.Change (change.Tag e p tag))
+erased_ask keep s (ask.Change (change.Untag e p name)) =
+    where_kept (keep (Element e p)) (ask.Change (change.Untag e p name))
 erased_ask keep s (Sight e t d) = where_kept (keep (sighting_key s e t d)) (Sight e t d)
 erased_ask keep s Index = None
-erased_ask keep s (ask.Change (EditAttribute e p edit)) = where_kept (keep (Element e p)) (ask.Change (EditAttribute e p edit))
-erased_ask keep s (ask.Change (DeleteEvent e)) = where_kept (keep (event_key e)) (ask.Change (DeleteEvent e))
-erased_ask keep s (ask.Change (Publish e)) = where_kept (keep (event_key e)) (ask.Change (Publish e))
+erased_ask keep s (ask.Change (EditAttribute e p edit)) =
+    where_kept (keep (Element e p)) (ask.Change (EditAttribute e p edit))
+erased_ask keep s (ask.Change (DeleteEvent e)) =
+    where_kept (keep (event_key e)) (ask.Change (DeleteEvent e))
+erased_ask keep s (ask.Change (Publish e)) =
+    where_kept (keep (event_key e)) (ask.Change (Publish e))
 erased_ask keep s (Propose d) = where_kept (keep (proposal_key s d)) (Propose d)
 erased_ask keep s (Judge e n accept) = where_kept (keep (Verdict e n s.at s.by)) (Judge e n accept)
 erased_ask keep s (TakePart p) =
-    where_kept (not (is_empty (cut_rows keep p.rows))) (TakePart (record p { rows = cut_rows keep p.rows }))
+    where_kept (not (is_empty (cut_rows keep p.rows)))
+    (TakePart (record p { rows = cut_rows keep p.rows }))
 
 -- what is left of a request
 unfoldable pub erased_request : OrgId → (Key → Bool) → Scene → Caller → Ask → Deed
 erased_request o keep s c a =
     cond (same_org c.org o) (Asks c a)
-    (cond (is_accepted s a) (elim (erased_ask keep s a) [ None ↦ Nothing | Some b ↦ Asks c b ]) Nothing)
+    (cond (is_accepted s a)
+    (elim (erased_ask keep s a) [ None ↦ Nothing | Some b ↦ Asks c b ]) Nothing)
 
 -- what is left of a deed
 unfoldable pub erased_deed : OrgId → (Key → Bool) → ℕ → World → Act → Deed
@@ -99,7 +113,8 @@ erased_act o keep n w act = record act { deed = erased_deed o keep n w act }
 -- the acts without what is not kept
 unfoldable pub erase : OrgId → (Key → Bool) → Net → ℕ → World → List Act → List Act
 erase o keep net n w [] = []
-erase o keep net n w (act ∷ acts) = erased_act o keep n w act ∷ erase o keep net (suc n) (step net n w act) acts
+erase o keep net n w (act ∷ acts) =
+    erased_act o keep n w act ∷ erase o keep net (suc n) (step net n w act) acts
 
 -- the proposal of a verdict
 unfoldable pub is_proposal_of : Key → Key → Type 0
@@ -114,14 +129,18 @@ pub record IsClosed (keep : Key → Bool) : Type 0 where
   pub above : (k : Key) → keep k ≡ true → list_all keep (parents k) ≡ true
   pub proposals : (k p : Key) → keep k ≡ true → is_proposal_of k p → keep p ≡ true
 
--- the set has all that the organisation knows at this moment: what is granted to it, and each version of its own
+-- the set has all that the organisation knows at this moment: what is granted to it, and each
+-- version of its own
 pub record HasKnown (o : OrgId) (keep : Key → Bool) (w : World) : Type 0 where
   pub granted : (i : Inst) → list_all (λ row. keep row.key) (known_at w i o) ≡ true
   pub own : list_all (λ v. not (same_org v.owner o) || keep v.key) w.log ≡ true
 
--- of an accepted judging that accepts, the set has both the verdict and what it changed or made, or neither
+-- of an accepted judging that accepts, the set has both the verdict and what it changed or made, or
+-- neither
 unfoldable pub HasPair : (Key → Bool) → Scene → Ask → Type 0
-HasPair keep s (Judge e n true) = is_accepted s (Judge e n true) ≡ true → keep (Verdict e n s.at s.by) ≡ keep (Element e (judged_place n))
+HasPair keep s (Judge e n true) =
+    is_accepted s (Judge e n true) ≡ true
+    → keep (Verdict e n s.at s.by) ≡ keep (Element e (judged_place n))
 HasPair keep s (Judge e n false) = Unit {0}
 HasPair keep s (View e owner) = Unit {0}
 HasPair keep s (ask.Change c) = Unit {0}
@@ -144,4 +163,5 @@ HasPairs keep n w act =
 -- the set has, all along the acts, what the organisation knows and both of each accepted pair
 unfoldable pub IsKept : OrgId → (Key → Bool) → Net → ℕ → World → List Act → Type 0
 IsKept o keep net n w [] = HasKnown o keep w
-IsKept o keep net n w (act ∷ acts) = HasKnown o keep w × HasPairs keep n w act × IsKept o keep net (suc n) (step net n w act) acts
+IsKept o keep net n w (act ∷ acts) =
+    HasKnown o keep w × HasPairs keep n w act × IsKept o keep net (suc n) (step net n w act) acts

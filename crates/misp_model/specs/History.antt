@@ -1,4 +1,5 @@
--- The history: every version that ever counted, with the way by which it came, and the tables as its newest.
+-- The history: every version that ever counted, with the way by which it came, and the tables as
+-- its newest.
 use Rattle.std.specs.Prelude.{ℕ, Bool, true, false, not, ltb, leb, ◌&&◌, ◌||◌, List, [], ◌∷◌, ◌++◌, map, length, filter, cond}
 use Rattle.std.specs.List.{list_any}
 use Rattle.misp_ids.specs.declared.uid.OrgId.{OrgId}
@@ -17,7 +18,8 @@ use Rattle.misp_elem.specs.declared.key.Place.{Place}
 use Rattle.misp_elem.specs.declared.key.Place.TheVariants as place
 use Rattle.misp_elem.specs.declared.key.ProposalName.{ProposalName}
 
--- how a version first came: written by a request, written by a publishing, or handed in as a package
+-- how a version first came: written by a request, written by a publishing, or handed in as a
+-- package
 pub data Came : Type 0 where
   Written : Came
   Published : Came
@@ -98,11 +100,15 @@ same_cell a b = same_inst a.at b.at && same_org a.owner b.owner && same_key a.ke
 -- the owner published the version's event there after the act that wrote it
 unfoldable pub published_after : List Version → Version → Bool
 published_after log v = list_any (λ p.
-    same_inst p.at v.at && same_org p.owner v.owner && same_key p.key (event_key (event_of v.key)) && (is_published p.came && (not (has_path p) && ltb v.act p.act))) log
+    same_inst p.at v.at && same_org p.owner v.owner
+    && same_key p.key (event_key (event_of v.key))
+    && (is_published p.came && (not (has_path p) && ltb v.act p.act))) log
 
 -- the version may pass on: it moved, was handed in, is a statement or a mark, or was published
 unfoldable pub released : List Version → Version → Bool
-released log v = has_path v || is_handed_in v.came || is_statement v.key || is_gone v.content || is_published v.came || published_after log v
+released log v =
+    has_path v || is_handed_in v.came || is_statement v.key || is_gone v.content
+    || is_published v.came || published_after log v
 
 -- the version as a row
 unfoldable pub row_of : List Version → Version → Row
@@ -136,16 +142,20 @@ is_newest before v after =
     not (list_any (λ a. same_cell a v && leb v.stamp a.stamp) before)
     && not (list_any (λ a. same_cell a v && ltb v.stamp a.stamp) after)
 
--- the versions at the instance that are the newest of their owner and key: of the greatest stamp, of equals the first
+-- the versions at the instance that are the newest of their owner and key: of the greatest stamp,
+-- of equals the first
 unfoldable pub newest_from : Inst → List Version → List Version → List Version
 newest_from i before [] = []
 newest_from i before (v ∷ after) =
-    cond (same_inst v.at i && is_newest before v after) (v ∷ newest_from i (v ∷ before) after) (newest_from i (v ∷ before) after)
+    cond (same_inst v.at i && is_newest before v after)
+    (v ∷ newest_from i (v ∷ before) after)
+    (newest_from i (v ∷ before) after)
 
 unfoldable pub newest : List Version → Inst → List Version
 newest log i = newest_from i [] log
 
--- how a place is spelled, a key, and a row's name with its event in front: the order in which a keeper tells its rows
+-- how a place is spelled, a key, and a row's name with its event in front: the order in which a
+-- keeper tells its rows
 unfoldable pub spell_place : Place → List ℕ
 spell_place place.Event = 0 ∷ []
 spell_place (place.Object x) = 1 ∷ x.0.0 ∷ []
@@ -166,7 +176,9 @@ spell (Verdict e n i o) = 3 ∷ e.0.0 ∷ (spell_name n ++ (spell_inst i ++ o.0.
 spell (Sighting e t i o u) = 4 ∷ e.0.0 ∷ (spell_place t ++ (spell_inst i ++ o.0.0 ∷ u.0.0 ∷ []))
 
 unfoldable pub stands_before : Row → Row → Bool
-stands_before a b = is_less ((event_of a.key).0.0 ∷ a.owner.0.0 ∷ spell a.key) ((event_of b.key).0.0 ∷ b.owner.0.0 ∷ spell b.key)
+stands_before a b =
+    is_less ((event_of a.key).0.0 ∷ a.owner.0.0 ∷ spell a.key)
+    ((event_of b.key).0.0 ∷ b.owner.0.0 ∷ spell b.key)
 
 -- the tables of the instance, in the order in which a keeper tells its rows
 unfoldable pub tables : List Version → Inst → List Row

@@ -1,4 +1,5 @@
--- The keys that stay when the rest is erased: what the organisation was ever granted, with what stands above it, and with what its content came from.
+-- The keys that stay when the rest is erased: what the organisation was ever granted, with what
+-- stands above it, and with what its content came from.
 use Rattle.std.specs.Prelude.{ℕ, suc, Bool, true, false, cond, List, [], ◌∷◌, ◌++◌, map, filter, Option}
 use Rattle.std.specs.List.{list_any}
 use Rattle.misp_ids.specs.declared.uid.OrgId.{OrgId}
@@ -21,19 +22,23 @@ unfoldable pub joined : {A : Type 0} → List (List A) → List A
 joined [] = []
 joined (xs ∷ xss) = xs ++ joined xss
 
--- the keys that the organisation knows at this moment: of what is granted to it, and of each version of its own
+-- the keys that the organisation knows at this moment: of what is granted to it, and of each
+-- version of its own
 unfoldable pub keys_known : OrgId → World → List Key
 keys_known o w =
-    joined (map (λ v. map (λ row. row.key) (known_at w v.at o)) w.log) ++ map (λ v. v.key) (filter (λ v. same_org v.owner o) w.log)
+    joined (map (λ v. map (λ row. row.key) (known_at w v.at o)) w.log)
+    ++ map (λ v. v.key) (filter (λ v. same_org v.owner o) w.log)
 
 -- those that it knows at any moment
 unfoldable pub keys_ever_known : OrgId → Net → ℕ → World → List Act → List Key
 keys_ever_known o net n w [] = keys_known o w
-keys_ever_known o net n w (act ∷ acts) = keys_known o w ++ keys_ever_known o net (suc n) (step net n w act) acts
+keys_ever_known o net n w (act ∷ acts) =
+    keys_known o w ++ keys_ever_known o net (suc n) (step net n w act) acts
 
 -- the verdict of an accepted request that accepts a proposal
 unfoldable pub acceptance_in : Scene → Ask → List Key
-acceptance_in s (Judge e n true) = cond (is_accepted s (Judge e n true)) (Verdict e n s.at s.by ∷ []) []
+acceptance_in s (Judge e n true) =
+    cond (is_accepted s (Judge e n true)) (Verdict e n s.at s.by ∷ []) []
 acceptance_in s (Judge e n false) = []
 acceptance_in s (View e owner) = []
 acceptance_in s (ask.Change c) = []
@@ -44,12 +49,20 @@ acceptance_in s (TakePart p) = []
 
 unfoldable pub acceptance_of : ℕ → World → Act → List Key
 acceptance_of n w act =
-    elim act.deed [ Asks c a ↦ acceptance_in (scene n w act c) a | Misfits c ↦ [] | Syncs way link ↦ [] | Takes_groups c gs ↦ [] | Administers by add g ↦ [] | Nothing ↦ [] ]
+    elim act.deed [
+      | Asks c a ↦ acceptance_in (scene n w act c) a
+      | Misfits c ↦ []
+      | Syncs way link ↦ []
+      | Takes_groups c gs ↦ []
+      | Administers by add g ↦ []
+      | Nothing ↦ []
+    ]
 
 -- the verdicts of all acceptances
 unfoldable pub acceptances : Net → ℕ → World → List Act → List Key
 acceptances net n w [] = []
-acceptances net n w (act ∷ acts) = acceptance_of n w act ++ acceptances net (suc n) (step net n w act) acts
+acceptances net n w (act ∷ acts) =
+    acceptance_of n w act ++ acceptances net (suc n) (step net n w act) acts
 
 -- the attribute that a verdict changed or made, where it accepts
 unfoldable pub judged_by : Key → List Key
@@ -87,7 +100,8 @@ with_proposals ks = ks ++ joined (map proposal_of ks)
 unfoldable pub kept_keys : OrgId → Net → ℕ → World → List Act → List Key
 kept_keys o net n w acts =
     let accepted : List Key = acceptances net n w acts in
-    with_proposals (with_acceptances accepted (with_made accepted (with_parents (keys_ever_known o net n w acts))))
+    with_proposals
+    (with_acceptances accepted (with_made accepted (with_parents (keys_ever_known o net n w acts))))
 
 -- the key is kept
 unfoldable pub kept : OrgId → Net → ℕ → World → List Act → Key → Bool

@@ -1,4 +1,5 @@
--- The tables as a keeper changes them, each row in the place of its owner's row of that key, and the names by which it orders them.
+-- The tables as a keeper changes them, each row in the place of its owner's row of that key, and
+-- the names by which it orders them.
 use Rattle.std.specs.Prelude.{ℕ, Bool, not, ltb, eqb, ◌&&◌, ◌||◌, List, [], ◌∷◌, ◌++◌, filter}
 use Rattle.std.specs.Ordering.{nat_cmp, is_lt}
 use Rattle.std.specs.Cmp.Lexicographic.{slice_cmp}
@@ -13,7 +14,9 @@ use Rattle.misp_model.specs.Asking.{Scene}
 
 -- the rows with one more, in the place of its owner's row of that key
 unfoldable pub put_row : Row → List Row → List Row
-put_row row rows = put stands_before row (filter (λ r. not (same_org r.owner row.owner && same_key r.key row.key)) rows)
+put_row row rows =
+    put stands_before row
+    (filter (λ r. not (same_org r.owner row.owner && same_key r.key row.key)) rows)
 
 -- the rows with each of these, one after another
 unfoldable pub put_all : List Row → List Row → List Row

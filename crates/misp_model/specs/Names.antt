@@ -50,15 +50,20 @@ same_place _ _ = false
 
 -- two proposals are the same
 unfoldable pub same_name : ProposalName → ProposalName → Bool
-same_name a b = same_place a.target b.target && same_inst a.at b.at && same_org a.by b.by && same_elem a.uuid b.uuid
+same_name a b =
+    same_place a.target b.target && same_inst a.at b.at
+    && same_org a.by b.by && same_elem a.uuid b.uuid
 
 -- two keys are the same
 unfoldable pub same_key : Key → Key → Bool
 same_key (Element e p) (Element f q) = same_event e f && same_place p q
-same_key (Reference e x t u) (Reference f y s v) = same_event e f && same_elem x y && same_place t s && same_elem u v
+same_key (Reference e x t u) (Reference f y s v) =
+    same_event e f && same_elem x y && same_place t s && same_elem u v
 same_key (Proposal e n) (Proposal f m) = same_event e f && same_name n m
-same_key (Verdict e n i o) (Verdict f m j w) = same_event e f && same_name n m && same_inst i j && same_org o w
-same_key (Sighting e t i o u) (Sighting f s j w v) = same_event e f && same_place t s && same_inst i j && same_org o w && same_elem u v
+same_key (Verdict e n i o) (Verdict f m j w) =
+    same_event e f && same_name n m && same_inst i j && same_org o w
+same_key (Sighting e t i o u) (Sighting f s j w v) =
+    same_event e f && same_place t s && same_inst i j && same_org o w && same_elem u v
 same_key _ _ = false
 
 -- a key is among these

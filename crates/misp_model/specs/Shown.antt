@@ -18,8 +18,8 @@ use Rattle.misp_model.specs.History.{spell}
 use Rattle.misp_model.specs.View.{is_row_of, granted, is_live, is_least, chosen}
 use Rattle.misp_model.specs.Asking.{Scene, uuid_at}
 
--- how a key is ordered in a list of its kind: its uuid, and of equal uuids the key; for a statement its uuid,
--- its instance as a text (0 ends it, and is no letter), its organisation
+-- how a key is ordered in a list of its kind: its uuid, and of equal uuids the key; for a statement
+-- its uuid, its instance as a text (0 ends it, and is no letter), its organisation
 unfoldable pub order_of : Key → List ℕ
 order_of (Element e p) = uuid_at e p ∷ spell (Element e p)
 order_of (Reference e x t u) = u.0.0 ∷ spell (Reference e x t u)
@@ -32,7 +32,8 @@ sorted rows = in_order (λ a b. is_less (order_of a.key) (order_of b.key)) rows
 
 -- the owner's live rows that are granted to the caller
 unfoldable pub is_shown : Scene → OrgId → Row → Bool
-is_shown s w row = same_org row.owner w && granted s.rows s.groups s.at s.by row && is_live s.rows row
+is_shown s w row =
+    same_org row.owner w && granted s.rows s.groups s.at s.by row && is_live s.rows row
 
 -- the rows that show of the owner's copy, which pass a test of their key
 unfoldable pub shown_at : Scene → OrgId → (Key → Bool) → List Row
@@ -40,21 +41,42 @@ shown_at s w test = sorted (filter (λ row. is_shown s w row && test row.key) s.
 
 -- attributes outside objects; attributes of the object; objects; references of the object
 unfoldable pub is_plain_attribute : EventId → Key → Bool
-is_plain_attribute e (Element f p) = same_event f e && elim p [ place.Event ↦ false | place.Object x ↦ false | place.Attribute a ↦ true | place.ObjectAttribute x a ↦ false ]
+is_plain_attribute e (Element f p) =
+    same_event f e
+    && elim p [
+      | place.Event ↦ false
+      | place.Object x ↦ false
+      | place.Attribute a ↦ true
+      | place.ObjectAttribute x a ↦ false
+    ]
 is_plain_attribute e (Reference f x t u) = false
 is_plain_attribute e (Proposal f n) = false
 is_plain_attribute e (Verdict f n i o) = false
 is_plain_attribute e (Sighting f t i o u) = false
 
 unfoldable pub is_attribute_of : EventId → ElemId → Key → Bool
-is_attribute_of e y (Element f p) = same_event f e && elim p [ place.Event ↦ false | place.Object x ↦ false | place.Attribute a ↦ false | place.ObjectAttribute x a ↦ same_elem x y ]
+is_attribute_of e y (Element f p) =
+    same_event f e
+    && elim p [
+      | place.Event ↦ false
+      | place.Object x ↦ false
+      | place.Attribute a ↦ false
+      | place.ObjectAttribute x a ↦ same_elem x y
+    ]
 is_attribute_of e y (Reference f x t u) = false
 is_attribute_of e y (Proposal f n) = false
 is_attribute_of e y (Verdict f n i o) = false
 is_attribute_of e y (Sighting f t i o u) = false
 
 unfoldable pub is_object : EventId → Key → Bool
-is_object e (Element f p) = same_event f e && elim p [ place.Event ↦ false | place.Object x ↦ true | place.Attribute a ↦ false | place.ObjectAttribute x a ↦ false ]
+is_object e (Element f p) =
+    same_event f e
+    && elim p [
+      | place.Event ↦ false
+      | place.Object x ↦ true
+      | place.Attribute a ↦ false
+      | place.ObjectAttribute x a ↦ false
+    ]
 is_object e (Reference f x t u) = false
 is_object e (Proposal f n) = false
 is_object e (Verdict f n i o) = false
@@ -62,7 +84,9 @@ is_object e (Sighting f t i o u) = false
 
 -- both ends of a reference are shown
 unfoldable pub is_reference_of : Scene → OrgId → EventId → ElemId → Key → Bool
-is_reference_of s w e y (Reference f x t u) = same_event f e && same_elem x y && list_any (λ row. is_row_of w (Element e t) row && is_shown s w row) s.rows
+is_reference_of s w e y (Reference f x t u) =
+    same_event f e && same_elem x y
+    && list_any (λ row. is_row_of w (Element e t) row && is_shown s w row) s.rows
 is_reference_of s w e y (Element f p) = false
 is_reference_of s w e y (Proposal f n) = false
 is_reference_of s w e y (Verdict f n i o) = false
@@ -92,17 +116,27 @@ is_verdict_on k judge (Sighting f t i o u) = false
 
 -- a proposal is closed where a granted verdict on it is by the event's creator
 unfoldable pub is_closed : Scene → OrgId → Key → Bool
-is_closed s orgc k = list_any (λ row. is_verdict_on k orgc row.key && granted s.rows s.groups s.at s.by row) s.rows
+is_closed s orgc k =
+    list_any (λ row. is_verdict_on k orgc row.key && granted s.rows s.groups s.at s.by row) s.rows
 
 unfoldable pub proposals_on : Scene → OrgId → Key → List Row
 proposals_on s orgc k =
-    sorted (filter (λ row. is_proposal_on k row.key && is_least s.rows s.groups s.at s.by row && not (is_closed s orgc row.key)) s.rows)
+    sorted (filter (λ row.
+    is_proposal_on k row.key && is_least s.rows s.groups s.at s.by row
+    && not (is_closed s orgc row.key)) s.rows)
 
 unfoldable pub sightings_on : Scene → Key → List Row
-sightings_on s k = sorted (filter (λ row. is_sighting_on k row.key && is_least s.rows s.groups s.at s.by row) s.rows)
+sightings_on s k =
+    sorted
+    (filter (λ row. is_sighting_on k row.key && is_least s.rows s.groups s.at s.by row) s.rows)
 
 unfoldable pub shown_attribute : Scene → OrgId → Row → VisibleAttribute
-shown_attribute s orgc row = record { row = row; proposals = proposals_on s orgc row.key; sightings = sightings_on s row.key }
+shown_attribute s orgc row =
+    record {
+      row = row;
+      proposals = proposals_on s orgc row.key;
+      sightings = sightings_on s row.key;
+    }
 
 -- the object's uuid
 unfoldable pub object_of : Key → ElemId
@@ -116,13 +150,24 @@ unfoldable pub shown_object : Scene → OrgId → OrgId → EventId → Row → 
 shown_object s orgc w e row =
     record {
       row = row;
-      attributes = map (shown_attribute s orgc) (shown_at s w (is_attribute_of e (object_of row.key)));
+      attributes = map (shown_attribute s orgc)
+          (shown_at s w (is_attribute_of e (object_of row.key)));
       references = shown_at s w (is_reference_of s w e (object_of row.key));
     }
 
 -- the creator in an event's row
 unfoldable pub creator : Row → OrgId
-creator row = elim row.content [ content.Event b ↦ b.orgc | content.Object b ↦ row.owner | content.Attribute b ↦ row.owner | content.Reference b ↦ row.owner | content.Proposal b ↦ row.owner | content.Verdict b ↦ row.owner | content.Sighting b ↦ row.owner | content.Gone ↦ row.owner ]
+creator row =
+    elim row.content [
+      | content.Event b ↦ b.orgc
+      | content.Object b ↦ row.owner
+      | content.Attribute b ↦ row.owner
+      | content.Reference b ↦ row.owner
+      | content.Proposal b ↦ row.owner
+      | content.Verdict b ↦ row.owner
+      | content.Sighting b ↦ row.owner
+      | content.Gone ↦ row.owner
+    ]
 
 -- the visible form of one copy
 unfoldable pub form_of : Scene → EventId → Row → VisibleEvent
@@ -130,7 +175,8 @@ form_of s e row =
     record {
       row = row;
       org_name = [];
-      attributes = map (shown_attribute s (creator row)) (shown_at s row.owner (is_plain_attribute e));
+      attributes = map (shown_attribute s (creator row))
+          (shown_at s row.owner (is_plain_attribute e));
       objects = map (shown_object s (creator row) row.owner e) (shown_at s row.owner (is_object e));
       proposals = proposals_on s (creator row) (event_key e);
       group_names = [];
@@ -139,7 +185,8 @@ form_of s e row =
 -- the event row of the named owner, where it is granted, or of the chosen copy
 unfoldable pub event_row : Scene → EventId → Option OrgId → Option Row
 event_row s e None = chosen s.rows s.groups s.at s.by e
-event_row s e (Some w) = find (λ row. is_row_of w (event_key e) row && granted s.rows s.groups s.at s.by row) s.rows
+event_row s e (Some w) =
+    find (λ row. is_row_of w (event_key e) row && granted s.rows s.groups s.at s.by row) s.rows
 
 unfoldable pub shown : Scene → EventId → Option OrgId → Option VisibleEvent
 shown s e owner = option_map (form_of s e) (event_row s e owner)
@@ -148,7 +195,10 @@ shown s e owner = option_map (form_of s e) (event_row s e owner)
 unfoldable pub is_chosen : Scene → Row → Bool
 is_chosen s row =
     same_key row.key (event_key (event_of row.key))
-    && elim (chosen s.rows s.groups s.at s.by (event_of row.key)) [ None ↦ false | Some best ↦ same_org best.owner row.owner ]
+    && elim (chosen s.rows s.groups s.at s.by (event_of row.key)) [
+      | None ↦ false
+      | Some best ↦ same_org best.owner row.owner
+    ]
 
 unfoldable pub index : Scene → List VisibleEvent
 index s = map (λ row. form_of s (event_of row.key) row) (sorted (filter (is_chosen s) s.rows))

@@ -30,12 +30,14 @@ pub fn each_key_has_its_own_spelling()
 {}
 
 /// The order of keys and rows by numbers is that of the bytes that spell them: a keeper that orders
-/// its rows by the numbers of their events, and then by their names, tells them as the tables have them.
+/// its rows by the numbers of their events, and then by their names, tells them as the tables have
+/// them.
 pub fn rows_stand_in_the_order_of_their_bytes()
     ensures keys { (a b : Key) → IsKey a → IsKey b →
         is_less (spell a) (spell b) ≡ is_lt (slice_cmp nat_cmp (spelling.key a) (spelling.key b)) }
     ensures rows { (a b : Row) → IsRow a → IsRow b →
-        stands_before a b ≡ raw_before (event_number a) (name_bytes a) (event_number b) (name_bytes b) }
+        stands_before a b
+        ≡ raw_before (event_number a) (name_bytes a) (event_number b) (name_bytes b) }
     ensures same { (a b : Row) → IsRow a → IsRow b →
         (same_org a.owner b.owner && same_key a.key b.key)
         ≡ (eqb (event_number a) (event_number b) && bytes_eq (name_bytes a) (name_bytes b)) }
@@ -63,7 +65,8 @@ pub fn an_added_event_is_put_row_by_row()
         is_accepted (scene n w act c) (ask.Change (AddEvent b)) ≡ true →
         list_all (λ v. ltb v.act n) w.log ≡ true →
         tables (w.log ++ change_writes (scene n w act c) (AddEvent b)) act.at
-        ≡ put_all (map fresh_row (change_writes (scene n w act c) (AddEvent b))) (tables w.log act.at) }
+        ≡ put_all (map fresh_row (change_writes (scene n w act c) (AddEvent b)))
+        (tables w.log act.at) }
     ensures elsewhere { (n : ℕ) (w : World) (act : Act) (c : Caller) (b : Submission) (j : Inst) →
         is_accepted (scene n w act c) (ask.Change (AddEvent b)) ≡ true →
         same_inst act.at j ≡ false →
@@ -71,22 +74,25 @@ pub fn an_added_event_is_put_row_by_row()
     ensures acts { (n : ℕ) (w : World) (act : Act) (c : Caller) (b : Submission) →
         is_accepted (scene n w act c) (ask.Change (AddEvent b)) ≡ true →
         list_all (λ v. ltb v.act n) w.log ≡ true →
-        list_all (λ v. ltb v.act (suc n)) (w.log ++ change_writes (scene n w act c) (AddEvent b)) ≡ true }
+        list_all (λ v. ltb v.act (suc n)) (w.log ++ change_writes (scene n w act c) (AddEvent b))
+        ≡ true }
 {}
 
 /// The first rule that holds decides what a request is answered.
 pub fn the_first_rule_decides()
-    ensures accepted { (s : Scene) (a : Ask) → first_rule (ask_rules s a) ≡ None → is_accepted s a ≡ true }
+    ensures accepted { (s : Scene) (a : Ask) → first_rule (ask_rules s a) ≡ None →
+        is_accepted s a ≡ true }
     ensures refused { (s : Scene) (a : Ask) (r : Rule) → first_rule (ask_rules s a) ≡ Some r →
         is_accepted s a ≡ false }
-    ensures answer { (s : Scene) (a : Ask) → first_rule (ask_rules s a) ≡ None → answer s a ≡ ok_answer s a }
+    ensures answer { (s : Scene) (a : Ask) → first_rule (ask_rules s a) ≡ None →
+        answer s a ≡ ok_answer s a }
     ensures refusal { (s : Scene) (a : Ask) (r : Rule) → first_rule (ask_rules s a) ≡ Some r →
         answer s a ≡ Refused r }
 {}
 
 /// An accepted request adds to the history what it brings. A refused one, a view, the index, a
-/// request refused by its form and an act that does nothing leave the state as it is. After each act
-/// the history has no number of a later one.
+/// request refused by its form and an act that does nothing leave the state as it is. After each
+/// act the history has no number of a later one.
 pub fn what_an_act_leaves()
     ensures accepted { (net : Net) (n : ℕ) (w : World) (act : Act) (c : Caller) (a : Ask) →
         act.deed ≡ Asks c a → is_accepted (scene n w act c) a ≡ true →
@@ -96,13 +102,16 @@ pub fn what_an_act_leaves()
         step net n w act ≡ record w { log = w.log ++ change_writes (scene n w act c) x } }
     ensures refused { (net : Net) (n : ℕ) (w : World) (act : Act) (c : Caller) (a : Ask) →
         act.deed ≡ Asks c a → is_accepted (scene n w act c) a ≡ false → step net n w act ≡ w }
-    ensures view { (net : Net) (n : ℕ) (w : World) (act : Act) (c : Caller) (e : EventId) (o : Option OrgId) →
+    ensures view { (net : Net) (n : ℕ) (w : World) (act : Act) (c : Caller)
+        (e : EventId) (o : Option OrgId) →
         act.deed ≡ Asks c (View e o) → step net n w act ≡ w }
     ensures index { (net : Net) (n : ℕ) (w : World) (act : Act) (c : Caller) →
         act.deed ≡ Asks c Index → step net n w act ≡ w }
     ensures misfit { (net : Net) (n : ℕ) (w : World) (act : Act) (c : Caller) →
         act.deed ≡ Misfits c → step net n w act ≡ w }
-    ensures nothing { (net : Net) (n : ℕ) (w : World) (act : Act) → act.deed ≡ Nothing → step net n w act ≡ w }
-    ensures numbers { (net : Net) (n : ℕ) (w : World) (act : Act) → list_all (λ v. ltb v.act n) w.log ≡ true →
+    ensures nothing { (net : Net) (n : ℕ) (w : World) (act : Act) →
+        act.deed ≡ Nothing → step net n w act ≡ w }
+    ensures numbers { (net : Net) (n : ℕ) (w : World) (act : Act) →
+        list_all (λ v. ltb v.act n) w.log ≡ true →
         list_all (λ v. ltb v.act (suc n)) (step net n w act).log ≡ true }
 {}

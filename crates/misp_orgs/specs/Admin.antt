@@ -48,7 +48,8 @@ abbrev pub same_name : Link → Link → Bool
 same_name a b = bytes_eq a.name b.name
 
 -- no identifier, no key and no name of a link stands twice
-pub record AreDistinct (orgs : List OrgFields) (keys : List KeyFields) (links : List Link) : Type 0 where
+pub record AreDistinct (orgs : List OrgFields) (keys : List KeyFields)
+    (links : List Link) : Type 0 where
   pub uuids : IsDistinct same_uuid orgs
   pub texts : IsDistinct same_key keys
   pub names : IsDistinct same_name links

@@ -23,9 +23,11 @@ impl Model for KeyRecord {
 
     ghost view = { λ k. record { key = k.key; org = k.org; role = k.role; partner = k.partner } };
 
-    ghost invariant = { λ k. IsKey (record { key = k.key; org = k.org; role = k.role; partner = k.partner }) };
+    ghost invariant = { λ k. IsKey
+        (record { key = k.key; org = k.org; role = k.role; partner = k.partner }) };
 
-    ghost inverse = { λ v. record { key = v.key; org = v.org; role = v.role; partner = v.partner } };
+    ghost inverse = { λ v.
+        record { key = v.key; org = v.org; role = v.role; partner = v.partner } };
 }
 
 /// Who asks.
@@ -46,7 +48,8 @@ impl Model for Caller {
 
     ghost view = { λ c. record { org = c.org; role = c.role; partner = c.partner } };
 
-    ghost invariant = { λ c. IsCaller (record { org = c.org; role = c.role; partner = c.partner }) };
+    ghost invariant = { λ c. IsCaller
+        (record { org = c.org; role = c.role; partner = c.partner }) };
 
     ghost inverse = { λ v. record { org = v.org; role = v.role; partner = v.partner } };
 }

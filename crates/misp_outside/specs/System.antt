@@ -1,4 +1,5 @@
--- What is told of the streams of the system: what their reader or writer tells, and how often they have failed.
+-- What is told of the streams of the system: what their reader or writer tells, and how often they
+-- have failed.
 use Rattle.std.specs.Prelude.{ℕ, List, Option}
 use Rattle.misp_outside.specs.declared.adapters.input.StandardInput.{StandardInput}
 use Rattle.misp_outside.specs.declared.adapters.output.StandardOutput.{StandardOutput}
@@ -8,7 +9,8 @@ abbrev pub input_left : {R : Type 0} → (R → Option (List ℕ)) → StandardI
 input_left remaining input = remaining input.reader
 
 -- the bytes that the writer has, by what that tells
-abbrev pub output_written : {W : Type 0} → (W → Option (List ℕ)) → StandardOutput W → Option (List ℕ)
+abbrev pub output_written : {W : Type 0}
+    → (W → Option (List ℕ)) → StandardOutput W → Option (List ℕ)
 output_written contents output = contents output.writer
 
 -- the errors of the reader

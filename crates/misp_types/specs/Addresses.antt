@@ -26,11 +26,14 @@ has_colon text = list_any is_colon text
 
 -- 2 to 45 such bytes, with at least two colons
 abbrev pub is_colon_form : List ℕ → Bool
-is_colon_form text = nat_le 2 (length text) && nat_le (length text) 45 && list_all is_colon_byte text && nat_le 2 (count_by is_colon text)
+is_colon_form text =
+    nat_le 2 (length text) && nat_le (length text) 45
+    && list_all is_colon_byte text && nat_le 2 (count_by is_colon text)
 
 -- four numbers from 0 to 255 between single dots
 abbrev pub is_dotted_form : List ℕ → Bool
-is_dotted_form text = (count_by is_dot text == 3) && list_all (is_number 0 255) (slice_split is_dot text)
+is_dotted_form text =
+    (count_by is_dot text == 3) && list_all (is_number 0 255) (slice_split is_dot text)
 
 -- a text with a colon is of the one form, a text without of the other
 abbrev pub is_address : List ℕ → Bool

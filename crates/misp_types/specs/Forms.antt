@@ -20,7 +20,8 @@ lower_unless_at (Some place) text = Err (faults.WrongDigit place)
 -- so many hexadecimal digits
 abbrev pub digest : ℕ → List ℕ → Checked
 digest digits text =
-    if length text == digits then lower_unless_at (position (λ byte. not (is_ascii_hexdigit byte)) text) text
+    if length text == digits
+    then lower_unless_at (position (λ byte. not (is_ascii_hexdigit byte)) text) text
     else Err faults.WrongLength
 
 -- a space, a tab, a line feed, a carriage return or a slash
@@ -29,7 +30,9 @@ is_barred byte = (byte == 32) || (byte == 9) || (byte == 10) || (byte == 13) || 
 
 -- at most 255 bytes, of which none is barred
 abbrev pub domain : List ℕ → Checked
-domain text = if nat_lt 255 (length text) then Err faults.WrongLength else lower_unless_at (position is_barred text) text
+domain text =
+    if nat_lt 255 (length text) then Err faults.WrongLength
+    else lower_unless_at (position is_barred text) text
 
 -- the wrong part of an address and what stands behind its slash
 abbrev pub parts_fault : List ℕ → List ℕ → Option ℕ

@@ -26,6 +26,8 @@ rule_of kind =
     else if bytes_eq kind (codes "filename|sha1") then rules.Two forms.Any (forms.Digest 40)
     else if bytes_eq kind (codes "filename|sha256") then rules.Two forms.Any (forms.Digest 64)
     else if bytes_eq kind (codes "domain|ip") then rules.Two forms.Domain forms.Address
-    else if bytes_eq kind (codes "ip-src|port") || bytes_eq kind (codes "ip-dst|port") then rules.Two forms.Address forms.Port
-    else if bytes_eq kind (codes "attachment") || bytes_eq kind (codes "malware-sample") then rules.File
+    else if bytes_eq kind (codes "ip-src|port") || bytes_eq kind (codes "ip-dst|port")
+    then rules.Two forms.Address forms.Port
+    else if bytes_eq kind (codes "attachment") || bytes_eq kind (codes "malware-sample")
+    then rules.File
     else rules.One (form_of kind)

@@ -12,7 +12,8 @@ is_numeral (d ∷ e ∷ ds) = not (d == 48) && list_all is_ascii_digit (d ∷ e 
 
 -- the number that digits write, where it is not above the most
 abbrev pub number_up_to : ℕ → List ℕ → Option ℕ
-number_up_to most digits = if nat_le (digits_value 10 digits) most then Some (digits_value 10 digits) else None
+number_up_to most digits =
+    if nat_le (digits_value 10 digits) most then Some (digits_value 10 digits) else None
 
 -- what there is, where it is not below the least
 abbrev pub not_below : ℕ → Option ℕ → Option ℕ
@@ -21,7 +22,8 @@ not_below least (Some n) = if nat_le least n then Some n else None
 
 -- the number that a text says, where it is from the least to the most
 abbrev pub number_in : ℕ → ℕ → List ℕ → Option ℕ
-number_in least most text = if is_numeral text then not_below least (number_up_to most text) else None
+number_in least most text =
+    if is_numeral text then not_below least (number_up_to most text) else None
 
 -- whether it says one
 abbrev pub is_number : ℕ → ℕ → List ℕ → Bool

@@ -34,7 +34,8 @@ joined (Err fault) back = Err fault
 
 -- each part by its own form
 abbrev pub pair_of : Form → Form → List ℕ → List ℕ → Checked
-pair_of first second front back = joined (part_of 1 (text_of first front)) (part_of 2 (text_of second back))
+pair_of first second front back =
+    joined (part_of 1 (text_of first front)) (part_of 2 (text_of second back))
 
 -- without a `|` the second part is missing
 abbrev pub two_at : Form → Form → Option (List ℕ × List ℕ) → Checked
@@ -43,7 +44,9 @@ two_at first second (Some (front, back)) = pair_of first second front back
 
 -- a value of two parts, parted by its last `|`
 abbrev pub two_of : Form → Form → List ℕ → Checked
-two_of first second value = if length value == 0 then Err faults.WrongLength else two_at first second (split_value value)
+two_of first second value =
+    if length value == 0 then Err faults.WrongLength
+    else two_at first second (split_value value)
 
 -- values of one part, of two, and files
 abbrev pub by_rule : Rule → List ℕ → Checked

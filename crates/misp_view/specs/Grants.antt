@@ -18,22 +18,28 @@ use Rattle.misp_view.specs.Spots.{Numbers, has_spot, key_is}
 
 -- the set has the elements of those rows that pass a test, each for the row's owner
 abbrev pub IsSpots : BTreeSet Numbers → (Row → Bool) → List Row → Type 0
-IsSpots spots test rows = (w : OrgId) (e : EventId) (p : Place) → has_spot spots w e p ≡ list_any (λ row. is_row_of w (Element e p) row && test row) rows
+IsSpots spots test rows =
+    (w : OrgId) (e : EventId) (p : Place) → has_spot spots w e p
+    ≡ list_any (λ row. is_row_of w (Element e p) row && test row) rows
 
 -- the set has what is open to the organisation, and of attributes only where there are links
 abbrev pub IsOpenings : BTreeSet Numbers → Inst → OrgId → Bool → List Row → Type 0
-IsOpenings spots i o linked rows = IsSpots spots (λ row. row_is_open [] i o row && (linked || is_upper row.key)) rows
+IsOpenings spots i o linked rows =
+    IsSpots spots (λ row. row_is_open [] i o row && (linked || is_upper row.key)) rows
 
 -- an element or reference row is granted, by the sets of copies and of what is open
 unfoldable pub element_in : BTreeSet (ℕ × ℕ) → BTreeSet Numbers → Inst → OrgId → Row → Bool
 element_in copied opened i o row =
-    has_pair copied (event_of row.key) row.owner && row_is_open [] i o row && list_all (key_is opened row.owner true) (parents row.key)
+    has_pair copied (event_of row.key) row.owner && row_is_open [] i o row
+    && list_all (key_is opened row.owner true) (parents row.key)
 
 -- the set has the elements that are granted so, for the organisation, where there are statements
-abbrev pub IsGranted : BTreeSet Numbers → BTreeSet (ℕ × ℕ) → BTreeSet Numbers → Inst → OrgId → Bool → List Row → Type 0
+abbrev pub IsGranted : BTreeSet Numbers → BTreeSet (ℕ × ℕ) → BTreeSet Numbers
+    → Inst → OrgId → Bool → List Row → Type 0
 IsGranted spots copied opened i o told rows =
     (w : OrgId) (e : EventId) (p : Place) → has_spot spots w e p
-    ≡ list_any (λ row. (same_org o w && same_key row.key (Element e p)) && (told && element_in copied opened i o row)) rows
+    ≡ list_any (λ row. (same_org o w && same_key row.key (Element e p))
+    && (told && element_in copied opened i o row)) rows
 
 -- whether a row of this key is granted, by the sets; element says it for an element or a reference
 unfoldable pub granted_as : Grants → OrgId → OrgId → Bool → Key → Bool
@@ -41,7 +47,8 @@ granted_as g o w element (Element e p) = element
 granted_as g o w element (Reference e x t u) = element
 granted_as g o w element (Proposal e n) = same_org o w || has_spot g.granted o e n.target
 granted_as g o w element (Verdict e n j v) = same_org o w || has_spot g.granted o e n.target
-granted_as g o w element (Sighting e t j v u) = same_org o w || has_pair g.copied e o && has_spot g.granted o e t
+granted_as g o w element (Sighting e t j v u) =
+    same_org o w || has_pair g.copied e o && has_spot g.granted o e t
 
 unfoldable pub granted_in : Grants → Inst → OrgId → Row → Bool
 granted_in g i o row = granted_as g o row.owner (element_in g.copied g.opened i o row) row.key
@@ -50,4 +57,5 @@ granted_in g i o row = granted_as g o row.owner (element_in g.copied g.opened i 
 pub record IsGrants (g : Grants) (i : Inst) (o : OrgId) (rows : List Row) : Type 0 where
   pub copies : IsCopies g.copied rows
   pub opens : IsOpenings g.opened i o (list_any (λ row. is_link row.key) rows) rows
-  pub grants : IsGranted g.granted g.copied g.opened i o (list_any (λ row. is_statement row.key) rows) rows
+  pub grants :
+      IsGranted g.granted g.copied g.opened i o (list_any (λ row. is_statement row.key) rows) rows

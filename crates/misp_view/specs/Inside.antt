@@ -27,11 +27,16 @@ IsList list rows = map (λ r. r.now) list ≡ rows
 -- they are by objects, those of one object in the order of these rows
 pub record IsGrouped (list : List (Bor Row)) (rows : List Row) : Type 0 where
   pub rises : Rises list
-  pub same : (g : ℕ) → filter (λ (r : Row). eqb g (around r.key)) (map (λ r. r.now) list) ≡ filter (λ (r : Row). eqb g (around r.key)) rows
+  pub same : (g : ℕ) → filter (λ (r : Row). eqb g (around r.key)) (map (λ r. r.now) list)
+      ≡ filter (λ (r : Row). eqb g (around r.key)) rows
 
 -- the attributes outside objects and the objects of the lists, with these proposals and sightings
 pub record IsInside (n : Inside) (v : Sight) (proposals sightings rows : List Row) : Type 0 where
   pub seen : BTreeSet Numbers
   pub are_seen : IsSeen seen v (list_any (λ row. is_link row.key) rows) rows
-  pub attributes : n.attributes ≡ map (attribute_in proposals sightings) (in_list kinds.Attribute v seen rows)
-  pub objects : n.objects ≡ map (object_in (in_list kinds.Inner v seen rows) (in_list kinds.Reference v seen rows) proposals sightings) (in_list kinds.Object v seen rows)
+  pub attributes : n.attributes
+      ≡ map (attribute_in proposals sightings) (in_list kinds.Attribute v seen rows)
+  pub objects : n.objects
+      ≡ map (object_in (in_list kinds.Inner v seen rows) (in_list kinds.Reference v seen rows)
+      proposals sightings)
+      (in_list kinds.Object v seen rows)

@@ -47,4 +47,6 @@ rest_of (Sighting e t i o u) = origin_text (i, o)
 
 -- one row goes before another: by kind, by number, and by the rest
 unfoldable pub goes_before : Row → Row → Bool
-goes_before a b = is_less (class_of a.key ∷ uuid_of a.key ∷ rest_of a.key) (class_of b.key ∷ uuid_of b.key ∷ rest_of b.key)
+goes_before a b =
+    is_less (class_of a.key ∷ uuid_of a.key ∷ rest_of a.key)
+    (class_of b.key ∷ uuid_of b.key ∷ rest_of b.key)

@@ -26,4 +26,5 @@ Rises list = IsNonDecreasingBy (λ r. around r.now.key) list
 -- the list has the rows by their objects, those of one object in the order in which they stood
 pub record IsByObject (list rows : List (Bor Row)) : Type 0 where
   pub rises : Rises list
-  pub same : (g : ℕ) → filter (λ r. eqb g (around r.key)) (map (λ r. r.now) list) ≡ filter (λ r. eqb g (around r.key)) (map (λ r. r.now) rows)
+  pub same : (g : ℕ) → filter (λ r. eqb g (around r.key)) (map (λ r. r.now) list)
+      ≡ filter (λ r. eqb g (around r.key)) (map (λ r. r.now) rows)

@@ -1,4 +1,5 @@
--- What an organisation sees of one owner's copy of an event, by sets that are found once for all rows.
+-- What an organisation sees of one owner's copy of an event, by sets that are found once for all
+-- rows.
 use Rattle.std.specs.Prelude.{◌≡◌, Bool, false, not, ◌&&◌, List}
 use Rattle.std.specs.BTreeSet.{BTreeSet}
 use Rattle.std.specs.List.{list_all}
@@ -19,7 +20,8 @@ use Rattle.misp_view.specs.Spots.{Numbers, has_spot, key_is}
 use Rattle.misp_view.specs.Grants.{IsSpots, IsGrants, granted_in}
 
 -- the sets are those of the rows
-pub record IsSight (v : Sight) (i : Inst) (o : OrgId) (e : EventId) (w : OrgId) (rows : List Row) : Type 0 where
+pub record IsSight (v : Sight) (i : Inst) (o : OrgId) (e : EventId) (w : OrgId)
+    (rows : List Row) : Type 0 where
   pub here : v.here ≡ i
   pub org : v.org ≡ o
   pub event : v.event ≡ e
@@ -32,7 +34,8 @@ pub record IsSight (v : Sight) (i : Inst) (o : OrgId) (e : EventId) (w : OrgId) 
 unfoldable pub shows_in : Sight → Row → Bool
 shows_in v row =
     same_org row.owner v.owner && granted_in v.grants v.here v.org row
-    && (not (is_deleted row) && not (has_pair v.gone (event_of row.key) row.owner) && list_all (key_is v.deleted row.owner false) (parents row.key))
+    && (not (is_deleted row) && not (has_pair v.gone (event_of row.key) row.owner)
+    && list_all (key_is v.deleted row.owner false) (parents row.key))
 
 -- the set has the elements that show, where there are references
 abbrev pub IsSeen : BTreeSet Numbers → Sight → Bool → List Row → Type 0

@@ -37,7 +37,9 @@ second_of (ObjectAttribute x a) = a.0.0
 abbrev pub numbers_cmp : Numbers → Numbers → Ordering
 numbers_cmp x y =
     ordering_then
-    (ordering_then (ordering_then (ordering_then (nat_cmp x.0 y.0) (nat_cmp x.1 y.1)) (nat_cmp x.2 y.2)) (nat_cmp x.3 y.3))
+    (ordering_then
+    (ordering_then (ordering_then (nat_cmp x.0 y.0) (nat_cmp x.1 y.1)) (nat_cmp x.2 y.2))
+    (nat_cmp x.3 y.3))
     (nat_cmp x.4 y.4)
 
 -- the set has the place of the event, for the owner

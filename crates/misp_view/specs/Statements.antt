@@ -44,7 +44,8 @@ is_closed_by told judge k = list_any (λ row. is_verdict_on k judge row.key) tol
 
 -- it is a proposal of the least owner, and not closed
 unfoldable pub is_open_proposal : List Row → OrgId → Row → Bool
-is_open_proposal told judge row = is_proposal row.key && is_least_of told row && not (is_closed_by told judge row.key)
+is_open_proposal told judge row =
+    is_proposal row.key && is_least_of told row && not (is_closed_by told judge row.key)
 
 -- it is a sighting of the least owner
 unfoldable pub is_least_sighting : List Row → Row → Bool

@@ -12,7 +12,16 @@ use Rattle.misp_model.specs.View.{is_row_of, is_deleted, is_before, granted, fir
 -- a scene of these rows alone, as the organisation looks at them there
 abbrev pub scene_of : Inst → OrgId → List Row → Scene
 scene_of at by rows =
-    record { act = 0; at = at; by = by; by_name = []; now = 0; today = []; rows = rows; groups = [] }
+    record {
+      act = 0;
+      at = at;
+      by = by;
+      by_name = [];
+      now = 0;
+      today = [];
+      rows = rows;
+      groups = [];
+    }
 
 -- the owner has a deleted row of the key
 abbrev pub has_deleted : List Row → OrgId → Key → Bool

@@ -37,7 +37,8 @@ pub(crate) fn attributes(
     sightings: &[&Row],
 ) -> Result<Items<VisibleAttribute>, NoMemory>
     ensures { IfOk result (λ items. items
-        ≡ map (attribute_in (map (λ r. r.now) proposals.now) (map (λ r. r.now) sightings.now)) (map (λ r. r.now) list.now)) }
+        ≡ map (attribute_in (map (λ r. r.now) proposals.now) (map (λ r. r.now) sightings.now))
+        (map (λ r. r.now) list.now)) }
 {
     let mut items = Vec::with_capacity(alloc, list.len())?;
     for row in list {

@@ -33,8 +33,8 @@ fn better<'a>(best: Option<&'a Row>, row: &'a Row, counts: bool) -> Option<&'a R
     }
 }
 
-// Whether a row of the event itself has a copy beside it: it is one where it is no mark, so only for a
-// mark the other rows are looked through.
+// Whether a row of the event itself has a copy beside it: it is one where it is no mark, so only
+// for a mark the other rows are looked through.
 fn is_of_copy(rows: &[Row], event: &EventId, row: &Row) -> bool
     ensures { Contains rows.now row.now → same_key row.now.key (event_key event.now) ≡ true →
         result ≡ has_copy rows.now row.now.owner event.now }
@@ -47,7 +47,8 @@ fn is_of_copy(rows: &[Row], event: &EventId, row: &Row) -> bool
 
 // Whether it is a row of the event itself that is granted.
 fn is_candidate(rows: &[Row], here: &InstId, org: &OrgId, event: &EventId, row: &Row) -> bool
-    ensures { Contains rows.now row.now → result ≡ is_granted_itself here.now org.now event.now rows.now row.now }
+    ensures { Contains rows.now row.now →
+        result ≡ is_granted_itself here.now org.now event.now rows.now row.now }
 {
     if !is_itself(row, event) {
         return false;
@@ -75,9 +76,11 @@ pub(crate) fn chosen_row<'a>(
 }
 
 /// Whose copy of the event is chosen for the organisation at this instance, of those granted to it:
-/// that of the greatest stamp, of equals one of this instance, and of equals that of the least owner.
+/// that of the greatest stamp, of equals one of this instance, and of equals that of the least
+/// owner.
 pub fn chosen(rows: &[Row], here: &InstId, org: &OrgId, event: &EventId) -> Option<OrgId>
-    ensures { result ≡ option_map (λ row. row.owner) (chosen rows.now [] here.now org.now event.now) }
+    ensures { result
+        ≡ option_map (λ row. row.owner) (chosen rows.now [] here.now org.now event.now) }
 {
     match chosen_row(rows, here, org, event) {
         Some(row) => Some(row.owner),

@@ -45,7 +45,8 @@ pub(crate) fn has_open(
     event: &EventId,
     place: &Place,
 ) -> bool
-    ensures { result ≡ has_open rows.now [] here.now org.now owner.now (Element event.now place.now) }
+    ensures { result
+        ≡ has_open rows.now [] here.now org.now owner.now (Element event.now place.now) }
 {
     rows.iter().any(|row| is_row_at(row, owner, event, place) && is_open(row, here, org))
 }

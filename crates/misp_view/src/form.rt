@@ -43,7 +43,8 @@ fn row_of<'a>(
     event: &EventId,
     owner: &OrgId,
 ) -> Option<&'a Row>
-    ensures { option_copied result ≡ find (is_granted_row_of here.now org.now event.now owner.now rows.now) rows.now }
+    ensures { option_copied result
+        ≡ find (is_granted_row_of here.now org.now event.now owner.now rows.now) rows.now }
 {
     rows.iter().find(|row| is_granted_row_of(rows, here, org, event, owner, row))
 }
@@ -57,7 +58,8 @@ fn event_row<'a>(
     event: &EventId,
     owner: Option<OrgId>,
 ) -> Option<&'a Row>
-    ensures { option_copied result ≡ event_row (scene_of here.now org.now rows.now) event.now owner }
+    ensures { option_copied result
+        ≡ event_row (scene_of here.now org.now rows.now) event.now owner }
 {
     match owner {
         None => chosen_row(rows, here, org, event),
@@ -85,7 +87,8 @@ fn form(
     event: &EventId,
     row: &Row,
 ) -> Result<VisibleEvent, NoMemory>
-    ensures form { IfOk result (λ form. form ≡ form_of (scene_of here.now org.now rows.now) event.now row.now) }
+    ensures form { IfOk result (λ form. form
+        ≡ form_of (scene_of here.now org.now rows.now) event.now row.now) }
     ensures rows { OnOk result (AreRows rows.now) }
 {
     let sight = Sight::of(alloc, rows, here, org, event, &row.owner)?;
@@ -111,8 +114,8 @@ fn form(
 }
 
 /// What the organisation sees of an event at this instance: of the named owner's copy, or of the
-/// chosen one. It is `None` where that copy is not granted to it. The names of the owner and of groups
-/// are left empty.
+/// chosen one. It is `None` where that copy is not granted to it. The names of the owner and of
+/// groups are left empty.
 pub fn shown(
     alloc: Global,
     rows: &[Row],
@@ -121,7 +124,8 @@ pub fn shown(
     event: &EventId,
     owner: Option<OrgId>,
 ) -> Result<Option<VisibleEvent>, NoMemory>
-    ensures seen { IfOk result (λ seen. seen ≡ shown (scene_of here.now org.now rows.now) event.now owner) }
+    ensures seen { IfOk result (λ seen. seen
+        ≡ shown (scene_of here.now org.now rows.now) event.now owner) }
     ensures whole { IsUnmixed event.now rows.now → IfOk result (λ seen. IfSome seen IsWhole) }
 {
     match event_row(rows, here, org, event, owner) {

@@ -29,7 +29,8 @@ fn granted_somewhere(
     event: &EventId,
     place: &Place,
 ) -> bool
-    ensures { result ≡ granted_somewhere rows.now [] here.now org.now (Element event.now place.now) }
+    ensures { result
+        ≡ granted_somewhere rows.now [] here.now org.now (Element event.now place.now) }
 {
     rows.iter().any(|row| is_at(row, event, place) && element_granted(rows, here, org, row))
 }

@@ -41,7 +41,8 @@ fn are_told(rows: &[Row]) -> bool
 
 // Whether it is open to the organisation, and is of an event or an object, or something is linked.
 fn is_opening(row: &Row, here: &InstId, org: &OrgId, linked: bool) -> bool
-    ensures { result ≡ (row_is_open [] here.now org.now row.now && (linked || kinds.is_upper row.now.key)) }
+    ensures { result
+        ≡ (row_is_open [] here.now org.now row.now && (linked || kinds.is_upper row.now.key)) }
 {
     is_open(row, here, org) && (linked || is_upper(row))
 }
@@ -85,7 +86,8 @@ fn granted(
     org: &OrgId,
     told: bool,
 ) -> Result<Spots, NoMemory>
-    ensures { IfOk result (λ spots. IsGranted spots copied.now opened.now here.now org.now told rows.now) }
+    ensures { IfOk result (λ spots.
+        IsGranted spots copied.now opened.now here.now org.now told rows.now) }
 {
     let mut spots = BTreeSet::new(alloc);
     for row in rows {

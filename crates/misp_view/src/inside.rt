@@ -44,7 +44,8 @@ fn grouped<'a>(
     seen: &Spots,
     rows: &'a [Row],
 ) -> Result<Vec<&'a Row>, NoMemory>
-    ensures { IfOk result (λ list. IsGrouped list.items (in_list kind sight.now seen.now rows.now)) }
+    ensures { IfOk result (λ list.
+        IsGrouped list.items (in_list kind sight.now seen.now rows.now)) }
 {
     let list = in_list(alloc, kind, sight, seen, rows)?;
     let list = by_object(list)?;
@@ -59,7 +60,8 @@ pub(crate) fn inside_of(
     proposals: &[&Row],
     sightings: &[&Row],
 ) -> Result<Inside, NoMemory>
-    ensures { IfOk result (λ inside. IsInside inside sight.now (map (λ r. r.now) proposals.now) (map (λ r. r.now) sightings.now) rows.now) }
+    ensures { IfOk result (λ inside. IsInside inside sight.now
+        (map (λ r. r.now) proposals.now) (map (λ r. r.now) sightings.now) rows.now) }
 {
     let seen = seen(alloc, rows, sight, are_linked(rows))?;
     let plain = in_list(alloc, Kind::Attribute, sight, &seen, rows)?;

@@ -107,7 +107,8 @@ pub(crate) fn collect<'a>(
     seen: &Spots,
     rows: &'a [Row],
 ) -> Result<Vec<&'a Row>, NoMemory>
-    ensures { IfOk result (λ list. map (λ r. r.now) list.items ≡ filter (is_one kind sight.now seen.now) rows.now) }
+    ensures { IfOk result (λ list. map (λ r. r.now) list.items
+        ≡ filter (is_one kind sight.now seen.now) rows.now) }
 {
     let mut list = Vec::new(alloc);
     for row in rows {

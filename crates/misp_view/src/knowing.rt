@@ -13,13 +13,14 @@ use std::alloc::Global;
 // Whether the organisation knows one of the rows.
 #[tactic(auto, unfolding(misp_model::specs::Names::same_org))]
 fn is_known(grants: &Grants, here: &InstId, org: &OrgId, row: &Row) -> bool
-    ensures { result ≡ (same_org row.now.owner org.now || granted_in grants.now here.now org.now row.now) }
+    ensures { result
+        ≡ (same_org row.now.owner org.now || granted_in grants.now here.now org.now row.now) }
 {
     row.owner == *org || grants.has(here, org, row)
 }
 
-/// The rows that the organisation knows at this instance: what is granted to it, and all that is its
-/// own.
+/// The rows that the organisation knows at this instance: what is granted to it, and all that is
+/// its own.
 pub fn known(
     alloc: Global,
     rows: Vec<Row>,

@@ -56,7 +56,8 @@ pub(crate) fn objects(
 ) -> Result<Items<VisibleObject>, NoMemory>
     ensures { Rises inner.now → Rises references.now → IfOk result (λ items. items
         ≡ map (object_in (map (λ r. r.now) inner.now) (map (λ r. r.now) references.now)
-        (map (λ r. r.now) proposals.now) (map (λ r. r.now) sightings.now)) (map (λ r. r.now) list.now)) }
+        (map (λ r. r.now) proposals.now) (map (λ r. r.now) sightings.now))
+        (map (λ r. r.now) list.now)) }
 {
     let mut items = Vec::with_capacity(alloc, list.len())?;
     for row in list {

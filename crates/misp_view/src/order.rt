@@ -63,7 +63,8 @@ fn is_earlier(a: (InstId, OrgId), b: (InstId, OrgId)) -> bool
 
 // Whether the first of two rows of one kind and one number goes before the second.
 fn rest_goes_before(a: &Row, b: &Row) -> bool
-    ensures { class_of a.now.key ≡ class_of b.now.key → result ≡ is_less (rest_of a.now.key) (rest_of b.now.key) }
+    ensures { class_of a.now.key ≡ class_of b.now.key →
+        result ≡ is_less (rest_of a.now.key) (rest_of b.now.key) }
 {
     match origin(a) {
         Some(first) => match origin(b) {
@@ -105,7 +106,8 @@ fn compare(a: &Row, b: &Row) -> Ordering
 
 /// The rows in their order; of those that are alike the last stands first.
 pub(crate) fn in_order<'a>(rows: Vec<&'a Row>) -> Result<Vec<&'a Row>, NoMemory>
-    ensures { IfOk result (λ list. map (λ r. r.now) list.items ≡ in_order goes_before (map (λ r. r.now) rows.entry.items)) }
+    ensures { IfOk result (λ list. map (λ r. r.now) list.items
+        ≡ in_order goes_before (map (λ r. r.now) rows.entry.items)) }
 {
     let mut list = rows;
     list.reverse();

@@ -15,8 +15,8 @@ use misp_ids::{EventId, InstId, NoMemory, OrgId};
 use std::alloc::Global;
 use std::collections::BTreeSet;
 
-/// Who looks at whose copy of which event, what is granted there, which copies are gone, and what is
-/// deleted in each.
+/// Who looks at whose copy of which event, what is granted there, which copies are gone, and what
+/// is deleted in each.
 #[derive(Drop)]
 pub(crate) struct Sight {
     pub(crate) here: InstId,
@@ -51,7 +51,8 @@ impl Sight {
         event: &EventId,
         owner: &OrgId,
     ) -> Result<Sight, NoMemory>
-        ensures found { IfOk result (λ sight. IsSight sight here.now org.now event.now owner.now rows.now) }
+        ensures found { IfOk result (λ sight.
+            IsSight sight here.now org.now event.now owner.now rows.now) }
         ensures rows { OnOk result (AreRows rows.now) }
     {
         let grants = Grants::of(alloc, rows, here, org)?;

@@ -53,7 +53,8 @@ fn second(place: &Place) -> u128
 // Adds a place of an event, for this owner.
 fn put(spots: &mut Spots, owner: &OrgId, event: &EventId, place: &Place) -> Result<(), NoMemory>
     ensures { OnOk result ((w : Owner) (e : Event) (p : Spot) → has_spot spots.new w e p
-        ≡ (has_spot spots.old w e p || same_org owner.now w && (same_event event.now e && same_place place.now p))) }
+        ≡ (has_spot spots.old w e p
+        || same_org owner.now w && (same_event event.now e && same_place place.now p))) }
 {
     spots.insert((
         owner.0.0,
@@ -78,7 +79,8 @@ fn element(row: &Row) -> Option<(EventId, Place)>
 /// Adds what the row's key names, for this owner, where it is an element and is wanted.
 pub(crate) fn add(spots: &mut Spots, owner: &OrgId, row: &Row, wanted: bool) -> Result<(), NoMemory>
     ensures { OnOk result ((w : Owner) (e : Event) (p : Spot) → has_spot spots.new w e p
-        ≡ (has_spot spots.old w e p || (same_org owner.now w && same_key row.now.key (Element e p)) && wanted)) }
+        ≡ (has_spot spots.old w e p
+        || (same_org owner.now w && same_key row.now.key (Element e p)) && wanted)) }
 {
     if !wanted {
         return Ok(());

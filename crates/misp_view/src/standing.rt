@@ -20,7 +20,8 @@ fn open_above(
     event: &EventId,
     place: &Place,
 ) -> bool
-    ensures { result ≡ list_all (has_open rows.now [] here.now org.now owner.now) (above event.now place.now) }
+    ensures { result
+        ≡ list_all (has_open rows.now [] here.now org.now owner.now) (above event.now place.now) }
 {
     match place {
         Place::Event => true,
@@ -44,7 +45,8 @@ fn open_up_to(
     event: &EventId,
     place: &Place,
 ) -> bool
-    ensures { result ≡ list_all (has_open rows.now [] here.now org.now owner.now) (up_to event.now place.now) }
+    ensures { result
+        ≡ list_all (has_open rows.now [] here.now org.now owner.now) (up_to event.now place.now) }
 {
     open_above(rows, here, org, owner, event, place)
         && has_open(rows, here, org, owner, event, place)
@@ -53,7 +55,8 @@ fn open_up_to(
 /// Whether what stands above the row is open to the organisation in the same copy.
 #[tactic(auto, unfolding(misp_model::specs::Names::parents))]
 pub(crate) fn is_open_above(rows: &[Row], here: &InstId, org: &OrgId, row: &Row) -> bool
-    ensures { result ≡ list_all (has_open rows.now [] here.now org.now row.now.owner) (parents row.now.key) }
+    ensures { result
+        ≡ list_all (has_open rows.now [] here.now org.now row.now.owner) (parents row.now.key) }
 {
     let owner = &row.owner;
     match &row.key.form {

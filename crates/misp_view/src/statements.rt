@@ -29,7 +29,8 @@ pub(crate) fn told<'a>(
     sight: &Sight,
     rows: &'a [Row],
 ) -> Result<Vec<&'a Row>, NoMemory>
-    ensures { IfOk result (λ list. map (λ r. r.now) list.items ≡ filter (is_told sight.now) rows.now) }
+    ensures { IfOk result (λ list. map (λ r. r.now) list.items
+        ≡ filter (is_told sight.now) rows.now) }
 {
     let mut list = Vec::new(alloc);
     for row in rows {
@@ -122,14 +123,17 @@ fn is_least_sighting(told: &[&Row], row: &Row) -> bool
     matches!(&row.key.form, KeyForm::Sighting { .. }) && is_least_of(told, row)
 }
 
-/// The proposals that show, in their order, where these are told and the event's creator is the judge.
+/// The proposals that show, in their order, where these are told and the event's creator is the
+/// judge.
 pub(crate) fn proposals<'a>(
     alloc: Global,
     told: &[&'a Row],
     judge: &OrgId,
 ) -> Result<Vec<&'a Row>, NoMemory>
     ensures { IfOk result (λ list. map (λ r. r.now) list.items
-        ≡ in_order goes_before (filter (is_open_proposal (map (λ r. r.now) told.now) judge.now) (map (λ r. r.now) told.now))) }
+        ≡ in_order goes_before
+        (filter (is_open_proposal (map (λ r. r.now) told.now) judge.now)
+        (map (λ r. r.now) told.now))) }
 {
     let mut list = Vec::new(alloc);
     for row in told {
@@ -143,7 +147,8 @@ pub(crate) fn proposals<'a>(
 /// The sightings that show, in their order, where these are told.
 pub(crate) fn sightings<'a>(alloc: Global, told: &[&'a Row]) -> Result<Vec<&'a Row>, NoMemory>
     ensures { IfOk result (λ list. map (λ r. r.now) list.items
-        ≡ in_order goes_before (filter (is_least_sighting (map (λ r. r.now) told.now)) (map (λ r. r.now) told.now))) }
+        ≡ in_order goes_before
+        (filter (is_least_sighting (map (λ r. r.now) told.now)) (map (λ r. r.now) told.now))) }
 {
     let mut list = Vec::new(alloc);
     for row in told {
@@ -168,7 +173,8 @@ fn is_about(statement: &Row, row: &Row) -> bool
 
 /// Those that are about the row.
 pub(crate) fn about(alloc: Global, list: &[&Row], row: &Row) -> Result<Items<Row>, NoMemory>
-    ensures { IfOk result (λ kept. kept ≡ filter (λ r. is_about row.now.key r.key) (map (λ r. r.now) list.now)) }
+    ensures { IfOk result (λ kept. kept
+        ≡ filter (λ r. is_about row.now.key r.key) (map (λ r. r.now) list.now)) }
 {
     let mut kept = Vec::new(alloc);
     for statement in list {
@@ -198,7 +204,8 @@ pub(crate) fn on_event(
     list: &[&Row],
     event: &EventId,
 ) -> Result<Items<Row>, NoMemory>
-    ensures { IfOk result (λ kept. kept ≡ filter (λ r. is_proposal_on (event_key event.now) r.key) (map (λ r. r.now) list.now)) }
+    ensures { IfOk result (λ kept. kept
+        ≡ filter (λ r. is_proposal_on (event_key event.now) r.key) (map (λ r. r.now) list.now)) }
 {
     let mut kept = Vec::new(alloc);
     for statement in list {

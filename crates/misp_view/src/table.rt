@@ -19,7 +19,8 @@ pub(crate) type Pairs = BTreeSet<(u128, u128)>;
 // Adds an event and an owner.
 fn put(pairs: &mut Pairs, event: EventId, owner: OrgId) -> Result<(), NoMemory>
     ensures { OnOk result ((e : Event) (w : Owner) →
-        has_pair pairs.new e w ≡ (has_pair pairs.old e w || (same_event event e && same_org owner w))) }
+        has_pair pairs.new e w
+        ≡ (has_pair pairs.old e w || (same_event event e && same_org owner w))) }
 {
     pairs.insert((event.0.0, owner.0.0))?;
     Ok(())
@@ -28,7 +29,8 @@ fn put(pairs: &mut Pairs, event: EventId, owner: OrgId) -> Result<(), NoMemory>
 // Adds those of a row of the event itself, where it is wanted.
 fn add(pairs: &mut Pairs, row: &Row, wanted: bool) -> Result<(), NoMemory>
     ensures { OnOk result ((e : Event) (w : Owner) →
-        has_pair pairs.new e w ≡ (has_pair pairs.old e w || (is_row_of w (event_key e) row.now && wanted))) }
+        has_pair pairs.new e w
+        ≡ (has_pair pairs.old e w || (is_row_of w (event_key e) row.now && wanted))) }
 {
     if !wanted {
         return Ok(());

@@ -157,9 +157,9 @@ enum Item {
     Reference(u128, u128),
 }
 
-/// Alpha has a copy for itself alone, Beta a carried one of a later stamp, and Gamma a mark. Beta has two
-/// objects, the second for itself alone. From the first a reference leads to an attribute that is for
-/// Beta alone, and one to an attribute for all.
+/// Alpha has a copy for itself alone, Beta a carried one of a later stamp, and Gamma a mark. Beta
+/// has two objects, the second for itself alone. From the first a reference leads to an attribute
+/// that is for Beta alone, and one to an attribute for all.
 const TABLE: [Item; 15] = [
     Item::Event(ALPHA, [10, OWN, 0]),
     Item::Attribute(ALPHA, None, 0x41, [ALL, 0]),
@@ -224,7 +224,8 @@ fn count_known(alloc: Global, org: u128) -> Result<usize, Fail> {
     Ok(known.ok_or("memory is there")?.len())
 }
 
-/// How many attributes and objects show, and how many attributes and references of the first object.
+/// How many attributes and objects show, and how many attributes and references of the first
+/// object.
 fn counts(event: &VisibleEvent) -> [usize; 4] {
     let objects = event.objects.as_slice();
     let (inner, references) = match objects.first() {

@@ -21,15 +21,18 @@ pub(super) const NAMES: [(&str, &str); 31] = [
     ("{step}", "1700000000 00000000000000000000000000000000"),
     (
         "{wave}",
-        "{'Event':{'uuid':'{e1}','info':'Wave','date':'2023-11-14','distribution':'1','Attribute':[{part}]}}",
+        "{'Event':{'uuid':'{e1}','info':'Wave','date':'2023-11-14','distribution':'1',\
+         'Attribute':[{part}]}}",
     ),
     (
         "{own}",
-        "{'Event':{'uuid':'{e1}','info':'Wave','date':'2023-11-14','distribution':'0','Attribute':[{part}]}}",
+        "{'Event':{'uuid':'{e1}','info':'Wave','date':'2023-11-14','distribution':'0',\
+         'Attribute':[{part}]}}",
     ),
     (
         "{nameless}",
-        "{'Event':{'uuid':'{e1}','info':'','date':'2023-11-14','distribution':'1','Attribute':[{part}]}}",
+        "{'Event':{'uuid':'{e1}','info':'','date':'2023-11-14','distribution':'1',\
+         'Attribute':[{part}]}}",
     ),
     (
         "{twice}",
@@ -42,9 +45,10 @@ pub(super) const NAMES: [(&str, &str); 31] = [
     ),
     (
         "{shown}",
-        "200 {'Event':{'Attribute':[{'ShadowAttribute':[],'Sighting':[],'Tag':[],'category':'Other',\
-         'comment':'','deleted':false,'distribution':'5','timestamp':'1700000000','to_ids':false,\
-         'type':'text','uuid':'{u1}','value':'x'}],'Object':[],'Org':{'name':'Alpha','uuid':'{oa}'},\
+        "200 {'Event':{'Attribute':[{'ShadowAttribute':[],'Sighting':[],'Tag':[],\
+         'category':'Other','comment':'','deleted':false,'distribution':'5',\
+         'timestamp':'1700000000','to_ids':false,'type':'text','uuid':'{u1}','value':'x'}],\
+         'Object':[],'Org':{'name':'Alpha','uuid':'{oa}'},\
          'Orgc':{'name':'Alpha','uuid':'{oa}'},'ShadowAttribute':[],'Tag':[],'analysis':'0',\
          'attribute_count':'1','date':'2023-11-14','distribution':'1','extends_uuid':'',\
          'info':'Wave','publish_timestamp':'0','published':false,'threat_level_id':'4',\
@@ -295,7 +299,8 @@ pub(super) const CASES: [Case<'static>; 22] = [
     // The row that the keeper holds is none.
     Case {
         words: "net",
-        source: "{net}---\n{B views}{e9}\n{A adds} {'uuid':'{e9}','info':'x','date':'2023-11-14'}\n{B views}{e2}\n",
+        source: "{net}---\n{B views}{e9}\n{A adds} {'uuid':'{e9}','info':'x','date':'2023-11-14'}\n\
+                 {B views}{e2}\n",
         len: 0,
         fails: NONE,
         status: Status::Done,
