@@ -47,13 +47,19 @@ fits_place (places.Object o) kind = kind == 1
 fits_place (places.Attribute a) kind = kind == 2
 fits_place (places.ObjectAttribute o a) kind = kind == 2
 
--- an element of an event, whose content is of its place's kind; its number is its place in reading order
+-- an element of an event, whose content is of its place's kind; its number is its place in
+-- reading order
 abbrev pub IsDraft : DraftFields → Type 0
-IsDraft d = IsPlaceBut of_reference d.place × (IsLabel d.label × ((fits_place d.place (content_kind d.content) ≡ true) × IsContent true d.content))
+IsDraft d =
+    IsPlaceBut of_reference d.place
+    × (IsLabel d.label
+    × ((fits_place d.place (content_kind d.content) ≡ true)
+    × IsContent true d.content))
 
 -- a reference of an object, whose texts fit
 abbrev pub IsReferenceDraft : ReferenceDraftFields → Type 0
-IsReferenceDraft r = IsUid r.object.0 × (IsUid r.uuid.0 × (IsUid r.referenced.0 × IsReferenceBody r.body))
+IsReferenceDraft r =
+    IsUid r.object.0 × (IsUid r.uuid.0 × (IsUid r.referenced.0 × IsReferenceBody r.body))
 
 -- a date where there is one
 abbrev pub IsOptionalDate : Option (List ℕ) → Type 0
@@ -61,7 +67,13 @@ IsOptionalDate None = Unit {0}
 IsOptionalDate (Some date) = IsDate date
 
 abbrev pub IsEventDraft : EventDraftFields → Type 0
-IsEventDraft d = IsText 1 text_limit d.info × (IsOptionalDate d.date × (IsBetween 1 4 d.threat_level_id × (IsBetween 0 2 d.analysis × (IsOptionalUid d.extends_uuid × AreTags (text_limit - length d.info) d.tags))))
+IsEventDraft d =
+    IsText 1 text_limit d.info
+    × (IsOptionalDate d.date
+    × (IsBetween 1 4 d.threat_level_id
+    × (IsBetween 0 2 d.analysis
+    × (IsOptionalUid d.extends_uuid
+    × AreTags (text_limit - length d.info) d.tags))))
 
 -- no label of an event inherits
 abbrev pub IsLabelOf : Option EventDraftFields → Label → Type 0

@@ -75,7 +75,9 @@ byte_at [] = Err 0
 byte_at (b ∷ rest) = Ok (b, rest)
 
 abbrev pub uid_at : List ℕ → Reading Uid
-uid_at bytes = if nat_lt (length bytes) 16 then Err (length bytes) else Ok (record { 0 = from_be_bytes w128 (take 16 bytes) }, drop 16 bytes)
+uid_at bytes =
+    if nat_lt (length bytes) 16 then Err (length bytes)
+    else Ok (record { 0 = from_be_bytes w128 (take 16 bytes) }, drop 16 bytes)
 
 abbrev pub elem_at : List ℕ → Reading ElemId
 elem_at bytes = uid_at bytes >>= λ u. Ok (record { 0 = u.0 }, u.1)
@@ -97,7 +99,9 @@ unfoldable pub inst_at : List ℕ → Reading (List ℕ)
 inst_at bytes = byte_at bytes >>= λ len. inst_of bytes len.0 len.1
 
 abbrev pub number_at : Width → List ℕ → Reading ℕ
-number_at w bytes = if nat_lt (length bytes) (byte_len w) then Err (length bytes) else Ok (from_be_bytes w (take (byte_len w) bytes), drop (byte_len w) bytes)
+number_at w bytes =
+    if nat_lt (length bytes) (byte_len w) then Err (length bytes)
+    else Ok (from_be_bytes w (take (byte_len w) bytes), drop (byte_len w) bytes)
 
 -- a byte between these
 unfoldable pub between_at : ℕ → ℕ → List ℕ → Reading ℕ
@@ -134,7 +138,10 @@ value_at room kind bytes = do
   if is_kept kind value.0 then Ok value else Err (length bytes)
 
 abbrev pub flag_of : List ℕ → ℕ → List ℕ → Reading Bool
-flag_of bytes b rest = if b == 0 then Ok (false, rest) else if b == 1 then Ok (true, rest) else Err (length bytes)
+flag_of bytes b rest =
+    if b == 0 then Ok (false, rest)
+    else if b == 1 then Ok (true, rest)
+    else Err (length bytes)
 
 unfoldable pub flag_at : List ℕ → Reading Bool
 flag_at bytes = byte_at bytes >>= λ b. flag_of bytes b.0 b.1

@@ -84,10 +84,12 @@ IsColour colour = (length colour ≡ 3) × IsBytes colour
 abbrev pub IsTag : ℕ → List ℕ → Tag → Type 0
 IsTag room before t = IsTagName room before t.name × (IsColour t.colour × Unit {0})
 
--- in strictly ascending order of names, all after this one, with no more bytes together than there is room for
+-- in strictly ascending order of names, all after this one, with no more bytes together than there
+-- is room for
 abbrev pub AreTagsAfter : ℕ → List ℕ → List Tag → Type 0
 AreTagsAfter room before [] = Unit {0}
-AreTagsAfter room before (t ∷ ts) = IsTag room before t × AreTagsAfter (room - length t.name) t.name ts
+AreTagsAfter room before (t ∷ ts) =
+    IsTag room before t × AreTagsAfter (room - length t.name) t.name ts
 
 abbrev pub AreTags : ℕ → List Tag → Type 0
 AreTags room ts = (length ts < 2 ^ 32) × AreTagsAfter room [] ts
@@ -99,8 +101,10 @@ tags_size tags = sum_by (λ (t : Tag). length t.name) tags
 -- the texts of an element together, as the limit counts them
 unfoldable pub text_size : Content → ℕ
 text_size (contents.Event b) = length b.info + tags_size b.tags
-text_size (contents.Object b) = length b.name + length b.meta_category + length b.description + length b.comment
-text_size (contents.Attribute b) = length b.kind + length b.comment + length b.value + tags_size b.tags
+text_size (contents.Object b) =
+    length b.name + length b.meta_category + length b.description + length b.comment
+text_size (contents.Attribute b) =
+    length b.kind + length b.comment + length b.value + tags_size b.tags
 text_size (contents.Reference b) = length b.relationship_type + length b.comment
 text_size (contents.Proposal b) = length b.kind + length b.comment + length b.value
 text_size (contents.Verdict b) = 0
@@ -111,16 +115,43 @@ text_size contents.Gone = 0
 
 -- Each text has the room that the texts before it leave of the limit.
 abbrev pub IsEventBody : EventBody → Type 0
-IsEventBody b = IsText 1 text_limit b.info × (IsDate b.date × (IsBetween 1 4 b.threat_level_id × (IsBetween 0 2 b.analysis × (IsStamp b.publish_stamp × (IsOptionalUid b.extends_uuid × (IsUid b.orgc.0 × (IsText 0 64 b.orgc_name × AreTags (text_limit - length b.info) b.tags)))))))
+IsEventBody b =
+    IsText 1 text_limit b.info
+    × (IsDate b.date
+    × (IsBetween 1 4 b.threat_level_id
+    × (IsBetween 0 2 b.analysis
+    × (IsStamp b.publish_stamp
+    × (IsOptionalUid b.extends_uuid
+    × (IsUid b.orgc.0
+    × (IsText 0 64 b.orgc_name
+    × AreTags (text_limit - length b.info) b.tags)))))))
 
 abbrev pub IsObjectBody : ObjectBody → Type 0
-IsObjectBody b = IsText 1 text_limit b.name × (IsText 0 (text_limit - length b.name) b.meta_category × (IsText 0 (text_limit - length b.name - length b.meta_category) b.description × (IsText 0 (text_limit - length b.name - length b.meta_category - length b.description) b.comment × (IsOptionalUid b.template_uuid × ((b.template_version < 2 ^ 64) × Unit {0})))))
+IsObjectBody b =
+    IsText 1 text_limit b.name
+    × (IsText 0 (text_limit - length b.name) b.meta_category
+    × (IsText 0 (text_limit - length b.name - length b.meta_category) b.description
+    × (IsText 0
+    (text_limit - length b.name - length b.meta_category - length b.description) b.comment
+    × (IsOptionalUid b.template_uuid
+    × ((b.template_version < 2 ^ 64)
+    × Unit {0})))))
 
 abbrev pub IsAttributeBody : AttributeBody → Type 0
-IsAttributeBody b = IsText 1 100 b.kind × (IsBetween 0 15 b.category × (Unit {0} × (IsText 0 (text_limit - length b.kind) b.comment × (Unit {0} × (IsValue (text_limit - length b.kind - length b.comment) b.kind b.value × AreTags (text_limit - length b.kind - length b.comment - length b.value) b.tags)))))
+IsAttributeBody b =
+    IsText 1 100 b.kind
+    × (IsBetween 0 15 b.category
+    × (Unit {0}
+    × (IsText 0 (text_limit - length b.kind) b.comment
+    × (Unit {0}
+    × (IsValue (text_limit - length b.kind - length b.comment) b.kind b.value
+    × AreTags (text_limit - length b.kind - length b.comment - length b.value) b.tags)))))
 
 abbrev pub IsReferenceBody : ReferenceBody → Type 0
-IsReferenceBody b = IsText 0 text_limit b.relationship_type × (IsText 0 (text_limit - length b.relationship_type) b.comment × Unit {0})
+IsReferenceBody b =
+    IsText 0 text_limit b.relationship_type
+    × (IsText 0 (text_limit - length b.relationship_type) b.comment
+    × Unit {0})
 
 -- a proposal asks to delete only where it may
 abbrev pub is_removal : Bool → Bool → Bool
@@ -143,10 +174,21 @@ abbrev pub IsProposed : Bool → ℕ → List ℕ → List ℕ → Type 0
 IsProposed remove room kind value = is_proposed remove room kind value ≡ true
 
 abbrev pub IsProposalBody : Bool → ProposalBody → Type 0
-IsProposalBody may b = IsRemoval may b.remove × (IsText 0 64 b.by_name × (IsText (least_kind b.remove) 100 b.kind × (IsBetween 0 15 b.category × (Unit {0} × (IsText 0 (text_limit - length b.kind) b.comment × IsProposed b.remove (text_limit - length b.kind - length b.comment) b.kind b.value)))))
+IsProposalBody may b =
+    IsRemoval may b.remove
+    × (IsText 0 64 b.by_name
+    × (IsText (least_kind b.remove) 100 b.kind
+    × (IsBetween 0 15 b.category
+    × (Unit {0}
+    × (IsText 0 (text_limit - length b.kind) b.comment
+    × IsProposed b.remove (text_limit - length b.kind - length b.comment) b.kind b.value)))))
 
 abbrev pub IsSightingBody : SightingBody → Type 0
-IsSightingBody b = IsText 0 64 b.by_name × (IsBetween 0 2 b.kind × (IsStamp b.date × IsText 0 text_limit b.source))
+IsSightingBody b =
+    IsText 0 64 b.by_name
+    × (IsBetween 0 2 b.kind
+    × (IsStamp b.date
+    × IsText 0 text_limit b.source))
 
 -- The contents that a row can have, where a proposal may ask to delete or may not.
 abbrev pub IsContent : Bool → Content → Type 0
@@ -174,14 +216,16 @@ abbrev pub IsLabel : Label → Type 0
 IsLabel (labels.Group g) = IsUid g.creator.0 × IsUid g.uuid
 IsLabel label = Unit {0}
 
--- what the labels of rows may not be: an event inherits from none, and statements and references only inherit
+-- what the labels of rows may not be: an event inherits from none, and statements and references
+-- only inherit
 abbrev pub barred_labels : KeyForm → List ℕ
 barred_labels (Element event places.Event) = 5 ∷ []
 barred_labels (Element event place) = []
 barred_labels key = 0 ∷ 1 ∷ 2 ∷ 3 ∷ 4 ∷ []
 
 abbrev pub IsLabelBut : List ℕ → Label → Type 0
-IsLabelBut barred label = (list_any (λ kind. kind == label_kind label) barred ≡ false) × IsLabel label
+IsLabelBut barred label =
+    (list_any (λ kind. kind == label_kind label) barred ≡ false) × IsLabel label
 
 -- ---- rows
 
@@ -198,7 +242,8 @@ content_kind contents.Gone = 7
 
 -- which contents a row of this key, label and flags may have
 abbrev pub fits : KeyForm → ℕ → Bool × Bool → ℕ → Bool
-fits (Element event places.Event) label flags kind = (kind == 0) || ((kind == 7) && (label == 0) && not flags.0 && not flags.1)
+fits (Element event places.Event) label flags kind =
+    (kind == 0) || ((kind == 7) && (label == 0) && not flags.0 && not flags.1)
 fits (Element event (places.Object o)) label flags kind = kind == 1
 fits (Element event (places.Attribute a)) label flags kind = kind == 2
 fits (Element event (places.ObjectAttribute o a)) label flags kind = kind == 2
@@ -213,10 +258,17 @@ may_remove (Proposal event name) = not (place_kind name.target == 0)
 may_remove key = true
 
 abbrev pub IsContentOf : KeyForm → ℕ → Bool × Bool → Content → Type 0
-IsContentOf key label flags content = (fits key label flags (content_kind content) ≡ true) × IsContent (may_remove key) content
+IsContentOf key label flags content =
+    (fits key label flags (content_kind content) ≡ true) × IsContent (may_remove key) content
 
 abbrev pub IsRow : RowFields → Type 0
-IsRow r = IsUid r.owner.0 × (IsKey r.key × (IsStamp r.stamp × (IsLabelBut (barred_labels r.key) r.label × (Unit {0} × IsContentOf r.key (label_kind r.label) (r.held, r.carried) r.content))))
+IsRow r =
+    IsUid r.owner.0
+    × (IsKey r.key
+    × (IsStamp r.stamp
+    × (IsLabelBut (barred_labels r.key) r.label
+    × (Unit {0}
+    × IsContentOf r.key (label_kind r.label) (r.held, r.carried) r.content))))
 
 -- each of these is a row
 abbrev pub AreRows : List RowFields → Type 0

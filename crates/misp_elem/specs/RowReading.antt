@@ -53,7 +53,8 @@ unfoldable pub flags_at : List ℕ → Reading (Bool × Bool)
 flags_at bytes = byte_at bytes >>= λ b. flags_of bytes b.0 b.1
 
 unfoldable pub colour_at : List ℕ → Reading (List ℕ)
-colour_at bytes = if nat_lt (length bytes) 3 then Err (length bytes) else Ok (take 3 bytes, drop 3 bytes)
+colour_at bytes =
+    if nat_lt (length bytes) 3 then Err (length bytes) else Ok (take 3 bytes, drop 3 bytes)
 
 -- a name after this one, of no more bytes than there is room for
 unfoldable pub tag_name_at : ℕ → List ℕ → List ℕ → Reading (List ℕ)
@@ -92,18 +93,43 @@ event_body_at bytes = do
   orgc ← org_at extends_uuid.1
   orgc_name ← text_at 0 64 orgc.1
   tags ← tags_at (text_limit - length info.0) orgc_name.1
-  Ok (record { info = info.0; date = date.0; threat_level_id = threat_level_id.0; analysis = analysis.0; publish_stamp = publish_stamp.0; extends_uuid = extends_uuid.0; orgc = orgc.0; orgc_name = orgc_name.0; tags = tags.0 }, tags.1)
+  Ok (
+    record {
+      info = info.0;
+      date = date.0;
+      threat_level_id = threat_level_id.0;
+      analysis = analysis.0;
+      publish_stamp = publish_stamp.0;
+      extends_uuid = extends_uuid.0;
+      orgc = orgc.0;
+      orgc_name = orgc_name.0;
+      tags = tags.0;
+    },
+    tags.1,
+  )
 
 unfoldable pub object_body_at : List ℕ → Reading ObjectBody
 object_body_at bytes = do
   name ← text_at 1 text_limit bytes
   meta_category ← text_at 0 (text_limit - length name.0) name.1
   description ← text_at 0 (text_limit - length name.0 - length meta_category.0) meta_category.1
-  comment ← text_at 0 (text_limit - length name.0 - length meta_category.0 - length description.0) description.1
+  comment ← text_at 0 (text_limit - length name.0 - length meta_category.0 - length description.0)
+      description.1
   template_uuid ← optional_at comment.1
   template_version ← number_at w64 template_uuid.1
   deleted ← flag_at template_version.1
-  Ok (record { name = name.0; meta_category = meta_category.0; description = description.0; comment = comment.0; template_uuid = template_uuid.0; template_version = template_version.0; deleted = deleted.0 }, deleted.1)
+  Ok (
+    record {
+      name = name.0;
+      meta_category = meta_category.0;
+      description = description.0;
+      comment = comment.0;
+      template_uuid = template_uuid.0;
+      template_version = template_version.0;
+      deleted = deleted.0;
+    },
+    deleted.1,
+  )
 
 unfoldable pub attribute_body_at : List ℕ → Reading AttributeBody
 attribute_body_at bytes = do
@@ -114,14 +140,28 @@ attribute_body_at bytes = do
   deleted ← flag_at comment.1
   value ← value_at (text_limit - length kind.0 - length comment.0) kind.0 deleted.1
   tags ← tags_at (text_limit - length kind.0 - length comment.0 - length value.0) value.1
-  Ok (record { kind = kind.0; category = category.0; to_ids = to_ids.0; comment = comment.0; deleted = deleted.0; value = value.0; tags = tags.0 }, tags.1)
+  Ok (
+    record {
+      kind = kind.0;
+      category = category.0;
+      to_ids = to_ids.0;
+      comment = comment.0;
+      deleted = deleted.0;
+      value = value.0;
+      tags = tags.0;
+    },
+    tags.1,
+  )
 
 unfoldable pub reference_body_at : List ℕ → Reading ReferenceBody
 reference_body_at bytes = do
   relationship_type ← text_at 0 text_limit bytes
   comment ← text_at 0 (text_limit - length relationship_type.0) relationship_type.1
   deleted ← flag_at comment.1
-  Ok (record { relationship_type = relationship_type.0; comment = comment.0; deleted = deleted.0 }, deleted.1)
+  Ok (
+    record { relationship_type = relationship_type.0; comment = comment.0; deleted = deleted.0 },
+    deleted.1,
+  )
 
 -- whether a proposal asks to delete, which it does only where it may
 unfoldable pub removal_at : Bool → List ℕ → Reading Bool
@@ -142,8 +182,20 @@ proposal_body_at may bytes = do
   category ← between_at 0 15 kind.1
   to_ids ← flag_at category.1
   comment ← text_at 0 (text_limit - length kind.0) to_ids.1
-  value ← proposed_value_at remove.0 (text_limit - length kind.0 - length comment.0) kind.0 comment.1
-  Ok (record { remove = remove.0; by_name = by_name.0; kind = kind.0; category = category.0; to_ids = to_ids.0; comment = comment.0; value = value.0 }, value.1)
+  value ← proposed_value_at remove.0 (text_limit - length kind.0 - length comment.0)
+      kind.0 comment.1
+  Ok (
+    record {
+      remove = remove.0;
+      by_name = by_name.0;
+      kind = kind.0;
+      category = category.0;
+      to_ids = to_ids.0;
+      comment = comment.0;
+      value = value.0;
+    },
+    value.1,
+  )
 
 unfoldable pub sighting_body_at : List ℕ → Reading SightingBody
 sighting_body_at bytes = do
@@ -184,7 +236,8 @@ content_of may bytes kind rest =
 unfoldable pub content_at : KeyForm → ℕ → Bool × Bool → List ℕ → Reading Content
 content_at key label flags bytes = do
   kind ← byte_at bytes
-  if fits key label flags kind.0 then content_of (may_remove key) bytes kind.0 kind.1 else Err (length bytes)
+  if fits key label flags kind.0 then content_of (may_remove key) bytes kind.0 kind.1
+      else Err (length bytes)
 
 unfoldable pub fields_at : List ℕ → Reading RowFields
 fields_at bytes = do
@@ -194,7 +247,18 @@ fields_at bytes = do
   label ← label_at (barred_labels key.0) stamp.1
   flags ← flags_at label.1
   content ← content_at key.0 (label_kind label.0) flags.0 flags.1
-  Ok (record { owner = owner.0; key = key.0; stamp = stamp.0; label = label.0; held = flags.0.0; carried = flags.0.1; content = content.0 }, content.1)
+  Ok (
+    record {
+      owner = owner.0;
+      key = key.0;
+      stamp = stamp.0;
+      label = label.0;
+      held = flags.0.0;
+      carried = flags.0.1;
+      content = content.0;
+    },
+    content.1,
+  )
 
 unfoldable pub row_at : List ℕ → Reading RowFields
 row_at bytes = do

@@ -41,10 +41,13 @@ proposal_name n = place n.target ++ (inst_name n.at ++ (uid n.by.0 ++ uid n.uuid
 
 abbrev pub key : KeyForm → List ℕ
 key (Element event target) = 0 ∷ uid event.0 ++ place target
-key (Reference event object target uuid) = 1 ∷ uid event.0 ++ (uid object.0 ++ (place target ++ uid uuid.0))
+key (Reference event object target uuid) =
+    1 ∷ uid event.0 ++ (uid object.0 ++ (place target ++ uid uuid.0))
 key (Proposal event name) = 2 ∷ uid event.0 ++ proposal_name name
-key (Verdict event name at judge) = 3 ∷ uid event.0 ++ (proposal_name name ++ (inst_name at ++ uid judge.0))
-key (Sighting event target at by uuid) = 4 ∷ uid event.0 ++ (place target ++ (inst_name at ++ (uid by.0 ++ uid uuid.0)))
+key (Verdict event name at judge) =
+    3 ∷ uid event.0 ++ (proposal_name name ++ (inst_name at ++ uid judge.0))
+key (Sighting event target at by uuid) =
+    4 ∷ uid event.0 ++ (place target ++ (inst_name at ++ (uid by.0 ++ uid uuid.0)))
 
 -- The name under which a keeper holds a row: the owner, and the key.
 abbrev pub name : OrgId → KeyForm → List ℕ
@@ -92,19 +95,49 @@ unfoldable pub tags : List Tag → List ℕ
 tags ts = to_be_bytes w32 (length ts) ++ flat_map tag ts
 
 abbrev pub event_body : EventBody → List ℕ
-event_body b = text b.info ++ (text b.date ++ ((b.threat_level_id ∷ []) ++ ((b.analysis ∷ []) ++ (stamp b.publish_stamp ++ (optional_uid b.extends_uuid ++ (uid b.orgc.0 ++ (text b.orgc_name ++ tags b.tags)))))))
+event_body b =
+    text b.info
+    ++ (text b.date
+    ++ ((b.threat_level_id ∷ [])
+    ++ ((b.analysis ∷ [])
+    ++ (stamp b.publish_stamp
+    ++ (optional_uid b.extends_uuid
+    ++ (uid b.orgc.0
+    ++ (text b.orgc_name
+    ++ tags b.tags)))))))
 
 abbrev pub attribute_body : AttributeBody → List ℕ
-attribute_body b = text b.kind ++ ((b.category ∷ []) ++ (flag b.to_ids ++ (text b.comment ++ (flag b.deleted ++ (text b.value ++ tags b.tags)))))
+attribute_body b =
+    text b.kind
+    ++ ((b.category ∷ [])
+    ++ (flag b.to_ids
+    ++ (text b.comment
+    ++ (flag b.deleted
+    ++ (text b.value
+    ++ tags b.tags)))))
 
 abbrev pub object_body : ObjectBody → List ℕ
-object_body b = text b.name ++ (text b.meta_category ++ (text b.description ++ (text b.comment ++ (optional_uid b.template_uuid ++ (stamp b.template_version ++ flag b.deleted)))))
+object_body b =
+    text b.name
+    ++ (text b.meta_category
+    ++ (text b.description
+    ++ (text b.comment
+    ++ (optional_uid b.template_uuid
+    ++ (stamp b.template_version
+    ++ flag b.deleted)))))
 
 abbrev pub reference_body : ReferenceBody → List ℕ
 reference_body b = text b.relationship_type ++ (text b.comment ++ flag b.deleted)
 
 abbrev pub proposal_body : ProposalBody → List ℕ
-proposal_body b = flag b.remove ++ (text b.by_name ++ (text b.kind ++ ((b.category ∷ []) ++ (flag b.to_ids ++ (text b.comment ++ text b.value)))))
+proposal_body b =
+    flag b.remove
+    ++ (text b.by_name
+    ++ (text b.kind
+    ++ ((b.category ∷ [])
+    ++ (flag b.to_ids
+    ++ (text b.comment
+    ++ text b.value)))))
 
 abbrev pub sighting_body : SightingBody → List ℕ
 sighting_body b = text b.by_name ++ ((b.kind ∷ []) ++ (stamp b.date ++ text b.source))
@@ -120,4 +153,10 @@ content (contents.Sighting b) = 6 ∷ sighting_body b
 content contents.Gone = 7 ∷ []
 
 abbrev pub row : RowFields → List ℕ
-row r = 1 ∷ uid r.owner.0 ++ (key r.key ++ (stamp r.stamp ++ (label r.label ++ (flags (r.held, r.carried) ++ content r.content))))
+row r =
+    1 ∷ uid r.owner.0
+    ++ (key r.key
+    ++ (stamp r.stamp
+    ++ (label r.label
+    ++ (flags (r.held, r.carried)
+    ++ content r.content))))

@@ -17,8 +17,10 @@ abbrev pub place_in : Option ElemId → ElemId → Place
 place_in None uuid = places.Attribute uuid
 place_in (Some object) uuid = places.ObjectAttribute object uuid
 
--- an attribute of this event, in this object or outside objects; a row of such a key has an attribute's content
-pub record IsAttributeOf (event : EventId) (object : Option ElemId) (a : VisibleAttribute) : Type 0 where
+-- an attribute of this event, in this object or outside objects; a row of such a key has an
+-- attribute's content
+pub record IsAttributeOf (event : EventId) (object : Option ElemId)
+    (a : VisibleAttribute) : Type 0 where
   pub row : IsRow a.row
   pub uuid : ElemId
   pub key : a.row.key ≡ Element event (place_in object uuid)
@@ -52,7 +54,8 @@ abbrev pub IsUngrouped : RowFields → Type 0
 IsUngrouped r = (label_kind r.label == 4) ≡ false
 
 abbrev pub IsUngroupedObject : VisibleObject → Type 0
-IsUngroupedObject o = IsUngrouped o.row × AllByRecursion (λ (a : VisibleAttribute). IsUngrouped a.row) o.attributes
+IsUngroupedObject o =
+    IsUngrouped o.row × AllByRecursion (λ (a : VisibleAttribute). IsUngrouped a.row) o.attributes
 
 -- no label of it, and of its attributes and objects, is that of a group
 pub record HasNoGroups (e : VisibleEvent) : Type 0 where

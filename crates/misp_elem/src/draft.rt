@@ -23,9 +23,11 @@ impl Model for Draft {
 
     ghost Value = { DraftFields };
 
-    ghost view = { λ d. record { number = d.number; place = d.place; label = d.label; content = d.content } };
+    ghost view = { λ d.
+        record { number = d.number; place = d.place; label = d.label; content = d.content } };
 
-    ghost invariant = { λ d. IsDraft (record { number = d.number; place = d.place; label = d.label; content = d.content }) };
+    ghost invariant = { λ d. IsDraft
+        (record { number = d.number; place = d.place; label = d.label; content = d.content }) };
 }
 
 /// A reference of an object, as a body brings it.
@@ -46,9 +48,21 @@ impl Model for ReferenceDraft {
 
     ghost Value = { ReferenceDraftFields };
 
-    ghost view = { λ r. record { number = r.number; object = r.object; uuid = r.uuid; referenced = r.referenced; body = r.body } };
+    ghost view = { λ r. record {
+      number = r.number;
+      object = r.object;
+      uuid = r.uuid;
+      referenced = r.referenced;
+      body = r.body;
+    } };
 
-    ghost invariant = { λ r. IsReferenceDraft (record { number = r.number; object = r.object; uuid = r.uuid; referenced = r.referenced; body = r.body }) };
+    ghost invariant = { λ r. IsReferenceDraft (record {
+      number = r.number;
+      object = r.object;
+      uuid = r.uuid;
+      referenced = r.referenced;
+      body = r.body;
+    }) };
 }
 
 /// An event, as a body brings it. Without a date it has that of the moment.
@@ -69,9 +83,23 @@ impl Model for EventDraft {
 
     ghost Value = { EventDraftFields };
 
-    ghost view = { λ d. record { info = d.info; date = d.date; threat_level_id = d.threat_level_id; analysis = d.analysis; extends_uuid = d.extends_uuid; tags = d.tags } };
+    ghost view = { λ d. record {
+      info = d.info;
+      date = d.date;
+      threat_level_id = d.threat_level_id;
+      analysis = d.analysis;
+      extends_uuid = d.extends_uuid;
+      tags = d.tags;
+    } };
 
-    ghost invariant = { λ d. IsEventDraft (record { info = d.info; date = d.date; threat_level_id = d.threat_level_id; analysis = d.analysis; extends_uuid = d.extends_uuid; tags = d.tags }) };
+    ghost invariant = { λ d. IsEventDraft (record {
+      info = d.info;
+      date = d.date;
+      threat_level_id = d.threat_level_id;
+      analysis = d.analysis;
+      extends_uuid = d.extends_uuid;
+      tags = d.tags;
+    }) };
 }
 
 /// An event with its elements, or elements for an event that is there, in reading order. With a
@@ -92,7 +120,19 @@ impl Model for Submission {
 
     ghost Value = { SubmissionFields };
 
-    ghost view = { λ s. record { event = s.event; body = s.body; label = s.label; parts = s.parts; references = s.references } };
+    ghost view = { λ s. record {
+      event = s.event;
+      body = s.body;
+      label = s.label;
+      parts = s.parts;
+      references = s.references;
+    } };
 
-    ghost invariant = { λ s. IsSubmission (record { event = s.event; body = s.body; label = s.label; parts = s.parts; references = s.references }) };
+    ghost invariant = { λ s. IsSubmission (record {
+      event = s.event;
+      body = s.body;
+      label = s.label;
+      parts = s.parts;
+      references = s.references;
+    }) };
 }

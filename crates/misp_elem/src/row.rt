@@ -41,9 +41,25 @@ impl Model for Row {
 
     ghost use Rattle.misp_elem.specs.Row.{IsRow};
 
-    ghost view = { λ r. record { owner = r.owner; key = r.key; stamp = r.stamp; label = r.label; held = r.held; carried = r.carried; content = r.content } };
+    ghost view = { λ r. record {
+      owner = r.owner;
+      key = r.key;
+      stamp = r.stamp;
+      label = r.label;
+      held = r.held;
+      carried = r.carried;
+      content = r.content;
+    } };
 
-    ghost invariant = { λ r. IsRow (record { owner = r.owner; key = r.key; stamp = r.stamp; label = r.label; held = r.held; carried = r.carried; content = r.content }) };
+    ghost invariant = { λ r. IsRow (record {
+      owner = r.owner;
+      key = r.key;
+      stamp = r.stamp;
+      label = r.label;
+      held = r.held;
+      carried = r.carried;
+      content = r.content;
+    }) };
 }
 
 impl Row {

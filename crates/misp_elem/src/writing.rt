@@ -1,6 +1,7 @@
 //! Writing keys.
 
 ghost use Rattle.std.specs.Prelude.{◌≡◌, ◌++◌, OnOk, IfOk};
+ghost use Rattle.misp_elem.specs.declared.key.KeyForm.TheVariants as forms;
 ghost use Rattle.misp_elem.specs.Spelling as spelling;
 
 mod bodies;
@@ -9,7 +10,7 @@ mod rows;
 mod tags;
 
 use crate::key::{Key, KeyForm, Place, ProposalName};
-use misp_ids::{InstId, NoMemory, OrgId, Uid};
+use misp_ids::{ElemId, EventId, InstId, NoMemory, OrgId, Uid};
 pub use rows::encode;
 use std::alloc::{AllocError, Global};
 
@@ -59,58 +60,102 @@ fn put_proposal(out: &mut Vec<u8>, name: &ProposalName) -> Result<(), AllocError
     put_uid(out, name.uuid.0)
 }
 
+fn put_element(out: &mut Vec<u8>, event: &EventId, place: &Place) -> Result<(), AllocError>
+    ensures { OnOk result (out.new.items
+        ≡ out.old.items ++ spelling.key (forms.Element event.now place.now)) }
+{
+    out.push(0)?;
+    put_uid(out, event.0)?;
+    put_place(out, place)
+}
+
+fn put_reference(
+    out: &mut Vec<u8>,
+    event: &EventId,
+    object: &ElemId,
+    target: &Place,
+    uuid: &ElemId,
+) -> Result<(), AllocError>
+    ensures { OnOk result (out.new.items ≡ out.old.items
+        ++ spelling.key (forms.Reference event.now object.now target.now uuid.now)) }
+{
+    out.push(1)?;
+    put_uid(out, event.0)?;
+    put_uid(out, object.0)?;
+    put_place(out, target)?;
+    put_uid(out, uuid.0)
+}
+
+fn put_proposed(out: &mut Vec<u8>, event: &EventId, name: &ProposalName) -> Result<(), AllocError>
+    ensures { OnOk result (out.new.items
+        ≡ out.old.items ++ spelling.key (forms.Proposal event.now name.now)) }
+{
+    out.push(2)?;
+    put_uid(out, event.0)?;
+    put_proposal(out, name)
+}
+
+fn put_verdict(
+    out: &mut Vec<u8>,
+    event: &EventId,
+    name: &ProposalName,
+    at: &InstId,
+    judge: &OrgId,
+) -> Result<(), AllocError>
+    ensures { OnOk result (out.new.items
+        ≡ out.old.items ++ spelling.key (forms.Verdict event.now name.now at.now judge.now)) }
+{
+    out.push(3)?;
+    put_uid(out, event.0)?;
+    put_proposal(out, name)?;
+    put_inst(out, at)?;
+    put_uid(out, judge.0)
+}
+
+fn put_sighting(
+    out: &mut Vec<u8>,
+    event: &EventId,
+    target: &Place,
+    at: &InstId,
+    by: &OrgId,
+    uuid: &ElemId,
+) -> Result<(), AllocError>
+    ensures { OnOk result (out.new.items ≡ out.old.items
+        ++ spelling.key (forms.Sighting event.now target.now at.now by.now uuid.now)) }
+{
+    out.push(4)?;
+    put_uid(out, event.0)?;
+    put_place(out, target)?;
+    put_inst(out, at)?;
+    put_uid(out, by.0)?;
+    put_uid(out, uuid.0)
+}
+
 fn put_key(out: &mut Vec<u8>, key: &KeyForm) -> Result<(), AllocError>
     ensures { OnOk result (out.new.items ≡ out.old.items ++ spelling.key key.now) }
 {
     match key {
-        KeyForm::Element { event, place } => {
-            out.push(0)?;
-            put_uid(out, event.0)?;
-            put_place(out, place)
-        }
+        KeyForm::Element { event, place } => put_element(out, event, place),
         KeyForm::Reference {
             event,
             object,
             target,
             uuid,
-        } => {
-            out.push(1)?;
-            put_uid(out, event.0)?;
-            put_uid(out, object.0)?;
-            put_place(out, target)?;
-            put_uid(out, uuid.0)
-        }
-        KeyForm::Proposal { event, name } => {
-            out.push(2)?;
-            put_uid(out, event.0)?;
-            put_proposal(out, name)
-        }
+        } => put_reference(out, event, object, target, uuid),
+        KeyForm::Proposal { event, name } => put_proposed(out, event, name),
         KeyForm::Verdict {
             event,
             name,
             at,
             judge,
-        } => {
-            out.push(3)?;
-            put_uid(out, event.0)?;
-            put_proposal(out, name)?;
-            put_inst(out, at)?;
-            put_uid(out, judge.0)
-        }
+        } => put_verdict(out, event, name, at, judge),
         KeyForm::Sighting {
             event,
             target,
             at,
             by,
             uuid,
-        } => {
-            out.push(4)?;
-            put_uid(out, event.0)?;
-            put_place(out, target)?;
-            put_inst(out, at)?;
-            put_uid(out, by.0)?;
-            put_uid(out, uuid.0)
-        }
+        } => put_sighting(out, event, target, at, by, uuid),
     }
 }
 

@@ -14,7 +14,9 @@ use std::str;
 
 /// The text that these bytes are, if they are text of so many bytes.
 pub(super) fn text_within(bytes: &[u8], least: usize, most: usize) -> Option<&str>
-    ensures { MatchOption result (is_text least most bytes.now ≡ false) (λ text. (text.now ≡ bytes.now) × (is_text least most bytes.now ≡ true)) }
+    ensures { MatchOption result
+        (is_text least most bytes.now ≡ false)
+        (λ text. (text.now ≡ bytes.now) × (is_text least most bytes.now ≡ true)) }
 {
     if bytes.len() < least || most < bytes.len() {
         return None;
