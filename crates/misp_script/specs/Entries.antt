@@ -42,11 +42,14 @@ text_of path d = or_bad path needs.Text (as_str d)
 
 -- the text that a member must have
 abbrev pub text_at : Body → List ℕ → Reading (List ℕ)
-text_at it name = option_map_or (text_of (member_path it.path name)) (get name it.value) (bad (member_path it.path name) needs.Present)
+text_at it name =
+    option_map_or (text_of (member_path it.path name)) (get name it.value)
+    (bad (member_path it.path name) needs.Present)
 
 -- the text of a member, which is empty where there is none
 abbrev pub text_or_none_at : Body → List ℕ → Reading (List ℕ)
-text_or_none_at it name = option_map_or (text_of (member_path it.path name)) (get name it.value) (Ok [])
+text_or_none_at it name =
+    option_map_or (text_of (member_path it.path name)) (get name it.value) (Ok [])
 
 -- the text of a member, if it has one
 abbrev pub text_in : Body → List ℕ → Option (List ℕ)
@@ -58,7 +61,8 @@ flag_of path d = or_bad path needs.Flag (as_bool d)
 
 -- the flag of a member, or what it is where there is none
 abbrev pub flag_or_at : Body → List ℕ → Bool → Reading Bool
-flag_or_at it name other = option_map_or (flag_of (member_path it.path name)) (get name it.value) (Ok other)
+flag_or_at it name other =
+    option_map_or (flag_of (member_path it.path name)) (get name it.value) (Ok other)
 
 -- what a member says, or its need
 abbrev pub said : {A : Type 0} → Body → List ℕ → DescNeed → Option A → Reading A
@@ -74,7 +78,9 @@ named_among names name = list_any (λ known. bytes_eq known name) names
 
 abbrev pub none_beside : List ℕ → List (List ℕ) → Members → Reading ⊤
 none_beside path names no_members = Ok tt
-none_beside path names (member name d ms) = if named_among names name then none_beside path names ms else bad (member_path path name) needs.Member
+none_beside path names (member name d ms) =
+    if named_among names name then none_beside path names ms
+    else bad (member_path path name) needs.Member
 
 abbrev pub no_other : Body → List (List ℕ) → Reading ⊤
 no_other it names = option_map_or (none_beside it.path names) (as_table it.value) (Ok tt)

@@ -25,7 +25,12 @@ pub record FieldData : Type 0 where
   pub rest : Option (List ℕ)
 
 abbrev pub field_of : Field → FieldData
-field_of field = record { place = field.place; text = field.text.now; rest = option_map (λ rest. rest.now) field.rest }
+field_of field =
+    record {
+      place = field.place;
+      text = field.text.now;
+      rest = option_map (λ rest. rest.now) field.rest;
+    }
 
 abbrev pub is_space : ℕ → Bool
 is_space byte = byte == 32
@@ -38,7 +43,8 @@ after_space text = option_map (λ at. drop (at + 1) text) (position is_space tex
 
 -- the first field of what is left of a line
 abbrev pub field_in : List ℕ → List ℕ → FieldData
-field_in line left = record { place = length line - length left; text = up_to_space left; rest = after_space left }
+field_in line left =
+    record { place = length line - length left; text = up_to_space left; rest = after_space left }
 
 -- the same, where something is left; a field that is missing is at the line's end
 abbrev pub next_field : List ℕ → Option (List ℕ) → Reading FieldData

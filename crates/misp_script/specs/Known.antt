@@ -26,7 +26,8 @@ abbrev pub NamesOrgs : List OrgFields → BTreeMap (String Global) OrgId → Typ
 NamesOrgs orgs names = (name : List ℕ) → get_by_text names name ≡ org_named orgs name
 
 -- the map has the organisations by name, and the set has their numbers
-pub record KnowsOrgs (orgs : List OrgFields) (names : BTreeMap (String Global) OrgId) (numbers : BTreeSet ℕ) : Type 0 where
+pub record KnowsOrgs (orgs : List OrgFields) (names : BTreeMap (String Global) OrgId)
+    (numbers : BTreeSet ℕ) : Type 0 where
   pub named : NamesOrgs orgs names
   pub used : (number : ℕ) → contains nat_cmp numbers number ≡ has_number orgs number
 

@@ -12,4 +12,5 @@ onto_first byte (line ∷ lines) = (byte ∷ line) ∷ lines
 -- the lines, cut at each LF; a last line without LF counts where it is not empty
 abbrev pub lines_of : List ℕ → List (List ℕ)
 lines_of [] = []
-lines_of (byte ∷ bytes) = if is_line_feed byte then [] ∷ lines_of bytes else onto_first byte (lines_of bytes)
+lines_of (byte ∷ bytes) =
+    if is_line_feed byte then [] ∷ lines_of bytes else onto_first byte (lines_of bytes)

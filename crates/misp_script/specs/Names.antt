@@ -16,13 +16,15 @@ AreDistinct names = IsDistinct bytes_eq names
 
 -- the peer of a link of the instance of this name is another of these
 abbrev pub is_to_another : List (List ℕ) → List ℕ → Link → Bool
-is_to_another names at link = list_any (λ name. bytes_eq name link.peer) names && not (bytes_eq link.peer at)
+is_to_another names at link =
+    list_any (λ name. bytes_eq name link.peer) names && not (bytes_eq link.peer at)
 
 -- that of each link of an instance is
 abbrev pub links_to_others : List (List ℕ) → Entry → Bool
 links_to_others names entry = list_all (is_to_another names entry.name) entry.admin.links
 
--- what every description is: its instances are few, they have different names, and each link is to another of them
+-- what every description is: its instances are few, they have different names, and each link
+-- is to another of them
 pub record IsNet (d : Description) : Type 0 where
   pub few : length d.instances ≤ INSTANCE_LIMIT
   pub names : AreDistinct (names_of d)

@@ -38,12 +38,14 @@ abbrev pub is_table_list : Data → Bool
 is_table_list d = option_map_or all_tables (as_array d) false
 
 abbrev pub is_list_name : List ℕ → Bool
-is_list_name name = named_among (codes "org" ∷ codes "instance" ∷ codes "key" ∷ codes "link" ∷ []) name
+is_list_name name =
+    named_among (codes "org" ∷ codes "instance" ∷ codes "key" ∷ codes "link" ∷ []) name
 
 -- each member is one of the four lists of tables; the first that is not, in byte order, is a fault
 abbrev pub all_known : Members → Reading ⊤
 all_known no_members = Ok tt
-all_known (member name d ms) = if is_list_name name && is_table_list d then all_known ms else bad name needs.Member
+all_known (member name d ms) =
+    if is_list_name name && is_table_list d then all_known ms else bad name needs.Member
 
 -- the items as a list
 abbrev pub listed : Items → List Data
@@ -81,12 +83,17 @@ links_of links name = map (λ l. l.link) (filter (λ l. bytes_eq l.at name) link
 
 -- at no instance an identifier, a key or the name of a link stands twice
 abbrev pub AreApart : List OrgFields → List HostKey → List HostLink → Type 0
-AreApart orgs keys links = (name : List ℕ) → AreDistinct orgs (keys_of keys name) (links_of links name)
+AreApart orgs keys links =
+    (name : List ℕ) → AreDistinct orgs (keys_of keys name) (links_of links name)
 
 -- an instance knows every organisation; its keys and links are those of its name
 abbrev pub instance_of : List OrgFields → List HostKey → List HostLink → Host → Entry
 instance_of orgs keys links host =
-    record { name = host.name; address = host.address; admin = admin_of orgs (keys_of keys host.name) (links_of links host.name) }
+    record {
+      name = host.name;
+      address = host.address;
+      admin = admin_of orgs (keys_of keys host.name) (links_of links host.name);
+    }
 
 abbrev pub instances_of : List OrgFields → List HostKey → List HostLink → List Host → List Entry
 instances_of orgs keys links hosts = map (instance_of orgs keys links) hosts

@@ -17,7 +17,8 @@ moment seconds = if nat_le seconds LAST_SECOND then Some seconds else None
 
 -- a decimal number of at most twelve digits, that is a moment
 abbrev pub time_of : List ℕ → Option ℕ
-time_of text = if nat_le (length text) 12 && is_numeral text then moment (digits_value 10 text) else None
+time_of text =
+    if nat_le (length text) 12 && is_numeral text then moment (digits_value 10 text) else None
 
 -- a digit, or a letter from `a` to `f`
 abbrev pub is_lower_hex : ℕ → Bool
@@ -25,4 +26,5 @@ is_lower_hex byte = is_ascii_digit byte || (nat_le 97 byte && nat_le byte 102)
 
 -- 32 lower-case hexadecimal digits
 abbrev pub word_of : List ℕ → Option ℕ
-word_of text = if (length text == 32) && list_all is_lower_hex text then Some (digits_value 16 text) else None
+word_of text =
+    if (length text == 32) && list_all is_lower_hex text then Some (digits_value 16 text) else None

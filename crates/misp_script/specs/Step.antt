@@ -31,7 +31,14 @@ pub record StepData : Type 0 where
   pub deed : DeedData
 
 abbrev pub request_data : RequestLine → RequestData
-request_data r = record { at = r.at; key = option_map (λ text. text.now) r.key; method = r.method.now; target = r.target.now; body = r.body.now }
+request_data r =
+    record {
+      at = r.at;
+      key = option_map (λ text. text.now) r.key;
+      method = r.method.now;
+      target = r.target.now;
+      body = r.body.now;
+    }
 
 abbrev pub deed_data : Deed → DeedData
 deed_data deeds.Nothing = Nothing
@@ -48,7 +55,10 @@ IsPlaced count (Request request) = request.at < count
 -- ---- fields
 
 abbrev pub verb_of : List ℕ → Option Verb
-verb_of text = if bytes_eq text (codes "none") then Some verbs.Nothing else if bytes_eq text (codes "req") then Some verbs.Request else None
+verb_of text =
+    if bytes_eq text (codes "none") then Some verbs.Nothing
+    else if bytes_eq text (codes "req") then Some verbs.Request
+    else None
 
 -- the place of the instance of this name
 abbrev pub place_of : List (List ℕ) → List ℕ → Option ℕ
@@ -82,11 +92,18 @@ request_of names line left = do
   method_text ← kept method.place (visible_of method.text)
   target ← next_field line method.rest
   target_text ← kept target.place (visible_of target.text)
-  Ok (record { at = at; key = key_of key_text; method = method_text; target = target_text; body = body_of target.rest })
+  Ok (record {
+    at = at;
+    key = key_of key_text;
+    method = method_text;
+    target = target_text;
+    body = body_of target.rest;
+  })
 
 abbrev pub deed_of : List (List ℕ) → List ℕ → Verb → Option (List ℕ) → Reading DeedData
 deed_of names line verbs.Nothing left = no_field line left >>= λ done. Ok Nothing
-deed_of names line verbs.Request left = request_of names line left >>= λ request. Ok (Request request)
+deed_of names line verbs.Request left =
+    request_of names line left >>= λ request. Ok (Request request)
 
 -- a time, a word, and a verb with its fields
 unfoldable pub step_of : List (List ℕ) → List ℕ → Reading StepData

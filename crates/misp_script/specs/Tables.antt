@@ -24,7 +24,9 @@ use Rattle.misp_script.specs.Entries.{Body, entry_of, has, text_in, text_at, tex
 
 -- 1 to 64 bytes, and no control character
 abbrev pub is_org_name : List ℕ → Bool
-is_org_name text = nat_lt 0 (length text) && nat_le (length text) NAME_LIMIT && not (list_any is_control (chars text))
+is_org_name text =
+    nat_lt 0 (length text) && nat_le (length text) NAME_LIMIT
+    && not (list_any is_control (chars text))
 
 abbrev pub org_name_of : List ℕ → Option (List ℕ)
 org_name_of text = if is_org_name text then Some text else None
@@ -42,7 +44,8 @@ abbrev pub has_number : List OrgFields → ℕ → Bool
 has_number orgs number = list_any (λ o. o.uuid.0.0 == number) orgs
 
 abbrev pub org_name_at : Body → Reading (List ℕ)
-org_name_at it = text_at it (codes "name") >>= λ text. said it (codes "name") needs.Name (org_name_of text)
+org_name_at it =
+    text_at it (codes "name") >>= λ text. said it (codes "name") needs.Name (org_name_of text)
 
 abbrev pub uuid_at : Body → Reading Uid
 uuid_at it = text_at it (codes "uuid") >>= λ text. said it (codes "uuid") needs.Uuid (read_uid text)
@@ -68,7 +71,8 @@ abbrev pub has_host : List Host → List ℕ → Bool
 has_host hosts name = list_any (λ h. bytes_eq h.name name) hosts
 
 abbrev pub host_name_at : Body → Reading (List ℕ)
-host_name_at it = text_at it (codes "name") >>= λ text. said it (codes "name") needs.Name (host_name_of text)
+host_name_at it =
+    text_at it (codes "name") >>= λ text. said it (codes "name") needs.Name (host_name_of text)
 
 unfoldable pub host_at : List Host → Body → Reading Host
 host_at before it = do
@@ -79,7 +83,8 @@ host_at before it = do
   Ok (record { name = name; address = address })
 
 abbrev pub next_host : ℕ → List Host → Data → Reading (List Host)
-next_host n before d = host_at before (entry_of (codes "instance") n d) >>= λ host. Ok (before ++ host ∷ [])
+next_host n before d =
+    host_at before (entry_of (codes "instance") n d) >>= λ host. Ok (before ++ host ∷ [])
 
 -- ---- keys
 
@@ -105,10 +110,12 @@ abbrev pub has_key : List HostKey → List ℕ → List ℕ → Bool
 has_key keys at key = list_any (λ k. bytes_eq k.key.key key && bytes_eq k.at at) keys
 
 abbrev pub known_host_at : List Host → Body → List ℕ → Reading (List ℕ)
-known_host_at hosts it name = text_at it name >>= λ text. said it name needs.Known (host_of hosts text)
+known_host_at hosts it name =
+    text_at it name >>= λ text. said it name needs.Known (host_of hosts text)
 
 abbrev pub known_org_at : List OrgFields → Body → List ℕ → Reading OrgId
-known_org_at orgs it name = text_at it name >>= λ text. said it name needs.Known (org_named orgs text)
+known_org_at orgs it name =
+    text_at it name >>= λ text. said it name needs.Known (org_named orgs text)
 
 abbrev pub api_key_at : Body → Reading (List ℕ)
 api_key_at it = text_at it (codes "key") >>= λ text. said it (codes "key") needs.Key (key_of text)
@@ -117,11 +124,13 @@ abbrev pub role_at : Body → Reading Role
 role_at it = text_at it (codes "role") >>= λ text. said it (codes "role") needs.Role (role_of text)
 
 abbrev pub no_partner_at : Body → Reading (Option (List ℕ))
-no_partner_at it = refused_if (has it (codes "partner")) it (codes "partner") needs.Member >>= λ none. Ok None
+no_partner_at it =
+    refused_if (has it (codes "partner")) it (codes "partner") needs.Member >>= λ none. Ok None
 
 -- the partner of a key for synchronisation; no other key has one
 abbrev pub partner_at : List Host → Body → Role → Reading (Option (List ℕ))
-partner_at hosts it roles.Sync = known_host_at hosts it (codes "partner") >>= λ partner. Ok (Some partner)
+partner_at hosts it roles.Sync =
+    known_host_at hosts it (codes "partner") >>= λ partner. Ok (Some partner)
 partner_at hosts it role = no_partner_at it
 
 unfoldable pub key_at : List OrgFields → List Host → List HostKey → Body → Reading HostKey
@@ -132,11 +141,13 @@ key_at orgs hosts before it = do
   org ← known_org_at orgs it (codes "org")
   role ← role_at it
   partner ← partner_at hosts it role
-  no_more ← no_other it (codes "instance" ∷ codes "key" ∷ codes "org" ∷ codes "role" ∷ codes "partner" ∷ [])
+  no_more ← no_other it
+      (codes "instance" ∷ codes "key" ∷ codes "org" ∷ codes "role" ∷ codes "partner" ∷ [])
   Ok (record { at = at; key = record { key = key; org = org; role = role; partner = partner } })
 
 abbrev pub next_key : List OrgFields → List Host → ℕ → List HostKey → Data → Reading (List HostKey)
-next_key orgs hosts n before d = key_at orgs hosts before (entry_of (codes "key") n d) >>= λ key. Ok (before ++ key ∷ [])
+next_key orgs hosts n before d =
+    key_at orgs hosts before (entry_of (codes "key") n d) >>= λ key. Ok (before ++ key ∷ [])
 
 -- ---- links
 
@@ -150,7 +161,8 @@ host_in hosts it name = option_map_or (host_of hosts) (text_in it name) None
 
 -- the instance whose link it is has one of this name already
 abbrev pub is_taken : List Host → List HostLink → Body → List ℕ → Bool
-is_taken hosts before it name = option_map_or (λ at. has_link before at name) (host_in hosts it (codes "at")) false
+is_taken hosts before it name =
+    option_map_or (λ at. has_link before at name) (host_in hosts it (codes "at")) false
 
 unfoldable pub link_at : List OrgFields → List Host → List HostLink → Body → Reading HostLink
 link_at orgs hosts before it = do
@@ -163,8 +175,22 @@ link_at orgs hosts before it = do
   holder ← known_org_at orgs it (codes "holder")
   push_org ← known_org_at orgs it (codes "push_org")
   on ← flag_or_at it (codes "on") true
-  no_more ← no_other it (codes "name" ∷ codes "at" ∷ codes "to" ∷ codes "key" ∷ codes "holder" ∷ codes "push_org" ∷ codes "on" ∷ [])
-  Ok (record { at = at; link = record { name = name; peer = peer; key = key; holder = holder; push_org = push_org; on = on } })
+  no_more ← no_other it
+      (codes "name" ∷ codes "at" ∷ codes "to" ∷ codes "key" ∷ codes "holder"
+      ∷ codes "push_org" ∷ codes "on" ∷ [])
+  Ok (record {
+    at = at;
+    link = record {
+      name = name;
+      peer = peer;
+      key = key;
+      holder = holder;
+      push_org = push_org;
+      on = on;
+    };
+  })
 
-abbrev pub next_link : List OrgFields → List Host → ℕ → List HostLink → Data → Reading (List HostLink)
-next_link orgs hosts n before d = link_at orgs hosts before (entry_of (codes "link") n d) >>= λ link. Ok (before ++ link ∷ [])
+abbrev pub next_link :
+    List OrgFields → List Host → ℕ → List HostLink → Data → Reading (List HostLink)
+next_link orgs hosts n before d =
+    link_at orgs hosts before (entry_of (codes "link") n d) >>= λ link. Ok (before ++ link ∷ [])

@@ -78,7 +78,8 @@ fn body<'a>(before: &Field<'a>) -> &'a [u8]
 }
 
 fn visible_field<'a>(field: &Field<'a>) -> Result<&'a str, BadLine>
-    ensures { Shows (λ text. text.now) result (kept (field_of field.now).place (visible_of (field_of field.now).text)) }
+    ensures { Shows (λ text. text.now) result
+        (kept (field_of field.now).place (visible_of (field_of field.now).text)) }
 {
     match visible(field.text) {
         Some(text) => Ok(text),
@@ -92,7 +93,8 @@ fn request<'a>(
     names: &[InstId],
     before: &Field<'a>,
 ) -> Result<RequestLine<'a>, BadLine>
-    ensures request { Shows request_data result (request_of names.now line.now (field_of before.now).rest) }
+    ensures request { Shows request_data result
+        (request_of names.now line.now (field_of before.now).rest) }
     ensures placed { IfOk result (λ request. request.at < length names.now) }
 {
     let inst = next_field(line, before)?;
@@ -119,7 +121,8 @@ pub(crate) fn deed<'a>(
     verb: Verb,
     before: &Field<'a>,
 ) -> Result<Deed<'a>, BadLine>
-    ensures deed { Shows deed_data result (deed_of names.now line.now verb (field_of before.now).rest) }
+    ensures deed { Shows deed_data result
+        (deed_of names.now line.now verb (field_of before.now).rest) }
     ensures placed { IfOk result (λ deed. IsPlaced (length names.now) (deed_data deed)) }
 {
     match verb {

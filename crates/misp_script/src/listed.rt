@@ -141,7 +141,8 @@ impl<'a> Listed<'a> {
     }
 
     fn none_beside(&self, names: &[&str], table: &Table) -> Result<(), DescFault>
-        ensures { Gives result (none_beside (body_of self.now).path (map (λ n. n.now) names.now) (table_view table.now)) }
+        ensures { Gives result (none_beside (body_of self.now).path
+            (map (λ n. n.now) names.now) (table_view table.now)) }
     {
         for (name, _) in table.iter() {
             if !named_among(names, name.as_str()) {

@@ -13,8 +13,8 @@ const TWO: &str = "[[instance]]\nname = 'two'\n";
 const KEY: &str =
     "[[key]]\ninstance = 'one'\nkey = 'kkkkkkkkkkkkkkkkkkkkkkkkkkkkkkkkkkkkkkkk'\norg = 'A'\n";
 
-const LINK: &str =
-    "[[link]]\nname = 'l'\nat = 'one'\nto = 'two'\nkey = 'kkkkkkkkkkkkkkkkkkkkkkkkkkkkkkkkkkkkkkkk'\nholder = 'A'\npush_org = 'A'\n";
+const LINK: &str = "[[link]]\nname = 'l'\nat = 'one'\nto = 'two'\n\
+     key = 'kkkkkkkkkkkkkkkkkkkkkkkkkkkkkkkkkkkkkkkk'\nholder = 'A'\npush_org = 'A'\n";
 
 /// What a description is read as: what it brings, or its fault.
 fn shown(alloc: Global, text: &str) -> Result<String, Fail> {
@@ -40,101 +40,179 @@ fn shown(alloc: Global, text: &str) -> Result<String, Fail> {
     Ok(out)
 }
 
+/// The same of a text in which names stand for tables.
+fn filled_shown(alloc: Global, text: &str) -> Result<String, Fail> {
+    let text = text.replace(alloc, "{org}", ORG)?;
+    let text = text.as_str().replace(alloc, "{host}", HOST)?;
+    let text = text.as_str().replace(alloc, "{two}", TWO)?;
+    let text = text.as_str().replace(alloc, "{key}", KEY)?;
+    let text = text.as_str().replace(alloc, "{link}", LINK)?;
+    shown(alloc, text.as_str())
+}
+
+/// Descriptions that are read, and each instance with the numbers of its organisations, keys
+/// and links.
+const READ: [(&str, &str); 3] = [
+    ("", ""),
+    (
+        "{org}{host}address = 'here'\n{key}role = 'publisher'\n{two}{link}on = false\n",
+        "one@here 1 1 1;two@ 1 0 0;",
+    ),
+    (
+        "{org}{host}{two}{key}role = 'sync'\npartner = 'two'\n",
+        "one@ 1 1 0;two@ 1 0 0;",
+    ),
+];
+
 #[test]
-fn each_need_is_told_with_its_path(rt: HostRuntime) -> Result<(), Fail> {
+fn descriptions_are_read(rt: HostRuntime) -> Result<(), Fail> {
     let alloc = rt.alloc();
-    let rows = [
-        ("", ""),
-        (
-            "{org}{host}address = 'here'\n{key}role = 'publisher'\n{two}{link}on = false\n",
-            "one@here 1 1 1;two@ 1 0 0;",
-        ),
-        (
-            "{org}{host}{two}{key}role = 'sync'\npartner = 'two'\n",
-            "one@ 1 1 0;two@ 1 0 0;",
-        ),
-        ("x = [", "- toml"),
-        ("zzz = 1\nkeys = []\n", "keys member"),
-        ("org = [1]\n", "org member"),
-        ("instance = 7\n", "instance member"),
-        (
-            "instance = [{},{},{},{},{},{},{},{},{},{},{},{},{},{},{},{},{}]\n",
-            "instance limit",
-        ),
-        ("[[org]]\n", "org[0].name present"),
-        ("[[org]]\nname = 1\n", "org[0].name text"),
-        ("[[org]]\nname = ''\n", "org[0].name name"),
-        ("[[org]]\nname = \"a\\u0085\"\n", "org[0].name name"),
-        (
-            "{org}[[org]]\nname = 'A'\nuuid = 1\n",
-            "org[1].name distinct",
-        ),
-        ("[[org]]\nname = 'A'\nuuid = 'a'\n", "org[0].uuid uuid"),
-        (
-            "{org}[[org]]\nname = 'B'\nuuid = 'AAAAAAAA-0000-4000-8000-000000000001'\n",
-            "org[1].uuid distinct",
-        ),
-        ("{org}zz = 1\nb = 2\n", "org[0].b member"),
-        ("[[instance]]\nname = 'One'\n", "instance[0].name name"),
-        ("{host}{host}", "instance[1].name distinct"),
-        ("{host}address = 1\n", "instance[0].address text"),
-        ("{host}[[key]]\ninstance = 'two'\n", "key[0].instance known"),
-        (
-            "{host}[[key]]\ninstance = 'one'\nkey = 'k'\n",
-            "key[0].key key",
-        ),
-        ("{host}{key}", "key[0].org known"),
-        ("{org}{host}{key}", "key[0].role present"),
-        ("{org}{host}{key}role = 'admin'\n", "key[0].role role"),
-        ("{org}{host}{key}role = 'sync'\n", "key[0].partner present"),
-        (
-            "{org}{host}{key}role = 'sync'\npartner = 'two'\n",
-            "key[0].partner known",
-        ),
-        (
-            "{org}{host}{key}role = 'user'\npartner = 'one'\n",
-            "key[0].partner member",
-        ),
-        (
-            "{org}{host}{key}role = 'user'\n{key}",
-            "key[1].key distinct",
-        ),
-        ("{org}{host}{key}role = 'user'\nx = 1\n", "key[0].x member"),
-        ("{link}", "link[0].at known"),
-        ("[[link]]\nat = 'one'\n", "link[0].name present"),
-        ("[[link]]\nname = 'L'\n", "link[0].name name"),
-        ("{host}{link}", "link[0].to known"),
-        (
-            "{host}[[link]]\nname = 'l'\nat = 'one'\nto = 'one'\n",
-            "link[0].to distinct",
-        ),
-        (
-            "{host}{two}[[link]]\nname = 'l'\nat = 'one'\nto = 'two'\nkey = 'k'\n",
-            "link[0].key key",
-        ),
-        ("{host}{two}{link}", "link[0].holder known"),
-        ("{org}{host}{two}{link}on = 1\n", "link[0].on flag"),
-        ("{org}{host}{two}{link}role = 1\n", "link[0].role member"),
-        (
-            "{org}{host}{two}{link}[[link]]\nname = 'l'\nat = 'one'\n",
-            "link[1].name distinct",
-        ),
-        (
-            "{org}{host}{two}{link}[[link]]\nname = 'l'\nat = 'two'\n",
-            "link[1].to present",
-        ),
-        (
-            "{org}{host}{two}{link}[[link]]\nname = 'l'\nat = 1\n",
-            "link[1].at text",
-        ),
-    ];
-    for (text, told) in &rows {
-        let text = text.replace(alloc, "{org}", ORG)?;
-        let text = text.as_str().replace(alloc, "{host}", HOST)?;
-        let text = text.as_str().replace(alloc, "{two}", TWO)?;
-        let text = text.as_str().replace(alloc, "{key}", KEY)?;
-        let text = text.as_str().replace(alloc, "{link}", LINK)?;
-        let is = shown(alloc, text.as_str())?;
+    for (text, told) in &READ {
+        let is = filled_shown(alloc, text)?;
+        assert!(rt; is.as_str() == *told, "{text} is {is}");
+    }
+    Ok(())
+}
+
+/// Descriptions that are not four lists of tables within their limits, and their faults.
+const BAD_LISTS: [(&str, &str); 5] = [
+    ("x = [", "- toml"),
+    ("zzz = 1\nkeys = []\n", "keys member"),
+    ("org = [1]\n", "org member"),
+    ("instance = 7\n", "instance member"),
+    (
+        "instance = [{},{},{},{},{},{},{},{},{},{},{},{},{},{},{},{},{}]\n",
+        "instance limit",
+    ),
+];
+
+#[test]
+fn other_than_four_lists_within_their_limits_is_refused(rt: HostRuntime) -> Result<(), Fail> {
+    let alloc = rt.alloc();
+    for (text, told) in &BAD_LISTS {
+        let is = filled_shown(alloc, text)?;
+        assert!(rt; is.as_str() == *told, "{text} is {is}");
+    }
+    Ok(())
+}
+
+/// Descriptions of which an organisation has a fault.
+const BAD_ORGS: [(&str, &str); 8] = [
+    ("[[org]]\n", "org[0].name present"),
+    ("[[org]]\nname = 1\n", "org[0].name text"),
+    ("[[org]]\nname = ''\n", "org[0].name name"),
+    ("[[org]]\nname = \"a\\u0085\"\n", "org[0].name name"),
+    (
+        "{org}[[org]]\nname = 'A'\nuuid = 1\n",
+        "org[1].name distinct",
+    ),
+    ("[[org]]\nname = 'A'\nuuid = 'a'\n", "org[0].uuid uuid"),
+    (
+        "{org}[[org]]\nname = 'B'\nuuid = 'AAAAAAAA-0000-4000-8000-000000000001'\n",
+        "org[1].uuid distinct",
+    ),
+    ("{org}zz = 1\nb = 2\n", "org[0].b member"),
+];
+
+#[test]
+fn the_first_fault_of_an_organisation_is_told(rt: HostRuntime) -> Result<(), Fail> {
+    let alloc = rt.alloc();
+    for (text, told) in &BAD_ORGS {
+        let is = filled_shown(alloc, text)?;
+        assert!(rt; is.as_str() == *told, "{text} is {is}");
+    }
+    Ok(())
+}
+
+/// Descriptions of which an instance has a fault.
+const BAD_INSTANCES: [(&str, &str); 3] = [
+    ("[[instance]]\nname = 'One'\n", "instance[0].name name"),
+    ("{host}{host}", "instance[1].name distinct"),
+    ("{host}address = 1\n", "instance[0].address text"),
+];
+
+#[test]
+fn the_first_fault_of_an_instance_is_told(rt: HostRuntime) -> Result<(), Fail> {
+    let alloc = rt.alloc();
+    for (text, told) in &BAD_INSTANCES {
+        let is = filled_shown(alloc, text)?;
+        assert!(rt; is.as_str() == *told, "{text} is {is}");
+    }
+    Ok(())
+}
+
+/// Descriptions of which a key has a fault.
+const BAD_KEYS: [(&str, &str); 10] = [
+    ("{host}[[key]]\ninstance = 'two'\n", "key[0].instance known"),
+    (
+        "{host}[[key]]\ninstance = 'one'\nkey = 'k'\n",
+        "key[0].key key",
+    ),
+    ("{host}{key}", "key[0].org known"),
+    ("{org}{host}{key}", "key[0].role present"),
+    ("{org}{host}{key}role = 'admin'\n", "key[0].role role"),
+    ("{org}{host}{key}role = 'sync'\n", "key[0].partner present"),
+    (
+        "{org}{host}{key}role = 'sync'\npartner = 'two'\n",
+        "key[0].partner known",
+    ),
+    (
+        "{org}{host}{key}role = 'user'\npartner = 'one'\n",
+        "key[0].partner member",
+    ),
+    (
+        "{org}{host}{key}role = 'user'\n{key}",
+        "key[1].key distinct",
+    ),
+    ("{org}{host}{key}role = 'user'\nx = 1\n", "key[0].x member"),
+];
+
+#[test]
+fn the_first_fault_of_a_key_is_told(rt: HostRuntime) -> Result<(), Fail> {
+    let alloc = rt.alloc();
+    for (text, told) in &BAD_KEYS {
+        let is = filled_shown(alloc, text)?;
+        assert!(rt; is.as_str() == *told, "{text} is {is}");
+    }
+    Ok(())
+}
+
+/// Descriptions of which a link has a fault.
+const BAD_LINKS: [(&str, &str); 12] = [
+    ("{link}", "link[0].at known"),
+    ("[[link]]\nat = 'one'\n", "link[0].name present"),
+    ("[[link]]\nname = 'L'\n", "link[0].name name"),
+    ("{host}{link}", "link[0].to known"),
+    (
+        "{host}[[link]]\nname = 'l'\nat = 'one'\nto = 'one'\n",
+        "link[0].to distinct",
+    ),
+    (
+        "{host}{two}[[link]]\nname = 'l'\nat = 'one'\nto = 'two'\nkey = 'k'\n",
+        "link[0].key key",
+    ),
+    ("{host}{two}{link}", "link[0].holder known"),
+    ("{org}{host}{two}{link}on = 1\n", "link[0].on flag"),
+    ("{org}{host}{two}{link}role = 1\n", "link[0].role member"),
+    (
+        "{org}{host}{two}{link}[[link]]\nname = 'l'\nat = 'one'\n",
+        "link[1].name distinct",
+    ),
+    (
+        "{org}{host}{two}{link}[[link]]\nname = 'l'\nat = 'two'\n",
+        "link[1].to present",
+    ),
+    (
+        "{org}{host}{two}{link}[[link]]\nname = 'l'\nat = 1\n",
+        "link[1].at text",
+    ),
+];
+
+#[test]
+fn the_first_fault_of_a_link_is_told(rt: HostRuntime) -> Result<(), Fail> {
+    let alloc = rt.alloc();
+    for (text, told) in &BAD_LINKS {
+        let is = filled_shown(alloc, text)?;
         assert!(rt; is.as_str() == *told, "{text} is {is}");
     }
     Ok(())
