@@ -1,5 +1,5 @@
 -- What the definitions answer to the asks that are built, by what refuses them.
-use Rattle.std.proofs.Common.{◌≡◌, ℕ, List, [], ◌∷◌, Bool, true, false, refl, ap, sym, ◌∙◌, map, cond, length, Option, Some, None}
+use Rattle.std.proofs.Common.{◌≡◌, List, [], ◌∷◌, Bool, true, false, refl, ap, sym, ◌∙◌, map, cond, length, Option, Some, None}
 use Rattle.std.proofs.lemmas.List.{length-map}
 use Rattle.misp_ids.specs.declared.uid.OrgId.{OrgId}
 use Rattle.misp_ids.specs.declared.uid.EventId.{EventId}
@@ -19,10 +19,10 @@ use Rattle.misp_model.specs.Asking as asking
 use Rattle.misp_model.specs.Shown.{shown}
 use Rattle.misp_model.specs.Acts.{answer, ok_answer, ask_rules, brings, is_accepted, Refused, Seen, Saved}
 use Rattle.misp_model.specs.Acts as model
-use Rattle.misp_edit.specs.Adding.{refusing, first_clash, first_unusable, Refuses}
+use Rattle.misp_edit.specs.Adding.{refusing, Refuses}
 use Rattle.misp_edit.specs.declared.fault.AddFault.{AddFault}
 use Rattle.misp_edit.specs.declared.fault.AddFault.TheVariants as faults
-use Rattle.misp_core.specs.Answers.{IsDecision, IsRefusal, reply_of, reply_in, writes_in, greatest, named, named_event, uuid_text, group_text, added_place, bare, saved}
+use Rattle.misp_core.specs.Answers.{IsDecision, IsRefusal, reply_of, reply_in, writes_in, greatest, named, named_event, uuid_text, group_text, added_place, bare}
 use Rattle.misp_core.specs.declared.reply.Answer.TheVariants as answers
 use Rattle.misp_core.specs.declared.reply.Reply.TheVariants as replies
 

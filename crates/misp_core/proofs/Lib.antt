@@ -3,3 +3,4 @@ pub mod Serving
 pub mod HeldRows
 pub mod OwnRows
 pub mod Keeping
+pub mod Ordering

@@ -1,5 +1,5 @@
 -- What is asked of one event is replied from the event's own rows as from all, with the place that a refusal shows.
-use Rattle.std.proofs.Common.{◌≡◌, ℕ, List, [], ◌++◌, eqb, refl, sym, ap, ◌∙◌, map, cond, option_map}
+use Rattle.std.proofs.Common.{◌≡◌, ℕ, List, [], ◌++◌, eqb, refl, ap, ◌∙◌, map, cond, option_map}
 use Rattle.std.specs.Prelude.{◌&&◌, ◌||◌, not}
 use Rattle.std.specs.List.{filter, list_any, find}
 use Rattle.std.proofs.lemmas.Bool.{and_parts}

@@ -1,6 +1,6 @@
 -- How a verdict over a keeper comes to an answer.
 use Rattle.std.proofs.Common.{◌≡◌, ℕ, ◌<◌, List, [], ◌∷◌, length, arith, refl, ap, sym, subst, ◌∙◌, map, option_map, Option, Some, None, Result, Ok, Err}
-use Rattle.std.specs.Prelude.{IfOk, IfSome, OnErr}
+use Rattle.std.specs.Prelude.{Bool, true, false, if◌then◌else◌, IfOk, IfSome, OnErr}
 use Rattle.misp_elem.specs.declared.row.RowFields.{RowFields as Row}
 use Rattle.misp_elem.specs.Row.{AreRows}
 use Rattle.misp_requests.specs.declared.ask.Ask.{Ask}
@@ -18,9 +18,11 @@ use Rattle.misp_model.specs.Asking as asking
 use Rattle.misp_model.specs.Acts.{answer}
 use Rattle.misp_model.specs.Acts as model
 use Rattle.misp_edit.specs.Adding.{refusing}
+use Rattle.misp_elem.specs.declared.refusal.RuleName.TheVariants as rules
+use Rattle.misp_core.specs.Permission.{is_permitted}
 use Rattle.misp_core.specs.Raw.{raw_row, rows_in}
-use Rattle.misp_core.specs.Answers.{Surroundings, event_asked, IsBuilt, IsVerdict, reply_of, reply_in, writes_in, reply_over, writes_over, named, scene_at}
-use Rattle.misp_core.specs.Outcome.{Outcome, Went, ByKeeper, ByMemory, outcome_of, asked_of, with_rows, IsServed, IsAnswered, IsRefused, replied_of}
+use Rattle.misp_core.specs.Answers.{Surroundings, event_asked, IsBuilt, IsVerdict, reply_of, reply_in, writes_in, reply_over, writes_over, named, scene_at, bare}
+use Rattle.misp_core.specs.Outcome.{Outcome, Went, ByKeeper, ByMemory, outcome_of, asked_of, reply_to, held_after, refusal_by, forbidden, step_reply, step_held, with_rows, IsServed, IsAnswered, IsRefused, replied_of}
 use Rattle.misp_core.specs.declared.decide.Verdict.{Verdict}
 use Rattle.misp_core.specs.declared.reply.Reply.{Reply}
 use Rattle.misp_core.specs.declared.reply.Reply.TheVariants as replies
@@ -125,24 +127,46 @@ served n at ask held new verdict is put =
       are_rows = subst AreRows parts.writes parts.are_rows;
     }
 
--- what was served, or what stopped it, as a reply
-pub replied : (n : ℕ) (at : Surroundings) (ask : Ask) (old new : Option Held) (result : Result Reply KeeperFault)
-    → IfSome old (λ held. IfOk result (λ reply. IsServed n at ask held reply new)) → IfOk result (λ reply. outcome_of reply ≡ Went) → OnErr result (new ≡ old)
-    → IfSome old (λ held. IsAnswered n at ask held (replied_of result) new)
-replied n at ask None new result served went err = tt
-replied n at ask (Some held) new (Ok reply) served went err = record {
-  reply_is = served.reply_is ∙ ap (λ o. reply_under o) (sym went);
-  left = served.left ∙ ap (λ o. Some (held_under o)) (sym went);
-  are_rows = λ w. served.are_rows;
-}
-  where
-    reply_under : Outcome → Reply
-    reply_under o = Rattle.misp_core.specs.Outcome.reply_to o n at ask held
+-- of two values the one for what is permitted, and the one for what is not
+when : {A : Type 0} (may : Bool) (x y : A) → may ≡ true → x ≡ (if may then x else y)
+when true x y is = refl
+when false x y is = absurd cc
 
-    held_under : Outcome → Held
-    held_under o = Rattle.misp_core.specs.Outcome.held_after o n at ask held
-replied n at ask (Some held) new (Err stops.Failed) served went err = record { reply_is = refl; left = err; are_rows = λ w. absurd cc }
-replied n at ask (Some held) new (Err stops.NoMemory) served went err = record { reply_is = refl; left = err; are_rows = λ w. absurd cc }
+unless : {A : Type 0} (may : Bool) (x y : A) → may ≡ false → y ≡ (if may then x else y)
+unless true x y is = absurd cc
+unless false x y is = refl
+
+module _ (n : ℕ) (at : Surroundings) (ask : Ask) where
+  -- what was served, or what stopped it, as a reply to an ask that is permitted
+  pub replied : (old new : Option Held) (result : Result Reply KeeperFault) → is_permitted at.caller ask ≡ true
+      → IfSome old (λ held. IfOk result (λ reply. IsServed n at ask held reply new)) → IfOk result (λ reply. outcome_of reply ≡ Went) → OnErr result (new ≡ old)
+      → IfSome old (λ held. IsAnswered n at ask held (replied_of result) new)
+  replied None new result may served went err = tt
+  replied (Some held) new (Ok reply) may served went err = record {
+    reply_is = served.reply_is ∙ when _ _ _ may ∙ ap (λ (o : Outcome). step_reply o n at ask held) (sym went);
+    left = served.left ∙ ap (λ (h : Held). Some h) (when _ _ held may ∙ ap (λ (o : Outcome). step_held o n at ask held) (sym went));
+    are_rows = λ w. subst AreRows (when _ _ [] may) served.are_rows;
+  }
+  replied (Some held) new (Err stops.Failed) may served went err = record {
+    reply_is = when _ (replies.Refused (bare rules.KeeperFault)) (refusal_by ByKeeper (forbidden ask)) may;
+    left = err ∙ ap (λ (h : Held). Some h) (when _ held held may);
+    are_rows = λ w. absurd cc;
+  }
+  replied (Some held) new (Err stops.NoMemory) may served went err = record {
+    reply_is = when _ (replies.Refused (bare rules.NoMemory)) (refusal_by ByMemory (forbidden ask)) may;
+    left = err ∙ ap (λ (h : Held). Some h) (when _ held held may);
+    are_rows = λ w. absurd cc;
+  }
+
+  -- an ask that is not permitted is refused, and what is held stays
+  pub turned_away : (old : Option Held) (reply : Reply) → is_permitted at.caller ask ≡ false → reply ≡ refusal_by (outcome_of reply) (forbidden ask)
+      → IfSome old (λ held. IsAnswered n at ask held reply old)
+  turned_away None reply may is = tt
+  turned_away (Some held) reply may is = record {
+    reply_is = is ∙ unless _ (reply_to (outcome_of reply) n at ask held) _ may;
+    left = ap (λ (h : Held). Some h) (unless _ (held_after (outcome_of reply) n at ask held) held may);
+    are_rows = λ w. subst AreRows (unless _ (writes_over n at ask (asked_of ask held)) [] may) tt;
+  }
 
 pub empty_below : (rows : List Row) → length rows < 1 → rows ≡ []
 empty_below [] few = refl

@@ -1,9 +1,8 @@
 -- What a request is answered where nothing stops it, and what it writes.
-use Rattle.std.specs.Prelude.{◌≡◌, ℕ, Bool, true, cond, is_some, List, [], ◌∷◌, map, length, fold, max, unwrap_or, option_map, Result, Ok, Err}
+use Rattle.std.specs.Prelude.{◌≡◌, ℕ, true, cond, is_some, List, [], map, length, fold, max, unwrap_or, Result, Ok, Err}
 use Rattle.std.specs.declared.option.Option.{Option}
 use Rattle.std.specs.declared.option.Option.TheVariants.{None, Some}
 use Rattle.hex.specs.Hex.{encode_lower}
-use Rattle.misp_ids.specs.declared.uid.Uid.{Uid}
 use Rattle.misp_ids.specs.declared.uid.OrgId.{OrgId}
 use Rattle.misp_ids.specs.declared.uid.EventId.{EventId}
 use Rattle.misp_ids.specs.declared.label.Label.{Label}
@@ -82,7 +81,8 @@ site_at i caller now = site i.name i.admin caller now
 
 -- the scene of the n-th request, over what the caller knows
 abbrev pub scene_with : ℕ → Surroundings → List Row → Scene
-scene_with n at rows = scene_of n at.here at.caller.org (name_in at.admin at.caller.org) at.now (date_of at.now) rows
+scene_with n at rows =
+    scene_of n at.here at.caller.org (name_in at.admin at.caller.org) at.now (date_of at.now) rows
 
 -- the scene of the n-th request, over these rows
 abbrev pub scene_at : ℕ → Surroundings → List Row → Scene
@@ -113,7 +113,8 @@ abbrev pub group_text : Option Label → List ℕ
 group_text (Some (labels.Group g)) = text_of g.uuid
 group_text label = []
 
--- of a body that brings a uuid again the first such uuid, of one with a label that is not usable the first such group
+-- of a body that brings a uuid again the first such uuid, of one with a label that is not usable
+-- the first such group
 abbrev pub added_place : Scene → Submission → Rule → List ℕ
 added_place s b asking.ElementExists = uuid_text (first_clash s b)
 added_place s b asking.GroupNotUsable = group_text (first_unusable s b)
@@ -148,7 +149,8 @@ named_event admin v = record v { org_name = name_in admin v.row.owner }
 
 -- a reply of the definitions, as it is given
 abbrev pub reply_of : Admin → Scene → Ask → model.Reply → Reply
-reply_of admin s ask (model.Refused rule) = replies.Refused (record { name = named rule; place = place_of s ask rule })
+reply_of admin s ask (model.Refused rule) =
+    replies.Refused (record { name = named rule; place = place_of s ask rule })
 reply_of admin s ask (model.Seen v) = replies.Ok (answers.Event (named_event admin v))
 reply_of admin s ask (model.Saved vs) = replies.Ok (saved (event_asked ask) vs)
 reply_of admin s ask _ = replies.Refused (bare rules.NoRoute)
@@ -180,7 +182,8 @@ pub record IsDecision (s : Scene) (admin : Admin) (ask : Ask) (verdict : Verdict
 -- the same over what is held of the event, which may have a row that is none
 abbrev pub IsVerdict : ℕ → Surroundings → Ask → Result (List Row) (List ℕ) → Verdict → Type 0
 IsVerdict n at ask (Ok rows) verdict = IsDecision (scene_at n at rows) at.admin ask verdict
-IsVerdict n at ask (Err name) verdict = verdict ≡ record { reply = replies.Refused (bad_row name); writes = [] }
+IsVerdict n at ask (Err name) verdict =
+    verdict ≡ record { reply = replies.Refused (bad_row name); writes = [] }
 
 -- ---- by the parts of a verdict
 
@@ -188,6 +191,8 @@ IsVerdict n at ask (Err name) verdict = verdict ≡ record { reply = replies.Ref
 abbrev pub IsRefusal : AddFault → Refusal → Type 0
 IsRefusal faults.EventExists refusal = refusal ≡ bare rules.EventExists
 IsRefusal faults.EventGone refusal = refusal ≡ bare rules.EventGone
-IsRefusal (faults.ElementExists u) refusal = refusal ≡ record { name = rules.ElementExists; place = text_of u }
-IsRefusal (faults.GroupNotUsable g) refusal = refusal ≡ record { name = rules.GroupNotUsable; place = text_of g.uuid }
+IsRefusal (faults.ElementExists u) refusal =
+    refusal ≡ record { name = rules.ElementExists; place = text_of u }
+IsRefusal (faults.GroupNotUsable g) refusal =
+    refusal ≡ record { name = rules.GroupNotUsable; place = text_of g.uuid }
 IsRefusal faults.NoMemory refusal = ⊥

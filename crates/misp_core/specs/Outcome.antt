@@ -1,7 +1,8 @@
 -- What stopped a request, and what it is answered and leaves where that is known.
-use Rattle.std.specs.Prelude.{◌≡◌, ℕ, ◌==◌, List, map, Result, Ok, Err, if◌then◌else◌}
+use Rattle.std.specs.Prelude.{◌≡◌, ℕ, ◌==◌, List, [], map, Result, Ok, Err, if◌then◌else◌}
 use Rattle.std.specs.declared.option.Option.{Option}
-use Rattle.std.specs.declared.option.Option.TheVariants.{None, Some}
+use Rattle.std.specs.declared.option.Option.TheVariants.{Some}
+use Rattle.misp_elem.specs.declared.refusal.Refusal.{Refusal}
 use Rattle.misp_elem.specs.declared.refusal.RuleName.{RuleName}
 use Rattle.misp_elem.specs.declared.refusal.RuleName.TheVariants as rules
 use Rattle.misp_elem.specs.Refusal.{rule_number}
@@ -12,6 +13,7 @@ use Rattle.misp_outside.specs.declared.fault.KeeperFault.{KeeperFault}
 use Rattle.misp_outside.specs.declared.fault.KeeperFault.TheVariants as stops
 use Rattle.misp_outside.specs.Held.{Held, rows_of, put_rows}
 use Rattle.misp_core.specs.Raw.{raw_row, rows_in}
+use Rattle.misp_core.specs.Permission.{permission_of, is_permitted, no_permission}
 use Rattle.misp_core.specs.Answers.{Surroundings, event_asked, bare, reply_over, writes_over}
 use Rattle.misp_core.specs.declared.reply.Reply.{Reply}
 use Rattle.misp_core.specs.declared.reply.Reply.TheVariants as replies
@@ -23,7 +25,9 @@ pub data Outcome : Type 0 where
   ByMemory : Outcome
 
 abbrev pub outcome_by : RuleName → Outcome
-outcome_by name = if rule_number name == 26 then ByKeeper else if rule_number name == 27 then ByMemory else Went
+outcome_by name =
+    if rule_number name == 26 then ByKeeper
+    else if rule_number name == 27 then ByMemory else Went
 
 -- read off the reply
 abbrev pub outcome_of : Reply → Outcome
@@ -50,14 +54,42 @@ held_after Went n at ask held = with_rows (writes_over n at ask (asked_of ask he
 held_after ByKeeper n at ask held = held
 held_after ByMemory n at ask held = held
 
+-- ---- by the role of the caller
+
+-- a refusal for which the keeper is not asked, unless something stopped the request
+abbrev pub refusal_by : Outcome → Refusal → Reply
+refusal_by Went refusal = replies.Refused refusal
+refusal_by ByKeeper refusal = replies.Refused (bare rules.KeeperFault)
+refusal_by ByMemory refusal = replies.Refused (bare rules.NoMemory)
+
+-- the refusal of an ask that is not permitted
+abbrev pub forbidden : Ask → Refusal
+forbidden ask = no_permission (permission_of ask)
+
+-- the reply to the n-th request: the role of the caller must permit what it asks
+abbrev pub step_reply : Outcome → ℕ → Surroundings → Ask → Held → Reply
+step_reply outcome n at ask held =
+    if is_permitted at.caller ask then reply_to outcome n at ask held
+    else refusal_by outcome (forbidden ask)
+
+-- what is held afterwards
+abbrev pub step_held : Outcome → ℕ → Surroundings → Ask → Held → Held
+step_held outcome n at ask held =
+    if is_permitted at.caller ask then held_after outcome n at ask held else held
+
+-- the rows that it writes where nothing stops it
+abbrev pub step_writes : ℕ → Surroundings → Ask → Held → List Row
+step_writes n at ask held =
+    if is_permitted at.caller ask then writes_over n at ask (asked_of ask held) else []
+
 -- the reply is the stated one, and so is what is held afterwards; what is written are rows
 pub record IsAnswered (n : ℕ) (at : Surroundings) (ask : Ask)
     (held : Held) (reply : Reply) (new : Option Held) : Type 0 where
-  pub reply_is : reply ≡ reply_to (outcome_of reply) n at ask held
-  pub left : new ≡ Some (held_after (outcome_of reply) n at ask held)
-  pub are_rows : outcome_of reply ≡ Went → AreRows (writes_over n at ask (asked_of ask held))
+  pub reply_is : reply ≡ step_reply (outcome_of reply) n at ask held
+  pub left : new ≡ Some (step_held (outcome_of reply) n at ask held)
+  pub are_rows : outcome_of reply ≡ Went → AreRows (step_writes n at ask held)
 
--- the same where nothing stopped it
+-- the same of an ask that is permitted, where nothing stopped it
 pub record IsServed (n : ℕ) (at : Surroundings) (ask : Ask)
     (held : Held) (reply : Reply) (new : Option Held) : Type 0 where
   pub reply_is : reply ≡ reply_over n at ask (asked_of ask held)

@@ -184,7 +184,8 @@ fn view(
     rows: &[Row],
 ) -> Result<Verdict, NoMemory>
     ensures { (n : ℕ) → IfOk result (IsDecision
-        (scene_with n (site here.now admin.now caller.now now) rows.now) admin.now (View event.now owner)) }
+        (scene_with n (site here.now admin.now caller.now now) rows.now)
+        admin.now (View event.now owner)) }
 {
     let org = asker(caller);
     match shown(alloc, rows, here, &org, event, owner)? {
@@ -234,7 +235,8 @@ fn decide(
     rows: Vec<Row>,
 ) -> Result<Verdict, NoMemory>
     requires { IsBuilt ask }
-    ensures { (n : ℕ) → IfOk result (IsVerdict n (site here.now admin.now caller.now now) ask (Ok rows.items)) }
+    ensures { (n : ℕ) → IfOk result
+        (IsVerdict n (site here.now admin.now caller.now now) ask (Ok rows.items)) }
 {
     let org = asker(caller);
     let rows = known(alloc, rows, here, &org)?;

@@ -4,14 +4,18 @@ ghost use Rattle.std.specs.Prelude.{◌≡◌, ℕ, IfOk, IfSome, OnOk, OnErr, o
 ghost use Rattle.misp_outside.specs.Causes.{HasCause};
 ghost use Rattle.misp_core.specs.Answers.{site, site_at, IsBuilt, event_asked};
 ghost use Rattle.misp_core.specs.Standing.{standing};
-ghost use Rattle.misp_core.specs.Outcome.{Went, ByKeeper, outcome_of, IsAnswered, IsServed, IsRefused, with_rows, replied_of};
+ghost use Rattle.misp_core.specs.Permission.{no_permission};
+ghost use Rattle.misp_core.specs.Outcome.{Went, ByKeeper, outcome_of, refusal_by, IsAnswered, IsServed, IsRefused, with_rows, replied_of};
+ghost use Rattle.misp_core.specs.Order.{IsInOrder, grounds};
+ghost use Rattle.misp_orgs.specs.Admin.{who_of, link_of};
 
 use crate::decide::{bare, judge};
+use crate::permission::{no_permission, permission_for};
 use crate::reply::Reply;
 use crate::store::batch_of;
 use misp_elem::{NoMemory, Row, RuleName};
-use misp_ids::{EventId, InstId, Stamp};
-use misp_orgs::{Admin, Caller};
+use misp_ids::{ApiKey, EventId, InstId, Stamp};
+use misp_orgs::{Admin, Caller, Link, Perm, may};
 use misp_outside::{Keeper, KeeperFault};
 use misp_requests::{Ask, Change};
 use std::alloc::Global;
@@ -71,11 +75,18 @@ impl<K: Keeper> Instance<K> {
         self.keeper
     }
 
-    /// Its organisations and keys.
-    pub fn admin(&self) -> &Admin
-        ensures { result.now ≡ self.now.admin }
+    /// Who asks with a key here.
+    pub fn who(&self, key: &ApiKey) -> Option<Caller>
+        ensures { result ≡ who_of self.now.admin key.now }
     {
-        &self.admin
+        self.admin.who(key)
+    }
+
+    /// The link of a name, by which this instance reaches another.
+    pub fn link(&self, name: &InstId) -> Option<&Link>
+        ensures { option_map (λ link. link.now) result ≡ link_of self.now.admin.links name.now }
+    {
+        self.admin.link(name)
     }
 
     /// Answers a request at this moment.
@@ -86,12 +97,20 @@ impl<K: Keeper> Instance<K> {
         ensures answered { (n : ℕ) → IfSome self.old.held (λ held.
             IsAnswered n (site_at self.old caller.now now) ask held result self.new.held) }
 
+        // Where several rules refuse it, the first in the one order is answered.
+        ensures order { (n : ℕ) → IfSome self.old.held (λ held.
+            IsInOrder (grounds n (site_at self.old caller.now now) ask held) result) }
+
         // A refused request changes nothing.
         ensures refused { IsRefused result → self.new.held ≡ self.old.held }
         ensures cause { HasCause self.old.faults self.new.faults (outcome_of result ≡ ByKeeper) }
         ensures name { self.new.name ≡ self.old.name }
         ensures admin { self.new.admin ≡ self.old.admin }
     {
+        let perm = permission_for(&ask);
+        if !may(caller.role, perm) {
+            return forbidden(alloc, perm);
+        }
         let served = serve(
             &mut self.keeper,
             alloc,
@@ -102,6 +121,17 @@ impl<K: Keeper> Instance<K> {
             ask,
         );
         replied(alloc, served)
+    }
+}
+
+// The refusal of what a role does not permit.
+fn forbidden(alloc: Global, perm: Perm) -> Reply
+    ensures reply { result ≡ refusal_by (outcome_of result) (no_permission perm) }
+    ensures no_keeper { outcome_of result ≡ ByKeeper → ⊥ }
+{
+    match no_permission(alloc, perm) {
+        Ok(refusal) => Reply::Refused(refusal),
+        Err(NoMemory) => Reply::Refused(bare(alloc, RuleName::NoMemory)),
     }
 }
 
@@ -119,9 +149,11 @@ fn replied(alloc: Global, served: Result<Reply, KeeperFault>) -> Reply
 // Puts rows into a keeper, all or nothing.
 #[tactic(auto, using(crate::proofs::Serving::put_none, crate::proofs::Serving::put_batch))]
 fn put<K: Keeper>(keeper: &mut K, alloc: Global, rows: &[Row]) -> Result<(), KeeperFault>
-    ensures ok { OnOk result (K.held keeper.new ≡ option_map (with_rows rows.now) (K.held keeper.old)) }
+    ensures ok { OnOk result
+        (K.held keeper.new ≡ option_map (with_rows rows.now) (K.held keeper.old)) }
     ensures err { OnErr result (K.held keeper.new ≡ K.held keeper.old) }
-    ensures cause { HasCause (K.faults keeper.old) (K.faults keeper.new) (result ≡ Err KeeperFault.Failed) }
+    ensures cause { HasCause (K.faults keeper.old) (K.faults keeper.new)
+        (result ≡ Err KeeperFault.Failed) }
 {
     let [_, ..] = rows else {
         return Ok(());
@@ -147,9 +179,11 @@ fn serve<K: Keeper>(
         IfOk result (λ reply. IsServed n (site here.now admin.now caller.now now)
         ask held reply (K.held keeper.new))) }
     ensures went { IfOk result (λ reply. outcome_of reply ≡ Went) }
-    ensures refused { IfOk result (λ reply. IsRefused reply → K.held keeper.new ≡ K.held keeper.old) }
+    ensures refused { IfOk result
+        (λ reply. IsRefused reply → K.held keeper.new ≡ K.held keeper.old) }
     ensures err { OnErr result (K.held keeper.new ≡ K.held keeper.old) }
-    ensures cause { HasCause (K.faults keeper.old) (K.faults keeper.new) (result ≡ Err KeeperFault.Failed) }
+    ensures cause { HasCause (K.faults keeper.old) (K.faults keeper.new)
+        (result ≡ Err KeeperFault.Failed) }
 {
     let raws = keeper.load_event(alloc, &event_of(&ask))?;
     match judge(alloc, here, admin, caller, now, ask, raws) {

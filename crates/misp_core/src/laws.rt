@@ -34,8 +34,8 @@ pub fn a_refused_request_writes_nothing()
 {}
 
 /// Where a keeper holds the tables of its instance, a request is replied as the history says. Where
-/// that is of earlier acts, the keeper afterwards holds the tables after the act. No tables elsewhere
-/// and no groups change.
+/// that is of earlier acts, the keeper afterwards holds the tables after the act. No tables
+/// elsewhere and no groups change.
 pub fn an_instance_answers_by_the_history()
     ensures reply { (n : ℕ) (w : World) (at : Surroundings) (ask : Ask) (held : Held) →
         IsBuilt ask → w.groups at.here ≡ [] → Keeps at.here w held →

@@ -4,6 +4,7 @@
 mod decide;
 mod instance;
 mod laws;
+mod permission;
 mod reply;
 mod store;
 
@@ -12,4 +13,5 @@ pub use laws::{
     a_refused_request_writes_nothing, an_instance_answers_by_the_history,
     rows_are_held_as_their_bytes,
 };
+pub use permission::permission_for;
 pub use reply::{Answer, Reply};

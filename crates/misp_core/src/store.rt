@@ -63,7 +63,8 @@ fn is_at_event(raw: &RawRow, row: &Row) -> bool
 
 // Whether the row is held under this name, and under its own event.
 fn is_under(raw: &RawRow, row: &Row, name: &[u8]) -> bool
-    ensures { result ≡ (same_event (event_of row.now.key) raw.now.event && bytes_eq raw.now.name name.now) }
+    ensures { result ≡
+        (same_event (event_of row.now.key) raw.now.event && bytes_eq raw.now.name name.now) }
 {
     is_at_event(raw, row) && raw.name.as_slice() == name
 }

@@ -8,7 +8,6 @@ use Rattle.std.proofs.lemmas.Map.Made.{AllPairs-from_IsDistinct}
 use Rattle.std.proofs.lemmas.Simd.{map-map}
 use Rattle.std.proofs.lemmas.Slice.Eq.{bytes_eq-Decides}
 use Rattle.misp_script.specs.declared.description.Description.{Description}
-use Rattle.misp_script.specs.declared.description.Entry.{Entry}
 use Rattle.misp_script.specs.Names.{IsNet}
 use Rattle.misp_model.specs.Names.{same_inst}
 use Rattle.misp_net.specs.Hosts.{Host, nobody, host_at, described_host, described_hosts}

@@ -8,17 +8,16 @@ use Rattle.misp_format.specs.declared.fault.FormatFault.TheVariants as faults
 use Rattle.misp_format.specs.Tables.{event_at}
 use Rattle.misp_orgs.specs.Admin.{AdminFields as Admin}
 use Rattle.misp_orgs.specs.Keys.{CallerFields as Caller}
-use Rattle.misp_orgs.specs.declared.role.Perm.{Perm}
-use Rattle.misp_orgs.specs.Roles.{permits}
 use Rattle.misp_requests.specs.declared.ask.Ask.{Ask}
 use Rattle.misp_script.specs.Step.{RequestData}
+use Rattle.misp_core.specs.Permission.{permission_of, is_permitted, no_permission}
 use Rattle.misp_core.specs.Answers.{IsAdded, IsBuilt}
 use Rattle.serde_json.specs.Data.{Data}
 use Rattle.misp_net.specs.declared.route.Route.{Route}
 use Rattle.misp_net.specs.declared.route.Route.TheVariants.{AddEvent, ViewEvent}
-use Rattle.misp_net.specs.Route.{route_of, permission_of}
+use Rattle.misp_net.specs.Route.{route_of}
 use Rattle.misp_net.specs.Request.{Reading, json_in, added, added_by, asked, ask_of}
-use Rattle.misp_net.specs.Answering.{Asked, caller_in, no_permission, by_body, by_route, form_of}
+use Rattle.misp_net.specs.Answering.{Asked, caller_in, by_body, by_route, read_of, permitted, form_of}
 use Rattle.misp_net.proofs.Built.{event_built}
 
 -- ---- what is asked
@@ -46,26 +45,33 @@ unfolding added
 ask_built AddEvent body word = added_built word (json_in body)
 ask_built (ViewEvent event owner) body word = tt
 
--- `permitted`, by whether the role permits it
-abbrev pub allowed : Bool → Caller → Perm → Ask → Reading Asked
-allowed may caller perm ask = if may then Ok (caller, ask) else Err (no_permission perm)
-
-allowed_built : (may : Bool) (caller : Caller) (perm : Perm) (ask : Ask) → IsBuilt ask → BuiltForm (allowed may caller perm ask)
-allowed_built true caller perm ask built = built
-allowed_built false caller perm ask built = tt
-
-body_built : (caller : Caller) (perm : Perm) (ask : Reading Ask) → BuiltAsk ask → BuiltForm (by_body caller perm ask)
-body_built caller perm (Ok ask) built = allowed_built (permits caller.role perm) caller perm ask built
-body_built caller perm (Err refusal) built = tt
+body_built : (caller : Caller) (read : Reading Ask) → BuiltAsk read → BuiltForm (by_body caller read)
+body_built caller (Ok ask) built = built
+body_built caller (Err refusal) built = tt
 
 route_built : (route : Result Route RuleName) (caller : Option Caller) (body : List ℕ) (word : ℕ) → BuiltForm (by_route route caller body word)
 route_built (Err rule) caller body word = tt
 route_built (Ok route) None body word = tt
-route_built (Ok route) (Some caller) body word = body_built caller (permission_of route) (ask_of route body word) (ask_built route body word)
+route_built (Ok route) (Some caller) body word = body_built caller (ask_of route body word) (ask_built route body word)
+
+read_built : (admin : Admin) (request : RequestData) (word : ℕ) → BuiltForm (read_of admin request word)
+unfolding read_of
+read_built admin request word = route_built (route_of request.method request.target) (caller_in admin request.key) request.body word
+
+-- `permitted`, by whether the role permits it
+abbrev pub allowed : Bool → Asked → Reading Asked
+allowed may asked = if may then Ok asked else Err (no_permission (permission_of asked.1))
+
+allowed_built : (may : Bool) (asked : Asked) → IsBuilt asked.1 → BuiltForm (allowed may asked)
+allowed_built true asked built = built
+allowed_built false asked built = tt
+
+permitted_built : (read : Reading Asked) → BuiltForm read → BuiltForm (permitted read)
+permitted_built (Ok asked) built = allowed_built (is_permitted asked.0 asked.1) asked built
+permitted_built (Err refusal) built = tt
 
 pub form_built : (admin : Admin) (request : RequestData) (word : ℕ) → BuiltForm (form_of admin request word)
-unfolding form_of
-form_built admin request word = route_built (route_of request.method request.target) (caller_in admin request.key) request.body word
+form_built admin request word = permitted_built (read_of admin request word) (read_built admin request word)
 
 -- ---- who asks
 
@@ -73,19 +79,26 @@ abbrev pub AskedBy : Option Caller → Reading Asked → Type 0
 AskedBy caller (Ok asked) = caller ≡ Some asked.0
 AskedBy caller (Err refusal) = Unit {0}
 
-allowed_asked : (may : Bool) (caller : Caller) (perm : Perm) (ask : Ask) → AskedBy (Some caller) (allowed may caller perm ask)
-allowed_asked true caller perm ask = refl
-allowed_asked false caller perm ask = tt
-
-body_asked : (caller : Caller) (perm : Perm) (ask : Reading Ask) → AskedBy (Some caller) (by_body caller perm ask)
-body_asked caller perm (Ok ask) = allowed_asked (permits caller.role perm) caller perm ask
-body_asked caller perm (Err refusal) = tt
+body_asked : (caller : Caller) (read : Reading Ask) → AskedBy (Some caller) (by_body caller read)
+body_asked caller (Ok ask) = refl
+body_asked caller (Err refusal) = tt
 
 route_asked : (route : Result Route RuleName) (caller : Option Caller) (body : List ℕ) (word : ℕ) → AskedBy caller (by_route route caller body word)
 route_asked (Err rule) caller body word = tt
 route_asked (Ok route) None body word = tt
-route_asked (Ok route) (Some caller) body word = body_asked caller (permission_of route) (ask_of route body word)
+route_asked (Ok route) (Some caller) body word = body_asked caller (ask_of route body word)
+
+read_caller : (admin : Admin) (request : RequestData) (word : ℕ) → AskedBy (caller_in admin request.key) (read_of admin request word)
+unfolding read_of
+read_caller admin request word = route_asked (route_of request.method request.target) (caller_in admin request.key) request.body word
+
+allowed_asked : (caller : Option Caller) (may : Bool) (asked : Asked) → caller ≡ Some asked.0 → AskedBy caller (allowed may asked)
+allowed_asked caller true asked is = is
+allowed_asked caller false asked is = tt
+
+permitted_asked : (caller : Option Caller) (read : Reading Asked) → AskedBy caller read → AskedBy caller (permitted read)
+permitted_asked caller (Ok asked) is = allowed_asked caller (is_permitted asked.0 asked.1) asked is
+permitted_asked caller (Err refusal) is = tt
 
 pub form_caller : (admin : Admin) (request : RequestData) (word : ℕ) → AskedBy (caller_in admin request.key) (form_of admin request word)
-unfolding form_of
-form_caller admin request word = route_asked (route_of request.method request.target) (caller_in admin request.key) request.body word
+form_caller admin request word = permitted_asked (caller_in admin request.key) (read_of admin request word) (read_caller admin request word)

@@ -2,6 +2,7 @@ pub mod Kept
 pub mod Built
 pub mod Forms
 pub mod Replying
+pub mod Ordering
 pub mod Telling
 pub mod Histories
 pub mod Steps

@@ -1,5 +1,5 @@
 -- The reply to a request by its form.
-use Rattle.std.proofs.Common.{◌≡◌, ◌⊎◌, ℕ, Bool, true, false, List, refl, sym, ap, subst, inl, inr, Option, Some, None, Result, Ok, Err}
+use Rattle.std.proofs.Common.{◌≡◌, ◌⊎◌, ℕ, Bool, true, false, List, [], refl, sym, ap, subst, inl, inr, Option, Some, None, Result, Ok, Err}
 use Rattle.std.specs.Prelude.{IfSome, bytes_eq, if◌then◌else◌}
 use Rattle.misp_elem.specs.declared.refusal.Refusal.{Refusal}
 use Rattle.misp_elem.specs.declared.refusal.RuleName.{RuleName}
@@ -10,14 +10,14 @@ use Rattle.misp_format.specs.declared.fault.FormatFault.TheVariants as faults
 use Rattle.misp_format.specs.Tables.{event_at}
 use Rattle.misp_orgs.specs.Admin.{AdminFields as Admin}
 use Rattle.misp_orgs.specs.Keys.{CallerFields as Caller}
-use Rattle.misp_orgs.specs.declared.role.Perm.{Perm}
-use Rattle.misp_orgs.specs.Roles.{permits}
 use Rattle.misp_outside.specs.Held.{Held}
 use Rattle.misp_requests.specs.declared.ask.Ask.{Ask}
 use Rattle.misp_script.specs.Step.{RequestData}
 use Rattle.misp_core.specs.Standing.{Standing}
-use Rattle.misp_core.specs.Answers.{site_at}
-use Rattle.misp_core.specs.Outcome.{Went, ByKeeper, outcome_of, IsAnswered}
+use Rattle.misp_elem.specs.Row.{AreRows}
+use Rattle.misp_core.specs.Permission.{is_permitted}
+use Rattle.misp_core.specs.Answers.{site, site_at, writes_over}
+use Rattle.misp_core.specs.Outcome.{Went, ByKeeper, outcome_of, asked_of, reply_to, held_after, refusal_by, forbidden, IsAnswered}
 use Rattle.misp_core.specs.declared.reply.Reply.{Reply}
 use Rattle.misp_core.specs.declared.reply.Reply.TheVariants as replies
 use Rattle.serde_json.specs.Data.{Data}
@@ -25,20 +25,29 @@ use Rattle.misp_net.specs.declared.route.Route.{Route}
 use Rattle.misp_net.specs.declared.route.Route.TheVariants.{AddEvent, ViewEvent}
 use Rattle.misp_net.specs.declared.request.AskFault.{AskFault}
 use Rattle.misp_net.specs.declared.request.AskFault.TheVariants as stops
-use Rattle.misp_net.specs.Route.{path_of, path_route, method_of, by_method, route_of, permission_of}
+use Rattle.misp_net.specs.Route.{path_of, path_route, method_of, by_method, route_of}
 use Rattle.misp_net.specs.Hosts.{Host, host_of}
 use Rattle.misp_net.specs.Request.{Reading, Gives, bare, json_in, json_or_refusal, added, added_by, asked, ask_of}
 use Rattle.misp_net.proofs.Forms.{allowed}
-use Rattle.misp_net.specs.Answering.{Asked, caller_in, by_body, by_route, form_of, fault_reply, reply_by, IsReplied}
+use Rattle.misp_net.specs.Answering.{Asked, caller_in, by_body, by_route, read_of, permitted, form_of, fault_reply, reply_by, IsReplied}
+
+-- what an instance answers to an ask is what is replied to its form, by whether the role permits the ask
+answer_replies : (n : ℕ) (host : Host) (now : ℕ) (asked : Asked) (may : Bool) (held : Held) (reply : Reply) (new : Option Held)
+    → reply ≡ (if may then reply_to (outcome_of reply) n (site host.name host.admin asked.0 now) asked.1 held else refusal_by (outcome_of reply) (forbidden asked.1))
+    → new ≡ Some (if may then held_after (outcome_of reply) n (site host.name host.admin asked.0 now) asked.1 held else held)
+    → (outcome_of reply ≡ Went → AreRows (if may then writes_over n (site host.name host.admin asked.0 now) asked.1 (asked_of asked.1 held) else []))
+    → IsReplied n host now (allowed may asked) held reply new
+answer_replies n host now asked true held reply new is left are = record { reply_is = is; left = left; are_rows = are }
+answer_replies n host now asked false held reply new is left are = record { reply_is = is; left = left; are_rows = are }
 
 -- an ask is answered by the instance
-pub by_step : (n : ℕ) (i : Standing) (now : ℕ) (request : RequestData) (word : ℕ) (admin : Admin) (asked : Asked) (reply : Reply) (old new : Option Held)
-    → admin ≡ i.admin → form_of admin request word ≡ Ok asked → IfSome old (λ held. IsAnswered n (site_at i asked.0 now) asked.1 held reply new)
+pub by_step : (n : ℕ) (i : Standing) (now : ℕ) (request : RequestData) (word : ℕ) (asked : Asked) (reply : Reply) (old new : Option Held)
+    → read_of i.admin request word ≡ Ok asked → IfSome old (λ held. IsAnswered n (site_at i asked.0 now) asked.1 held reply new)
     → IfSome old (λ held. IsReplied n (host_of i) now (form_of i.admin request word) held reply new)
-by_step n i now request word admin asked reply None new same is answered = tt
-by_step n i now request word admin asked reply (Some held) new same is answered =
-    subst (λ f. IsReplied n (host_of i) now f held reply new) (sym (subst (λ a. form_of a request word ≡ Ok asked) same is))
-    (record { reply_is = answered.reply_is; left = answered.left; are_rows = answered.are_rows })
+by_step n i now request word asked reply None new is answered = tt
+by_step n i now request word asked reply (Some held) new is answered =
+    subst (λ read. IsReplied n (host_of i) now (permitted read) held reply new) (sym is)
+    (answer_replies n (host_of i) now asked (is_permitted asked.0 asked.1) held reply new answered.reply_is answered.left answered.are_rows)
 
 -- a refusal by the form of a request comes from no keeper, and from memory only where memory ran out
 abbrev IsFormal : Refusal → Type 0
@@ -67,13 +76,9 @@ unfolding added json_in
 ask_by_form AddEvent body word = added_by_form word _ (value_by_form _)
 ask_by_form (ViewEvent event owner) body word = tt
 
-allowed_by_form : (may : Bool) (caller : Caller) (perm : Perm) (ask : Ask) → ByForm (allowed may caller perm ask)
-allowed_by_form true caller perm ask = tt
-allowed_by_form false caller perm ask = inl refl
-
-body_by_form : (caller : Caller) (perm : Perm) (ask : Reading Ask) → ByForm ask → ByForm (by_body caller perm ask)
-body_by_form caller perm (Ok ask) formed = allowed_by_form (permits caller.role perm) caller perm ask
-body_by_form caller perm (Err refusal) formed = formed
+body_by_form : (caller : Caller) (read : Reading Ask) → ByForm read → ByForm (by_body caller read)
+body_by_form caller (Ok ask) formed = tt
+body_by_form caller (Err refusal) formed = formed
 
 -- the rule of a path that is none, or of another method, stops no request
 abbrev ByRoute : Result Route RuleName → Type 0
@@ -95,11 +100,11 @@ target_by_form method target = path_by_form method (path_route (path_of target))
 route_by_form : (route : Result Route RuleName) (caller : Option Caller) (body : List ℕ) (word : ℕ) → ByRoute route → ByForm (by_route route caller body word)
 route_by_form (Err rule) caller body word formed = formed
 route_by_form (Ok route) None body word formed = inl refl
-route_by_form (Ok route) (Some caller) body word formed = body_by_form caller (permission_of route) (ask_of route body word) (ask_by_form route body word)
+route_by_form (Ok route) (Some caller) body word formed = body_by_form caller (ask_of route body word) (ask_by_form route body word)
 
-form_by_form : (admin : Admin) (request : RequestData) (word : ℕ) → ByForm (form_of admin request word)
-unfolding form_of
-form_by_form admin request word = route_by_form (route_of request.method request.target) (caller_in admin request.key) request.body word (target_by_form request.method request.target)
+read_by_form : (admin : Admin) (request : RequestData) (word : ℕ) → ByForm (read_of admin request word)
+unfolding read_of
+read_by_form admin request word = route_by_form (route_of request.method request.target) (caller_in admin request.key) request.body word (target_by_form request.method request.target)
 
 -- such a refusal is the stated one
 formal_reply : (n : ℕ) (host : Host) (now : ℕ) (held : Held) (refusal : Refusal) → IsFormal refusal
@@ -118,26 +123,26 @@ out_of_memory n host now (Ok asked) held = record { reply_is = refl; left = refl
 out_of_memory n host now (Err refusal) held = record { reply_is = refl; left = refl; are_rows = λ went. tt }
 
 -- a request that was not read is refused, and what is held stays
-by_fault : (n : ℕ) (host : Host) (now : ℕ) (form : Reading Asked) (fault : AskFault) (held : Held) → Gives (Err fault) form → ByForm form
-    → IsReplied n host now form held (fault_reply fault) (Some held)
-by_fault n host now form (stops.Refused refusal) held given formed =
+by_fault : (n : ℕ) (host : Host) (now : ℕ) (read : Reading Asked) (fault : AskFault) (held : Held) → Gives (Err fault) read → ByForm read
+    → IsReplied n host now (permitted read) held (fault_reply fault) (Some held)
+by_fault n host now read (stops.Refused refusal) held given formed =
     let formal : IsFormal refusal = subst ByForm given formed in
-    subst (λ f. IsReplied n host now f held (replies.Refused refusal) (Some held)) (sym given) (formal_reply n host now held refusal formal)
-by_fault n host now form stops.NoMemory held given formed = out_of_memory n host now form held
+    subst (λ f. IsReplied n host now (permitted f) held (replies.Refused refusal) (Some held)) (sym given) (formal_reply n host now held refusal formal)
+by_fault n host now read stops.NoMemory held given formed = out_of_memory n host now (permitted read) held
 
 pub refused_by_form : (n : ℕ) (i : Standing) (now : ℕ) (request : RequestData) (word : ℕ) (fault : AskFault) (old : Option Held)
-    → Gives (Err fault) (form_of i.admin request word)
+    → Gives (Err fault) (read_of i.admin request word)
     → IfSome old (λ held. IsReplied n (host_of i) now (form_of i.admin request word) held (fault_reply fault) old)
 refused_by_form n i now request word fault None given = tt
 refused_by_form n i now request word fault (Some held) given =
-    by_fault n (host_of i) now (form_of i.admin request word) fault held given (form_by_form i.admin request word)
+    by_fault n (host_of i) now (read_of i.admin request word) fault held given (read_by_form i.admin request word)
 
 no_keeper_in : (refusal : Refusal) → IsFormal refusal → outcome_of (replies.Refused refusal) ≡ ByKeeper → ⊥
 no_keeper_in refusal (inl went) is = absurd cc
 no_keeper_in refusal (inr out) is = absurd cc
 
 -- no keeper failed where a request was not read
-pub no_keeper : (admin : Admin) (request : RequestData) (word : ℕ) (fault : AskFault) → Gives (Err fault) (form_of admin request word)
+pub no_keeper : (admin : Admin) (request : RequestData) (word : ℕ) (fault : AskFault) → Gives (Err fault) (read_of admin request word)
     → outcome_of (fault_reply fault) ≡ ByKeeper → ⊥
-no_keeper admin request word (stops.Refused refusal) given = no_keeper_in refusal (subst ByForm given (form_by_form admin request word))
+no_keeper admin request word (stops.Refused refusal) given = no_keeper_in refusal (subst ByForm given (read_by_form admin request word))
 no_keeper admin request word stops.NoMemory given = λ is. absurd cc

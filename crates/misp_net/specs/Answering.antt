@@ -1,28 +1,26 @@
 -- What a request is by its form, and what it is replied.
 use Rattle.std.specs.Prelude.{◌≡◌, ℕ, List, [], Option, Some, None, Result, Ok, Err, if◌then◌else◌}
 use Rattle.misp_ids.specs.Names.{is_api_key}
-use Rattle.misp_elem.specs.declared.refusal.Refusal.{Refusal}
 use Rattle.misp_elem.specs.declared.refusal.RuleName.{RuleName}
 use Rattle.misp_elem.specs.declared.refusal.RuleName.TheVariants as rules
 use Rattle.misp_elem.specs.declared.row.RowFields.{RowFields as Row}
 use Rattle.misp_elem.specs.Row.{AreRows}
 use Rattle.misp_orgs.specs.Admin.{AdminFields as Admin}
 use Rattle.misp_orgs.specs.Keys.{CallerFields as Caller}
-use Rattle.misp_orgs.specs.declared.role.Perm.{Perm}
-use Rattle.misp_orgs.specs.Roles.{permits, perm_name}
 use Rattle.misp_orgs.specs.Admin.{who_of}
 use Rattle.misp_outside.specs.Held.{Held}
 use Rattle.misp_requests.specs.declared.ask.Ask.{Ask}
 use Rattle.misp_script.specs.Step.{RequestData}
+use Rattle.misp_core.specs.Permission.{permission_of, is_permitted, no_permission}
 use Rattle.misp_core.specs.Answers.{site, writes_over}
-use Rattle.misp_core.specs.Outcome.{Outcome, Went, ByKeeper, ByMemory, outcome_of, asked_of, reply_to, held_after}
+use Rattle.misp_core.specs.Outcome.{Outcome, Went, outcome_of, asked_of, refusal_by, reply_to, held_after}
 use Rattle.misp_core.specs.declared.reply.Reply.{Reply}
 use Rattle.misp_core.specs.declared.reply.Reply.TheVariants as replies
 use Rattle.misp_net.specs.declared.route.Route.{Route}
 use Rattle.misp_net.specs.declared.request.AskFault.{AskFault}
 use Rattle.misp_net.specs.declared.request.AskFault.TheVariants as stops
 use Rattle.misp_net.specs.Hosts.{Host}
-use Rattle.misp_net.specs.Route.{route_of, permission_of}
+use Rattle.misp_net.specs.Route.{route_of}
 use Rattle.misp_net.specs.Request.{Reading, bare, ask_of}
 
 -- who asks with a text as key, which may be none that a key could be
@@ -34,30 +32,33 @@ caller_in admin (Some text) = if is_api_key text then who_of admin text else Non
 abbrev pub Asked : Type 0
 Asked = Caller × Ask
 
--- the refusal of what a role does not permit
-abbrev pub no_permission : Perm → Refusal
-no_permission perm = record { name = rules.NoPermission; place = perm_name perm }
-
--- what is asked, where the role of the caller permits it
-abbrev pub permitted : Caller → Perm → Ask → Reading Asked
-permitted caller perm ask = if permits caller.role perm then Ok (caller, ask) else Err (no_permission perm)
-
-abbrev pub by_body : Caller → Perm → Reading Ask → Reading Asked
-by_body caller perm (Ok ask) = permitted caller perm ask
-by_body caller perm (Err refusal) = Err refusal
+abbrev pub by_body : Caller → Reading Ask → Reading Asked
+by_body caller (Ok ask) = Ok (caller, ask)
+by_body caller (Err refusal) = Err refusal
 
 abbrev pub by_key : Option Caller → Route → List ℕ → ℕ → Reading Asked
 by_key None route body word = Err (bare rules.NoKey)
-by_key (Some caller) route body word = by_body caller (permission_of route) (ask_of route body word)
+by_key (Some caller) route body word = by_body caller (ask_of route body word)
 
 abbrev pub by_route : Result Route RuleName → Option Caller → List ℕ → ℕ → Reading Asked
 by_route (Err rule) caller body word = Err (bare rule)
 by_route (Ok route) caller body word = by_key caller route body word
 
--- what a request is by its form: first its route must be one, then its key, then its body, and last the role of its
--- caller must permit it
-unfoldable pub form_of : Admin → RequestData → ℕ → Reading Asked
-form_of admin request word = by_route (route_of request.method request.target) (caller_in admin request.key) request.body word
+-- what a request asks, and whose it is: first its route must be one, then its key, then its body
+unfoldable pub read_of : Admin → RequestData → ℕ → Reading Asked
+read_of admin request word =
+    by_route (route_of request.method request.target) (caller_in admin request.key)
+    request.body word
+
+-- what is asked, where the role of the caller permits it
+abbrev pub permitted : Reading Asked → Reading Asked
+permitted (Ok asked) =
+    if is_permitted asked.0 asked.1 then Ok asked else Err (no_permission (permission_of asked.1))
+permitted (Err refusal) = Err refusal
+
+-- what a request is by its form and the role of its caller
+abbrev pub form_of : Admin → RequestData → ℕ → Reading Asked
+form_of admin request word = permitted (read_of admin request word)
 
 -- the reply to a request that was not read
 abbrev pub fault_reply : AskFault → Reply
@@ -66,28 +67,26 @@ fault_reply stops.NoMemory = replies.Refused (bare rules.NoMemory)
 
 -- ---- the reply to the n-th request of a script, of this form
 
--- a refusal by the form, unless something stopped the request
-abbrev pub refusal_by : Outcome → Refusal → Reply
-refusal_by Went refusal = replies.Refused refusal
-refusal_by ByKeeper refusal = replies.Refused (bare rules.KeeperFault)
-refusal_by ByMemory refusal = replies.Refused (bare rules.NoMemory)
-
 abbrev pub reply_by : Outcome → ℕ → Host → ℕ → Reading Asked → Held → Reply
-reply_by outcome n host now (Ok asked) held = reply_to outcome n (site host.name host.admin asked.0 now) asked.1 held
+reply_by outcome n host now (Ok asked) held =
+    reply_to outcome n (site host.name host.admin asked.0 now) asked.1 held
 reply_by outcome n host now (Err refusal) held = refusal_by outcome refusal
 
 -- what is held afterwards
 abbrev pub held_by : Outcome → ℕ → Host → ℕ → Reading Asked → Held → Held
-held_by outcome n host now (Ok asked) held = held_after outcome n (site host.name host.admin asked.0 now) asked.1 held
+held_by outcome n host now (Ok asked) held =
+    held_after outcome n (site host.name host.admin asked.0 now) asked.1 held
 held_by outcome n host now (Err refusal) held = held
 
 -- the rows that it writes where nothing stops it
 abbrev pub writes_by : ℕ → Host → ℕ → Reading Asked → Held → List Row
-writes_by n host now (Ok asked) held = writes_over n (site host.name host.admin asked.0 now) asked.1 (asked_of asked.1 held)
+writes_by n host now (Ok asked) held =
+    writes_over n (site host.name host.admin asked.0 now) asked.1 (asked_of asked.1 held)
 writes_by n host now (Err refusal) held = []
 
 -- the reply is the stated one, and so is what is held afterwards; what is written are rows
-pub record IsReplied (n : ℕ) (host : Host) (now : ℕ) (form : Reading Asked) (held : Held) (reply : Reply) (new : Option Held) : Type 0 where
+pub record IsReplied (n : ℕ) (host : Host) (now : ℕ) (form : Reading Asked)
+    (held : Held) (reply : Reply) (new : Option Held) : Type 0 where
   pub reply_is : reply ≡ reply_by (outcome_of reply) n host now form held
   pub left : new ≡ Some (held_by (outcome_of reply) n host now form held)
   pub are_rows : outcome_of reply ≡ Went → AreRows (writes_by n host now form held)

@@ -1,4 +1,4 @@
--- What is known of the course of a script over instances, some of which may not tell what they hold.
+-- What is known of the course of a script over instances, some of which may not tell what is held.
 use Rattle.std.specs.Prelude.{◌≡◌, ℕ, List, ◌++◌, map, length}
 use Rattle.misp_outside.specs.Causes.{RoseBy}
 use Rattle.misp_elem.specs.Row.{AreRows}
@@ -31,8 +31,9 @@ pub record HasPut (n : ℕ) (hosts : List Host) (act : Act)
   pub ran : IsAct n hosts act old new output
   pub text_is : after ≡ before ++ line_of number output
 
--- The lines took the keepers from old to new, and wrote this text: one line for each. What stopped each of them is
--- the list of outcomes: it names the fault of a keeper no more often than this keeper's count rose.
+-- The lines took the keepers from old to new, and wrote this text: one line for each. What stopped
+-- each of them is the list of outcomes: it names the fault of a keeper no more often than this
+-- keeper's count rose.
 pub record HasRun (hosts : List Host) (acts : List Act)
     (old new : List Stock) (text : List ℕ) : Type 0 where
   pub outcomes : List Outcome
@@ -47,9 +48,10 @@ pub record HasRun (hosts : List Host) (acts : List Act)
       → outputs ≡ outputs_of 0 hosts acts outcomes tables
   pub tables_are : (tables : Tables) → Tell old tables
       → Tell new (tables_left 0 hosts acts outcomes tables)
-  -- over keepers that held nothing the lines are those of the history, and each keeper holds its tables
+  -- over keepers that held nothing the lines are those of the history, and each holds its tables
   pub told : AreDistinct hosts → Tell old (empty_tables hosts)
       → outputs ≡ told_outputs 0 hosts start acts outcomes
   pub history : AreDistinct hosts → Tell old (empty_tables hosts)
       → IsHistory hosts (length acts)
-      (world_left 0 hosts start acts outcomes) (tables_left 0 hosts acts outcomes (empty_tables hosts))
+      (world_left 0 hosts start acts outcomes)
+      (tables_left 0 hosts acts outcomes (empty_tables hosts))

@@ -14,14 +14,14 @@ use Rattle.misp_model.specs.Outcomes.{Whole, Failed, step_partly, run_partly}
 use Rattle.misp_model.specs.Outcomes as model_outcomes
 use Rattle.misp_core.specs.Answers.{Surroundings, site, reply_in}
 use Rattle.misp_core.specs.Keeping.{Keeps, act_at, caller_at}
-use Rattle.misp_core.specs.Outcome.{Outcome, Went, ByKeeper, ByMemory}
+use Rattle.misp_core.specs.Outcome.{Outcome, Went, ByKeeper, ByMemory, refusal_by}
 use Rattle.misp_core.specs.declared.reply.Reply.{Reply}
 use Rattle.misp_core.specs.declared.reply.Reply.TheVariants as replies
 use Rattle.misp_net.specs.declared.line.Output.{Output}
 use Rattle.misp_net.specs.declared.line.Output.TheVariants.{Bad, Nothing, Replied}
 use Rattle.misp_net.specs.Hosts.{Host, host_at, Tables, held_at}
 use Rattle.misp_net.specs.Request.{Reading, bare}
-use Rattle.misp_net.specs.Answering.{Asked, caller_in, form_of, refusal_by}
+use Rattle.misp_net.specs.Answering.{Asked, caller_in, form_of}
 use Rattle.misp_net.specs.Run.{Act}
 
 -- ---- lines as acts
@@ -82,7 +82,8 @@ world_left n hosts w (act ∷ acts) (outcome ∷ outcomes) =
 
 -- ---- what the history says of a line
 
--- the reply to the n-th request, of this form: the stated function of what is asked, and of what its caller knows
+-- the reply to the n-th request, of this form: the stated function of what is asked, and of what
+-- its caller knows
 abbrev pub told_reply : Outcome → ℕ → World → Host → ℕ → Reading Asked → Reply
 told_reply Went n w host now (Ok asked) =
     let there : Surroundings = site_of host now asked.0 in
@@ -94,7 +95,8 @@ told_reply outcome n w host now (Err refusal) = refusal_by outcome refusal
 abbrev pub told_deed : Outcome → ℕ → List Host → World → ℕ → ℕ → DeedData → Output
 told_deed outcome n hosts w time word deeds.Nothing = Nothing
 told_deed outcome n hosts w time word (deeds.Request r) =
-    Replied (told_reply outcome n w (host_at r.at hosts) time (form_of (host_at r.at hosts).admin r word))
+    Replied
+    (told_reply outcome n w (host_at r.at hosts) time (form_of (host_at r.at hosts).admin r word))
 
 -- what the n-th line puts out
 abbrev pub told_output : Outcome → ℕ → List Host → World → Act → Output
@@ -120,10 +122,12 @@ AreDistinct hosts =
 abbrev pub empty_tables : List Host → Tables
 empty_tables hosts = map (λ host. nothing_held) hosts
 
--- each keeper holds the tables of its instance after the first n acts and nothing else, and no groups are known
+-- each keeper holds the tables of its instance after the first n acts and nothing else, and no
+-- groups are known
 pub record IsHistory (hosts : List Host) (n : ℕ) (w : World) (tables : Tables) : Type 0 where
   pub long : length tables ≡ length hosts
-  pub each : (place : ℕ) → place < length hosts → Keeps (host_at place hosts).name w (held_at place tables)
+  pub each : (place : ℕ) → place < length hosts
+      → Keeps (host_at place hosts).name w (held_at place tables)
   pub no_admin : (place : ℕ) → place < length hosts → (held_at place tables).admin ≡ []
   pub earlier : list_all (λ v. ltb v.act n) w.log ≡ true
   pub none : (i : Inst) → w.groups i ≡ []

@@ -48,7 +48,8 @@ stocks_of instances = map stock_of instances
 
 -- keepers, by what is told of each
 abbrev pub stocks : {K : Type 0} → (K → Option Held) → (K → ℕ) → List K → List Stock
-stocks held faults keepers = map (λ keeper. record { held = held keeper; faults = faults keeper }) keepers
+stocks held faults keepers =
+    map (λ keeper. record { held = held keeper; faults = faults keeper }) keepers
 
 -- what is held at each place
 abbrev pub Tables : Type 0

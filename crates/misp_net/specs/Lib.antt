@@ -2,6 +2,7 @@ pub mod Hosts
 pub mod Route
 pub mod Request
 pub mod Answering
+pub mod Order
 pub mod Text
 pub mod Run
 pub mod History

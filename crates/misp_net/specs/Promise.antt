@@ -28,7 +28,8 @@ abbrev pub replies_to : OrgId → List Host → List Act → List Output → Lis
 replies_to o hosts [] outputs = []
 replies_to o hosts (act ∷ acts) [] = []
 replies_to o hosts (act ∷ acts) (output ∷ outputs) =
-    if is_of o hosts act then output ∷ replies_to o hosts acts outputs else replies_to o hosts acts outputs
+    if is_of o hosts act then output ∷ replies_to o hosts acts outputs
+    else replies_to o hosts acts outputs
 
 -- its own lines, each in its place
 abbrev pub own_lines : OrgId → List Host → List Act → List (Option Act)
@@ -45,12 +46,16 @@ pub record IsPromised (hosts : List Host) (acts : List Act)
   pub run : HasRun hosts acts old new text
   -- what is refused changes nothing
   pub refused : (outcome : Outcome) (n : ℕ) (act : Act) (tables : Tables)
-      → IsIdle (output_of outcome n hosts act tables) → tables_after outcome n hosts act tables ≡ tables
-  -- where nothing was stopped, elements that an organisation was never granted change none of its replies
+      → IsIdle (output_of outcome n hosts act tables)
+      → tables_after outcome n hosts act tables ≡ tables
+  -- where nothing was stopped, elements that an organisation was never granted change none of its
+  -- replies
   pub private : AreDistinct hosts → Tell old (empty_tables hosts) → run.outcomes ≡ unstopped acts
       → (o : OrgId) → replies_to o hosts acts run.outputs
-      ≡ replies_to o hosts acts (outputs_over 0 hosts start acts (erased o no_links (acts_in hosts acts)))
-  -- and any script with its lines that comes to the same without those elements gives it these replies
+      ≡ replies_to o hosts acts
+      (outputs_over 0 hosts start acts (erased o no_links (acts_in hosts acts)))
+  -- and any script with its lines that comes to the same without those elements gives it these
+  -- replies
   pub alike : AreDistinct hosts → Tell old (empty_tables hosts) → run.outcomes ≡ unstopped acts
       → (o : OrgId) (others : List Act) → own_lines o hosts others ≡ own_lines o hosts acts
       → erased o no_links (acts_in hosts others) ≡ erased o no_links (acts_in hosts acts)

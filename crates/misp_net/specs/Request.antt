@@ -55,7 +55,8 @@ field_place path need = path ++ 32 ∷ need_words need
 
 abbrev pub asked : Result Submission FormatFault → Reading Ask
 asked (Ok submission) = Ok (asks.Change (changes.AddEvent submission))
-asked (Err (faults.BadField path need)) = Err (record { name = rules.BadField; place = field_place path need })
+asked (Err (faults.BadField path need)) =
+    Err (record { name = rules.BadField; place = field_place path need })
 asked (Err (faults.BinaryType path)) = Err (record { name = rules.BinaryType; place = path })
 asked (Err faults.NoMemory) = Err (bare rules.NoMemory)
 

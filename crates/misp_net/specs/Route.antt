@@ -1,14 +1,11 @@
--- Which request a method and a target are, and what a role has to permit for it.
+-- Which request a method and a target are.
 use Rattle.std.specs.Prelude.{ℕ, ◌+◌, ◌==◌, Bool, List, take, drop, position, codes, bytes_eq, Option, Some, None, option_map, Result, Ok, Err, if◌then◌else◌}
 use Rattle.std.specs.Option.{option_map_or}
 use Rattle.misp_ids.specs.declared.uid.Uid.{Uid}
-use Rattle.misp_ids.specs.declared.uid.EventId.{EventId}
 use Rattle.misp_ids.specs.declared.uid.OrgId.{OrgId}
 use Rattle.misp_ids.specs.Uid.{read_uid}
 use Rattle.misp_elem.specs.declared.refusal.RuleName.{RuleName}
 use Rattle.misp_elem.specs.declared.refusal.RuleName.TheVariants.{NoRoute, NoMethod}
-use Rattle.misp_orgs.specs.declared.role.Perm.{Perm}
-use Rattle.misp_orgs.specs.declared.role.Perm.TheVariants.{Read, Write}
 use Rattle.misp_net.specs.declared.route.Route.{Route}
 use Rattle.misp_net.specs.declared.route.Route.TheVariants.{AddEvent, ViewEvent}
 
@@ -47,7 +44,8 @@ view_at text (Some at) = owned_view (read_uid (take at text)) (read_uid (drop (a
 -- what is viewed by a path `/events/view/{event}` or `/events/view/{event}/{owner}`
 abbrev pub view_in : List ℕ → Option Route
 view_in path =
-    if bytes_eq (take 13 path) (codes "/events/view/") then view_at (drop 13 path) (position is_slash (drop 13 path)) else None
+    if bytes_eq (take 13 path) (codes "/events/view/")
+    then view_at (drop 13 path) (position is_slash (drop 13 path)) else None
 
 -- what a path is for
 unfoldable pub path_route : List ℕ → Option Route
@@ -65,11 +63,7 @@ abbrev pub by_method : List ℕ → Option Route → Result Route RuleName
 by_method method None = Err NoRoute
 by_method method (Some route) = if bytes_eq method (method_of route) then Ok route else Err NoMethod
 
--- the route of a path and its method, whatever stands behind a `?`; a path that is none, or another method, is refused
+-- the route of a path and its method, whatever stands behind a `?`; a path that is none, or another
+-- method, is refused
 unfoldable pub route_of : List ℕ → List ℕ → Result Route RuleName
 route_of method target = by_method method (path_route (path_of target))
-
--- what a role has to permit for it
-abbrev pub permission_of : Route → Perm
-permission_of AddEvent = Write
-permission_of (ViewEvent event owner) = Read

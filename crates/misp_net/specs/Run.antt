@@ -1,4 +1,5 @@
--- The run of a script, given what stopped each of its lines: what is put out, and what is held in the end.
+-- The run of a script, given what stopped each of its lines: what is put out, and what is held in
+-- the end.
 use Rattle.std.specs.Prelude.{ℕ, suc, ◌+◌, ◌==◌, List, [], ◌∷◌, map, slice_set, Ok, Err, if◌then◌else◌}
 use Rattle.misp_elem.specs.declared.row.RowFields.{RowFields as Row}
 use Rattle.misp_outside.specs.Held.{Held}
@@ -25,36 +26,44 @@ acts_of names script = map (step_of names) (lines_of script)
 -- what a request of this moment and word, the n-th of the script, is replied
 abbrev pub request_reply : Outcome → ℕ → List Host → ℕ → ℕ → RequestData → Tables → Output
 request_reply outcome n hosts time word r tables =
-    Replied (reply_by outcome n (host_at r.at hosts) time (form_of (host_at r.at hosts).admin r word) (held_at r.at tables))
+    Replied
+    (reply_by outcome n (host_at r.at hosts) time (form_of (host_at r.at hosts).admin r word)
+    (held_at r.at tables))
 
 -- what it leaves where it is asked
 abbrev pub request_held : Outcome → ℕ → List Host → ℕ → ℕ → RequestData → Tables → Held
 request_held outcome n hosts time word r tables =
-    held_by outcome n (host_at r.at hosts) time (form_of (host_at r.at hosts).admin r word) (held_at r.at tables)
+    held_by outcome n (host_at r.at hosts) time (form_of (host_at r.at hosts).admin r word)
+    (held_at r.at tables)
 
 abbrev pub deed_output : Outcome → ℕ → List Host → ℕ → ℕ → DeedData → Tables → Output
 deed_output outcome n hosts time word deeds.Nothing tables = Nothing
-deed_output outcome n hosts time word (deeds.Request r) tables = request_reply outcome n hosts time word r tables
+deed_output outcome n hosts time word (deeds.Request r) tables =
+    request_reply outcome n hosts time word r tables
 
 -- what the n-th line puts out
 abbrev pub output_of : Outcome → ℕ → List Host → Act → Tables → Output
-output_of outcome n hosts (Ok step) tables = deed_output outcome n hosts step.time step.word step.deed tables
+output_of outcome n hosts (Ok step) tables =
+    deed_output outcome n hosts step.time step.word step.deed tables
 output_of outcome n hosts (Err bad) tables = Bad bad.place
 
 abbrev pub deed_tables : Outcome → ℕ → List Host → ℕ → ℕ → DeedData → Tables → Tables
 deed_tables outcome n hosts time word deeds.Nothing tables = tables
-deed_tables outcome n hosts time word (deeds.Request r) tables = slice_set tables r.at (request_held outcome n hosts time word r tables)
+deed_tables outcome n hosts time word (deeds.Request r) tables =
+    slice_set tables r.at (request_held outcome n hosts time word r tables)
 
 -- what it leaves
 abbrev pub tables_after : Outcome → ℕ → List Host → Act → Tables → Tables
-tables_after outcome n hosts (Ok step) tables = deed_tables outcome n hosts step.time step.word step.deed tables
+tables_after outcome n hosts (Ok step) tables =
+    deed_tables outcome n hosts step.time step.word step.deed tables
 tables_after outcome n hosts (Err bad) tables = tables
 
 -- the rows that a line writes where nothing stops it
 abbrev pub deed_writes : ℕ → List Host → ℕ → ℕ → DeedData → Tables → List Row
 deed_writes n hosts time word deeds.Nothing tables = []
 deed_writes n hosts time word (deeds.Request r) tables =
-    writes_by n (host_at r.at hosts) time (form_of (host_at r.at hosts).admin r word) (held_at r.at tables)
+    writes_by n (host_at r.at hosts) time (form_of (host_at r.at hosts).admin r word)
+    (held_at r.at tables)
 
 abbrev pub writes_of : ℕ → List Host → Act → Tables → List Row
 writes_of n hosts (Ok step) tables = deed_writes n hosts step.time step.word step.deed tables
@@ -72,7 +81,8 @@ abbrev pub outputs_of : ℕ → List Host → List Act → List Outcome → Tabl
 outputs_of n hosts [] outcomes tables = []
 outputs_of n hosts (act ∷ acts) [] tables = []
 outputs_of n hosts (act ∷ acts) (outcome ∷ outcomes) tables =
-    output_of outcome n hosts act tables ∷ outputs_of (suc n) hosts acts outcomes (tables_after outcome n hosts act tables)
+    output_of outcome n hosts act tables
+    ∷ outputs_of (suc n) hosts acts outcomes (tables_after outcome n hosts act tables)
 
 -- what they leave in the end
 abbrev pub tables_left : ℕ → List Host → List Act → List Outcome → Tables → Tables
@@ -104,4 +114,5 @@ fault_at place (Err bad) outcome = 0
 abbrev pub faults_at : ℕ → List Act → List Outcome → ℕ
 faults_at place [] outcomes = 0
 faults_at place (act ∷ acts) [] = 0
-faults_at place (act ∷ acts) (outcome ∷ outcomes) = fault_at place act outcome + faults_at place acts outcomes
+faults_at place (act ∷ acts) (outcome ∷ outcomes) =
+    fault_at place act outcome + faults_at place acts outcomes

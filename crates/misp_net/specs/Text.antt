@@ -19,7 +19,8 @@ answer_text (answers.Event event) = compact_text (body_data event)
 -- the status of a reply, a space and its body
 abbrev pub reply_text : Reply → List ℕ
 reply_text (replies.Ok answer) = codes "200 " ++ answer_text answer
-reply_text (replies.Refused refusal) = decimal (rule_status refusal.name) ++ 32 ∷ compact_text (refusal_data refusal)
+reply_text (replies.Refused refusal) =
+    decimal (rule_status refusal.name) ++ 32 ∷ compact_text (refusal_data refusal)
 
 -- `bad` and the place of the first faulty field, `-` where nothing was asked, or the reply
 abbrev pub output_text : Output → List ℕ

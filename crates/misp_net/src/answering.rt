@@ -5,80 +5,52 @@ ghost use Rattle.misp_outside.specs.Causes.{HasCause};
 ghost use Rattle.misp_script.specs.Step.{request_data};
 ghost use Rattle.misp_core.specs.Answers.{IsBuilt};
 ghost use Rattle.misp_core.specs.Outcome.{ByKeeper, outcome_of, IsRefused};
-ghost use Rattle.misp_net.specs.Answering.{Asked, caller_in, no_permission, permitted, form_of, fault_reply, IsReplied};
+ghost use Rattle.misp_core.specs.Order.{IsInOrder};
+ghost use Rattle.misp_net.specs.Answering.{caller_in, read_of, form_of, fault_reply, IsReplied};
+ghost use Rattle.misp_net.specs.Order.{order};
 ghost use Rattle.misp_net.specs.Hosts.{host_of};
-ghost use Rattle.misp_net.specs.Request.{Reading, Gives};
+ghost use Rattle.misp_net.specs.Request.{Gives};
 
 use crate::request::{AskFault, bare, read_ask};
 use crate::route::Route;
 use misp_core::{Instance, Reply};
-use misp_elem::{Refusal, RuleName};
-use misp_ids::{ApiKey, Stamp, Text};
-use misp_orgs::{Admin, Caller, Perm, may};
+use misp_elem::RuleName;
+use misp_ids::{ApiKey, Stamp};
+use misp_orgs::Caller;
 use misp_outside::Keeper;
 use misp_requests::Ask;
 use misp_script::RequestLine;
 use std::alloc::Global;
 
-fn caller(admin: &Admin, key: &Option<&str>) -> Option<Caller>
-    ensures { result ≡ caller_in admin.now (option_map (λ text. text.now) key.now) }
+fn caller<K: Keeper>(instance: &Instance<K>, key: &Option<&str>) -> Option<Caller>
+    ensures { result ≡ caller_in instance.now.admin (option_map (λ text. text.now) key.now) }
 {
     match key {
-        Some(text) => match ApiKey::read(text) {
-            Some(key) => admin.who(&key),
-            None => None,
-        },
+        Some(text) => instance.who(&ApiKey::read(text)?),
         None => None,
     }
 }
 
-fn no_permission(alloc: Global, perm: Perm) -> AskFault
-    ensures { (read : Reading Asked) → read ≡ Err (no_permission perm) → Gives (Err result) read }
-{
-    match String::from_str(alloc, perm.text()) {
-        Ok(name) => AskFault::Refused(Refusal {
-            name: RuleName::NoPermission,
-            place: Text::of(name),
-        }),
-        Err(_) => AskFault::NoMemory,
-    }
-}
-
-// What is asked, where the role of the caller permits it.
-fn permitted(alloc: Global, caller: Caller, perm: Perm, ask: Ask) -> Result<(Caller, Ask), AskFault>
-    ensures form { Gives result (permitted caller perm ask) }
-    ensures ask { IfOk result (λ asked. asked.1 ≡ ask) }
-{
-    if may(caller.role, perm) {
-        Ok((caller, ask))
-    } else {
-        Err(no_permission(alloc, perm))
-    }
-}
-
-// The ask of a request, and whose it is: first its route must be one, then its key, then its body,
-// and last the role of its caller must permit it.
-#[tactic(auto, unfolding(crate::specs::Answering::form_of))]
-fn form(
+// The ask of a request, and whose it is: first its route must be one, then its key, then its body.
+#[tactic(auto, unfolding(crate::specs::Answering::read_of))]
+fn read<K: Keeper>(
     alloc: Global,
-    admin: &Admin,
+    instance: &Instance<K>,
     word: u128,
     request: &RequestLine<'_>,
 ) -> Result<(Caller, Ask), AskFault>
-    ensures form { Gives result (form_of admin.now (request_data request.now) word) }
+    ensures read { Gives result (read_of instance.now.admin (request_data request.now) word) }
     ensures built { IfOk result (λ asked. IsBuilt asked.1) }
 {
     let route = match Route::of(request.method, request.target) {
         Ok(route) => route,
         Err(rule) => return Err(AskFault::Refused(bare(alloc, rule))),
     };
-    let Some(caller) = caller(admin, &request.key) else {
+    let Some(caller) = caller(instance, &request.key) else {
         return Err(AskFault::Refused(bare(alloc, RuleName::NoKey)));
     };
-    match read_ask(alloc, route, request.body, word) {
-        Ok(ask) => permitted(alloc, caller, route.permission(), ask),
-        Err(fault) => Err(fault),
-    }
+    let ask = read_ask(alloc, route, request.body, word)?;
+    Ok((caller, ask))
 }
 
 fn refused(alloc: Global, fault: AskFault) -> Reply
@@ -99,16 +71,23 @@ pub fn answer<K: Keeper>(
     request: &RequestLine<'_>,
 ) -> Reply
     // Reply and rows are the stated functions of the request and of what is held.
-    ensures replied { (n : ℕ) → IfSome instance.old.held (λ held. IsReplied n (host_of instance.old) now
-        (form_of instance.old.admin (request_data request.now) word) held result instance.new.held) }
+    ensures replied { (n : ℕ) → IfSome instance.old.held (λ held. IsReplied n
+        (host_of instance.old) now
+        (form_of instance.old.admin (request_data request.now) word)
+        held result instance.new.held) }
+
+    // Where several rules refuse the request, the first in the one order is answered.
+    ensures order { (n : ℕ) → IfSome instance.old.held (λ held. IsInOrder
+        (order n (host_of instance.old) now (request_data request.now) word held) result) }
 
     // A refused request changes nothing.
     ensures refused { IsRefused result → instance.new.held ≡ instance.old.held }
-    ensures cause { HasCause instance.old.faults instance.new.faults (outcome_of result ≡ ByKeeper) }
+    ensures cause { HasCause instance.old.faults instance.new.faults
+        (outcome_of result ≡ ByKeeper) }
     ensures name { instance.new.name ≡ instance.old.name }
     ensures admin { instance.new.admin ≡ instance.old.admin }
 {
-    match form(alloc, instance.admin(), word, request) {
+    match read(alloc, instance, word, request) {
         Ok((caller, ask)) => instance.step(alloc, now, &caller, ask),
         Err(fault) => refused(alloc, fault),
     }

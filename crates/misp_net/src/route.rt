@@ -1,11 +1,10 @@
 //! Routes.
 
 ghost use Rattle.std.specs.Prelude.{◌≡◌, position};
-ghost use Rattle.misp_net.specs.Route.{path_of, view_at, view_in, path_route, method_of, route_of, permission_of, is_slash};
+ghost use Rattle.misp_net.specs.Route.{path_of, view_at, view_in, path_route, method_of, route_of, is_slash};
 
 use misp_elem::RuleName;
 use misp_ids::{EventId, OrgId, Uid};
-use misp_orgs::Perm;
 
 /// What a request asks for, by its method and path.
 #[derive(Clone, Copy, Debug, PartialEq, Eq)]
@@ -87,16 +86,6 @@ impl Route {
                 }
             }
             None => Err(RuleName::NoRoute),
-        }
-    }
-
-    /// What a role has to permit for it.
-    pub fn permission(self) -> Perm
-        ensures { result ≡ permission_of self }
-    {
-        match self {
-            Route::AddEvent => Perm::Write,
-            Route::ViewEvent(_, _) => Perm::Read,
         }
     }
 }

@@ -1,25 +1,32 @@
 use native.Mathlib.Omega.{arith}
-use Rattle.std.proofs.Common.{◌≡◌, Err, subst}
+use Rattle.std.proofs.Common.{◌≡◌, subst}
 use Rattle.misp_script.specs.Step.{request_data}
 use Rattle.misp_core.specs.Outcome.{ByKeeper, outcome_of}
-use Rattle.misp_net.specs.Request.{Gives}
-use Rattle.misp_net.specs.Answering.{form_of}
 use Rattle.misp_net.proofs.Replying.{by_step, refused_by_form, no_keeper}
+use Rattle.misp_net.proofs.Ordering.{order_by_step, order_by_fault}
 use Rattle.misp_net.proofs.answering.answer.Goals as goal
 
 pub returns-in-Ok-clause-replied : goal.returns-in-Ok-clause-replied
 returns-in-Ok-clause-replied g c = λ n. by_step n c.args.instance.now c.args.now (request_data c.args.request.now) c.args.word
-    _ _ _ _ _ c.admin.ensures c.in-Ok.ensures.form (c.step.ensures.answered n)
+    _ _ _ _ c.in-Ok.ensures.read (c.step.ensures.answered n)
+
+pub returns-in-Ok-clause-order : goal.returns-in-Ok-clause-order
+returns-in-Ok-clause-order g c = λ n. order_by_step n c.args.instance.now c.args.now (request_data c.args.request.now) c.args.word
+    _ c.step.result _ c.in-Ok.ensures.read (c.step.ensures.order n)
+
+pub returns-in-Err-clause-order : goal.returns-in-Err-clause-order
+returns-in-Err-clause-order g c = λ n.
+    rw (c.refused.ensures)
+    (order_by_fault n c.args.instance.now c.args.now (request_data c.args.request.now) c.args.word c.in-Err.fault c.args.instance.now.held c.in-Err.ensures.read)
 
 pub returns-in-Err-clause-replied : goal.returns-in-Err-clause-replied
 returns-in-Err-clause-replied g c = λ n.
     rw (c.refused.ensures)
-    (refused_by_form n c.args.instance.now c.args.now (request_data c.args.request.now) c.args.word c.in-Err.fault c.args.instance.now.held
-    (subst (λ admin. Gives (Err c.in-Err.fault) (form_of admin (request_data c.args.request.now) c.args.word)) c.admin.ensures c.in-Err.ensures.form))
+    (refused_by_form n c.args.instance.now c.args.now (request_data c.args.request.now) c.args.word c.in-Err.fault c.args.instance.now.held c.in-Err.ensures.read)
 
 pub returns-in-Err-clause-cause : goal.returns-in-Err-clause-cause
 returns-in-Err-clause-cause g c = record {
   later = omega arith;
   rose = λ is. absurd (no_keeper c.args.instance.now.admin (request_data c.args.request.now) c.args.word c.in-Err.fault
-      (subst (λ admin. Gives (Err c.in-Err.fault) (form_of admin (request_data c.args.request.now) c.args.word)) c.admin.ensures c.in-Err.ensures.form) (subst (λ r. outcome_of r ≡ ByKeeper) c.refused.ensures is));
+      c.in-Err.ensures.read (subst (λ r. outcome_of r ≡ ByKeeper) c.refused.ensures is));
 }

@@ -1,0 +1,91 @@
+-- A reply refuses by the first rule that refuses its request.
+use Rattle.std.proofs.Common.{◌≡◌, ℕ, List, [], ◌∷◌, Bool, true, false, refl, ap, sym, ◌∙◌, map, option_map, Option, Some, None, Result, Ok, Err}
+use Rattle.std.specs.Prelude.{not, if◌then◌else◌, IfSome}
+use Rattle.misp_ids.specs.declared.uid.OrgId.{OrgId}
+use Rattle.misp_ids.specs.declared.uid.EventId.{EventId}
+use Rattle.misp_elem.specs.declared.row.RowFields.{RowFields as Row}
+use Rattle.misp_elem.specs.declared.visible.VisibleEvent.{VisibleEvent}
+use Rattle.misp_elem.specs.declared.refusal.RuleName.TheVariants as rules
+use Rattle.misp_elem.specs.Draft.{SubmissionFields as Submission}
+use Rattle.misp_requests.specs.declared.ask.Ask.{Ask}
+use Rattle.misp_requests.specs.declared.ask.Ask.TheVariants.{View}
+use Rattle.misp_requests.specs.declared.ask.Ask.TheVariants as asks
+use Rattle.misp_requests.specs.declared.change.Change.TheVariants.{AddEvent}
+use Rattle.misp_requests.specs.declared.change.Change.TheVariants as changes
+use Rattle.misp_orgs.specs.Admin.{AdminFields as Admin}
+use Rattle.misp_outside.specs.Held.{Held}
+use Rattle.misp_model.specs.Asking.{Scene, Rule, first_rule, change_rules}
+use Rattle.misp_model.specs.Asking as asking
+use Rattle.misp_model.specs.Shown.{shown}
+use Rattle.misp_model.specs.Acts.{answer, ok_answer, ask_rules, Refused, Seen, Saved}
+use Rattle.misp_model.specs.Acts as model
+use Rattle.misp_core.specs.Permission.{is_permitted}
+use Rattle.misp_core.specs.Answers.{Surroundings, IsBuilt, reply_of, reply_in, reply_over, named, scene_at}
+use Rattle.misp_core.specs.Outcome.{Outcome, Went, outcome_of, asked_of, refusal_by, forbidden, step_reply, IsAnswered}
+use Rattle.misp_core.specs.Order.{first_ground, rule_of, IsInOrder, ground_of, row_grounds, grounds}
+use Rattle.misp_core.specs.declared.reply.Reply.{Reply}
+
+-- the first of the named rules is the name of the first
+first_named : (rs : List (Bool × Rule)) → first_ground (map ground_of rs) ≡ option_map named (first_rule rs)
+unfolding first_ground first_rule
+first_named [] = refl
+first_named ((true, r) ∷ rs) = refl
+first_named ((false, r) ∷ rs) = first_named rs
+
+by_seen : (admin : Admin) (s : Scene) (event : EventId) (owner : Option OrgId) (seen : Option VisibleEvent)
+    → rule_of (reply_of admin s (View event owner) (elim (first_rule ((elim seen [ None ↦ true | Some x ↦ false ], asking.NotGranted) ∷ []))
+    [ None ↦ elim seen [ None ↦ model.Other | Some x ↦ Seen x ] | Some r ↦ Refused r ]))
+    ≡ first_ground (map ground_of ((elim seen [ None ↦ true | Some x ↦ false ], asking.NotGranted) ∷ []))
+unfolding first_ground first_rule
+by_seen admin s event owner None = refl
+by_seen admin s event owner (Some v) = refl
+
+by_rule : (admin : Admin) (s : Scene) (b : Submission) (rule : Option Rule)
+    → rule_of (reply_of admin s (asks.Change (AddEvent b)) (elim rule [ None ↦ ok_answer s (asks.Change (AddEvent b)) | Some r ↦ Refused r ]))
+    ≡ option_map named rule
+unfolding ok_answer
+by_rule admin s b None = refl
+by_rule admin s b (Some r) = refl
+
+-- of an ask in its scene
+in_scene : (admin : Admin) (s : Scene) (ask : Ask) → IsBuilt ask → rule_of (reply_in admin s ask) ≡ first_ground (map ground_of (ask_rules s ask))
+unfolding reply_in answer ask_rules ok_answer
+in_scene admin s (View event owner) built = by_seen admin s event owner (shown s event owner)
+in_scene admin s (asks.Change (AddEvent b)) built =
+    by_rule admin s b (first_rule (change_rules s (AddEvent b))) ∙ sym (first_named (change_rules s (AddEvent b)))
+in_scene admin s (asks.Change (changes.AddParts e b)) built = absurd built
+in_scene admin s (asks.Change (changes.EditEvent e edit)) built = absurd built
+in_scene admin s (asks.Change (changes.EditAttribute e p edit)) built = absurd built
+in_scene admin s (asks.Change (changes.EditObject e x edit)) built = absurd built
+in_scene admin s (asks.Change (changes.Delete e p)) built = absurd built
+in_scene admin s (asks.Change (changes.DeleteReference e x u)) built = absurd built
+in_scene admin s (asks.Change (changes.Tag e p t)) built = absurd built
+in_scene admin s (asks.Change (changes.Untag e p t)) built = absurd built
+in_scene admin s (asks.Change (changes.DeleteEvent e)) built = absurd built
+in_scene admin s (asks.Change (changes.Publish e)) built = absurd built
+in_scene admin s (asks.Propose d) built = absurd built
+in_scene admin s (asks.Judge e n accept) built = absurd built
+in_scene admin s (asks.Sight e t d) built = absurd built
+in_scene admin s asks.Index built = absurd built
+in_scene admin s (asks.TakePart p) built = absurd built
+
+-- over the rows of the event, by whether the role permits the ask
+by_rows : (n : ℕ) (at : Surroundings) (ask : Ask) (may : Bool) (rows : Result (List Row) (List ℕ)) → IsBuilt ask
+    → rule_of (if may then reply_over n at ask rows else refusal_by Went (forbidden ask))
+    ≡ first_ground ((not may, rules.NoPermission) ∷ row_grounds n at ask rows)
+unfolding first_ground
+by_rows n at ask false rows built = refl
+by_rows n at ask true (Err name) built = refl
+by_rows n at ask true (Ok rows) built = in_scene at.admin (scene_at n at rows) ask built
+
+-- of an ask over what is held
+pub in_order : (n : ℕ) (at : Surroundings) (ask : Ask) (held : Held) (reply : Reply) → IsBuilt ask
+    → reply ≡ step_reply (outcome_of reply) n at ask held → IsInOrder (grounds n at ask held) reply
+in_order n at ask held reply built is went =
+    ap rule_of (is ∙ ap (λ (o : Outcome). step_reply o n at ask held) went)
+    ∙ by_rows n at ask (is_permitted at.caller ask) (asked_of ask held) built
+
+pub told_in_order : (n : ℕ) (at : Surroundings) (ask : Ask) (old new : Option Held) (reply : Reply) → IsBuilt ask
+    → IfSome old (λ held. IsAnswered n at ask held reply new) → IfSome old (λ held. IsInOrder (grounds n at ask held) reply)
+told_in_order n at ask None new reply built is = tt
+told_in_order n at ask (Some held) new reply built is = in_order n at ask held reply built is.reply_is
