@@ -21,4 +21,3 @@ need_words needs.Length = codes "length"
 need_words (needs.Digit place) = codes "digit " ++ decimal place
 need_words (needs.Part number) = codes "part " ++ decimal number
 need_words needs.Row = codes "row"
-need_words needs.Later = codes "later"

@@ -32,8 +32,6 @@ pub enum Need {
     Part(u8),
     /// The bytes of rows.
     Row,
-    /// Something that is not read yet.
-    Later,
 }
 
 /// Writes the words for a need at the end of a text.
@@ -58,6 +56,5 @@ pub fn write_need(out: &mut String, need: Need) -> Result<(), AllocError>
         Need::Digit(place) => write!(out, "digit {place}"),
         Need::Part(number) => write!(out, "part {number}"),
         Need::Row => out.push_str("row"),
-        Need::Later => out.push_str("later"),
     }
 }

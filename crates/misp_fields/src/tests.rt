@@ -31,7 +31,7 @@ fn a_need_is_written_as_its_words(rt: HostRuntime) -> Result<(), Fail> {
         (Need::Text, "at text"),
         (Need::Digit(7), "at digit 7"),
         (Need::Part(2), "at part 2"),
-        (Need::Later, "at later"),
+        (Need::Row, "at row"),
     ];
     for (need, words) in &rows {
         let mut text = String::from_str(rt.alloc(), "at ")?;

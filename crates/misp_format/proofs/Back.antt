@@ -28,7 +28,8 @@ use Rattle.misp_fields.specs.Fields.{member_of, number_of, is_number_text, uuid_
 use Rattle.misp_format.specs.Body.{Body}
 use Rattle.misp_format.specs.Fields.{GroupNames, with_group, number_data, uuid_data, optional_uuid_data}
 use Rattle.misp_format.specs.Kinds.{category_of, category_name, is_file_type}
-use Rattle.misp_format.specs.Readers.{number_within, label_of}
+use Rattle.misp_format.specs.Labels.{numbered_at, label_at}
+use Rattle.misp_format.specs.Readers.{number_within}
 use Rattle.misp_format.specs.Rows.{Reading, ◌>>=◌, row, each}
 use Rattle.misp_format.specs.Written.{colour_text}
 
@@ -74,13 +75,31 @@ number_back n h =
 pub within_back : (least most n : ℕ) → IsBetween least most n → n < 2 ^ 64 → number_within least most (number_data n) ≡ Ok n
 within_back least most n between h = rw (number_back n h, between) refl
 
-pub label_back : (most : ℕ) (label : Label) → label_kind label ≤ most → (label_kind label == 4) ≡ false → label_of most (number_data (label_kind label)) ≡ Ok label
-label_back most labels.Own le free = rw (number_back 0 (lit< tt), le-leb 0 most le) refl
-label_back most labels.Community le free = rw (number_back 1 (lit< tt), le-leb 1 most le) refl
-label_back most labels.Connected le free = rw (number_back 2 (lit< tt), le-leb 2 most le) refl
-label_back most labels.All le free = rw (number_back 3 (lit< tt), le-leb 3 most le) refl
-label_back most (labels.Group group) le free = absurd cc
-label_back most labels.Inherit le free = rw (number_back 5 (lit< tt), le-leb 5 most le) refl
+numbered_back : (it : Body) (label : Label) → (label_kind label == 4) ≡ false → numbered_at it (label_kind label) ≡ Ok label
+numbered_back it labels.Own free = refl
+numbered_back it labels.Community free = refl
+numbered_back it labels.Connected free = refl
+numbered_back it labels.All free = refl
+numbered_back it (labels.Group group) free = absurd cc
+numbered_back it labels.Inherit free = refl
+
+pub at_most_5 : (label : Label) → label_kind label ≤ 5
+at_most_5 labels.Own = omega arith
+at_most_5 labels.Community = omega arith
+at_most_5 labels.Connected = omega arith
+at_most_5 labels.All = omega arith
+at_most_5 (labels.Group group) = omega arith
+at_most_5 labels.Inherit = omega arith
+
+pub label_back : (it : Body) (most absent : ℕ) (label : Label) → label_kind label ≤ most → (label_kind label == 4) ≡ false
+    → member_of (codes "distribution") it.value ≡ Some (number_data (label_kind label)) → label_at it most absent ≡ Ok label
+unfolding label_at
+label_back it most absent label le free here =
+    let n = label_kind label in
+    let between : IsBetween 0 most n = rw (le-leb 0 n (omega arith), le-leb n most le) refl in
+    let small : n < 2 ^ 64 = let five = at_most_5 label in let large : 5 < 2 ^ 64 = lit< tt in omega arith in
+    let number : row it (codes "distribution") (number_within 0 most) (Ok absent) ≡ Ok n = row_back it (codes "distribution") (number_within 0 most) (Ok absent) (number_data n) n here (within_back 0 most n between small) in
+    ap (λ (r : Reading ℕ). r >>= λ number. numbered_at it number) number ∙ numbered_back it label free
 
 -- without a group the members are as they are
 pub ungrouped : (names : GroupNames) (label : Label) (ms : Members) → (label_kind label == 4) ≡ false → with_group names label ms ≡ ms

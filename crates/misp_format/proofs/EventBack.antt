@@ -37,12 +37,13 @@ use Rattle.misp_format.specs.Elements.{kind_at, value_at, kept_at, tags_at, attr
 use Rattle.misp_format.specs.Fields.{GroupNames, group_names, list_data, number_data, uuid_data, optional_uuid_data}
 use Rattle.misp_format.specs.Gathered.{Gathered, none_from, place, with_part, with_reference}
 use Rattle.misp_format.specs.Kinds.{is_file_type, category_of, category_name}
+use Rattle.misp_format.specs.Labels.{label_at}
 use Rattle.misp_format.specs.Path.{member_path, item_path}
-use Rattle.misp_format.specs.Readers.{number_within, label_of, is_long, some_text_of, some_date_of}
+use Rattle.misp_format.specs.Readers.{number_within, is_long, some_text_of, some_date_of}
 use Rattle.misp_format.specs.Rows.{◌>>=◌, row, must_be, each}
 use Rattle.misp_format.specs.Tables.{submission_of, event_itself_at, event_at}
 use Rattle.misp_format.specs.Written.{place_uuid, key_uuid, attribute_members, attribute_with, attribute_of, attribute_data, reference_of, reference_data, object_members, object_with, object_of, object_data, event_members, event_with, event_of, event_data, body_data}
-use Rattle.misp_format.proofs.Back.{row_back, each_back, both, number_back, within_back, label_back, ungrouped, uuid_back, optional_back, category_back, kept_back, no_file_type}
+use Rattle.misp_format.proofs.Back.{row_back, each_back, both, number_back, within_back, at_most_5, label_back, ungrouped, uuid_back, optional_back, category_back, kept_back, no_file_type}
 use Rattle.misp_format.proofs.RowFacts.{least_of, attribute_size, reference_size, object_size, event_size, attribute_of_row, object_of_row, reference_of_row, event_of_row, key_of_row, uuid_in_place}
 use Rattle.misp_format.proofs.TagsBack.{tags_back}
 
@@ -51,14 +52,6 @@ some_bytes n h = grind (arith, nat_tests)
 
 upto_15 : (n : ℕ) → (nat_le 0 n && nat_le n 15) ≡ true → n ≤ 15
 upto_15 n h = grind (arith, nat_tests, (and_parts (nat_le 0 n) (nat_le n 15) h).1)
-
-at_most_5 : (label : Label) → label_kind label ≤ 5
-at_most_5 labels.Own = omega arith
-at_most_5 labels.Community = omega arith
-at_most_5 labels.Connected = omega arith
-at_most_5 labels.All = omega arith
-at_most_5 (labels.Group group) = omega arith
-at_most_5 labels.Inherit = omega arith
 
 -- ---- attributes
 
@@ -83,7 +76,7 @@ attribute_read path owner word n a b wide free h =
     let uuid : row it (codes "uuid") uuid_of (Ok (made_uid word n)) ≡ Ok (key_uuid a.row.key) = row_back it (codes "uuid") uuid_of (Ok (made_uid word n)) (uuid_data (key_uuid a.row.key)) (key_uuid a.row.key) refl (uuid_back (key_uuid a.row.key) wide) in
     let kind : kind_at it ≡ Ok b.kind = rw (long, no_file) refl in
     let category : row it (codes "category") category_of (Ok OTHER) ≡ Ok b.category = row_back it (codes "category") category_of (Ok OTHER) (string (category_name b.category)) b.category refl (category_back b.category (upto_15 b.category h.1.0)) in
-    let label : row it (codes "distribution") (label_of 5) (Ok labels.Inherit) ≡ Ok a.row.label = row_back it (codes "distribution") (label_of 5) (Ok labels.Inherit) (number_data (label_kind a.row.label)) a.row.label refl (label_back 5 a.row.label (at_most_5 a.row.label) free) in
+    let label : label_at it 5 5 ≡ Ok a.row.label = label_back it 5 5 a.row.label (at_most_5 a.row.label) free refl in
     let value : value_at b.kind it ≡ Ok b.value = ap (kept_at it) (kept_back b.kind b.value value_kept) in
     let tags : tags_at it ≡ Ok b.tags = tags_back _ path it.value b.tags room refl in
     rw (uuid, kind, category, label, value, tags, attribute_size b h) refl
@@ -166,7 +159,7 @@ object_itself_back names path uuid n o b free h =
     let name : row it (codes "name") some_text_of must_be ≡ Ok b.name = row_back it (codes "name") some_text_of must_be (string b.name) b.name refl (rw (some_bytes (length b.name) (least_of 1 _ b.name h.0)) refl) in
     let template : row it (codes "template_uuid") optional_uuid_of (Ok None) ≡ Ok b.template_uuid = row_back it (codes "template_uuid") optional_uuid_of (Ok None) (optional_uuid_data b.template_uuid) b.template_uuid (optional_there (codes "template_uuid") it b.template_uuid refl) (optional_back b.template_uuid h.1.1.1.1.0) in
     let version : row it (codes "template_version") number_of (Ok 0) ≡ Ok b.template_version = row_back it (codes "template_version") number_of (Ok 0) (number_data b.template_version) b.template_version refl (number_back b.template_version h.1.1.1.1.1.0) in
-    let label : row it (codes "distribution") (label_of 5) (Ok labels.Inherit) ≡ Ok o.row.label = row_back it (codes "distribution") (label_of 5) (Ok labels.Inherit) (number_data (label_kind o.row.label)) o.row.label refl (label_back 5 o.row.label (at_most_5 o.row.label) free) in
+    let label : label_at it 5 5 ≡ Ok o.row.label = label_back it 5 5 o.row.label (at_most_5 o.row.label) free refl in
     rw (name, template, version, label, object_size b h) refl
 
 object_read : (event : EventId) (names : GroupNames) (word : ℕ) (path : List ℕ) (so_far : Gathered) (o : VisibleObject) (b : ObjectBody) (h : IsObjectOf event o)
@@ -249,7 +242,7 @@ event_itself_back names path e b free own h =
     let date : row it (codes "date") some_date_of (Ok None) ≡ Ok (Some b.date) = row_back it (codes "date") some_date_of (Ok None) (string b.date) (Some b.date) refl (rw h.1.0 refl) in
     let threat : row it (codes "threat_level_id") (number_within 1 4) (Ok 4) ≡ Ok b.threat_level_id = row_back it (codes "threat_level_id") (number_within 1 4) (Ok 4) (number_data b.threat_level_id) b.threat_level_id refl (within_back 1 4 b.threat_level_id threat_level (below 4 b.threat_level_id (and_parts _ _ threat_level).1 (lit< tt))) in
     let level : row it (codes "analysis") (number_within 0 2) (Ok 0) ≡ Ok b.analysis = row_back it (codes "analysis") (number_within 0 2) (Ok 0) (number_data b.analysis) b.analysis refl (within_back 0 2 b.analysis analysis (below 2 b.analysis (and_parts _ _ analysis).1 (lit< tt))) in
-    let label : row it (codes "distribution") (label_of 4) (Ok labels.Own) ≡ Ok e.row.label = row_back it (codes "distribution") (label_of 4) (Ok labels.Own) (number_data (label_kind e.row.label)) e.row.label refl (label_back 4 e.row.label (at_most_4 e.row.label own) free) in
+    let label : label_at it 4 0 ≡ Ok e.row.label = label_back it 4 0 e.row.label (at_most_4 e.row.label own) free refl in
     let other : row it (codes "extends_uuid") optional_uuid_of (Ok None) ≡ Ok b.extends_uuid = row_back it (codes "extends_uuid") optional_uuid_of (Ok None) (optional_uuid_data b.extends_uuid) b.extends_uuid (optional_there (codes "extends_uuid") it b.extends_uuid refl) (optional_back b.extends_uuid extends) in
     let tags : tags_at it ≡ Ok b.tags = tags_back _ path it.value b.tags h.1.1.1.1.1.1.1.1.1 refl in
     rw (info, date, threat, level, label, other, tags, event_size b h) refl

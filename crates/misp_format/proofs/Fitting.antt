@@ -6,7 +6,6 @@ use Rattle.std.proofs.lemmas.Bool.Decides.{nat_tests}
 use Rattle.std.proofs.lemmas.Slice.Eq.{bytes_eq-Decides}
 use Rattle.misp_ids.specs.declared.uid.Uid.{Uid}
 use Rattle.misp_ids.specs.declared.label.Label.{Label}
-use Rattle.misp_ids.specs.declared.label.Label.TheVariants as labels
 use Rattle.misp_types.specs.Values.{is_kept, keeps, IsKept}
 use Rattle.misp_elem.specs.declared.content.AttributeBody.{AttributeBody}
 use Rattle.misp_elem.specs.declared.content.ObjectBody.{ObjectBody}
@@ -20,10 +19,11 @@ use Rattle.misp_format.specs.declared.kinds.TheConstants.{OTHER}
 use Rattle.misp_format.specs.declared.fault.FormatFault.TheVariants as faults
 use Rattle.misp_format.specs.Body.{Body}
 use Rattle.misp_format.specs.Kinds.{category_of}
-use Rattle.misp_format.specs.Readers.{number_within, label_of, is_long, some_date_of}
+use Rattle.misp_format.specs.Labels.{label_at}
+use Rattle.misp_format.specs.Readers.{number_within, is_long, some_date_of}
 use Rattle.misp_format.specs.Rows.{Reading, row}
 use Rattle.misp_format.specs.Elements.{FitTags, unless_long}
-use Rattle.misp_format.proofs.Kept.{row_keeps, some_date_ok, number_ok, label_form, label_own, category_ok}
+use Rattle.misp_format.proofs.Kept.{row_keeps, some_date_ok, number_ok, label_owned, not_inherited, category_ok}
 
 -- ---- the limit
 
@@ -44,12 +44,6 @@ pub in_room : (least most : ℕ) (text : List ℕ) → is_utf8 text ≡ true →
 in_room least most text utf8 long short = rw (le-leb least (length text) long, le-leb (length text) most short, utf8) refl
 
 -- ---- rows of several elements
-
-pub label_fits : (it : Body) (label : Label) → row it (codes "distribution") (label_of 5) (Ok labels.Inherit) ≡ Ok label → IsLabel label
-label_fits it label h = row_keeps IsLabel it (codes "distribution") (label_of 5) (Ok labels.Inherit) (label_form 5) inherited label h
-  where
-    inherited : (x : Label) → ◌≡◌ {A = Result Label Need} (Ok labels.Inherit) (Ok x) → IsLabel x
-    inherited x h = let e : labels.Inherit ≡ x = cc in subst (λ (l : Label). IsLabel l) e tt
 
 -- an identifier that there is has 128 bits
 pub optional_fits : (found : Option Uid) → IfSome found (λ uuid. uuid.0 < 2 ^ 128) → IsOptionalUid found
@@ -139,11 +133,8 @@ analysis_fits : (it : Body) (n : ℕ) → row it (codes "analysis") (number_with
 analysis_fits it n h = row_keeps (IsBetween 0 2) it (codes "analysis") (number_within 0 2) (Ok 0) (number_ok 0 2) (λ x is. cc) n h
 
 -- the label of an event
-pub event_label_fits : (it : Body) (label : Label) → row it (codes "distribution") (label_of 4) (Ok labels.Own) ≡ Ok label → IsLabelBut (5 ∷ []) label
-event_label_fits it label h = row_keeps (IsLabelBut (5 ∷ [])) it (codes "distribution") (label_of 4) (Ok labels.Own) label_own own label h
-  where
-    own : (x : Label) → ◌≡◌ {A = Result Label Need} (Ok labels.Own) (Ok x) → IsLabelBut (5 ∷ []) x
-    own x h = let e : labels.Own ≡ x = cc in subst (λ (l : Label). IsLabelBut (5 ∷ []) l) e (refl, tt)
+pub event_label_fits : (it : Body) (label : Label) → label_at it 4 0 ≡ Ok label → IsLabel label → IsLabelBut (5 ∷ []) label
+event_label_fits it label h fits = (not_inherited label (label_owned it label h), fits)
 
 pub event_fits : (it : Body) (b : EventDraftFields) → 1 ≤ length b.info → is_utf8 b.info ≡ true
     → row it (codes "date") some_date_of (Ok None) ≡ Ok b.date

@@ -1,24 +1,26 @@
 -- What a row gives is what its reader gives, and each reader gives only what fits.
-use Rattle.std.proofs.Common.{◌≡◌, ℕ, ◌<◌, Bool, true, false, ◌&&◌, List, [], ◌∷◌, Option, Some, None, Result, Ok, Err, refl, subst, arith}
-use Rattle.std.specs.Prelude.{nat_le, position, ◌==◌, if◌then◌else◌}
+use Rattle.std.proofs.Common.{◌≡◌, ℕ, ◌<◌, zero, suc, Bool, true, false, ◌&&◌, List, [], ◌∷◌, Option, Some, None, Result, Ok, Err, refl, subst, arith, lit<}
+use Rattle.std.specs.Prelude.{codes, nat_le, position, ◌==◌, if◌then◌else◌}
 use Rattle.std.specs.Option.{option_map_or}
 use Rattle.std.specs.List.{list_any}
 use Rattle.std.specs.Str.{bytes_eq}
 use Rattle.std.proofs.lemmas.Bool.Decides.{nat_tests}
 use Rattle.std.proofs.lemmas.List.Quantifiers.{position-Some}
 use Rattle.serde_json.specs.Data.{Data, null, boolean, number, string, array, object}
+use Rattle.misp_ids.specs.declared.uid.GroupId.{GroupId}
 use Rattle.misp_ids.specs.declared.label.Label.{Label}
 use Rattle.misp_ids.specs.declared.label.Label.TheVariants as labels
 use Rattle.misp_elem.specs.Draft.{IsOptionalDate}
-use Rattle.misp_elem.specs.Row.{is_date, IsDate, IsLabel, IsLabelBut, label_kind}
+use Rattle.misp_elem.specs.Row.{is_date, IsDate, label_kind}
 use Rattle.misp_fields.specs.declared.need.Need.{Need}
 use Rattle.misp_fields.specs.declared.need.Need.TheVariants as needs
 use Rattle.misp_fields.specs.Fields.{or_need, member_of, number_of, text_of, date_text_of}
 use Rattle.misp_format.specs.declared.kinds.TheConstants.{CATEGORIES}
 use Rattle.misp_format.specs.Body.{Body}
 use Rattle.misp_format.specs.Kinds.{category_in_text, category_of}
-use Rattle.misp_format.specs.Readers.{within, number_within, level, level_in, label_of, some_in, some_date_of}
-use Rattle.misp_format.specs.Rows.{at, row}
+use Rattle.misp_format.specs.Labels.{named_group_at, numbered_at, label_at}
+use Rattle.misp_format.specs.Readers.{within, number_within, some_in, some_date_of}
+use Rattle.misp_format.specs.Rows.{Reading, ◌>>=◌, at, row}
 
 -- ---- rows
 
@@ -77,31 +79,44 @@ some_date_ok d x h = some_in_ok (date_text_of d) x (date_ok d) h
 pub number_ok : (least most : ℕ) (d : Data) (x : ℕ) → number_within least most d ≡ Ok x → (nat_le least x && nat_le x most) ≡ true
 number_ok least most d x h = within_ok least most (number_of d) x h
 
--- a label that is read is none of a group, and by a number below 5 it does not inherit
-record IsLevel (n : ℕ) (label : Label) : Type 0 where
-  pub form : IsLabel label
-  pub own : n < 5 → (label_kind label == 5) ≡ false
+-- ---- labels
 
-same_level : (n : ℕ) (label x : Label) → IsLevel n label → ◌≡◌ {A = Result Label Need} (Ok label) (Ok x) → IsLevel n x
-same_level n label x h is = let e : label ≡ x = cc in subst (λ (l : Label). IsLevel n l) e h
+abbrev Owned : Label → Type 0
+Owned label = (label_kind label == 5) ≡ false
 
-last_level : (n : ℕ) (x : Label) → (n == 4) ≡ false → (n == 3) ≡ false → (n == 2) ≡ false → (n == 1) ≡ false → (n == 0) ≡ false → n < 5 → ⊥
-last_level n x n4 n3 n2 n1 n0 below = grind (arith, nat_tests)
+same_label : (label x : Label) → Owned label → ◌≡◌ {A = Reading Label} (Ok label) (Ok x) → Owned x
+same_label label x h is = let e : label ≡ x = cc in subst Owned e h
 
-level_ok : (n : ℕ) (x : Label) → level n ≡ Ok x → IsLevel n x
-level_ok n x h =
-    choice_keeps (IsLevel n) (n == 0) (Ok labels.Own) _ (λ holds y is. same_level n labels.Own y (record { form = tt; own = λ _. refl }) is) (λ n0 y1 h1.
-    choice_keeps (IsLevel n) (n == 1) (Ok labels.Community) _ (λ holds y is. same_level n labels.Community y (record { form = tt; own = λ _. refl }) is) (λ n1 y2 h2.
-    choice_keeps (IsLevel n) (n == 2) (Ok labels.Connected) _ (λ holds y is. same_level n labels.Connected y (record { form = tt; own = λ _. refl }) is) (λ n2 y3 h3.
-    choice_keeps (IsLevel n) (n == 3) (Ok labels.All) _ (λ holds y is. same_level n labels.All y (record { form = tt; own = λ _. refl }) is) (λ n3 y4 h4.
-    choice_keeps (IsLevel n) (n == 4) (Err needs.Later) (Ok labels.Inherit) (λ holds y is. absurd cc)
-    (λ n4 y is. same_level n labels.Inherit y (record { form = tt; own = λ below. absurd (last_level n y n4 n3 n2 n1 n0 below) }) is) y4 h4) y3 h3) y2 h2) y1 h1) x h
+group_owned : (r : Reading GroupId) (x : Label) → (r >>= λ group. Ok (labels.Group group)) ≡ Ok x → Owned x
+group_owned (Ok group) x h = same_label (labels.Group group) x refl h
+group_owned (Err fault) x h = absurd cc
 
-level_form : (r : Result ℕ Need) (x : Label) → level_in r ≡ Ok x → IsLabel x
-level_form (Ok n) x h = (level_ok n x h).form
-level_form (Err need) x h = absurd cc
+-- by a number below 5 no label inherits
+numbered_owned : (it : Body) (n : ℕ) (x : Label) → n < 5 → numbered_at it n ≡ Ok x → Owned x
+numbered_owned it zero x below h = same_label labels.Own x refl h
+numbered_owned it (suc zero) x below h = same_label labels.Community x refl h
+numbered_owned it (suc (suc zero)) x below h = same_label labels.Connected x refl h
+numbered_owned it (suc (suc (suc zero))) x below h = same_label labels.All x refl h
+numbered_owned it (suc (suc (suc (suc zero)))) x below h = group_owned (named_group_at it) x h
+numbered_owned it (suc (suc (suc (suc (suc n))))) x below h = absurd (omega arith)
 
-not_inherited : (x : Label) → (label_kind x == 5) ≡ false → list_any (λ kind. kind == label_kind x) (5 ∷ []) ≡ false
+read_owned : (it : Body) (r : Reading ℕ) (x : Label) → ((n : ℕ) → r ≡ Ok n → n < 5) → (r >>= λ number. numbered_at it number) ≡ Ok x → Owned x
+read_owned it (Ok n) x below h = numbered_owned it n x (below n refl) h
+read_owned it (Err fault) x below h = absurd cc
+
+below_5 : (n : ℕ) → (nat_le 0 n && nat_le n 4) ≡ true → n < 5
+below_5 n h = grind (arith, nat_tests)
+
+-- an event's label does not inherit
+pub label_owned : (it : Body) (x : Label) → label_at it 4 0 ≡ Ok x → (label_kind x == 5) ≡ false
+unfolding label_at
+label_owned it x h = read_owned it (row it (codes "distribution") (number_within 0 4) (Ok 0)) x
+    (row_keeps (λ n. n < 5) it (codes "distribution") (number_within 0 4) (Ok 0) (λ d n is. below_5 n (number_ok 0 4 d n is)) absent) h
+  where
+    absent : (n : ℕ) → ◌≡◌ {A = Result ℕ Need} (Ok 0) (Ok n) → n < 5
+    absent n h = let e : 0 ≡ n = cc in subst (λ (m : ℕ). m < 5) e (lit< tt)
+
+pub not_inherited : (x : Label) → (label_kind x == 5) ≡ false → list_any (λ kind. kind == label_kind x) (5 ∷ []) ≡ false
 not_inherited labels.Own h = refl
 not_inherited labels.Community h = refl
 not_inherited labels.Connected h = refl
@@ -109,20 +124,7 @@ not_inherited labels.All h = refl
 not_inherited (labels.Group g) h = refl
 not_inherited labels.Inherit h = absurd cc
 
-level_own : (r : Result ℕ Need) (x : Label) → ((n : ℕ) → r ≡ Ok n → n < 5) → level_in r ≡ Ok x → IsLabelBut (5 ∷ []) x
-level_own (Ok n) x below h = (not_inherited x ((level_ok n x h).own (below n refl)), (level_ok n x h).form)
-level_own (Err need) x below h = absurd cc
-
-below_5 : (n : ℕ) → (nat_le 0 n && nat_le n 4) ≡ true → n < 5
-below_5 n h = grind (arith, nat_tests)
-
--- a label that is read is that of no group
-pub label_form : (most : ℕ) (d : Data) (x : Label) → label_of most d ≡ Ok x → IsLabel x
-label_form most d x h = level_form (number_within 0 most d) x h
-
--- an event's label does not inherit
-pub label_own : (d : Data) (x : Label) → label_of 4 d ≡ Ok x → IsLabelBut (5 ∷ []) x
-label_own d x h = level_own (number_within 0 4 d) x (λ n is. below_5 n (within_ok 0 4 (number_of d) n is)) h
+-- ---- categories
 
 -- the number of a category is below 16
 named_below : (o : Option ℕ) (x : ℕ) → ((i : ℕ) → o ≡ Some i → i < 16) → or_need needs.Range o ≡ Ok x → (nat_le 0 x && nat_le x 15) ≡ true

@@ -14,6 +14,7 @@ use Rattle.misp_format.specs.declared.fault.FormatFault.TheVariants as faults
 use Rattle.misp_format.specs.Path.{member_path, item_path}
 use Rattle.misp_format.specs.Kinds.{category_of}
 use Rattle.misp_format.specs.Elements.{attribute_at, attributes_at, objects_at, tag_at, tags_at, object_at, object_and_others_at, reference_at, references_at}
+use Rattle.misp_format.specs.Labels.{group_at, label_at}
 use Rattle.misp_format.specs.Tables.{event_at, event_itself_at}
 
 pub known_categories : map (λ name. category_of (string name)) (codes "Internal reference" ∷ codes "Targeting data" ∷ codes "Antivirus detection" ∷ codes "Payload delivery" ∷ codes "Artifacts dropped" ∷ codes "Payload installation" ∷ codes "Persistence mechanism" ∷ codes "Network activity" ∷ codes "Payload type" ∷ codes "Attribution" ∷ codes "External analysis" ∷ codes "Financial fraud" ∷ codes "Support Tool" ∷ codes "Social network" ∷ codes "Person" ∷ codes "Other" ∷ codes "other" ∷ [])
@@ -29,7 +30,7 @@ pub known_event : event_at 0 (object (member (codes "info") (string (codes "Wave
       parts = [];
       references = [];
     })
-unfolding event_at event_itself_at tags_at attributes_at objects_at tags_size
+unfolding event_at event_itself_at label_at tags_at attributes_at objects_at tags_size
 known_event = refl
 
 -- an attribute that has no more than its type and its value
@@ -40,7 +41,7 @@ pub known_attribute : attribute_at (codes "Attribute") None 0 0 (object (member 
       label = labels.Inherit;
       content = contents.Attribute (record { kind = codes "domain"; category = 15; to_ids = false; comment = []; deleted = false; value = codes "example.org"; tags = [] });
     })
-unfolding attribute_at tags_at text_size tags_size kept_of rule_of form_of
+unfolding attribute_at label_at tags_at text_size tags_size kept_of rule_of form_of
 known_attribute = refl
 
 -- a tag that has no more than its name
@@ -54,5 +55,15 @@ pub known_faults : (event_at 0 (object (member (codes "analysis") (boolean true)
     ≡ Err (faults.BadField (codes "Event.info") needs.Range))
     × (event_at 0 (object (member (codes "Event") (object (member (codes "Object") (array (item (object (member (codes "Attribute") (array (item (object (member (codes "type") (string (codes "md5")) (member (codes "value") (string (codes "abc")) no_members))) no_items)) (member (codes "name") (string (codes "file")) no_members))) no_items)) (member (codes "info") (string (codes "Wave")) no_members))) no_members))
     ≡ Err (faults.BadField (member_path (item_path (member_path (item_path (member_path (codes "Event") (codes "Object")) 0) (codes "Attribute")) 0) (codes "value")) needs.Length))
-unfolding event_at event_itself_at tags_at attributes_at objects_at object_and_others_at object_at attribute_at text_size tags_size kept_of rule_of form_of
+unfolding event_at event_itself_at label_at tags_at attributes_at objects_at object_and_others_at object_at attribute_at text_size tags_size kept_of rule_of form_of
 known_faults = (refl, refl)
+
+-- a group is read with the distribution 4, by its creator first, and with no other
+pub known_labels : (label_at (record { path = codes "Event"; value = object (member (codes "SharingGroup") (boolean true) (member (codes "distribution") (string (codes "3")) no_members)) }) 4 0
+    ≡ Ok labels.All)
+    × ((label_at (record { path = codes "Event"; value = object (member (codes "distribution") (string (codes "4")) no_members) }) 4 0
+    ≡ Err (faults.BadField (codes "Event.SharingGroup") needs.Present))
+    × (label_at (record { path = codes "Event"; value = object (member (codes "SharingGroup") (object (member (codes "uuid") (boolean true) no_members)) (member (codes "distribution") (string (codes "4")) no_members)) }) 4 0
+    ≡ Err (faults.BadField (codes "Event.SharingGroup.organisation_uuid") needs.Present)))
+unfolding label_at group_at
+known_labels = (refl, (refl, refl))

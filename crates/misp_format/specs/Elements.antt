@@ -6,7 +6,6 @@ use Rattle.std.specs.Cmp.Lexicographic.{slice_cmp}
 use Rattle.std.specs.BTreeMap.{insert_entry}
 use Rattle.serde_json.specs.Data.{Data, no_items}
 use Rattle.misp_ids.specs.declared.uid.ElemId.{ElemId}
-use Rattle.misp_ids.specs.declared.label.Label.TheVariants as labels
 use Rattle.misp_ids.specs.Uid.{made_uid}
 use Rattle.misp_types.specs.declared.fault.ValueFault.{ValueFault}
 use Rattle.misp_types.specs.declared.fault.ValueFault.TheVariants as values
@@ -26,8 +25,9 @@ use Rattle.misp_format.specs.declared.tag.TheConstants.{WHITE}
 use Rattle.misp_format.specs.Body.{Body}
 use Rattle.misp_format.specs.Gathered.{Gathered, place, with_part, with_reference}
 use Rattle.misp_format.specs.Kinds.{is_file_type, category_of}
+use Rattle.misp_format.specs.Labels.{label_at}
 use Rattle.misp_format.specs.Path.{member_path, item_path}
-use Rattle.misp_format.specs.Readers.{label_of, text_within, some_text_of, is_file}
+use Rattle.misp_format.specs.Readers.{text_within, some_text_of, is_file}
 use Rattle.misp_format.specs.Rows.{Reading, ◌>>=◌, row, must_be, body_at, each}
 
 -- the texts of an element together have no more bytes than the limit
@@ -126,7 +126,7 @@ attribute_at path object word n d = do
   kind ← kind_at it
   category ← row it (codes "category") category_of (Ok OTHER)
   to_ids ← row it (codes "to_ids") flag_of (Ok false)
-  label ← row it (codes "distribution") (label_of 5) (Ok labels.Inherit)
+  label ← label_at it 5 5
   comment ← row it (codes "comment") text_of (Ok [])
   deleted ← row it (codes "deleted") flag_of (Ok false)
   no_file ← no_file_at it
@@ -204,7 +204,7 @@ object_at uuid n it = do
   comment ← row it (codes "comment") text_of (Ok [])
   template_uuid ← row it (codes "template_uuid") optional_uuid_of (Ok None)
   template_version ← row it (codes "template_version") number_of (Ok 0)
-  label ← row it (codes "distribution") (label_of 5) (Ok labels.Inherit)
+  label ← label_at it 5 5
   deleted ← row it (codes "deleted") flag_of (Ok false)
   content ← Ok (contents.Object (record {
     name = name;

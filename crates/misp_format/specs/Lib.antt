@@ -4,6 +4,7 @@ pub mod Elements
 pub mod Fields
 pub mod Gathered
 pub mod Kinds
+pub mod Labels
 pub mod Names
 pub mod Path
 pub mod Readers

@@ -1,11 +1,13 @@
 -- Readers that take a part of what the readers of fields take.
-use Rattle.std.specs.Prelude.{ℕ, Bool, false, ◌&&◌, ◌==◌, nat_lt, nat_le, List, length, Option, Some, Result, Ok, Err, if◌then◌else◌}
+use Rattle.std.specs.Prelude.{ℕ, Bool, false, ◌&&◌, nat_lt, nat_le, List, length, Option, Some, Result, Ok, Err, if◌then◌else◌}
 use Rattle.serde_json.specs.Data.{Data, null, boolean, number, string, array, object}
-use Rattle.misp_ids.specs.declared.label.Label.{Label}
-use Rattle.misp_ids.specs.declared.label.Label.TheVariants as labels
 use Rattle.misp_fields.specs.declared.need.Need.{Need}
 use Rattle.misp_fields.specs.declared.need.Need.TheVariants as needs
 use Rattle.misp_fields.specs.Fields.{number_of, text_of, date_text_of}
+
+-- READER: any value
+abbrev pub any_of : Data → Result Data Need
+any_of d = Ok d
 
 -- ---- numbers
 
@@ -17,24 +19,6 @@ within least most (Err need) = Err need
 -- READER: a number between two, both among them
 abbrev pub number_within : ℕ → ℕ → Data → Result ℕ Need
 number_within least most d = within least most (number_of d)
-
--- the label of this number; that of a group is read later
-abbrev pub level : ℕ → Result Label Need
-level n =
-    if n == 0 then Ok labels.Own
-    else if n == 1 then Ok labels.Community
-    else if n == 2 then Ok labels.Connected
-    else if n == 3 then Ok labels.All
-    else if n == 4 then Err needs.Later
-    else Ok labels.Inherit
-
-abbrev pub level_in : Result ℕ Need → Result Label Need
-level_in (Ok n) = level n
-level_in (Err need) = Err need
-
--- READER: a label by its number, which is at most this
-abbrev pub label_of : ℕ → Data → Result Label Need
-label_of most d = level_in (number_within 0 most d)
 
 -- ---- texts
 

@@ -17,7 +17,8 @@ use Rattle.misp_format.specs.declared.parts.PartForm.TheVariants as forms
 use Rattle.misp_format.specs.Body.{Body}
 use Rattle.misp_format.specs.Elements.{unless_long, tag_at, tags_at, attribute_at, next_attribute, attributes_at, reference_at, object_and_others_at, objects_at}
 use Rattle.misp_format.specs.Gathered.{Gathered, none_from, with_part, with_reference}
-use Rattle.misp_format.specs.Readers.{number_within, label_of, some_text_of, some_date_of}
+use Rattle.misp_format.specs.Labels.{label_at}
+use Rattle.misp_format.specs.Readers.{number_within, some_text_of, some_date_of}
 use Rattle.misp_format.specs.Rows.{Reading, ◌>>=◌, row, must_be, body_at, each}
 
 -- what a body brings may stand in a member of it, and is then read through that member
@@ -45,7 +46,7 @@ event_itself_at it = do
   date ← row it (codes "date") some_date_of (Ok None)
   threat_level_id ← row it (codes "threat_level_id") (number_within 1 4) (Ok 4)
   analysis ← row it (codes "analysis") (number_within 0 2) (Ok 0)
-  label ← row it (codes "distribution") (label_of 4) (Ok labels.Own)
+  label ← label_at it 4 0
   extends_uuid ← row it (codes "extends_uuid") optional_uuid_of (Ok None)
   tags ← tags_at it
   fits ← unless_long it (length info + tags_size tags)

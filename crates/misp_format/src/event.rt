@@ -11,6 +11,7 @@ ghost use Rattle.misp_format.specs.Tables.{unwrapped, event_itself_at, event_at}
 use crate::attribute::attributes;
 use crate::elements::Elements;
 use crate::fault::FormatFault;
+use crate::label::label;
 use crate::members::Members;
 use crate::object::objects;
 use crate::path::Path;
@@ -60,7 +61,7 @@ fn event(it: &Members<'_>) -> Result<(EventDraft, Label), FormatFault>
     let date = date(it)?;
     let threat_level_id = it.number("threat_level_id", 1, 4, 4)?;
     let analysis = it.number("analysis", 0, 2, 0)?;
-    let label = it.label("distribution", 4, Label::Own)?;
+    let label = label(it, 4, 0)?;
     let extends_uuid = it.optional_uuid("extends_uuid")?;
     let tags = tags(it)?;
     it.unless_long(size(&info, tags.as_slice()))?;

@@ -10,6 +10,7 @@ mod fields;
 mod groups;
 mod keys;
 mod kinds;
+mod label;
 mod members;
 mod object;
 mod parts;

@@ -9,14 +9,14 @@ ghost use Rattle.misp_format.specs.declared.fault.FormatFault.TheVariants as fau
 ghost use Rattle.misp_format.specs.Path.{path_text, member_path};
 ghost use Rattle.misp_format.specs.Body.{body_of};
 ghost use Rattle.misp_format.specs.Elements.{unless_long};
-ghost use Rattle.misp_format.specs.Readers.{number_within, label_of, is_long, text_within, some_text_of};
+ghost use Rattle.misp_format.specs.Readers.{number_within, is_long, text_within, some_text_of};
 ghost use Rattle.misp_format.specs.Rows.{Gives, Shows, row, must_be, at, body_at};
 
 use crate::fault::FormatFault;
 use crate::path::Path;
-use crate::readers::{label, number_within};
+use crate::readers::number_within;
 use misp_fields::{self as fields, Need, member};
-use misp_ids::{Label, Text, Uid};
+use misp_ids::{Text, Uid};
 use serde_json::Value;
 use std::alloc::Global;
 
@@ -156,16 +156,6 @@ impl<'a> Members<'a> {
     {
         match member(self.value, name) {
             Some(value) => self.kept(name, number_within(value, least, most)),
-            None => Ok(absent),
-        }
-    }
-
-    /// A label by its number.
-    pub(crate) fn label(&self, name: &str, most: u8, absent: Label) -> Result<Label, FormatFault>
-        ensures { Gives result (row (body_of self.now) name.now (label_of most) (Ok absent)) }
-    {
-        match member(self.value, name) {
-            Some(value) => self.kept(name, label(value, most)),
             None => Ok(absent),
         }
     }

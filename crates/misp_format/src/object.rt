@@ -13,11 +13,12 @@ ghost use Rattle.misp_format.specs.Rows.{Gives, Shows, each};
 use crate::attribute::attributes;
 use crate::elements::Elements;
 use crate::fault::FormatFault;
+use crate::label::label;
 use crate::members::Members;
 use crate::path::Path;
 use crate::reference::references;
 use misp_elem::{Content, Draft, ObjectBody, Place};
-use misp_ids::{ElemId, Label, Uid};
+use misp_ids::{ElemId, Uid};
 use serde_json::Value;
 use std::alloc::Global;
 
@@ -45,7 +46,7 @@ fn object(it: &Members<'_>, uuid: ElemId, number: u32) -> Result<Draft, FormatFa
     let comment = it.text("comment")?;
     let template_uuid = it.optional_uuid("template_uuid")?;
     let template_version = it.large_number("template_version", 0)?;
-    let label = it.label("distribution", 5, Label::Inherit)?;
+    let label = label(it, 5, 5)?;
     let deleted = it.flag("deleted", false)?;
     let body = ObjectBody {
         name,

@@ -2,10 +2,9 @@
 
 ghost use Rattle.std.specs.Prelude.{◌≡◌};
 ghost use Rattle.serde_json.specs.View.{view};
-ghost use Rattle.misp_format.specs.Readers.{within, number_within, level, label_of, is_file};
+ghost use Rattle.misp_format.specs.Readers.{within, number_within, is_file};
 
 use misp_fields::{self as fields, Need};
-use misp_ids::Label;
 use serde_json::Value;
 
 /// The number, where it is one of the stated ones.
@@ -23,30 +22,6 @@ pub(crate) fn number_within(value: &Value, least: u8, most: u8) -> Result<u8, Ne
     ensures { result ≡ number_within least most (view value.now) }
 {
     within(fields::number(value), least, most)
-}
-
-/// The label of this number. That of a group is read later.
-fn level(number: u8) -> Result<Label, Need>
-    ensures { result ≡ level number }
-{
-    match number {
-        0 => Ok(Label::Own),
-        1 => Ok(Label::Community),
-        2 => Ok(Label::Connected),
-        3 => Ok(Label::All),
-        4 => Err(Need::Later),
-        _ => Ok(Label::Inherit),
-    }
-}
-
-/// A label by its number.
-pub(crate) fn label(value: &Value, most: u8) -> Result<Label, Need>
-    ensures { result ≡ label_of most (view value.now) }
-{
-    match number_within(value, 0, most) {
-        Ok(number) => level(number),
-        Err(need) => Err(need),
-    }
 }
 
 /// Whether it is a text that is not empty.

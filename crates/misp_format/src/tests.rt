@@ -8,7 +8,7 @@ use misp_elem::{
     VisibleAttribute, VisibleEvent,
 };
 use misp_fields::Need;
-use misp_ids::{ElemId, EventId, Items, Label, OrgId, Stamp, Text, Uid};
+use misp_ids::{ElemId, EventId, GroupId, Items, Label, OrgId, Stamp, Text, Uid};
 use serde_json::Value;
 use std::alloc::Global;
 use std::test::Fail;
@@ -16,7 +16,7 @@ use std::test::Fail;
 const WORD: u128 = 0xe100_0000_0000_4000_8000_0000_0000_0000;
 
 /// A body, the path of its first faulty place, and the need there, or none for a file.
-const FAULTS: [(&str, &str, Option<Need>); 21] = [
+const FAULTS: [(&str, &str, Option<Need>); 30] = [
     ("[]", "Event", Some(Need::Object)),
     ("{}", "Event.info", Some(Need::Present)),
     (
@@ -37,8 +37,38 @@ const FAULTS: [(&str, &str, Option<Need>); 21] = [
     ),
     (
         "{\"info\":\"a\",\"distribution\":\"4\"}",
-        "Event.distribution",
-        Some(Need::Later),
+        "Event.SharingGroup",
+        Some(Need::Present),
+    ),
+    (
+        "{\"info\":\"a\",\"distribution\":4,\"SharingGroup\":[],\"extends_uuid\":7}",
+        "Event.SharingGroup",
+        Some(Need::Object),
+    ),
+    (
+        "{\"info\":\"a\",\"distribution\":4,\"SharingGroup\":{\"uuid\":7}}",
+        "Event.SharingGroup.organisation_uuid",
+        Some(Need::Present),
+    ),
+    (
+        "{\"info\":\"a\",\"distribution\":4,\"SharingGroup\":{\"organisation_uuid\":\"\",\"uuid\":7}}",
+        "Event.SharingGroup.organisation_uuid",
+        Some(Need::Uuid),
+    ),
+    (
+        "{\"info\":\"a\",\"distribution\":4,\"SharingGroup\":{\"organisation_uuid\":\"aaaaaaaa-0000-4000-8000-000000000001\"}}",
+        "Event.SharingGroup.uuid",
+        Some(Need::Present),
+    ),
+    (
+        "{\"info\":\"a\",\"distribution\":4,\"SharingGroup\":{\"organisation_uuid\":\"aaaaaaaa-0000-4000-8000-000000000001\",\"uuid\":7}}",
+        "Event.SharingGroup.uuid",
+        Some(Need::Uuid),
+    ),
+    (
+        "{\"info\":\"a\",\"distribution\":3,\"SharingGroup\":7,\"extends_uuid\":7}",
+        "Event.extends_uuid",
+        Some(Need::Uuid),
     ),
     (
         "{\"info\":\"a\",\"Tag\":[{}]}",
@@ -76,6 +106,16 @@ const FAULTS: [(&str, &str, Option<Need>); 21] = [
         Some(Need::Range),
     ),
     (
+        "{\"info\":\"a\",\"Attribute\":[{\"type\":\"text\",\"distribution\":4,\"SharingGroup\":null,\"comment\":7}]}",
+        "Event.Attribute[0].SharingGroup",
+        Some(Need::Present),
+    ),
+    (
+        "{\"info\":\"a\",\"Attribute\":[{\"type\":\"text\",\"SharingGroup\":7,\"comment\":7}]}",
+        "Event.Attribute[0].comment",
+        Some(Need::Text),
+    ),
+    (
         "{\"info\":\"a\",\"Attribute\":[{\"type\":\"text\",\"data\":\"AA==\"}]}",
         "Event.Attribute[0].data",
         None,
@@ -93,6 +133,11 @@ const FAULTS: [(&str, &str, Option<Need>); 21] = [
     (
         "{\"info\":\"a\",\"Object\":[{}]}",
         "Event.Object[0].name",
+        Some(Need::Present),
+    ),
+    (
+        "{\"info\":\"a\",\"Object\":[{\"name\":\"b\",\"distribution\":4,\"SharingGroup\":{},\"deleted\":7}]}",
+        "Event.Object[0].SharingGroup.organisation_uuid",
         Some(Need::Present),
     ),
     (
@@ -133,26 +178,35 @@ fn the_first_faulty_place_is_named(rt: HostRuntime) -> Result<(), Fail> {
 }
 
 /// An event with one attribute, an object with an attribute and a reference, and another object.
+/// The labels of the event, the first attribute and the first object are those of groups.
 const WHOLE: &str =
-    "{\"Event\":{\"info\":\"Wave\",\"Tag\":[{\"name\":\"b\"},{\"name\":\"a\",\"colour\":\"#FF8000\"},{\"name\":\"b\",\"exportable\":false}],\"Attribute\":[{\"type\":\"AS\",\"value\":\"as64500\"}],\"Object\":[{\"name\":\"file\",\"Attribute\":[{\"type\":\"text\",\"value\":\"x\"}],\"ObjectReference\":[{\"referenced_uuid\":\"a1000000-0000-4000-8000-000000000001\"}]},{\"name\":\"url\"}]}}";
+    "{\"Event\":{\"info\":\"Wave\",\"distribution\":\"4\",\"SharingGroup\":{\"name\":\"G\",\"organisation_uuid\":\"aaaaaaaa-0000-4000-8000-000000000001\",\"uuid\":\"c1000000-0000-4000-8000-000000000001\"},\"Tag\":[{\"name\":\"b\"},{\"name\":\"a\",\"colour\":\"#FF8000\"},{\"name\":\"b\",\"exportable\":false}],\"Attribute\":[{\"type\":\"AS\",\"distribution\":\"4\",\"SharingGroup\":{\"name\":\"G\",\"organisation_uuid\":\"aaaaaaaa-0000-4000-8000-000000000001\",\"uuid\":\"c2000000-0000-4000-8000-000000000001\"},\"value\":\"as64500\"}],\"Object\":[{\"name\":\"file\",\"distribution\":\"4\",\"SharingGroup\":{\"name\":\"G\",\"organisation_uuid\":\"aaaaaaaa-0000-4000-8000-000000000001\",\"uuid\":\"c3000000-0000-4000-8000-000000000001\"},\"Attribute\":[{\"type\":\"text\",\"value\":\"x\"}],\"ObjectReference\":[{\"referenced_uuid\":\"a1000000-0000-4000-8000-000000000001\"}]},{\"name\":\"url\"}]}}";
 
 fn made(n: u32) -> ElemId {
     ElemId(Uid::made(WORD, n))
 }
 
+fn group(uuid: u128) -> Label {
+    Label::Group(GroupId {
+        creator: ALPHA,
+        uuid: Uid(uuid),
+    })
+}
+
 #[test]
-fn elements_get_identifiers_by_their_places(rt: HostRuntime) -> Result<(), Fail> {
+fn elements_have_their_places_identifiers_and_labels(rt: HostRuntime) -> Result<(), Fail> {
     let value = Value::from_str(rt.alloc(), WHOLE)?;
     let read = read_event(rt.alloc(), &value, WORD).ok().ok_or("fault")?;
-    let places = [
-        (1, Place::Attribute(made(1))),
-        (2, Place::Object(made(2))),
-        (3, Place::ObjectAttribute(made(2), made(3))),
-        (5, Place::Object(made(5))),
+    let parts = [
+        (1, Place::Attribute(made(1)), group(G2)),
+        (2, Place::Object(made(2)), group(G3)),
+        (3, Place::ObjectAttribute(made(2), made(3)), Label::Inherit),
+        (5, Place::Object(made(5)), Label::Inherit),
     ];
+    assert!(rt; read.label == group(G1));
     assert_eq!(rt; read.parts.as_slice().len(), 4);
-    for (part, (number, place)) in read.parts.as_slice().iter().zip(places.iter()) {
-        assert!(rt; part.number == *number && part.place == *place);
+    for (part, (number, place, label)) in read.parts.as_slice().iter().zip(parts.iter()) {
+        assert!(rt; part.number == *number && part.place == *place && part.label == *label);
     }
     for reference in read.references.as_slice() {
         assert!(rt; reference.number == 4 && reference.object == made(2));
@@ -183,6 +237,12 @@ fn lists_of_attributes_and_tags_are_bodies(rt: HostRuntime) -> Result<(), Fail> 
     assert!(rt; tag.name.as_str() == "a" && tag.exportable);
     Ok(())
 }
+
+const G1: u128 = 0xc100_0000_0000_4000_8000_0000_0000_0001;
+
+const G2: u128 = 0xc200_0000_0000_4000_8000_0000_0000_0001;
+
+const G3: u128 = 0xc300_0000_0000_4000_8000_0000_0000_0001;
 
 const ALPHA: OrgId = OrgId(Uid(0xaaaa_aaaa_0000_4000_8000_0000_0000_0001));
 

@@ -2,7 +2,7 @@ use Rattle.std.proofs.Common.{◌≡◌, true, subst}
 use Rattle.std.specs.Str.{is_utf8}
 use Rattle.misp_types.specs.Values.{IsKept}
 use Rattle.misp_format.specs.Body.{body_of}
-use Rattle.misp_format.proofs.Fitting.{within_limit, label_fits, attribute_fits}
+use Rattle.misp_format.proofs.Fitting.{within_limit, attribute_fits}
 use Rattle.misp_format.proofs.attribute.attribute.Goals as goal
 
 -- what is read fits a row
@@ -15,7 +15,7 @@ invariant_of-result c =
     let short = within_limit it _ _ c.in_ok-unless_long.ensures c.size.ensures in (
       c.place_in.ensures.fits.0,
       (
-        label_fits it _ c.in_ok-label.ensures,
+        c.in_ok-label.ensures.fits,
         (
           c.place_in.ensures.fits.1,
           attribute_fits it _ c.in_ok-kind.ensures.long c.in_ok-category.ensures kind comment value (subst (λ k. IsKept k c.in_ok-value.value) c.as_str.ensures c.in_ok-value.ensures.kept) c.in_ok-tags.ensures.fits short,

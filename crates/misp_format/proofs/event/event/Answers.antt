@@ -14,4 +14,4 @@ invariant_of-body c =
     event_fits it _ c.in_ok-info.ensures.long info c.in_ok-date.ensures c.in_ok-threat_level_id.ensures c.in_ok-analysis.ensures c.in_ok-extends_uuid.ensures.in_range c.in_ok-tags.ensures.fits short
 
 pub returns-clause-own : goal.returns-clause-own
-returns-clause-own c = event_label_fits (body_of c.args.it.now) _ c.in_ok-label.ensures
+returns-clause-own c = event_label_fits (body_of c.args.it.now) _ c.in_ok-label.ensures.gives c.in_ok-label.ensures.fits

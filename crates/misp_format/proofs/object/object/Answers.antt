@@ -1,7 +1,7 @@
 use Rattle.std.proofs.Common.{◌≡◌, true, refl, arith}
 use Rattle.std.specs.Str.{is_utf8}
 use Rattle.misp_format.specs.Body.{body_of}
-use Rattle.misp_format.proofs.Fitting.{within_limit, label_fits, object_fits}
+use Rattle.misp_format.proofs.Fitting.{within_limit, object_fits}
 use Rattle.misp_format.proofs.object.object.Goals as goal
 
 -- what is read fits a row
@@ -15,7 +15,7 @@ invariant_of-result c =
     let short = within_limit it _ _ c.in_ok-unless_long.ensures c.size.ensures in (
       (refl, omega arith),
       (
-        label_fits it _ c.in_ok-label.ensures,
+        c.in_ok-label.ensures.fits,
         (refl, object_fits _ c.in_ok-name.ensures.long name meta_category description comment c.in_ok-template_uuid.ensures.in_range (omega arith) short),
       ),
     )
