@@ -1,0 +1,56 @@
+-- Names of groups, their order, and the test whether two are the same.
+use Rattle.std.proofs.Common.{◌≡◌, ℕ, true, false, refl, sym, ap, ◌∙◌, arith}
+use Rattle.std.specs.Prelude.{◌&&◌, ◌==◌}
+use Rattle.std.specs.declared.cmp.Ordering.{Ordering}
+use Rattle.std.specs.declared.cmp.Ordering.TheVariants.{Less, Equal, Greater}
+use Rattle.std.specs.Ordering.{is_eq, nat_cmp, ordering_then, ordering_reverse}
+use Rattle.std.specs.Cmp.{IsTotalOrder}
+use Rattle.std.proofs.lemmas.Cmp.{nat_cmp_total, on_total, then_total}
+use Rattle.std.proofs.lemmas.Bool.{and_parts, eqb-true}
+use Rattle.std.proofs.lemmas.Bool.Decides.{nat_tests}
+use Rattle.misp_ids.specs.declared.uid.GroupId.{GroupId}
+use Rattle.misp_model.specs.Names.{same_org, same_group}
+use Rattle.misp_model.proofs.Same.{same_org-sound}
+use Rattle.misp_model.proofs.Members.{same_org-refl}
+use Rattle.misp_levels.specs.Groups.{by_id}
+
+pub by_id_total : IsTotalOrder by_id
+by_id_total = then_total (on_total (λ (a : GroupId). a.creator.0.0) nat_cmp_total) (on_total (λ (a : GroupId). a.uuid.0) nat_cmp_total)
+
+numbers_equal : (m n : ℕ) → is_eq (nat_cmp m n) ≡ (m == n)
+numbers_equal m n = grind (arith, nat_tests)
+
+is_eq-then : (o p : Ordering) → is_eq (ordering_then o p) ≡ (is_eq o && is_eq p)
+is_eq-then Less p = refl
+is_eq-then Equal p = refl
+is_eq-then Greater p = refl
+
+-- names are the same where their order tells no difference
+pub same_by_id : (a b : GroupId) → is_eq (by_id a b) ≡ same_group a b
+unfolding same_group same_org
+same_by_id a b =
+    is_eq-then (nat_cmp a.creator.0.0 b.creator.0.0) (nat_cmp a.uuid.0 b.uuid.0)
+    ∙ rw (numbers_equal a.creator.0.0 b.creator.0.0, numbers_equal a.uuid.0 b.uuid.0) refl
+
+pub same_group-sound : (a b : GroupId) → same_group a b ≡ true → a ≡ b
+unfolding same_group
+same_group-sound a b h =
+    let both : (same_org a.creator b.creator ≡ true) × (a.uuid.0 == b.uuid.0 ≡ true) = and_parts _ _ h in
+    let e : a.creator ≡ b.creator = same_org-sound a.creator b.creator both.0 in
+    let f : a.uuid.0 ≡ b.uuid.0 = eqb-true a.uuid.0 b.uuid.0 both.1 in
+    ap {B = GroupId} (λ o. record { creator = o; uuid = a.uuid }) e
+    ∙ ap {B = GroupId} (λ n. record { creator = b.creator; uuid = record { 0 = n } }) f
+
+pub equal_id : (a b : GroupId) → by_id a b ≡ Equal → a ≡ b
+equal_id a b h = same_group-sound a b (sym (same_by_id a b) ∙ ap is_eq h)
+
+-- a name that is less is another
+pub less_apart : (a b : GroupId) → by_id a b ≡ Less → same_group a b ≡ false
+less_apart a b h = sym (same_by_id a b) ∙ ap is_eq h
+
+pub greater_apart : (a b : GroupId) → by_id b a ≡ Less → same_group a b ≡ false
+greater_apart a b h = sym (same_by_id a b) ∙ ap is_eq (by_id_total.antisymm a b ∙ ap ordering_reverse h)
+
+pub same_group-refl : (a : GroupId) → same_group a a ≡ true
+unfolding same_group
+same_group-refl a = rw (same_org-refl a.creator) (grind (arith, nat_tests))

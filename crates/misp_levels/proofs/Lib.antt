@@ -1,0 +1,5 @@
+pub mod Administered
+pub mod Changes
+pub mod Ids
+pub mod Places
+pub mod Steps

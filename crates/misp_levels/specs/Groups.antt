@@ -1,0 +1,102 @@
+-- The groups that are known at an instance, and how they change.
+use Rattle.std.specs.Prelude.{◌≡◌, ℕ, ◌<◌, ◌≤◌, ◌==◌, false, not, List, length, take, drop, slice_index_or, Option, Some, None, IfSome, unwrap_or, if◌then◌else◌}
+use Rattle.std.specs.declared.cmp.Ordering.{Ordering}
+use Rattle.std.specs.declared.cmp.Ordering.TheVariants.{Less}
+use Rattle.std.specs.Ordering.{nat_cmp, ordering_then}
+use Rattle.std.specs.List.{AllByRecursion}
+use Rattle.misp_ids.specs.declared.uid.OrgId.{OrgId}
+use Rattle.misp_ids.specs.declared.uid.GroupId.{GroupId}
+use Rattle.misp_groups.specs.declared.group.Group.{Group}
+use Rattle.misp_model.specs.Names.{Stamp, same_org, same_group}
+use Rattle.misp_model.specs.Asking.{last_stamp, next_stamp}
+use Rattle.misp_model.specs.Audience.{known_group, is_known_group}
+use Rattle.misp_levels.specs.declared.fault.GroupFault.{GroupFault}
+use Rattle.misp_levels.specs.declared.fault.GroupFault.TheVariants.{NotCreator, GroupExists, NoGroup, LockedGroup, TimeLimit, NoMemory}
+
+-- ---- the order
+
+-- by creator, and then by uuid
+abbrev pub by_id : GroupId → GroupId → Ordering
+by_id a b = ordering_then (nat_cmp a.creator.0.0 b.creator.0.0) (nat_cmp a.uuid.0 b.uuid.0)
+
+-- by the name
+abbrev pub by_name : Group → Group → Ordering
+by_name a b = by_id a.id b.id
+
+-- the group at this place has this name
+pub record IsPlaceOf (groups : List Group) (id : GroupId) (place : ℕ) : Type 0 where
+  pub below : place < length groups
+  pub is : (d : Group) → (slice_index_or groups place d).id ≡ id
+
+-- the names before this place are less, and those from it on are greater
+pub record IsGapFor (groups : List Group) (id : GroupId) (gap : ℕ) : Type 0 where
+  pub within : gap ≤ length groups
+  pub before : AllByRecursion (λ g. by_id g.id id ≡ Less) (take gap groups)
+  pub after : AllByRecursion (λ g. by_id id g.id ≡ Less) (drop gap groups)
+
+-- ---- what a change does
+
+-- the name of the group has it, and every other name has the group that it had
+abbrev pub Sets : List Group → List Group → Group → Type 0
+Sets old new g =
+    (id : GroupId) →
+    known_group new id ≡ (if same_group g.id id then Some g else known_group old id)
+
+-- every name has the same group in both
+abbrev pub AreAlike : List Group → List Group → Type 0
+AreAlike a b = (id : GroupId) → known_group a id ≡ known_group b id
+
+-- the group as one of this instance, with this stamp
+abbrev pub home : Group → Stamp → Group
+home g stamp = record g { carried = false; modified = stamp }
+
+-- ---- adding
+
+-- the first cause why a group of this name is not added: the organisation is not its creator, or
+-- the name is known
+abbrev pub why_not_added : List Group → OrgId → GroupId → Option GroupFault
+why_not_added groups by id =
+    if not (same_org by id.creator) then Some NotCreator
+    else if is_known_group groups id then Some GroupExists
+    else None
+
+-- no cause stands against it, and the group is known, with the stamp now
+pub record Adds (old new : List Group) (by : OrgId) (g : Group) (now : Stamp) : Type 0 where
+  pub no_cause : why_not_added old by g.id ≡ None
+  pub is : Sets old new (home g now)
+
+-- nothing changed, and the fault is the first cause, or, where there is none, want of memory
+pub record NotAdded (old new : List Group) (by : OrgId) (id : GroupId)
+    (fault : GroupFault) : Type 0 where
+  pub cause : fault ≡ unwrap_or (why_not_added old by id) NoMemory
+  pub same : new ≡ old
+
+-- ---- editing
+
+-- the first cause why the group that is known, if one is, keeps its form: none is, it came by a
+-- synchronisation, or there is no stamp after its own
+abbrev pub why_kept : Option Group → Option GroupFault
+why_kept None = Some NoGroup
+why_kept (Some held) =
+    if held.carried then Some LockedGroup
+    else if held.modified == last_stamp then Some TimeLimit
+    else None
+
+-- the first cause why the group of this name is not edited: the organisation is not its creator, or
+-- why it keeps its form
+abbrev pub why_not_edited : List Group → OrgId → GroupId → Option GroupFault
+why_not_edited groups by id =
+    if not (same_org by id.creator) then Some NotCreator else why_kept (known_group groups id)
+
+-- no cause stands against it, and the group has the place of the one that was known, with a stamp
+-- after that one's
+pub record Edits (old new : List Group) (by : OrgId) (g : Group) (now : Stamp) : Type 0 where
+  pub no_cause : why_not_edited old by g.id ≡ None
+  pub is : IfSome (known_group old g.id) (λ held.
+      Sets old new (home g (next_stamp now held.modified)))
+
+-- nothing changed, and the fault is the first cause
+pub record NotEdited (old new : List Group) (by : OrgId) (id : GroupId)
+    (fault : GroupFault) : Type 0 where
+  pub cause : why_not_edited old by id ≡ Some fault
+  pub same : new ≡ old

@@ -1,0 +1,149 @@
+//! The groups that are known at an instance.
+
+ghost use Rattle.std.specs.Prelude.{◌≡◌, [], option_map, Some, None, IfOk, IfErr, OnOk};
+ghost use Rattle.std.specs.List.Sorted.{IsStrictlySortedBy};
+ghost use Rattle.misp_model.specs.Asking.{next_stamp};
+ghost use Rattle.misp_model.specs.Audience.{known_group};
+ghost use Rattle.misp_model.specs.Names.{same_org};
+ghost use Rattle.misp_levels.specs.Groups.{by_id, by_name, home, why_kept, IsPlaceOf, IsGapFor, Adds, NotAdded, Edits, NotEdited};
+
+use crate::fault::GroupFault;
+use misp_groups::Group;
+use misp_ids::{GroupId, OrgId, Stamp};
+use std::alloc::Global;
+use std::cmp::Ordering;
+use std::marker::Model;
+
+/// The groups that are known at an instance, by their names.
+///
+/// A contract sees it as the list of its groups, which ascend by creator and then by uuid.
+#[derive(Debug, Drop)]
+pub struct Groups {
+    groups: Vec<Group>,
+}
+
+impl Model for Groups {
+    ghost use Rattle.std.specs.Prelude.{List};
+    ghost use Rattle.std.specs.List.Sorted.{IsStrictlySortedBy};
+    ghost use Rattle.misp_groups.specs.declared.group.Group.{Group};
+    ghost use Rattle.misp_levels.specs.Groups.{by_name};
+
+    ghost Value = { List Group };
+
+    ghost view = { λ g. g.groups.items };
+
+    ghost invariant = { λ g. IsStrictlySortedBy by_name g.groups.items };
+}
+
+fn compare(a: &GroupId, b: &GroupId) -> Ordering
+    ensures { result ≡ by_id a.now b.now }
+{
+    let by_creator = a.creator.0.0.cmp(&b.creator.0.0);
+    by_creator.then(a.uuid.0.cmp(&b.uuid.0))
+}
+
+// Where the group of a name is, or where it would stand.
+fn place_of(groups: &[Group], id: &GroupId) -> Result<usize, usize>
+    requires { IsStrictlySortedBy by_name groups.now }
+    ensures found { IfOk result (IsPlaceOf groups.now id.now) }
+    ensures absent { IfErr result (IsGapFor groups.now id.now) }
+{
+    groups.binary_search_by(|group| compare(&group.id, id))
+}
+
+// The group as one of this instance, with this stamp.
+fn home(mut group: Group, stamp: Stamp) -> Group
+    ensures { result ≡ home group stamp }
+{
+    group.carried = false;
+    group.modified = stamp;
+    group
+}
+
+// Whether the organisation created the group of this name.
+#[tactic(auto, unfolding(misp_model::specs::Names::same_org))]
+fn is_creator(org: &OrgId, id: &GroupId) -> bool
+    ensures { result ≡ same_org org.now id.now.creator }
+{
+    *org == id.creator
+}
+
+// The stamp of an edit of the group, or why it keeps its form.
+#[tactic(auto, unfolding(misp_model::specs::Asking::last_stamp, misp_model::specs::Asking::next_stamp))]
+fn edit_stamp(held: &Group, now: Stamp) -> Result<Stamp, GroupFault>
+    ensures free { OnOk result (why_kept (Some held.now) ≡ None) }
+    ensures stamp { IfOk result (λ stamp. stamp ≡ next_stamp now held.now.modified) }
+    ensures err { IfErr result (λ fault. why_kept (Some held.now) ≡ Some fault) }
+{
+    if held.carried {
+        return Err(GroupFault::LockedGroup);
+    }
+    match Stamp::next(held.modified, now) {
+        Some(stamp) => Ok(stamp),
+        None => Err(GroupFault::TimeLimit),
+    }
+}
+
+impl Groups {
+    /// No groups.
+    pub fn new(alloc: Global) -> Groups
+        ensures { result ≡ [] }
+    {
+        Groups {
+            groups: Vec::new(alloc),
+        }
+    }
+
+    /// The groups in their order.
+    pub fn as_slice(&self) -> &[Group]
+        ensures all { result.now ≡ self.now }
+        ensures ascend { IsStrictlySortedBy by_name self.now }
+    {
+        self.groups.as_slice()
+    }
+
+    /// The group of a name.
+    pub fn get(&self, id: &GroupId) -> Option<&Group>
+        ensures { option_map (λ group. group.now) result ≡ known_group self.now id.now }
+    {
+        let groups = self.groups.as_slice();
+        match place_of(groups, id) {
+            Ok(place) => Some(&groups[place]),
+            Err(_) => None,
+        }
+    }
+
+    /// Adds a group of this instance, which its creator makes at this moment.
+    pub fn add(&mut self, by: &OrgId, group: Group, now: Stamp) -> Result<(), GroupFault>
+        ensures ok { OnOk result (Adds self.old self.new by.now group now) }
+        ensures err { IfErr result (NotAdded self.old self.new by.now group.id) }
+    {
+        if !is_creator(by, &group.id) {
+            return Err(GroupFault::NotCreator);
+        }
+        match place_of(self.groups.as_slice(), &group.id) {
+            Ok(_) => Err(GroupFault::GroupExists),
+            Err(gap) => Ok(self.groups.insert(gap, home(group, now))?),
+        }
+    }
+
+    /// Replaces the group of its name as a whole, which its creator does at this moment. It takes
+    /// no memory.
+    pub fn edit(&mut self, by: &OrgId, group: Group, now: Stamp) -> Result<(), GroupFault>
+        ensures ok { OnOk result (Edits self.old self.new by.now group now) }
+        ensures err { IfErr result (NotEdited self.old self.new by.now group.id) }
+    {
+        if !is_creator(by, &group.id) {
+            return Err(GroupFault::NotCreator);
+        }
+        let groups = self.groups.as_slice();
+        match place_of(groups, &group.id) {
+            Ok(place) => {
+                let stamp = edit_stamp(&groups[place], now)?;
+                self.groups[place] = home(group, stamp);
+                Ok(())
+            }
+            Err(_) => Err(GroupFault::NoGroup),
+        }
+    }
+}

@@ -1,0 +1,45 @@
+//! Laws of labels on the way, and of the groups of an instance.
+
+ghost use Rattle.std.specs.Prelude.{◌≡◌, ℕ, ◌+◌, ◌≤◌, List, true, false, Some, is_some};
+ghost use Rattle.std.specs.List.Sorted.{IsStrictlySortedBy};
+ghost use Rattle.misp_ids.specs.declared.uid.OrgId.{OrgId};
+ghost use Rattle.misp_ids.specs.declared.label.Label.{Label};
+ghost use Rattle.misp_ids.specs.declared.label.Way.{Way};
+ghost use Rattle.misp_groups.specs.declared.group.Group.{Group};
+ghost use Rattle.misp_model.specs.Names.{Stamp};
+ghost use Rattle.misp_model.specs.Audience.{hop, down};
+ghost use Rattle.misp_model.specs.Acts.{administration_fails, administered};
+ghost use Rattle.misp_levels.specs.Levels.{rank};
+ghost use Rattle.misp_levels.specs.Groups.{by_name, why_not_added, why_not_edited, Adds, Edits, AreAlike};
+
+/// What is sent comes with the label one step down.
+pub fn a_hop_is_one_step_down()
+    ensures { (way : Way) (before after : Label) → hop way before ≡ Some after →
+        after ≡ down before 1 }
+{}
+
+/// Some steps down and then some more are as many together.
+pub fn steps_down_add_up()
+    ensures { (label : Label) (first more : ℕ) →
+        down label (first + more) ≡ down (down label first) more }
+{}
+
+/// No hop gives a label of a higher level, with which it would go further.
+pub fn no_hop_raises_a_label()
+    ensures { (way : Way) (before after : Label) → hop way before ≡ Some after →
+        rank after ≤ rank before }
+{}
+
+/// A group is added and edited as an administration of the history does it, and not where that
+/// fails. The history tells no order of groups: what is the same is the group of each name.
+pub fn groups_change_as_they_are_administered()
+    ensures added { (old new : List Group) (by : OrgId) (g : Group) (now : Stamp) →
+        Adds old new by g now → AreAlike new (administered now by true g old) }
+    ensures edited { (old new : List Group) (by : OrgId) (g : Group) (now : Stamp) →
+        Edits old new by g now → AreAlike new (administered now by false g old) }
+    ensures not_added { (old : List Group) (by : OrgId) (g : Group) →
+        is_some (why_not_added old by g.id) ≡ administration_fails by true g old }
+    ensures not_edited { (old : List Group) (by : OrgId) (g : Group) →
+        IsStrictlySortedBy by_name old →
+        is_some (why_not_edited old by g.id) ≡ administration_fails by false g old }
+{}

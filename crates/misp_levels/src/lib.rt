@@ -1,0 +1,20 @@
+//! Which labels show a row to whom, what a hop makes of a label, and the groups of an instance.
+#![tactic(auto)]
+
+mod fault;
+mod groups;
+mod laws;
+mod level;
+mod sharing;
+
+pub use fault::GroupFault;
+pub use groups::Groups;
+pub use laws::{
+    a_hop_is_one_step_down, groups_change_as_they_are_administered, no_hop_raises_a_label,
+    steps_down_add_up,
+};
+pub use level::{down, hop, open};
+pub use sharing::{allows, carries};
+
+#[cfg(test)]
+mod tests;
