@@ -3,6 +3,7 @@ pub mod Brought
 pub mod Elements
 pub mod Fields
 pub mod Gathered
+pub mod Groups
 pub mod Kinds
 pub mod Labels
 pub mod Names

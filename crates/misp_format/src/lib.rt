@@ -7,6 +7,7 @@ mod elements;
 mod event;
 mod fault;
 mod fields;
+mod group;
 mod groups;
 mod keys;
 mod kinds;
@@ -25,6 +26,7 @@ mod writing;
 
 pub use event::read_event;
 pub use fault::FormatFault;
+pub use group::read_group;
 pub use parts::{PartForm, read_parts, read_tag};
 pub use replies::{write_refusal, write_saved};
 pub use writing::{put_event, write_event};

@@ -222,6 +222,61 @@ fn elements_have_their_places_identifiers_and_labels(rt: HostRuntime) -> Result<
     Ok(())
 }
 
+/// A group with two organisations and two instances, each told out of order, and one twice.
+const GROUP: &str =
+    "{\"SharingGroup\":{\"uuid\":\"c1000000-0000-4000-8000-000000000001\",\"organisation_uuid\":\"aaaaaaaa-0000-4000-8000-000000000001\",\"name\":\"G\",\"roaming\":1,\"SharingGroupOrg\":[{\"Organisation\":{\"uuid\":\"bbbbbbbb-0000-4000-8000-000000000001\",\"name\":\"b\"}},{\"Organisation\":{\"uuid\":\"aaaaaaaa-0000-4000-8000-000000000001\"}},{\"Organisation\":{\"uuid\":\"bbbbbbbb-0000-4000-8000-000000000001\",\"name\":\"Beta\"},\"extend\":true}],\"SharingGroupServer\":[{\"Server\":{\"name\":\"north\"},\"all_orgs\":true},{\"Server\":{\"name\":\"hub\"}}]}}";
+
+#[test]
+fn a_group_is_read_in_the_order_of_its_members(rt: HostRuntime) -> Result<(), Fail> {
+    let value = Value::from_str(rt.alloc(), GROUP)?;
+    let read = read_group(rt.alloc(), &value).ok().ok_or("fault")?;
+    assert!(rt; Label::Group(read.id) == group(G1));
+    assert!(rt; read.active && read.roaming && !read.carried);
+    let orgs = [("", false), ("Beta", true)];
+    assert_eq!(rt; read.orgs.as_slice().len(), 2);
+    for (org, (name, extend)) in read.orgs.as_slice().iter().zip(orgs.iter()) {
+        assert!(rt; org.name.as_str() == *name && org.extend == *extend);
+    }
+    let servers = [("hub", false), ("north", true)];
+    assert_eq!(rt; read.servers.as_slice().len(), 2);
+    for (server, (name, all_orgs)) in read.servers.as_slice().iter().zip(servers.iter()) {
+        assert!(rt; server.name.text() == *name && server.all_orgs == *all_orgs);
+    }
+    Ok(())
+}
+
+/// A body of a group, the path of its first faulty place, and the need there.
+const GROUP_FAULTS: [(&str, &str, Need); 4] = [
+    ("{\"uuid\":7}", "SharingGroup.uuid", Need::Uuid),
+    (
+        "{\"uuid\":\"c1000000-0000-4000-8000-000000000001\",\"name\":\"G\"}",
+        "SharingGroup.organisation_uuid",
+        Need::Present,
+    ),
+    (
+        "{\"uuid\":\"c1000000-0000-4000-8000-000000000001\",\"organisation_uuid\":\"aaaaaaaa-0000-4000-8000-000000000001\",\"name\":\"G\",\"SharingGroupOrg\":[{\"Organisation\":{}}]}",
+        "SharingGroup.SharingGroupOrg[0].Organisation.uuid",
+        Need::Present,
+    ),
+    (
+        "{\"uuid\":\"c1000000-0000-4000-8000-000000000001\",\"organisation_uuid\":\"aaaaaaaa-0000-4000-8000-000000000001\",\"name\":\"G\",\"SharingGroupServer\":[{\"Server\":{\"name\":\"North\"}}]}",
+        "SharingGroup.SharingGroupServer[0].Server.name",
+        Need::Range,
+    ),
+];
+
+#[test]
+fn the_first_faulty_place_of_a_group_is_named(rt: HostRuntime) -> Result<(), Fail> {
+    for (text, path, need) in &GROUP_FAULTS {
+        let value = Value::from_str(rt.alloc(), text)?;
+        match read_group(rt.alloc(), &value) {
+            Ok(_) => assert!(rt; false, "{text}"),
+            Err(found) => { assert!(rt; found == fault(rt.alloc(), path, Some(*need))?, "{text}") }
+        }
+    }
+    Ok(())
+}
+
 #[test]
 fn lists_of_attributes_and_tags_are_bodies(rt: HostRuntime) -> Result<(), Fail> {
     let text = "[{\"type\":\"text\",\"value\":\"x\"},{\"type\":\"text\"}]";
