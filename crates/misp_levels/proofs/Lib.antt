@@ -3,3 +3,4 @@ pub mod Changes
 pub mod Ids
 pub mod Places
 pub mod Steps
+pub mod Alike

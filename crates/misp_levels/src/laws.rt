@@ -6,8 +6,8 @@ ghost use Rattle.misp_ids.specs.declared.uid.OrgId.{OrgId};
 ghost use Rattle.misp_ids.specs.declared.label.Label.{Label};
 ghost use Rattle.misp_ids.specs.declared.label.Way.{Way};
 ghost use Rattle.misp_groups.specs.declared.group.Group.{Group};
-ghost use Rattle.misp_model.specs.Names.{Stamp};
-ghost use Rattle.misp_model.specs.Audience.{hop, down};
+ghost use Rattle.misp_model.specs.Names.{Inst, Stamp};
+ghost use Rattle.misp_model.specs.Audience.{hop, down, is_open, label_lets_out, label_is_known};
 ghost use Rattle.misp_model.specs.Acts.{administration_fails, administered};
 ghost use Rattle.misp_levels.specs.Levels.{rank};
 ghost use Rattle.misp_levels.specs.Groups.{by_name, why_not_added, why_not_edited, Adds, Edits, AreAlike};
@@ -42,4 +42,15 @@ pub fn groups_change_as_they_are_administered()
     ensures not_edited { (old : List Group) (by : OrgId) (g : Group) →
         IsStrictlySortedBy by_name old →
         is_some (why_not_edited old by g.id) ≡ administration_fails by false g old }
+{}
+
+/// Where each name has the same group in two lists, both open and let out the same, and know the
+/// groups of the same labels. So the order in which groups are kept changes nothing.
+pub fn groups_alike_give_the_same()
+    ensures opens { (a b : List Group) (here : Inst) (o owner : OrgId) (l : Label) →
+        AreAlike a b → is_open a here o owner l ≡ is_open b here o owner l }
+    ensures lets_out { (a b : List Group) (way : Way) (o : OrgId) (dest : Inst) (l : Label) →
+        AreAlike a b → label_lets_out a way o dest l ≡ label_lets_out b way o dest l }
+    ensures known { (a b : List Group) (l : Label) →
+        AreAlike a b → label_is_known a l ≡ label_is_known b l }
 {}
