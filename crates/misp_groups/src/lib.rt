@@ -1,6 +1,7 @@
 //! Sharing groups.
 #![tactic(auto)]
 
+mod copying;
 mod group;
 
-pub use group::{Group, GroupOrg, GroupServer};
+pub use group::{Group, GroupFields, GroupOrg, GroupServer};

@@ -1,5 +1,5 @@
 -- Changes at an instance, and what the history makes of the groups.
-use Rattle.std.proofs.Common.{◌≡◌, Bool, true, false, not, List, [], ◌∷◌, ◌++◌, map, cond, if◌then◌else◌, eqb, is_some, option_map, Option, Some, None, IfSome, refl, sym, ap, subst, ◌∙◌, inl, inr}
+use Rattle.std.proofs.Common.{◌≡◌, Bool, true, false, not, List, [], ◌∷◌, if◌then◌else◌, eqb, is_some, Option, Some, None, IfSome, refl, sym, ap, subst, ◌∙◌, inl, inr}
 use Rattle.std.specs.Prelude.{◌&&◌}
 use Rattle.std.specs.declared.cmp.Ordering.TheVariants.{Less}
 use Rattle.std.specs.List.{list_any, AllByRecursion}
@@ -7,17 +7,17 @@ use Rattle.std.specs.List.Sorted.{IsStrictlySortedBy}
 use Rattle.std.proofs.lemmas.Bool.{cases_Bool}
 use Rattle.misp_ids.specs.declared.uid.OrgId.{OrgId}
 use Rattle.misp_ids.specs.declared.uid.GroupId.{GroupId}
-use Rattle.misp_groups.specs.declared.group.Group.{Group}
+use Rattle.misp_groups.specs.declared.group.GroupFields.{GroupFields as Group}
+use Rattle.misp_groups.specs.Group.{home}
 use Rattle.misp_model.specs.Names.{Stamp, same_org, same_group}
 use Rattle.misp_model.specs.Asking.{last_stamp, next_stamp}
 use Rattle.misp_model.specs.Audience.{known_group, is_known_group}
-use Rattle.misp_model.specs.Acts.{administration_fails, administered}
-use Rattle.misp_model.proofs.Lists.{find_passes}
+use Rattle.misp_model.specs.Acts.{put_group, administration_fails, group_stamp, group_now, administered}
 use Rattle.misp_levels.specs.declared.fault.GroupFault.TheVariants.{NotCreator, GroupExists}
-use Rattle.misp_levels.specs.Groups.{by_id, by_name, home, Sets, AreAlike, why_not_added, Adds, why_kept, why_not_edited, Edits}
-use Rattle.misp_levels.proofs.Ids.{greater_apart, same_group-refl, same_group-sound}
-use Rattle.misp_levels.proofs.Places.{past}
+use Rattle.misp_levels.specs.Groups.{by_id, by_name, restored, why_not_added, Adds, why_kept, why_not_edited, Edits}
+use Rattle.misp_levels.proofs.Ids.{greater_apart, same_group-sound}
 use Rattle.misp_levels.proofs.Changes.{known_where}
+use Rattle.misp_levels.proofs.Putting.{others, known_named, put_away, put_back}
 
 -- ---- when it fails
 
@@ -82,21 +82,12 @@ none_from true true k is free = absurd cc
 none_from true false None is free = (refl, refl)
 none_from true false (Some g) is free = absurd cc
 
--- a group more, of a name that is not known
-known_more : (xs : List Group) (g : Group) (id : GroupId) → known_group xs g.id ≡ None → known_group (xs ++ g ∷ []) id ≡ (if same_group g.id id then Some g else known_group xs id)
-unfolding known_group
-known_more [] g id none = refl
-known_more (x ∷ xs) g id none = elim (cases_Bool (same_group x.id g.id)) [
-  | inl hit ↦ absurd (let e : Some x ≡ None = sym (rw hit refl) ∙ none in cc)
-  | inr apart ↦ past x g (known_group (xs ++ g ∷ []) id) (known_group xs id) id apart (known_more xs g id (sym (rw apart refl) ∙ none))
-]
-
-pub added_alike : (old new : List Group) (by : OrgId) (g : Group) (now : Stamp) → Adds old new by g now → AreAlike new (administered now by true g old)
-unfolding administered
-added_alike old new by g now adds id =
+pub added_is : (old new : List Group) (by : OrgId) (g : Group) (now : Stamp) → Adds old new by g now → new ≡ administered now by true g old
+unfolding administered group_now group_stamp
+added_is old new by g now adds =
     let is : (same_org by g.id.creator ≡ true) × (known_group old g.id ≡ None) = none_from (same_org by g.id.creator) (is_known_group old g.id) (known_group old g.id) (known_where old g.id) adds.no_cause in
     let passes : administration_fails by true g old ≡ false = sym (added_fails old by g) ∙ ap is_some adds.no_cause in
-    adds.is id ∙ rw passes (sym (known_more old (home g now) id is.1))
+    adds.is ∙ rw (passes, is.1) refl
 
 free_from : (own : Bool) (k : Option Group) → (if not own then Some NotCreator else why_kept k) ≡ None → (own ≡ true) × (passes may_change k ≡ true)
 free_from false k free = absurd cc
@@ -114,58 +105,29 @@ any_from_known test id (x ∷ xs) h = elim (cases_Bool (same_group x.id id)) [
   | inr miss ↦ rw miss (any_from_known test id xs (rw miss at h))
 ]
 
-known_map : (f : Group → Group) → ((h : Group) → (f h).id ≡ h.id) → (xs : List Group) (id : GroupId) → known_group (map f xs) id ≡ option_map f (known_group xs id)
-unfolding known_group
-known_map f keeps [] id = refl
-known_map f keeps (x ∷ xs) id =
-    let same : same_group (f x).id id ≡ same_group x.id id = ap (λ i. same_group i id) (keeps x) in
-    elim (cases_Bool (same_group x.id id)) [
-      | inl hit ↦ rw (same, hit) refl
-      | inr miss ↦ rw (same, miss) (known_map f keeps xs id)
-    ]
+edited_where : (g : Group) (now : Stamp) (old new : List Group) (k : Option Group) → passes may_change k ≡ true → IfSome k (λ held. new ≡ put_group (home g (next_stamp now held.modified)) old)
+    → new ≡ put_group (home g (group_stamp now k)) old
+unfolding group_stamp
+edited_where g now old new None free is = absurd cc
+edited_where g now old new (Some held) free is = is
 
-module _ (g : Group) (now : Stamp) where
-  abbrev edited : Group → Group
-  edited h = cond (same_group h.id g.id) (home g (next_stamp now h.modified)) h
-
-  edited_id : (h : Group) → (edited h).id ≡ h.id
-  edited_id h = elim (cases_Bool (same_group h.id g.id)) [
-    | inl hit ↦ rw hit (sym (same_group-sound h.id g.id hit))
-    | inr miss ↦ rw miss refl
-  ]
-
-  other_kept : (id : GroupId) (k : Option Group) → ((h : Group) → k ≡ Some h → same_group h.id id ≡ true) → same_group g.id id ≡ false → k ≡ option_map edited k
-  other_kept id None named apart = refl
-  other_kept id (Some h) named apart =
-      let e : h.id ≡ id = same_group-sound h.id id (named h refl) in
-      elim (cases_Bool (same_group h.id g.id)) [
-        | inl hit ↦ absurd (
-            let f : h.id ≡ g.id = same_group-sound h.id g.id hit in
-            let same : same_group g.id id ≡ true = ap (λ i. same_group g.id i) (sym e ∙ f) ∙ same_group-refl g.id in
-            cc)
-        | inr miss ↦ rw miss refl
-      ]
-
-  named : (xs : List Group) (id : GroupId) (h : Group) → known_group xs id ≡ Some h → same_group h.id id ≡ true
-  unfolding known_group
-  named xs id h is = find_passes (λ x. same_group x.id id) xs h is
-
-  edits_known : (old : List Group) (held : Group) (id : GroupId) → known_group old g.id ≡ Some held
-      → (if same_group g.id id then Some (home g (next_stamp now held.modified)) else known_group old id) ≡ option_map edited (known_group old id)
-  edits_known old held id is = elim (cases_Bool (same_group g.id id)) [
-    | inl hit ↦
-        let here : known_group old id ≡ Some held = ap (known_group old) (sym (same_group-sound g.id id hit)) ∙ is in
-        rw (hit, here, named old g.id held is) refl
-    | inr miss ↦ rw miss (other_kept id (known_group old id) (named old id) miss)
-  ]
-
-  new_alike : (old new : List Group) (k : Option Group) → known_group old g.id ≡ k → passes may_change k ≡ true → IfSome k (λ held. Sets old new (home g (next_stamp now held.modified)))
-      → AreAlike new (map edited old)
-  new_alike old new None is free sets id = absurd cc
-  new_alike old new (Some held) is free sets id = sets id ∙ edits_known old held id is ∙ sym (known_map edited edited_id old id)
-
-pub edited_alike : (old new : List Group) (by : OrgId) (g : Group) (now : Stamp) → Edits old new by g now → AreAlike new (administered now by false g old)
-unfolding administered administration_fails
-edited_alike old new by g now edits =
+pub edited_is : (old new : List Group) (by : OrgId) (g : Group) (now : Stamp) → Edits old new by g now → new ≡ administered now by false g old
+unfolding administered administration_fails group_now
+edited_is old new by g now edits =
     let is : (same_org by g.id.creator ≡ true) × (passes may_change (known_group old g.id) ≡ true) = free_from (same_org by g.id.creator) (known_group old g.id) edits.no_cause in
-    rw (is.0, any_from_known may_change g.id old is.1) (new_alike g now old new (known_group old g.id) refl is.1 edits.is)
+    rw (is.0, any_from_known may_change g.id old is.1) (edited_where g now old new (known_group old g.id) is.1 edits.is)
+
+-- ---- what takes it back
+
+pub added_back : (old new : List Group) (by : OrgId) (g : Group) (now : Stamp) → Adds old new by g now → restored g.id None new ≡ old
+unfolding restored
+added_back old new by g now adds =
+    let is : (same_org by g.id.creator ≡ true) × (known_group old g.id ≡ None) = none_from (same_org by g.id.creator) (is_known_group old g.id) (known_group old g.id) (known_where old g.id) adds.no_cause in
+    ap (others g.id) adds.is ∙ put_away (home g now) old is.1
+
+pub edited_back : (old new : List Group) (by : OrgId) (g h : Group) (now : Stamp) → IsStrictlySortedBy by_name old → Edits old new by g now → known_group old g.id ≡ Some h → restored g.id (Some h) new ≡ old
+unfolding restored
+edited_back old new by g h now up edits is =
+    let id : h.id ≡ g.id = known_named old g.id h is in
+    let put : new ≡ put_group (home g (next_stamp now h.modified)) old = rw is at edits.is in
+    ap (put_group h) put ∙ put_back (home g (next_stamp now h.modified)) h old (sym id) up (ap (known_group old) id ∙ is)

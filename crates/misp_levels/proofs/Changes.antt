@@ -1,19 +1,23 @@
 -- When a change is refused, by what is known of the group's name.
-use Rattle.std.proofs.Common.{◌≡◌, ℕ, Bool, true, false, List, [], ◌∷◌, find, get_or, set, is_some, Option, Some, None, Result, Ok, Err, IfErr, refl, sym, ap, subst, ◌∙◌, inl, inr}
+use Rattle.std.proofs.Common.{◌≡◌, ℕ, Bool, true, false, List, [], ◌∷◌, find, get_or, is_some, Option, Some, None, Result, Ok, Err, IfErr, refl, sym, ap, subst, ◌∙◌, inl, inr}
 use Rattle.std.specs.Result.{IsErrAnd}
-use Rattle.std.specs.List.{list_any, insert}
+use Rattle.std.specs.List.{list_any}
 use Rattle.std.specs.List.Sorted.{IsStrictlySortedBy}
 use Rattle.std.proofs.lemmas.Bool.{cases_Bool}
 use Rattle.misp_ids.specs.declared.uid.OrgId.{OrgId}
 use Rattle.misp_ids.specs.declared.uid.GroupId.{GroupId}
-use Rattle.misp_groups.specs.declared.group.Group.{Group}
+use Rattle.misp_groups.specs.declared.group.GroupFields.{GroupFields as Group}
+use Rattle.misp_groups.specs.Group.{home}
 use Rattle.misp_model.specs.Names.{Stamp, same_org, same_group}
 use Rattle.misp_model.specs.Asking.{next_stamp}
 use Rattle.misp_model.specs.Audience.{known_group, is_known_group}
+use Rattle.misp_model.specs.Acts.{put_group}
 use Rattle.misp_levels.specs.declared.fault.GroupFault.{GroupFault}
 use Rattle.misp_levels.specs.declared.fault.GroupFault.TheVariants.{NotCreator, GroupExists, NoGroup, NoMemory}
-use Rattle.misp_levels.specs.Groups.{by_name, IsPlaceOf, IsGapFor, home, why_not_added, Adds, NotAdded, why_kept, why_not_edited, Edits, NotEdited}
-use Rattle.misp_levels.proofs.Places.{known_at, unknown_at, sets_insert, sets_set}
+use Rattle.misp_levels.specs.Groups.{by_name, IsPlaceOf, IsGapFor, why_not_added, Adds, NotAdded, why_kept, why_not_edited, Edits, NotEdited}
+use Rattle.misp_levels.proofs.Ids.{same_group-refl}
+use Rattle.misp_levels.proofs.Places.{known_at, unknown_at}
+use Rattle.misp_levels.proofs.Putting.{known_put}
 
 any_found : {A : Type 0} (test : A → Bool) (xs : List A) → list_any test xs ≡ is_some (find test xs)
 any_found test [] = refl
@@ -26,6 +30,14 @@ any_found test (x ∷ xs) = elim (cases_Bool (test x)) [
 pub known_where : (groups : List Group) (id : GroupId) → is_known_group groups id ≡ is_some (known_group groups id)
 unfolding known_group is_known_group
 known_where groups id = any_found (λ g. same_group g.id id) groups
+
+-- a name that has a gap is not known
+pub not_known : (groups : List Group) (id : GroupId) (gap : ℕ) → IsGapFor groups id gap → is_known_group groups id ≡ false
+not_known groups id gap place = known_where groups id ∙ ap is_some (unknown_at groups id gap place)
+
+-- a name is known that a group was put for
+pub put_is_known : (g : Group) (groups : List Group) → is_known_group (put_group g groups) g.id ≡ true
+put_is_known g groups = known_where (put_group g groups) g.id ∙ rw (known_put g groups g.id, same_group-refl g.id) refl
 
 module _ (groups : List Group) (by : OrgId) (id : GroupId) where
   pub other_adds : same_org by id.creator ≡ false → why_not_added groups by id ≡ Some NotCreator
@@ -46,10 +58,10 @@ module _ (groups : List Group) (by : OrgId) (id : GroupId) where
 -- ---- what is done at the place, or in the gap, of the group's name
 
 module _ (groups : List Group) (up : IsStrictlySortedBy by_name groups) (by : OrgId) (g : Group) (own : same_org by g.id.creator ≡ true) where
-  pub adds : (gap : ℕ) (now : Stamp) → IsGapFor groups g.id gap → Adds groups (insert groups gap (home g now)) by g now
-  adds gap now place = record {
+  pub adds : (gap : ℕ) (now : Stamp) (new : List Group) → IsGapFor groups g.id gap → new ≡ put_group (home g now) groups → Adds groups new by g now
+  adds gap now new place is = record {
     no_cause = is_new groups by g.id own (unknown_at groups g.id gap place);
-    is = sets_insert groups gap (home g now) place;
+    is = is;
   }
 
   pub no_memory : (gap : ℕ) → IsGapFor groups g.id gap → NotAdded groups groups by g.id NoMemory
@@ -76,16 +88,16 @@ module _ (groups : List Group) (up : IsStrictlySortedBy by_name groups) (by : Or
     same = refl;
   }
 
-  pub edits : (at : ℕ) (held : Group) (now stamp : Stamp) → IsPlaceOf groups g.id at → held ≡ get_or groups at held → why_kept (Some held) ≡ None → stamp ≡ next_stamp now held.modified
-      → Edits groups (set groups at (home g stamp)) by g now
-  edits at held now stamp place is free later =
+  pub edits : (at : ℕ) (held : Group) (now stamp : Stamp) (new : List Group) → IsPlaceOf groups g.id at → held ≡ get_or groups at held → why_kept (Some held) ≡ None
+      → stamp ≡ next_stamp now held.modified → new ≡ put_group (home g stamp) groups → Edits groups new by g now
+  edits at held now stamp new place is free later put =
       let known : known_group groups g.id ≡ Some held = known_at groups g.id at held up place ∙ ap Some (sym is) in
       record {
         no_cause = kept groups by g.id (Some held) own known ∙ free;
-        is = rw (known, later) (sets_set groups at (home g (next_stamp now held.modified)) place up);
+        is = rw known (put ∙ ap (λ n. put_group (home g n) groups) later);
       }
 
 -- an error that is known to be this one
-pub if_err : (r : Result (Unit {0}) GroupFault) (fault : GroupFault) → IsErrAnd r (λ e. e ≡ fault) → (P : GroupFault → Type 0) → P fault → IfErr r P
+pub if_err : {A : Type 0} (r : Result A GroupFault) (fault : GroupFault) → IsErrAnd r (λ e. e ≡ fault) → (P : GroupFault → Type 0) → P fault → IfErr r P
 if_err (Ok x) fault is P p = tt
 if_err (Err e) fault is P p = subst P (sym is) p

@@ -1,15 +1,15 @@
 -- Names of groups, their order, and the test whether two are the same.
-use Rattle.std.proofs.Common.{◌≡◌, ℕ, true, false, refl, sym, ap, ◌∙◌, arith}
-use Rattle.std.specs.Prelude.{◌&&◌, ◌==◌}
+use Rattle.std.proofs.Common.{◌≡◌, ℕ, true, false, ltb, refl, sym, ap, ◌∙◌, arith}
+use Rattle.std.specs.Prelude.{◌&&◌, ◌||◌, ◌==◌}
 use Rattle.std.specs.declared.cmp.Ordering.{Ordering}
 use Rattle.std.specs.declared.cmp.Ordering.TheVariants.{Less, Equal, Greater}
-use Rattle.std.specs.Ordering.{is_eq, nat_cmp, ordering_then, ordering_reverse}
+use Rattle.std.specs.Ordering.{is_eq, is_lt, nat_cmp, ordering_then, ordering_reverse}
 use Rattle.std.specs.Cmp.{IsTotalOrder}
 use Rattle.std.proofs.lemmas.Cmp.{nat_cmp_total, on_total, then_total}
 use Rattle.std.proofs.lemmas.Bool.{and_parts, eqb-true}
 use Rattle.std.proofs.lemmas.Bool.Decides.{nat_tests}
 use Rattle.misp_ids.specs.declared.uid.GroupId.{GroupId}
-use Rattle.misp_model.specs.Names.{same_org, same_group}
+use Rattle.misp_model.specs.Names.{same_org, same_group, group_before}
 use Rattle.misp_model.proofs.Same.{same_org-sound}
 use Rattle.misp_model.proofs.Members.{same_org-refl}
 use Rattle.misp_levels.specs.Groups.{by_id}
@@ -54,3 +54,24 @@ greater_apart a b h = sym (same_by_id a b) ∙ ap is_eq (by_id_total.antisymm a 
 pub same_group-refl : (a : GroupId) → same_group a a ≡ true
 unfolding same_group
 same_group-refl a = rw (same_org-refl a.creator) (grind (arith, nat_tests))
+
+numbers_less : (m n : ℕ) → is_lt (nat_cmp m n) ≡ ltb m n
+numbers_less m n = grind (arith, nat_tests)
+
+is_lt-then : (o p : Ordering) → is_lt (ordering_then o p) ≡ (is_lt o || is_eq o && is_lt p)
+is_lt-then Less p = refl
+is_lt-then Equal p = refl
+is_lt-then Greater p = refl
+
+-- a name stands before another where it is less
+pub before_is : (a b : GroupId) → is_lt (by_id a b) ≡ group_before a b
+unfolding group_before same_org
+before_is a b =
+    is_lt-then (nat_cmp a.creator.0.0 b.creator.0.0) (nat_cmp a.uuid.0 b.uuid.0)
+    ∙ rw (numbers_less a.creator.0.0 b.creator.0.0, numbers_equal a.creator.0.0 b.creator.0.0, numbers_less a.uuid.0 b.uuid.0) refl
+
+pub less_before : (a b : GroupId) → by_id a b ≡ Less → group_before a b ≡ true
+less_before a b h = sym (before_is a b) ∙ ap is_lt h
+
+pub greater_behind : (a b : GroupId) → by_id b a ≡ Less → group_before a b ≡ false
+greater_behind a b h = sym (before_is a b) ∙ ap is_lt (by_id_total.antisymm a b ∙ ap ordering_reverse h)

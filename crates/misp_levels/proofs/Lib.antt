@@ -2,5 +2,5 @@ pub mod Administered
 pub mod Changes
 pub mod Ids
 pub mod Places
+pub mod Putting
 pub mod Steps
-pub mod Alike

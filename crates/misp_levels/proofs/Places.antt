@@ -1,20 +1,19 @@
--- What a search among groups finds, and what an edit at that place does.
-use Rattle.std.proofs.Common.{◌≡◌, ℕ, zero, suc, ◌+◌, ◌<◌, ◌≤◌, true, false, List, [], ◌∷◌, length, take, drop, get_or, set, cond, if◌then◌else◌, Option, Some, None, Result, Ok, Err, IfOk, IfErr, refl, sym, ap, subst, ◌∙◌, inl, inr, arith}
+-- What a search among groups finds, and that a change at that place leaves them in order.
+use Rattle.std.proofs.Common.{◌≡◌, ℕ, zero, suc, ◌+◌, ◌<◌, ◌≤◌, List, [], ◌∷◌, length, take, drop, get_or, set, Some, None, Result, Ok, Err, IfOk, IfErr, refl, ap, subst, ◌∙◌, arith}
 use Rattle.std.specs.declared.cmp.Ordering.TheVariants.{Less, Greater}
 use Rattle.std.specs.Ordering.{is_lt, ordering_reverse}
-use Rattle.std.specs.List.{insert, AllWithin, AllByRecursion}
+use Rattle.std.specs.List.{insert, remove, AllWithin, AllByRecursion}
 use Rattle.std.specs.List.Sorted.{IsSortedBy, IsStrictlySortedBy, IsSearchInRange, IsBinarySearchResult}
 use Rattle.std.proofs.lemmas.List.Sorted.{searchable_from_sorted}
-use Rattle.std.proofs.lemmas.Bool.{cases_Bool}
 use Rattle.misp_ids.specs.declared.uid.GroupId.{GroupId}
-use Rattle.misp_groups.specs.declared.group.Group.{Group}
+use Rattle.misp_groups.specs.declared.group.GroupFields.{GroupFields as Group}
 use Rattle.misp_model.specs.Names.{same_group}
 use Rattle.misp_model.specs.Audience.{known_group}
-use Rattle.misp_levels.specs.Groups.{by_id, by_name, IsPlaceOf, IsGapFor, Sets}
-use Rattle.misp_levels.proofs.Ids.{by_id_total, equal_id, less_apart, greater_apart, same_group-refl, same_group-sound}
+use Rattle.misp_levels.specs.Groups.{by_id, by_name, IsPlaceOf, IsGapFor}
+use Rattle.misp_levels.proofs.Ids.{by_id_total, equal_id, less_apart, greater_apart, same_group-refl}
 
 module _ {A : Type 0} (P : A → Type 0) where
-  all_at : (xs : List A) (k : ℕ) (d : A) → k < length xs → AllByRecursion P xs → P (get_or xs k d)
+  pub all_at : (xs : List A) (k : ℕ) (d : A) → k < length xs → AllByRecursion P xs → P (get_or xs k d)
   all_at [] k d below all = absurd (omega arith)
   all_at (x ∷ xs) zero d below all = all.0
   all_at (x ∷ xs) (suc k) d below all = all_at xs k d (omega arith) all.1
@@ -77,6 +76,13 @@ searched xs id (Err gap) up within parted =
       };
     }
 
+-- the same place, and the same gap, of equal lists and names
+pub place_as : {xs ys : List Group} {a b : GroupId} {at : ℕ} → xs ≡ ys → a ≡ b → IsPlaceOf xs a at → IsPlaceOf ys b at
+place_as {xs} {ys} {a} {b} {at} e f place = subst (λ i. IsPlaceOf ys i at) f (subst (λ gs. IsPlaceOf gs a at) e place)
+
+pub gap_as : {xs ys : List Group} {a b : GroupId} {gap : ℕ} → xs ≡ ys → a ≡ b → IsGapFor xs a gap → IsGapFor ys b gap
+gap_as {xs} {ys} {a} {b} {gap} e f place = subst (λ i. IsGapFor ys i gap) f (subst (λ gs. IsGapFor gs a gap) e place)
+
 -- the group at the place of a name is the one that is known by it
 pub known_at : (xs : List Group) (id : GroupId) (at : ℕ) (d : Group) → IsStrictlySortedBy by_name xs → IsPlaceOf xs id at → known_group xs id ≡ Some (get_or xs at d)
 unfolding IsStrictlySortedBy known_group
@@ -106,29 +112,6 @@ sorted_insert (y ∷ ys) (suc gap) g place up = (
   sorted_insert ys gap g (record { within = omega (arith, place.within); before = place.before.1; after = place.after }) up.1,
 )
 
--- a group of another name stands before
-pub past : (y g : Group) (rest more : Option Group) (id : GroupId) → same_group y.id g.id ≡ false → rest ≡ (if same_group g.id id then Some g else more)
-    → cond (same_group y.id id) (Some y) rest ≡ (if same_group g.id id then Some g else cond (same_group y.id id) (Some y) more)
-past y g rest more id apart is = elim (cases_Bool (same_group y.id id)) [
-  | inl hit ↦ elim (cases_Bool (same_group g.id id)) [
-    | inl both ↦ absurd (
-        let e : y.id ≡ id = same_group-sound y.id id hit in
-        let f : g.id ≡ id = same_group-sound g.id id both in
-        let same : same_group y.id g.id ≡ true = ap (λ i. same_group y.id i) (f ∙ sym e) ∙ same_group-refl y.id in
-        cc)
-    | inr other ↦ rw (hit, other) refl
-  ]
-  | inr miss ↦ rw miss is
-]
-
-pub sets_insert : (xs : List Group) (gap : ℕ) (g : Group) → IsGapFor xs g.id gap → Sets xs (insert xs gap g) g
-unfolding known_group
-sets_insert xs zero g place id = refl
-sets_insert [] (suc gap) g place id = refl
-sets_insert (y ∷ ys) (suc gap) g place id =
-    past y g (known_group (insert ys gap g) id) (known_group ys id) id (less_apart y.id g.id place.before.0)
-    (sets_insert ys gap g (record { within = omega (arith, place.within); before = place.before.1; after = place.after }) id)
-
 -- ---- a group in place of the one of its name
 
 pub sorted_set : (xs : List Group) (at : ℕ) (g : Group) → IsPlaceOf xs g.id at → IsStrictlySortedBy by_name xs → IsStrictlySortedBy by_name (set xs at g)
@@ -141,22 +124,17 @@ sorted_set (y ∷ ys) (suc at) g place up =
     let lower : by_id y.id g.id ≡ Less = subst (λ i. by_id y.id i ≡ Less) (place.is y) less in
     (all_set (λ z. by_name y z ≡ Less) ys at g lower up.0, sorted_set ys at g (record { below = below; is = λ e. place.is e }) up.1)
 
-here : (y g : Group) (more : Option Group) (id : GroupId) → y.id ≡ g.id
-    → cond (same_group g.id id) (Some g) more ≡ (if same_group g.id id then Some g else cond (same_group y.id id) (Some y) more)
-here y g more id same = elim (cases_Bool (same_group g.id id)) [
-  | inl hit ↦ rw hit refl
-  | inr miss ↦
-      let other : same_group y.id id ≡ false = ap (λ i. same_group i id) same ∙ miss in
-      rw (miss, other) refl
-]
+-- ---- a group less
 
-pub sets_set : (xs : List Group) (at : ℕ) (g : Group) → IsPlaceOf xs g.id at → IsStrictlySortedBy by_name xs → Sets xs (set xs at g) g
-unfolding IsStrictlySortedBy known_group
-sets_set [] at g place up id = absurd (omega (arith, place.below))
-sets_set (y ∷ ys) zero g place up id = here y g (known_group ys id) id (place.is y)
-sets_set (y ∷ ys) (suc at) g place up id =
-    let below : at < length ys = omega (arith, place.below) in
-    let less : by_id y.id (get_or ys at y).id ≡ Less = all_at (λ z. by_name y z ≡ Less) ys at y below up.0 in
-    let lower : by_id y.id g.id ≡ Less = subst (λ i. by_id y.id i ≡ Less) (place.is y) less in
-    past y g (known_group (set ys at g) id) (known_group ys id) id (less_apart y.id g.id lower)
-    (sets_set ys at g (record { below = below; is = λ e. place.is e }) up.1 id)
+all_remove : {A : Type 0} (P : A → Type 0) (xs : List A) (i : ℕ) → AllByRecursion P xs → AllByRecursion P (remove xs i)
+all_remove P [] zero all = tt
+all_remove P [] (suc i) all = tt
+all_remove P (x ∷ xs) zero all = all.1
+all_remove P (x ∷ xs) (suc i) all = (all.0, all_remove P xs i all.1)
+
+pub sorted_remove : (xs : List Group) (at : ℕ) → IsStrictlySortedBy by_name xs → IsStrictlySortedBy by_name (remove xs at)
+unfolding IsStrictlySortedBy
+sorted_remove [] zero up = tt
+sorted_remove [] (suc at) up = tt
+sorted_remove (x ∷ xs) zero up = up.1
+sorted_remove (x ∷ xs) (suc at) up = (all_remove (λ z. by_name x z ≡ Less) xs at up.0, sorted_remove xs at up.1)

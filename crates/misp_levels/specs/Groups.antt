@@ -1,15 +1,17 @@
 -- The groups that are known at an instance, and how they change.
-use Rattle.std.specs.Prelude.{◌≡◌, ℕ, ◌<◌, ◌≤◌, ◌==◌, false, not, List, length, take, drop, slice_index_or, Option, Some, None, IfSome, unwrap_or, if◌then◌else◌}
+use Rattle.std.specs.Prelude.{◌≡◌, ℕ, ◌<◌, ◌≤◌, ◌==◌, not, List, [], ◌∷◌, length, filter, take, drop, slice_index_or, Option, Some, None, IfSome, unwrap_or, if◌then◌else◌}
 use Rattle.std.specs.declared.cmp.Ordering.{Ordering}
 use Rattle.std.specs.declared.cmp.Ordering.TheVariants.{Less}
 use Rattle.std.specs.Ordering.{nat_cmp, ordering_then}
 use Rattle.std.specs.List.{AllByRecursion}
 use Rattle.misp_ids.specs.declared.uid.OrgId.{OrgId}
 use Rattle.misp_ids.specs.declared.uid.GroupId.{GroupId}
-use Rattle.misp_groups.specs.declared.group.Group.{Group}
+use Rattle.misp_groups.specs.declared.group.GroupFields.{GroupFields as Group}
+use Rattle.misp_groups.specs.Group.{home}
 use Rattle.misp_model.specs.Names.{Stamp, same_org, same_group}
 use Rattle.misp_model.specs.Asking.{last_stamp, next_stamp}
 use Rattle.misp_model.specs.Audience.{known_group, is_known_group}
+use Rattle.misp_model.specs.Acts.{put_group}
 use Rattle.misp_levels.specs.declared.fault.GroupFault.{GroupFault}
 use Rattle.misp_levels.specs.declared.fault.GroupFault.TheVariants.{NotCreator, GroupExists, NoGroup, LockedGroup, TimeLimit, NoMemory}
 
@@ -34,21 +36,17 @@ pub record IsGapFor (groups : List Group) (id : GroupId) (gap : ℕ) : Type 0 wh
   pub before : AllByRecursion (λ g. by_id g.id id ≡ Less) (take gap groups)
   pub after : AllByRecursion (λ g. by_id id g.id ≡ Less) (drop gap groups)
 
--- ---- what a change does
+-- ---- putting and taking back
 
--- the name of the group has it, and every other name has the group that it had
-abbrev pub Sets : List Group → List Group → Group → Type 0
-Sets old new g =
-    (id : GroupId) →
-    known_group new id ≡ (if same_group g.id id then Some g else known_group old id)
+-- with each of these put in its place, one after another
+unfoldable pub put_groups : List Group → List Group → List Group
+put_groups groups [] = groups
+put_groups groups (g ∷ gs) = put_groups (put_group g groups) gs
 
--- every name has the same group in both
-abbrev pub AreAlike : List Group → List Group → Type 0
-AreAlike a b = (id : GroupId) → known_group a id ≡ known_group b id
-
--- the group as one of this instance, with this stamp
-abbrev pub home : Group → Stamp → Group
-home g stamp = record g { carried = false; modified = stamp }
+-- with this group in the place of the one of its name, or with none of this name
+unfoldable pub restored : GroupId → Option Group → List Group → List Group
+restored id None groups = filter (λ g. not (same_group g.id id)) groups
+restored id (Some g) groups = put_group g groups
 
 -- ---- adding
 
@@ -60,10 +58,10 @@ why_not_added groups by id =
     else if is_known_group groups id then Some GroupExists
     else None
 
--- no cause stands against it, and the group is known, with the stamp now
+-- no cause stands against it, and the group is put in its place, with the stamp now
 pub record Adds (old new : List Group) (by : OrgId) (g : Group) (now : Stamp) : Type 0 where
   pub no_cause : why_not_added old by g.id ≡ None
-  pub is : Sets old new (home g now)
+  pub is : new ≡ put_group (home g now) old
 
 -- nothing changed, and the fault is the first cause, or, where there is none, want of memory
 pub record NotAdded (old new : List Group) (by : OrgId) (id : GroupId)
@@ -93,7 +91,7 @@ why_not_edited groups by id =
 pub record Edits (old new : List Group) (by : OrgId) (g : Group) (now : Stamp) : Type 0 where
   pub no_cause : why_not_edited old by g.id ≡ None
   pub is : IfSome (known_group old g.id) (λ held.
-      Sets old new (home g (next_stamp now held.modified)))
+      new ≡ put_group (home g (next_stamp now held.modified)) old)
 
 -- nothing changed, and the fault is the first cause
 pub record NotEdited (old new : List Group) (by : OrgId) (id : GroupId)

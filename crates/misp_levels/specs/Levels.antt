@@ -3,7 +3,7 @@ use Rattle.std.specs.Prelude.{◌≡◌, ℕ, Bool, List}
 use Rattle.misp_ids.specs.declared.uid.OrgId.{OrgId}
 use Rattle.misp_ids.specs.declared.label.Label.{Label}
 use Rattle.misp_ids.specs.declared.label.Label.TheVariants as label
-use Rattle.misp_groups.specs.declared.group.Group.{Group}
+use Rattle.misp_groups.specs.declared.group.GroupFields.{GroupFields as Group}
 use Rattle.misp_model.specs.Names.{Inst}
 use Rattle.misp_model.specs.Audience.{allows, group_passes}
 

@@ -3,8 +3,7 @@
 ghost use Rattle.std.specs.Prelude.{◌≡◌};
 ghost use Rattle.misp_levels.specs.declared.fault.GroupFault.TheVariants.{NoMemory};
 
-use misp_groups::Group;
-use std::alloc::AllocFailed;
+use misp_ids::NoMemory;
 
 /// Why a group is not added or edited.
 #[derive(Clone, Copy, Debug, PartialEq, Eq)]
@@ -23,10 +22,10 @@ pub enum GroupFault {
     NoMemory,
 }
 
-impl From<AllocFailed<Group>> for GroupFault {
+impl From<NoMemory> for GroupFault {
     ghost from_gives = { λ _ fault. fault ≡ NoMemory };
 
-    fn from(_error: AllocFailed<Group>) -> GroupFault {
+    fn from(_error: NoMemory) -> GroupFault {
         GroupFault::NoMemory
     }
 }

@@ -1,18 +1,21 @@
 //! The groups that are known at an instance.
 
-ghost use Rattle.std.specs.Prelude.{◌≡◌, [], option_map, Some, None, IfOk, IfErr, OnOk};
+ghost use Rattle.std.specs.Prelude.{◌≡◌, ◌<◌, true, [], length, option_map, Some, None, IfSome, IfOk, IfErr, OnOk, OnErr};
+ghost use Rattle.std.specs.List.{remove};
 ghost use Rattle.std.specs.List.Sorted.{IsStrictlySortedBy};
 ghost use Rattle.misp_model.specs.Asking.{next_stamp};
-ghost use Rattle.misp_model.specs.Audience.{known_group};
+ghost use Rattle.misp_model.specs.Acts.{put_group};
+ghost use Rattle.misp_model.specs.Audience.{known_group, is_known_group};
 ghost use Rattle.misp_model.specs.Names.{same_org};
-ghost use Rattle.misp_levels.specs.Groups.{by_id, by_name, home, why_kept, IsPlaceOf, IsGapFor, Adds, NotAdded, Edits, NotEdited};
+ghost use Rattle.misp_levels.specs.Groups.{by_id, by_name, restored, why_kept, IsPlaceOf, IsGapFor, Adds, NotAdded, Edits, NotEdited};
 
 use crate::fault::GroupFault;
 use misp_groups::Group;
-use misp_ids::{GroupId, OrgId, Stamp};
+use misp_ids::{GroupId, NoMemory, OrgId, Stamp};
 use std::alloc::Global;
 use std::cmp::Ordering;
 use std::marker::Model;
+use std::mem;
 
 /// The groups that are known at an instance, by their names.
 ///
@@ -25,7 +28,7 @@ pub struct Groups {
 impl Model for Groups {
     ghost use Rattle.std.specs.Prelude.{List};
     ghost use Rattle.std.specs.List.Sorted.{IsStrictlySortedBy};
-    ghost use Rattle.misp_groups.specs.declared.group.Group.{Group};
+    ghost use Rattle.misp_groups.specs.declared.group.GroupFields.{GroupFields as Group};
     ghost use Rattle.misp_levels.specs.Groups.{by_name};
 
     ghost Value = { List Group };
@@ -49,15 +52,6 @@ fn place_of(groups: &[Group], id: &GroupId) -> Result<usize, usize>
     ensures absent { IfErr result (IsGapFor groups.now id.now) }
 {
     groups.binary_search_by(|group| compare(&group.id, id))
-}
-
-// The group as one of this instance, with this stamp.
-fn home(mut group: Group, stamp: Stamp) -> Group
-    ensures { result ≡ home group stamp }
-{
-    group.carried = false;
-    group.modified = stamp;
-    group
 }
 
 // Whether the organisation created the group of this name.
@@ -113,6 +107,22 @@ impl Groups {
         }
     }
 
+    /// Puts a group in the place of the one that is known by its name, and gives that one back.
+    /// Only where none is known it takes memory.
+    pub fn put(&mut self, group: Group) -> Result<Option<Group>, NoMemory>
+        ensures ok { OnOk result (self.new ≡ put_group group self.old) }
+        ensures before { IfOk result (λ before. before ≡ known_group self.old group.id) }
+        ensures err { OnErr result (self.new ≡ self.old) }
+    {
+        match place_of(self.groups.as_slice(), &group.id) {
+            Ok(place) => Ok(Some(self.put_at(place, group))),
+            Err(gap) => {
+                self.put_into(gap, group)?;
+                Ok(None)
+            }
+        }
+    }
+
     /// Adds a group of this instance, which its creator makes at this moment.
     pub fn add(&mut self, by: &OrgId, group: Group, now: Stamp) -> Result<(), GroupFault>
         ensures ok { OnOk result (Adds self.old self.new by.now group now) }
@@ -123,14 +133,15 @@ impl Groups {
         }
         match place_of(self.groups.as_slice(), &group.id) {
             Ok(_) => Err(GroupFault::GroupExists),
-            Err(gap) => Ok(self.groups.insert(gap, home(group, now))?),
+            Err(gap) => Ok(self.put_into(gap, group.home(now))?),
         }
     }
 
-    /// Replaces the group of its name as a whole, which its creator does at this moment. It takes
-    /// no memory.
-    pub fn edit(&mut self, by: &OrgId, group: Group, now: Stamp) -> Result<(), GroupFault>
+    /// Replaces the group of its name as a whole, which its creator does at this moment, and gives
+    /// back the group as it was. It takes no memory.
+    pub fn edit(&mut self, by: &OrgId, group: Group, now: Stamp) -> Result<Group, GroupFault>
         ensures ok { OnOk result (Edits self.old self.new by.now group now) }
+        ensures before { IfOk result (λ before. known_group self.old group.id ≡ Some before) }
         ensures err { IfErr result (NotEdited self.old self.new by.now group.id) }
     {
         if !is_creator(by, &group.id) {
@@ -140,10 +151,50 @@ impl Groups {
         match place_of(groups, &group.id) {
             Ok(place) => {
                 let stamp = edit_stamp(&groups[place], now)?;
-                self.groups[place] = home(group, stamp);
-                Ok(())
+                Ok(self.put_at(place, group.home(stamp)))
             }
             Err(_) => Err(GroupFault::NoGroup),
         }
+    }
+
+    /// Takes back a change of the group of this name: `before` is the group that was known by it,
+    /// if one was. It takes no memory.
+    pub fn restore(&mut self, id: &GroupId, before: Option<Group>)
+        requires known { is_known_group self.old id.now ≡ true }
+        requires named { IfSome before (λ group. group.id ≡ id.now) }
+        ensures { self.new ≡ restored id.now before self.old }
+    {
+        if let Ok(place) = place_of(self.groups.as_slice(), id) {
+            match before {
+                Some(group) => drop(self.put_at(place, group)),
+                None => self.take_at(place),
+            }
+        }
+    }
+
+    // Puts a group in the place of the one of its name.
+    fn put_at(&mut self, place: usize, group: Group) -> Group
+        requires { IsPlaceOf self.old group.id place }
+        ensures put { self.new ≡ put_group group self.old }
+        ensures before { known_group self.old group.id ≡ Some result }
+    {
+        mem::replace(&mut self.groups[place], group)
+    }
+
+    // Puts a group into the gap for its name.
+    fn put_into(&mut self, gap: usize, group: Group) -> Result<(), NoMemory>
+        requires { IsGapFor self.old group.id gap }
+        ensures ok { OnOk result (self.new ≡ put_group group self.old) }
+        ensures err { OnErr result (self.new ≡ self.old) }
+    {
+        Ok(self.groups.insert(gap, group)?)
+    }
+
+    // Takes the group at this place away.
+    fn take_at(&mut self, place: usize)
+        requires { place < length self.old }
+        ensures { self.new ≡ remove self.old place }
+    {
+        drop(self.groups.remove(place));
     }
 }

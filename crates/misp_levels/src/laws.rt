@@ -1,16 +1,18 @@
 //! Laws of labels on the way, and of the groups of an instance.
 
-ghost use Rattle.std.specs.Prelude.{◌≡◌, ℕ, ◌+◌, ◌≤◌, List, true, false, Some, is_some};
+ghost use Rattle.std.specs.Prelude.{◌≡◌, ℕ, ◌+◌, ◌≤◌, List, [], true, false, Some, None, is_some, if◌then◌else◌};
+ghost use Rattle.std.specs.Ordering.{is_lt};
 ghost use Rattle.std.specs.List.Sorted.{IsStrictlySortedBy};
 ghost use Rattle.misp_ids.specs.declared.uid.OrgId.{OrgId};
+ghost use Rattle.misp_ids.specs.declared.uid.GroupId.{GroupId};
 ghost use Rattle.misp_ids.specs.declared.label.Label.{Label};
 ghost use Rattle.misp_ids.specs.declared.label.Way.{Way};
-ghost use Rattle.misp_groups.specs.declared.group.Group.{Group};
-ghost use Rattle.misp_model.specs.Names.{Inst, Stamp};
-ghost use Rattle.misp_model.specs.Audience.{hop, down, is_open, label_lets_out, label_is_known};
-ghost use Rattle.misp_model.specs.Acts.{administration_fails, administered};
+ghost use Rattle.misp_groups.specs.declared.group.GroupFields.{GroupFields as Group};
+ghost use Rattle.misp_model.specs.Names.{Stamp, same_group, group_before};
+ghost use Rattle.misp_model.specs.Audience.{hop, down, known_group};
+ghost use Rattle.misp_model.specs.Acts.{put_group, administration_fails, administered};
 ghost use Rattle.misp_levels.specs.Levels.{rank};
-ghost use Rattle.misp_levels.specs.Groups.{by_name, why_not_added, why_not_edited, Adds, Edits, AreAlike};
+ghost use Rattle.misp_levels.specs.Groups.{by_id, by_name, put_groups, restored, why_not_added, why_not_edited, Adds, Edits};
 
 /// What is sent comes with the label one step down.
 pub fn a_hop_is_one_step_down()
@@ -31,12 +33,12 @@ pub fn no_hop_raises_a_label()
 {}
 
 /// A group is added and edited as an administration of the history does it, and not where that
-/// fails. The history tells no order of groups: what is the same is the group of each name.
+/// fails.
 pub fn groups_change_as_they_are_administered()
     ensures added { (old new : List Group) (by : OrgId) (g : Group) (now : Stamp) →
-        Adds old new by g now → AreAlike new (administered now by true g old) }
+        Adds old new by g now → new ≡ administered now by true g old }
     ensures edited { (old new : List Group) (by : OrgId) (g : Group) (now : Stamp) →
-        Edits old new by g now → AreAlike new (administered now by false g old) }
+        Edits old new by g now → new ≡ administered now by false g old }
     ensures not_added { (old : List Group) (by : OrgId) (g : Group) →
         is_some (why_not_added old by g.id) ≡ administration_fails by true g old }
     ensures not_edited { (old : List Group) (by : OrgId) (g : Group) →
@@ -44,13 +46,23 @@ pub fn groups_change_as_they_are_administered()
         is_some (why_not_edited old by g.id) ≡ administration_fails by false g old }
 {}
 
-/// Where each name has the same group in two lists, both open and let out the same, and know the
-/// groups of the same labels. So the order in which groups are kept changes nothing.
-pub fn groups_alike_give_the_same()
-    ensures opens { (a b : List Group) (here : Inst) (o owner : OrgId) (l : Label) →
-        AreAlike a b → is_open a here o owner l ≡ is_open b here o owner l }
-    ensures lets_out { (a b : List Group) (way : Way) (o : OrgId) (dest : Inst) (l : Label) →
-        AreAlike a b → label_lets_out a way o dest l ≡ label_lets_out b way o dest l }
-    ensures known { (a b : List Group) (l : Label) →
-        AreAlike a b → label_is_known a l ≡ label_is_known b l }
+/// Once a change is taken back, the groups are as they were before it.
+pub fn a_change_is_taken_back()
+    ensures added { (old new : List Group) (by : OrgId) (g : Group) (now : Stamp) →
+        Adds old new by g now → restored g.id None new ≡ old }
+    ensures edited { (old new : List Group) (by : OrgId) (g h : Group) (now : Stamp) →
+        IsStrictlySortedBy by_name old → Edits old new by g now →
+        known_group old g.id ≡ Some h → restored g.id (Some h) new ≡ old }
+{}
+
+/// The name of a group that is put in its place has this group, and every other name the group that
+/// it had. Groups that ascend come of putting one after another in its place, and they ascend in the
+/// order of the history.
+pub fn groups_are_put_in_order()
+    ensures known { (g : Group) (groups : List Group) (id : GroupId) →
+        known_group (put_group g groups) id
+        ≡ (if same_group g.id id then Some g else known_group groups id) }
+    ensures all { (groups : List Group) →
+        IsStrictlySortedBy by_name groups → put_groups [] groups ≡ groups }
+    ensures order { (a b : GroupId) → is_lt (by_id a b) ≡ group_before a b }
 {}

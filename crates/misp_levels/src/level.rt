@@ -1,7 +1,7 @@
 //! What a label opens, and what becomes of it on the way.
 
 ghost use Rattle.std.specs.Prelude.{◌≡◌, List};
-ghost use Rattle.misp_groups.specs.declared.group.Group.{Group};
+ghost use Rattle.misp_groups.specs.declared.group.GroupFields.{GroupFields as Group};
 ghost use Rattle.misp_model.specs.Names.{Inst};
 ghost use Rattle.misp_model.specs.Audience.{is_open, hop, down};
 ghost use Rattle.misp_levels.specs.Levels.{SaysOfGroup};

@@ -10,8 +10,8 @@ mod sharing;
 pub use fault::GroupFault;
 pub use groups::Groups;
 pub use laws::{
-    a_hop_is_one_step_down, groups_alike_give_the_same, groups_change_as_they_are_administered,
-    no_hop_raises_a_label, steps_down_add_up,
+    a_change_is_taken_back, a_hop_is_one_step_down, groups_are_put_in_order,
+    groups_change_as_they_are_administered, no_hop_raises_a_label, steps_down_add_up,
 };
 pub use level::{down, hop, open};
 pub use sharing::{allows, carries};

@@ -1,8 +1,11 @@
-//! A group that is added and edited, where memory is there.
+//! Groups that are put, added, edited and copied, where memory is there; and the table of levels.
+
+ghost use Rattle.std.specs.Prelude.{◌≡◌, true, IfOk};
+ghost use Rattle.std.specs.Str.{is_utf8};
 
 use super::*;
-use misp_groups::{Group, GroupOrg, GroupServer};
-use misp_ids::{GroupId, InstId, Items, OrgId, Stamp, Text, Uid};
+use misp_groups::{Group, GroupFields, GroupOrg, GroupServer};
+use misp_ids::{GroupId, InstId, Items, Label, OrgId, Stamp, Text, Uid, Way};
 use std::alloc::{AllocError, Global};
 use std::test::*;
 
@@ -12,7 +15,10 @@ const MEMBER: OrgId = OrgId(Uid(0xa2));
 
 const OTHER: OrgId = OrgId(Uid(0xa3));
 
-fn text(alloc: Global, text: &str) -> Result<Text, AllocError> {
+fn text(alloc: Global, text: &str) -> Result<Text, AllocError>
+    ensures value { IfOk result (λ copy. copy ≡ text.now) }
+    ensures utf8 { IfOk result (λ copy. is_utf8 copy ≡ true) }
+{
     Ok(Text::of(String::from_str(alloc, text)?))
 }
 
@@ -25,7 +31,7 @@ fn group(alloc: Global, number: u128) -> Result<Group, AllocError> {
         extend: false,
     })?;
     let servers: Vec<GroupServer> = Vec::new(alloc);
-    Ok(Group {
+    Ok(Group::of(GroupFields {
         id: GroupId {
             creator: CREATOR,
             uuid: Uid(number),
@@ -39,7 +45,7 @@ fn group(alloc: Global, number: u128) -> Result<Group, AllocError> {
         servers: Items::of(servers),
         modified: Stamp::new(7).unwrap(),
         carried: true,
-    })
+    }))
 }
 
 #[test]
@@ -52,13 +58,60 @@ fn groups_are_added_and_edited(rt: HostRuntime) -> Result<(), Fail> {
         let group = group(alloc, number)?;
         assert_eq!(rt; groups.add(&CREATOR, group, now), Ok(()));
     }
-    let again = group(alloc, 2)?;
+    let again = group(alloc, 2)?.copied().expect(&rt, "memory is there");
     let name = again.id;
-    assert_eq!(rt; groups.edit(&CREATOR, again, now), Ok(()));
+    let was = groups
+        .edit(&CREATOR, again, now)
+        .map(|group| group.modified.get());
+    assert_eq!(rt; was, Ok(50));
     let stamps = groups.as_slice().iter().map(|group| group.modified.get());
     assert_eq!(rt; stamps.eq([50, 51, 50]), true);
     let seen = |org| groups.get(&name).map(|group| allows(group, org, &here));
     assert_eq!(rt; seen(&MEMBER), Some(true));
     assert_eq!(rt; seen(&OTHER), Some(false));
+    Ok(())
+}
+
+#[test]
+fn groups_are_put_in_their_places(rt: HostRuntime) -> Result<(), Fail> {
+    let alloc = rt.alloc();
+    let mut groups = Groups::new(alloc);
+    for (number, moment, was) in [(2, 5, None), (1, 6, None), (2, 9, Some(5))] {
+        let stamp = Stamp::new(moment).unwrap();
+        let before = groups.put(group(alloc, number)?.home(stamp));
+        let stamp_before = before.map(|before| before.map(|group| group.modified.get()));
+        assert_eq!(rt; stamp_before, Ok(was));
+    }
+    let stamps = groups.as_slice().iter().map(|group| group.modified.get());
+    assert_eq!(rt; stamps.eq([6, 9]), true);
+    Ok(())
+}
+
+// Each level, what it comes to by a pull and by a push, and after five hops.
+const LEVELS: [(Label, Option<Label>, Option<Label>, Label); 5] = [
+    (Label::Own, Some(Label::Own), None, Label::Own),
+    (Label::Community, Some(Label::Own), None, Label::Own),
+    (
+        Label::Connected,
+        Some(Label::Community),
+        Some(Label::Community),
+        Label::Own,
+    ),
+    (Label::All, Some(Label::All), Some(Label::All), Label::All),
+    (
+        Label::Inherit,
+        Some(Label::Inherit),
+        Some(Label::Inherit),
+        Label::Inherit,
+    ),
+];
+
+#[test]
+fn levels_go_down_as_the_table_says(rt: HostRuntime) -> Result<(), Fail> {
+    for (label, pulled, pushed, far) in &LEVELS {
+        assert_eq!(rt; hop(Way::Pull, label), *pulled);
+        assert_eq!(rt; hop(Way::Push, label), *pushed);
+        assert_eq!(rt; down(label, 5), *far);
+    }
     Ok(())
 }

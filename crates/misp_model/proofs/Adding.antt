@@ -1,12 +1,11 @@
 -- What a request that writes new keys does to the tables: each version is put in its place as a row.
 use Rattle.std.proofs.Common.{◌≡◌, ℕ, suc, List, [], ◌∷◌, ◌++◌, Bool, true, false, refl, ap, sym, ◌∙◌, arith, map, cond, leb, ltb, append_assoc}
-use Rattle.std.specs.Prelude.{◌&&◌, ◌||◌, not}
+use Rattle.std.specs.Prelude.{◌&&◌, not}
 use Rattle.std.specs.List.{filter, list_any, list_all}
 use Rattle.std.proofs.lemmas.Bool.{and_parts, and_from, and_left, or_from, not-true}
 use Rattle.std.proofs.lemmas.Bool.Decides.{nat_tests}
 use Rattle.std.proofs.lemmas.List.{append-nil}
 use Rattle.std.proofs.lemmas.List.Folds.{list_any-append, list_all-append}
-use Rattle.misp_elem.specs.declared.row.RowFields.{RowFields as Row}
 use Rattle.misp_model.specs.Names.{Inst, same_inst, same_org, same_key}
 use Rattle.misp_model.specs.Order.{put}
 use Rattle.misp_model.specs.History.{Version, Written, is_published, same_cell, row_of, fresh_row, stands_before, tables}

@@ -2,18 +2,18 @@
 use Rattle.std.proofs.Common.{◌≡◌, List, [], ◌∷◌, ◌++◌, Bool, true, false, refl, ap, sym, ◌∙◌, inl, inr, map, cond, leb, append_assoc}
 use Rattle.std.specs.Prelude.{◌&&◌, ◌||◌, not}
 use Rattle.std.specs.List.{filter, list_any}
-use Rattle.std.proofs.lemmas.Bool.{and_parts, and_from, or_cases, or_left, or_right, false≢true, false_from_ne_true, not-true, not-false}
+use Rattle.std.proofs.lemmas.Bool.{and_parts, and_from, or_cases, or_left, or_right, false≢true, false_from_ne_true, not-false}
 use Rattle.std.proofs.lemmas.List.{append-nil}
 use Rattle.std.proofs.lemmas.List.Folds.{list_any-append}
 use Rattle.misp_ids.specs.declared.uid.OrgId.{OrgId}
 use Rattle.misp_elem.specs.declared.key.KeyForm.{KeyForm as Key}
 use Rattle.misp_elem.specs.declared.row.RowFields.{RowFields as Row}
-use Rattle.misp_groups.specs.declared.group.Group.{Group}
+use Rattle.misp_groups.specs.declared.group.GroupFields.{GroupFields as Group}
 use Rattle.misp_model.specs.Names.{Inst, same_inst, same_org, same_key}
 use Rattle.misp_model.specs.Order.{put, in_order}
 use Rattle.misp_model.specs.View.{is_row_of, is_known, known}
 use Rattle.misp_model.specs.History.{Version, same_cell, row_of, newest_from, newest, stands_before, tables}
-use Rattle.misp_model.proofs.Growing.{Cell, cell, cell_back, cell_on, any_implies, newest_more}
+use Rattle.misp_model.proofs.Growing.{cell, cell_back, cell_on, any_implies, newest_more}
 use Rattle.misp_model.proofs.Members.{same_inst-refl}
 use Rattle.misp_model.proofs.Lists.{any_cut}
 

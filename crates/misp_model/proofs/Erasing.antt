@@ -7,11 +7,11 @@ use Rattle.std.proofs.lemmas.List.{append-nil}
 use Rattle.misp_ids.specs.declared.uid.OrgId.{OrgId}
 use Rattle.misp_ids.specs.declared.label.Way.{Way}
 use Rattle.misp_elem.specs.declared.key.KeyForm.{KeyForm as Key}
-use Rattle.misp_groups.specs.declared.group.Group.{Group}
+use Rattle.misp_groups.specs.declared.group.GroupFields.{GroupFields as Group}
 use Rattle.misp_requests.specs.declared.change.Change.TheVariants.{AddEvent, AddParts, EditEvent, EditAttribute, EditObject, Delete, DeleteReference, DeleteEvent, Publish}
 use Rattle.misp_requests.specs.declared.change.Change.TheVariants as change
 use Rattle.misp_requests.specs.declared.ask.Ask.{Ask}
-use Rattle.misp_requests.specs.declared.ask.Ask.TheVariants.{View, Propose, Judge, Sight, Index, TakePart}
+use Rattle.misp_requests.specs.declared.ask.Ask.TheVariants.{View, Propose, Judge, Sight, Index, Groups, TakePart}
 use Rattle.misp_requests.specs.declared.ask.Ask.TheVariants as ask
 use Rattle.misp_model.specs.Names.{Inst, same_org, event_key}
 use Rattle.misp_model.specs.View.{known}
@@ -54,6 +54,7 @@ module _ (keep : Key → Bool) (c : IsClosed keep) where
   follows s (ask.Change (change.Untag e p name)) pair h = untag_follows keep c s e p name _ refl h
   follows s (Sight e t d) pair h = sight_follows keep c s e t d _ refl h
   follows s Index pair h = refl
+  follows s Groups pair h = refl
   follows s (ask.Change (DeleteEvent e)) pair h = delete_follows keep c s e _ refl h
   follows s (ask.Change (Publish e)) pair h = publish_follows keep c s e _ refl h
   follows s (Propose d) pair h = propose_follows keep c s d _ refl h

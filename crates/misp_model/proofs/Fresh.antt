@@ -1,15 +1,13 @@
 -- A version that was just written, as a row.
-use Rattle.std.proofs.Common.{◌≡◌, ℕ, ◌≤◌, List, [], ◌∷◌, Bool, true, false, refl, ap, sym, ◌∙◌, arith, leb, ltb, length}
-use Rattle.std.specs.Prelude.{◌&&◌, ◌||◌, not, cond}
-use Rattle.std.specs.List.{list_any, list_all}
-use Rattle.std.proofs.lemmas.Bool.{and_parts, and_right}
+use Rattle.std.proofs.Common.{◌≡◌, List, [], ◌∷◌, Bool, true, false, refl, ap, ◌∙◌, arith, leb, ltb, length}
+use Rattle.std.specs.Prelude.{◌||◌, not, cond}
+use Rattle.std.specs.List.{list_all}
+use Rattle.std.proofs.lemmas.Bool.{and_parts}
 use Rattle.std.proofs.lemmas.Bool.Decides.{nat_tests}
 use Rattle.misp_ids.specs.declared.label.Label.{Label}
 use Rattle.misp_ids.specs.declared.label.Label.TheVariants as label
-use Rattle.misp_elem.specs.declared.content.Content.{Content}
-use Rattle.misp_model.specs.Names.{same_inst, same_org, same_key, event_of, event_key}
 use Rattle.misp_model.specs.Audience.{down}
-use Rattle.misp_model.specs.History.{Version, Came, Written, has_path, is_handed_in, is_published, is_statement, is_gone, label_now, content_now, without_local_tags, published_after, released, row_of, fresh_row}
+use Rattle.misp_model.specs.History.{Version, Written, has_path, is_handed_in, is_published, is_statement, is_gone, label_now, content_now, without_local_tags, published_after, released, row_of, fresh_row}
 
 down_none : (l : Label) → down l 0 ≡ l
 unfolding down

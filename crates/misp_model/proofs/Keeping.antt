@@ -13,7 +13,7 @@ use Rattle.misp_elem.specs.declared.key.KeyForm.{KeyForm as Key}
 use Rattle.misp_elem.specs.declared.key.KeyForm.TheVariants.{Element, Reference, Proposal, Verdict, Sighting}
 use Rattle.misp_elem.specs.declared.row.RowFields.{RowFields as Row}
 use Rattle.misp_requests.specs.declared.ask.Ask.{Ask}
-use Rattle.misp_requests.specs.declared.ask.Ask.TheVariants.{View, Propose, Judge, Sight, Index, TakePart}
+use Rattle.misp_requests.specs.declared.ask.Ask.TheVariants.{View, Propose, Judge, Sight, Index, Groups, TakePart}
 use Rattle.misp_requests.specs.declared.ask.Ask.TheVariants as ask
 use Rattle.misp_model.specs.Names.{Inst, same_inst, same_org, parents, above, up_to}
 use Rattle.misp_model.specs.View.{known}
@@ -395,6 +395,7 @@ pair_in seen acc s (ask.Change c) m = tt
 pair_in seen acc s (Propose d) m = tt
 pair_in seen acc s (Sight e t d) m = tt
 pair_in seen acc s Index m = tt
+pair_in seen acc s Groups m = tt
 pair_in seen acc s (TakePart p) m = tt
 
 pairs_in : (seen acc : List Key) (n : ℕ) (w : World) (act : Act) → Within (acceptance_of n w act) acc → HasPairs (is_one_of (all_kept seen acc)) n w act

@@ -10,7 +10,7 @@ use Rattle.misp_elem.specs.declared.key.Place.TheVariants as place
 use Rattle.misp_elem.specs.declared.key.KeyForm.{KeyForm as Key}
 use Rattle.misp_elem.specs.declared.key.KeyForm.TheVariants.{Element, Reference, Proposal, Verdict, Sighting}
 use Rattle.misp_elem.specs.declared.row.RowFields.{RowFields as Row}
-use Rattle.misp_groups.specs.declared.group.Group.{Group}
+use Rattle.misp_groups.specs.declared.group.GroupFields.{GroupFields as Group}
 use Rattle.misp_model.specs.Names.{Inst, same_org, same_key, event_of, event_key, parents, above, up_to}
 use Rattle.misp_model.specs.View.{is_row_of, is_mark, has_copy, has_home, has_gone, row_is_open, has_open, element_granted, granted_somewhere, granted_by, granted, is_known, known}
 use Rattle.misp_model.specs.Erasure.{cut_rows, IsClosed}

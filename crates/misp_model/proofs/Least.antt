@@ -10,7 +10,7 @@ use Rattle.misp_elem.specs.declared.key.KeyForm.{KeyForm as Key}
 use Rattle.misp_elem.specs.declared.key.KeyForm.TheVariants.{Element, Reference, Proposal, Verdict, Sighting}
 use Rattle.misp_elem.specs.declared.row.RowFields.{RowFields as Row}
 use Rattle.misp_requests.specs.declared.ask.Ask.{Ask}
-use Rattle.misp_requests.specs.declared.ask.Ask.TheVariants.{View, Propose, Judge, Sight, Index, TakePart}
+use Rattle.misp_requests.specs.declared.ask.Ask.TheVariants.{View, Propose, Judge, Sight, Index, Groups, TakePart}
 use Rattle.misp_requests.specs.declared.ask.Ask.TheVariants as ask
 use Rattle.misp_model.specs.Names.{same_org, parents}
 use Rattle.misp_model.specs.History.{Version}
@@ -90,6 +90,7 @@ module _ (keep : Key → Bool) where
   pair_in_ask s (Propose d) h = λ v m. absurd m
   pair_in_ask s (Sight e t d) h = λ v m. absurd m
   pair_in_ask s Index h = λ v m. absurd m
+  pair_in_ask s Groups h = λ v m. absurd m
   pair_in_ask s (TakePart p) h = λ v m. absurd m
 
   pair_in_act : (n : ℕ) (w : World) (act : Act) → HasPairs keep n w act → IsPaired (acceptance_of n w act)

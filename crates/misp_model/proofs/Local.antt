@@ -10,7 +10,7 @@ use Rattle.misp_elem.specs.declared.key.Place.TheVariants as place
 use Rattle.misp_elem.specs.declared.key.KeyForm.{KeyForm as Key}
 use Rattle.misp_elem.specs.declared.key.KeyForm.TheVariants.{Element, Reference, Proposal, Verdict, Sighting}
 use Rattle.misp_elem.specs.declared.row.RowFields.{RowFields as Row}
-use Rattle.misp_groups.specs.declared.group.Group.{Group}
+use Rattle.misp_groups.specs.declared.group.GroupFields.{GroupFields as Group}
 use Rattle.misp_model.specs.Names.{Inst, same_org, same_event, event_of, parents, above, up_to}
 use Rattle.misp_model.specs.View.{granted}
 use Rattle.misp_model.specs.Asking.{Scene, is_taken, takes_uuid}

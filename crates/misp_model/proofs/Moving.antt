@@ -8,7 +8,7 @@ use Rattle.misp_ids.specs.declared.uid.EventId.{EventId}
 use Rattle.misp_elem.specs.declared.key.KeyForm.{KeyForm as Key}
 use Rattle.misp_elem.specs.declared.key.KeyForm.TheVariants.{Element, Reference, Proposal, Verdict, Sighting}
 use Rattle.misp_elem.specs.declared.row.RowFields.{RowFields as Row}
-use Rattle.misp_groups.specs.declared.group.Group.{Group}
+use Rattle.misp_groups.specs.declared.group.GroupFields.{GroupFields as Group}
 use Rattle.misp_model.specs.Names.{Inst, same_key, event_of, event_key, parents}
 use Rattle.misp_model.specs.View.{granted, known, first_of_all, is_least}
 use Rattle.misp_model.specs.History.{Version, row_of, newest, tables, is_statement}

@@ -1,11 +1,9 @@
 -- The order of rows by numbers is the order of the bytes that name them.
-use Rattle.std.proofs.Common.{◌≡◌, ℕ, ◌<◌, List, [], ◌∷◌, ◌++◌, length, Bool, true, false, eqb, ltb, refl, sym, ap, ◌∙◌, append_assoc, arith, inl, inr}
+use Rattle.std.proofs.Common.{◌≡◌, ℕ, List, [], ◌∷◌, ◌++◌, length, Bool, true, false, eqb, ltb, refl, sym, ap, ◌∙◌, append_assoc, arith, inl, inr}
 use Rattle.std.specs.Prelude.{◌&&◌, ◌||◌, bytes_eq}
 use Rattle.std.specs.declared.cmp.Ordering.{Ordering}
-use Rattle.std.specs.declared.cmp.Ordering.TheVariants.{Less, Equal, Greater}
 use Rattle.std.specs.Ordering.{nat_cmp, ordering_then, is_lt, is_eq}
-use Rattle.std.specs.Cmp.Lexicographic.{slice_cmp}
-use Rattle.std.proofs.lemmas.Bool.{cases_lt, and_parts, and_from, eq-eqb, false≢true}
+use Rattle.std.proofs.lemmas.Bool.{cases_lt, and_parts, and_from, eq-eqb}
 use Rattle.std.proofs.lemmas.Bool.Decides.{nat_tests}
 use Rattle.std.proofs.lemmas.Slice.Eq.{bytes_eq-Decides}
 use Rattle.std.proofs.lemmas.Map.Text.{is_eq-slice_cmp}
@@ -27,7 +25,7 @@ use Rattle.misp_model.specs.Order.{is_less}
 use Rattle.misp_model.specs.History.{spell_place, spell_inst, spell_name, spell, stands_before}
 use Rattle.misp_model.specs.Machine.{event_number, name_bytes, raw_before}
 use Rattle.misp_model.proofs.Same.{same_org-sound, same_key-sound}
-use Rattle.misp_model.proofs.Members.{same_org-refl, same_key-refl}
+use Rattle.misp_model.proofs.Members.{same_key-refl}
 use Rattle.misp_model.proofs.Spelled.{head_of, tail_of, spells}
 use Rattle.misp_model.proofs.NumberBytes.{in_bytes, less, greater, uid_cmp, front_cmp}
 

@@ -1,17 +1,16 @@
 -- The versions of a log have the numbers of acts that were: after the n-th act none is above n.
-use Rattle.std.proofs.Common.{◌≡◌, ℕ, suc, List, [], ◌∷◌, ◌++◌, Bool, true, false, refl, ap, sym, ◌∙◌, map, cond, ltb}
+use Rattle.std.proofs.Common.{◌≡◌, ℕ, suc, List, [], ◌∷◌, Bool, true, false, refl, ap, ◌∙◌, map, cond, ltb}
 use Rattle.std.specs.Prelude.{◌&&◌, Option, Some, None}
-use Rattle.std.specs.List.{list_all, filter}
+use Rattle.std.specs.List.{list_all}
 use Rattle.std.proofs.lemmas.Bool.{and_parts, and_from}
-use Rattle.misp_ids.specs.declared.label.Way.{Way}
-use Rattle.misp_groups.specs.declared.group.Group.{Group}
+use Rattle.misp_groups.specs.declared.group.GroupFields.{GroupFields as Group}
 use Rattle.misp_requests.specs.declared.ask.Ask.{Ask}
 use Rattle.misp_model.specs.Names.{Inst, same_inst}
 use Rattle.misp_model.specs.History.{Version, is_newest, newest_from, newest, tables, row_of}
 use Rattle.misp_model.specs.Passing.{Route, passing, passes, known_there}
 use Rattle.misp_model.specs.Arrival.{counted, counts, moved}
 use Rattle.misp_model.specs.Acts.{World, Act, Deed, Asks, Misfits, Syncs, Takes_groups, Administers, Nothing, Net, Caller, scene, brings, is_accepted, asked, synced_groups, synced, step}
-use Rattle.misp_model.proofs.Owners.{all-map, all-filter, all_both, brings_now}
+use Rattle.misp_model.proofs.Owners.{all-filter, all_both, brings_now}
 use Rattle.misp_model.proofs.Adding.{below_next}
 use Rattle.misp_model.proofs.Steps.{step_by}
 

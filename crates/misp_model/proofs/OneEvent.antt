@@ -1,5 +1,5 @@
 -- What is asked of one event is answered from the event's own rows, and writes the same.
-use Rattle.std.proofs.Common.{◌≡◌, ℕ, List, [], ◌∷◌, ◌++◌, Bool, true, false, refl, ap, ◌∙◌, map}
+use Rattle.std.proofs.Common.{◌≡◌, List, [], ◌∷◌, ◌++◌, Bool, true, false, refl, ap, ◌∙◌, map}
 use Rattle.std.specs.Prelude.{◌&&◌, ◌||◌, not, Option, Some, None, option_map, option_to_list}
 use Rattle.std.specs.List.{filter, filter_map, find, list_any}
 use Rattle.std.proofs.lemmas.Bool.{and_parts}
@@ -9,25 +9,20 @@ use Rattle.misp_ids.specs.declared.uid.ElemId.{ElemId}
 use Rattle.misp_ids.specs.declared.label.Label.{Label}
 use Rattle.misp_ids.specs.declared.label.Label.TheVariants as label
 use Rattle.misp_elem.specs.declared.key.Place.{Place}
-use Rattle.misp_elem.specs.declared.key.KeyForm.{KeyForm as Key}
 use Rattle.misp_elem.specs.declared.key.KeyForm.TheVariants.{Reference}
 use Rattle.misp_elem.specs.declared.content.Content.TheVariants as content
 use Rattle.misp_elem.specs.declared.row.RowFields.{RowFields as Row}
 use Rattle.misp_elem.specs.Draft.{ReferenceDraftFields as ReferenceDraft}
-use Rattle.misp_elem.specs.Draft.{DraftFields as Draft}
-use Rattle.misp_elem.specs.Draft.{EventDraftFields as EventDraft}
 use Rattle.misp_elem.specs.Draft.{SubmissionFields as Submission}
-use Rattle.misp_groups.specs.declared.group.Group.{Group}
+use Rattle.misp_groups.specs.declared.group.GroupFields.{GroupFields as Group}
 use Rattle.misp_requests.specs.declared.change.Change.TheVariants.{AddEvent}
 use Rattle.misp_requests.specs.declared.ask.Ask.{Ask}
 use Rattle.misp_requests.specs.declared.ask.Ask.TheVariants.{View}
 use Rattle.misp_requests.specs.declared.ask.Ask.TheVariants as ask
 use Rattle.misp_model.specs.Names.{Inst, same_org, same_event, event_of, event_key}
 use Rattle.misp_model.specs.View.{is_live, known}
-use Rattle.misp_model.specs.History.{Version}
-use Rattle.misp_model.specs.Asking.{Scene, Rule, NotGranted, EventExists, EventGone, ElementExists, GroupNotUsable, first_rule, is_target_key, place_in, is_place_of, target_in_copy, target_of, has_target, uuid_at, uuids_of, are_distinct, is_taken, clashes, is_usable, has_unusable, written, new_event, part_version, reference_key, reference_version, parts_written, event_written, change_rules, change_writes}
+use Rattle.misp_model.specs.Asking.{Scene, NotGranted, EventExists, EventGone, ElementExists, GroupNotUsable, first_rule, is_target_key, place_in, is_place_of, target_in_copy, target_of, has_target, uuid_at, uuids_of, are_distinct, clashes, is_usable, has_unusable, written, new_event, part_version, reference_key, reference_version, parts_written, event_written, change_rules, change_writes}
 use Rattle.misp_model.specs.Acts.{Reply, Refused, Other, Seen, Saved, answer, ask_rules, brings, is_accepted, ok_answer}
-use Rattle.misp_elem.specs.declared.visible.VisibleEvent.{VisibleEvent}
 use Rattle.misp_model.specs.Shown.{shown}
 use Rattle.misp_model.specs.Machine.{event_rows, seeing}
 use Rattle.misp_model.specs.Erasure.{cut_rows}

@@ -4,7 +4,7 @@ use Rattle.std.specs.Prelude.{Option, Some, None, option_to_list, option_map}
 use Rattle.std.specs.List.{filter, list_all, filter_map, cons_option}
 use Rattle.std.proofs.lemmas.Bool.{and_from, and_parts}
 use Rattle.std.proofs.lemmas.Bool.Decides.{nat_tests}
-use Rattle.std.proofs.lemmas.List.Folds.{list_all-append, list_all-map}
+use Rattle.std.proofs.lemmas.List.Folds.{list_all-append}
 use Rattle.misp_ids.specs.declared.uid.EventId.{EventId}
 use Rattle.misp_ids.specs.declared.label.Label.{Label}
 use Rattle.misp_ids.specs.declared.label.Label.TheVariants as label
@@ -21,7 +21,7 @@ use Rattle.misp_requests.specs.declared.change.Change.{Change}
 use Rattle.misp_requests.specs.declared.change.Change.TheVariants.{AddEvent, AddParts, EditEvent, EditAttribute, EditObject, Delete, DeleteReference, DeleteEvent, Publish}
 use Rattle.misp_requests.specs.declared.change.Change.TheVariants as change
 use Rattle.misp_requests.specs.declared.ask.Ask.{Ask}
-use Rattle.misp_requests.specs.declared.ask.Ask.TheVariants.{View, Propose, Judge, Sight, Index, TakePart}
+use Rattle.misp_requests.specs.declared.ask.Ask.TheVariants.{View, Propose, Judge, Sight, Index, Groups, TakePart}
 use Rattle.misp_requests.specs.declared.ask.Ask.TheVariants as ask
 use Rattle.misp_model.specs.Names.{Stamp, same_org, event_key}
 use Rattle.misp_model.specs.History.{Version}
@@ -113,6 +113,7 @@ module _ (s : Scene) (own : Version → Bool)
       choice false o = refl
   brings_each (Sight e t d) = and_from _ _ (written_is _ _ _ _) refl
   brings_each Index = refl
+  brings_each Groups = refl
   brings_each (TakePart p) = all-filter own _ _ (all-map own (handed_in s.act s.at s.by) handed_is p.rows)
 
 -- what a request brings is the caller's

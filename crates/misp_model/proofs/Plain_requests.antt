@@ -23,7 +23,7 @@ use Rattle.misp_elem.specs.declared.content.Tag.{Tag}
 use Rattle.misp_model.specs.Names.{Stamp}
 use Rattle.misp_ids.specs.declared.uid.ElemId.{ElemId}
 use Rattle.misp_requests.specs.declared.ask.Ask.{Ask}
-use Rattle.misp_requests.specs.declared.ask.Ask.TheVariants.{View, Propose, Judge, Sight, Index, TakePart}
+use Rattle.misp_requests.specs.declared.ask.Ask.TheVariants.{View, Propose, Judge, Sight, Index, Groups, TakePart}
 use Rattle.misp_requests.specs.declared.ask.Ask.TheVariants as ask
 use Rattle.misp_model.specs.Names.{same_org, same_event, event_of, event_key, parents}
 use Rattle.misp_model.specs.View.{is_row_of, is_live}

@@ -5,7 +5,6 @@ use Rattle.std.specs.List.{filter, list_any, list_all}
 use Rattle.std.proofs.lemmas.Bool.{false≢true, and_parts, and_from, and_left, and_right, or_left, or_right, eq-eqb, lt-ltb, cases_order}
 use Rattle.std.proofs.lemmas.Bool.Decides.{nat_tests}
 use Rattle.std.proofs.lemmas.List.Folds.{list_any-append}
-use Rattle.misp_elem.specs.declared.key.KeyForm.{KeyForm as Key}
 use Rattle.misp_elem.specs.declared.row.RowFields.{RowFields as Row}
 use Rattle.misp_model.specs.Names.{Inst, same_inst, same_org, same_key, event_of, event_key}
 use Rattle.misp_model.specs.History.{Version, has_path, is_handed_in, is_published, is_statement, is_gone, label_now, content_now, same_cell, published_after, released, row_of, is_newest, newest_from, newest, spell, stands_before, tables}

@@ -1,18 +1,17 @@
 -- The form in which an event is seen is computed from the event's own rows.
 use Rattle.std.proofs.Common.{◌≡◌, List, [], ◌∷◌, Bool, true, false, refl, ap, ◌∙◌, map, cond, ltb}
 use Rattle.std.specs.Prelude.{◌&&◌, not, Option, Some, None, option_map}
-use Rattle.std.specs.List.{filter, find, list_any, list_all}
+use Rattle.std.specs.List.{filter, list_any, list_all}
 use Rattle.std.proofs.lemmas.Bool.{and_parts, and_from, false≢true}
 use Rattle.misp_ids.specs.declared.uid.OrgId.{OrgId}
 use Rattle.misp_ids.specs.declared.uid.EventId.{EventId}
 use Rattle.misp_ids.specs.declared.uid.ElemId.{ElemId}
-use Rattle.misp_elem.specs.declared.key.Place.TheVariants as place
 use Rattle.misp_elem.specs.declared.key.KeyForm.{KeyForm as Key}
 use Rattle.misp_elem.specs.declared.key.KeyForm.TheVariants.{Element, Reference, Proposal, Verdict, Sighting}
 use Rattle.misp_elem.specs.declared.row.RowFields.{RowFields as Row}
 use Rattle.misp_model.specs.Names.{same_org, same_event, same_elem, same_key, event_of, event_key}
 use Rattle.misp_model.specs.Order.{put, in_order}
-use Rattle.misp_model.specs.View.{is_row_of, granted, is_live, is_least, first_of_all, chosen}
+use Rattle.misp_model.specs.View.{is_row_of, granted, is_least, first_of_all, chosen}
 use Rattle.misp_model.specs.Asking.{Scene}
 use Rattle.misp_model.specs.Erasure.{cut_rows}
 use Rattle.misp_model.specs.Shown.{sorted, is_shown, shown_at, is_plain_attribute, is_attribute_of, is_object, is_reference_of, is_proposal_on, is_sighting_on, is_verdict_on, is_closed, proposals_on, sightings_on, shown_attribute, object_of, shown_object, creator, form_of, event_row, shown}

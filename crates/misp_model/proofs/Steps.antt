@@ -4,13 +4,16 @@ use Rattle.std.specs.Prelude.{Option, Some, None}
 use Rattle.std.proofs.lemmas.List.{append-nil}
 use Rattle.misp_ids.specs.declared.uid.OrgId.{OrgId}
 use Rattle.misp_ids.specs.declared.uid.EventId.{EventId}
+use Rattle.misp_groups.specs.declared.group.GroupFields.{GroupFields as Group}
 use Rattle.misp_requests.specs.declared.change.Change.{Change}
 use Rattle.misp_requests.specs.declared.ask.Ask.{Ask}
-use Rattle.misp_requests.specs.declared.ask.Ask.TheVariants.{View, Index}
+use Rattle.misp_requests.specs.declared.ask.Ask.TheVariants.{View, Index, Groups}
 use Rattle.misp_requests.specs.declared.ask.Ask.TheVariants as ask
+use Rattle.misp_model.specs.Names.{Inst, same_inst}
 use Rattle.misp_model.specs.History.{Version}
 use Rattle.misp_model.specs.Asking.{Scene, Rule, first_rule, change_writes}
 use Rattle.misp_model.specs.Acts.{World, Act, Deed, Asks, Misfits, Syncs, Takes_groups, Administers, Nothing, Net, Caller, Reply, Refused, scene, ask_rules, brings, is_accepted, answer, ok_answer, synced, with_groups, take_groups, administered, asked, step}
+use Rattle.misp_model.proofs.Members.{same_inst-refl}
 
 pub accepted_where : (s : Scene) (a : Ask) → first_rule (ask_rules s a) ≡ None → is_accepted s a ≡ true
 unfolding is_accepted
@@ -54,6 +57,19 @@ pub asked_index : (w : World) (s : Scene) → asked w s Index ≡ w
 unfolding brings
 asked_index w s = asked_nothing w s Index (is_accepted s Index) refl refl
 
+pub asked_groups : (w : World) (s : Scene) → asked w s Groups ≡ w
+unfolding brings
+asked_groups w s = asked_nothing w s Groups (is_accepted s Groups) refl refl
+
+-- the groups of the instance are the new ones, and those of every other are as before
+pub with_groups_here : (groups : Inst → List Group) (i : Inst) (new : List Group) → with_groups groups i new i ≡ new
+unfolding with_groups
+with_groups_here groups i new = rw (same_inst-refl i) refl
+
+pub with_groups_elsewhere : (groups : Inst → List Group) (i j : Inst) (new : List Group) → same_inst j i ≡ false → with_groups groups i new j ≡ groups j
+unfolding with_groups
+with_groups_elsewhere groups i j new h = rw h refl
+
 module _ (net : Net) (n : ℕ) (w : World) (act : Act) where
   pub step_by : (d : Deed) → act.deed ≡ d → step net n w act ≡ elim d as (λ x. World) [
     | Asks c a ↦ asked w (scene n w act c) a
@@ -89,6 +105,13 @@ module _ (net : Net) (n : ℕ) (w : World) (act : Act) where
 
   pub step_index : (c : Caller) → act.deed ≡ Asks c Index → step net n w act ≡ w
   step_index c h = step_by (Asks c Index) h ∙ asked_index w (scene n w act c)
+
+  pub step_groups : (c : Caller) → act.deed ≡ Asks c Groups → step net n w act ≡ w
+  step_groups c h = step_by (Asks c Groups) h ∙ asked_groups w (scene n w act c)
+
+  pub step_administers : (by : OrgId) (add : Bool) (g : Group) → act.deed ≡ Administers by add g →
+      step net n w act ≡ record w { groups = with_groups w.groups act.at (administered act.now by add g (w.groups act.at)) }
+  step_administers by add g h = step_by (Administers by add g) h
 
   pub step_misfit : (c : Caller) → act.deed ≡ Misfits c → step net n w act ≡ w
   step_misfit c h = step_by (Misfits c) h

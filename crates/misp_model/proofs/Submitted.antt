@@ -11,7 +11,6 @@ use Rattle.misp_elem.specs.declared.key.Place.{Place}
 use Rattle.misp_elem.specs.declared.key.KeyForm.{KeyForm as Key}
 use Rattle.misp_elem.specs.declared.key.KeyForm.TheVariants.{Element, Reference, Proposal, Verdict, Sighting}
 use Rattle.misp_elem.specs.declared.content.Content.TheVariants as content
-use Rattle.misp_elem.specs.declared.row.RowFields.{RowFields as Row}
 use Rattle.misp_elem.specs.Draft.{DraftFields as Draft}
 use Rattle.misp_elem.specs.Draft.{EventDraftFields as EventDraft}
 use Rattle.misp_elem.specs.Draft.{ReferenceDraftFields as ReferenceDraft}

@@ -5,13 +5,14 @@ use Rattle.misp_ids.specs.declared.uid.OrgId.{OrgId}
 use Rattle.misp_model.specs.Names.{Stamp}
 use Rattle.misp_ids.specs.declared.label.Way.{Way}
 use Rattle.misp_elem.specs.declared.row.RowFields.{RowFields as Row}
-use Rattle.misp_groups.specs.declared.group.Group.{Group}
+use Rattle.misp_groups.specs.declared.group.GroupFields.{GroupFields as Group}
 use Rattle.misp_requests.specs.declared.ask.Ask.{Ask}
-use Rattle.misp_requests.specs.declared.ask.Ask.TheVariants.{View, Propose, Judge, Sight, Index, TakePart}
+use Rattle.misp_requests.specs.declared.ask.Ask.TheVariants.{View, Propose, Judge, Sight, Index, Groups, TakePart}
 use Rattle.misp_requests.specs.declared.ask.Ask.TheVariants as ask
 use Rattle.misp_elem.specs.declared.visible.VisibleEvent.{VisibleEvent}
-use Rattle.misp_model.specs.Names.{Inst, same_inst, same_org, same_group}
-use Rattle.misp_model.specs.Audience.{carries}
+use Rattle.misp_model.specs.Names.{Inst, same_inst, same_org, same_group, group_before}
+use Rattle.misp_model.specs.Order.{put}
+use Rattle.misp_model.specs.Audience.{allows, carries, known_group}
 use Rattle.misp_dates.specs.Dates.{date_of}
 use Rattle.misp_model.specs.View.{known, is_row_of}
 use Rattle.misp_model.specs.History.{Version, tables}
@@ -77,6 +78,7 @@ ask_rules s (Propose d) = propose_rules s d
 ask_rules s (Judge e n accept) = judge_rules s e n accept
 ask_rules s (Sight e t d) = sight_rules s e t d
 ask_rules s Index = []
+ask_rules s Groups = []
 ask_rules s (TakePart p) = []
 
 -- the versions that a package's rows come as, where they count
@@ -91,6 +93,7 @@ brings s (Propose d) = propose_writes s d
 brings s (Judge e n accept) = judge_writes s e n accept
 brings s (Sight e t d) = sight_writes s e t d
 brings s Index = []
+brings s Groups = []
 brings s (TakePart p) = taken_rows s p.rows
 
 -- no rule refuses the request
@@ -101,6 +104,7 @@ pub data Reply : Type 0 where
   Refused : Rule → Reply
   Seen : VisibleEvent → Reply
   Listed : List VisibleEvent → Reply
+  Shares : List Group → Reply
   Saved : List Version → Reply
   Taken : ℕ → Reply
   Other : Reply
@@ -111,6 +115,10 @@ newer s vs =
     filter
     (λ v. not (list_any (λ row. is_row_of s.by v.key row && leb v.stamp row.stamp) s.rows)) vs
 
+-- the groups that concern the organisation: those that it created, and those that allow it here
+unfoldable pub concerning : Scene → List Group
+concerning s = filter (λ g. same_org g.id.creator s.by || allows g s.by s.at) s.groups
+
 -- the answer where no rule refuses
 unfoldable pub ok_answer : Scene → Ask → Reply
 ok_answer s (View e owner) = elim (shown s e owner) [ None ↦ Other | Some v ↦ Seen v ]
@@ -119,29 +127,32 @@ ok_answer s (Propose d) = Saved (propose_writes s d)
 ok_answer s (Judge e n accept) = Saved (judge_writes s e n accept)
 ok_answer s (Sight e t d) = Saved (sight_writes s e t d)
 ok_answer s Index = Listed (index s)
+ok_answer s Groups = Shares (concerning s)
 ok_answer s (TakePart p) = Taken (length (newer s (taken_rows s p.rows)))
 
 -- what a request is answered
 unfoldable pub answer : Scene → Ask → Reply
 answer s a = elim (first_rule (ask_rules s a)) [ None ↦ ok_answer s a | Some r ↦ Refused r ]
 
+-- the group in its place, and no other of its name
+unfoldable pub put_group : Group → List Group → List Group
+put_group g groups =
+    put (λ a b. group_before a.id b.id) g (filter (λ h. not (same_group h.id g.id)) groups)
+
 -- a group is taken where none of its name is known, or a carried one with a lesser stamp is
+unfoldable pub takes_group : List Group → Group → Bool
+takes_group groups g =
+    list_all (λ h. not (same_group h.id g.id) || h.carried && ltb h.modified g.modified) groups
+
 unfoldable pub take_group : List Group → Group → List Group
 take_group groups g =
-    cond (list_any (λ h. same_group h.id g.id) groups)
-    (map (λ h. cond (same_group h.id g.id && (h.carried && ltb h.modified g.modified))
-    (record g { carried = true }) h) groups)
-    (groups ++ record g { carried = true } ∷ [])
+    cond (takes_group groups g) (put_group (record g { carried = true }) groups) groups
 
 unfoldable pub take_groups : List Group → List Group → List Group
 take_groups groups [] = groups
 take_groups groups (g ∷ gs) = take_groups (take_group groups g) gs
 
--- a group that take_group takes, and how many of these are taken
-unfoldable pub takes_group : List Group → Group → Bool
-takes_group groups g =
-    list_all (λ h. not (same_group h.id g.id) || h.carried && ltb h.modified g.modified) groups
-
+-- how many of these are taken
 unfoldable pub count_taken : List Group → List Group → ℕ
 count_taken groups [] = 0
 count_taken groups (g ∷ gs) = cond (takes_group groups g) 1 0 + count_taken (take_group groups g) gs
@@ -155,13 +166,20 @@ administration_fails by add g groups =
     (not (list_any
     (λ h. same_group h.id g.id && (not h.carried && not (eqb h.modified last_stamp))) groups))
 
+-- the stamp of a group that is changed now: later than that of the one that was known, if one was
+unfoldable pub group_stamp : Stamp → Option Group → Stamp
+group_stamp now None = now
+group_stamp now (Some held) = next_stamp now held.modified
+
+-- the group as it is kept after an administration of this instance
+unfoldable pub group_now : Stamp → Group → List Group → Group
+group_now now g groups =
+    record g { carried = false; modified = group_stamp now (known_group groups g.id) }
+
 -- the groups after an administration
 unfoldable pub administered : Stamp → OrgId → Bool → Group → List Group → List Group
 administered now by add g groups =
-    cond (administration_fails by add g groups) groups
-    (cond add (groups ++ record g { carried = false; modified = now } ∷ [])
-    (map (λ h. cond (same_group h.id g.id)
-    (record g { carried = false; modified = next_stamp now h.modified }) h) groups))
+    cond (administration_fails by add g groups) groups (put_group (group_now now g groups) groups)
 
 -- the groups of all instances, with those of one instead
 unfoldable pub with_groups : (Inst → List Group) → Inst → List Group → Inst → List Group

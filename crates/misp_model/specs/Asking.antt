@@ -1,5 +1,5 @@
 -- What a request is answered, and what it writes.
-use Rattle.std.specs.Prelude.{ℕ, ◌+◌, max, Bool, true, false, not, eqb, ltb, ◌&&◌, ◌||◌, cond, List, [], ◌∷◌, ◌++◌, map, length, filter, Option, Some, None, option_map, option_to_list, bytes_eq}
+use Rattle.std.specs.Prelude.{ℕ, ◌+◌, max, Bool, true, false, not, eqb, ltb, ◌&&◌, ◌||◌, cond, List, [], ◌∷◌, ◌++◌, map, filter, Option, Some, None, option_map, option_to_list, bytes_eq}
 use Rattle.std.specs.List.{list_any, list_all, find, filter_map}
 use Rattle.misp_ids.specs.declared.uid.OrgId.{OrgId}
 use Rattle.misp_ids.specs.declared.uid.EventId.{EventId}
@@ -19,8 +19,8 @@ use Rattle.misp_elem.specs.declared.content.EventBody.{EventBody}
 use Rattle.misp_elem.specs.declared.content.AttributeBody.{AttributeBody}
 use Rattle.misp_elem.specs.declared.content.ProposalBody.{ProposalBody}
 use Rattle.misp_elem.specs.declared.row.RowFields.{RowFields as Row}
-use Rattle.misp_elem.specs.Row.{tags_size, text_size}
-use Rattle.misp_groups.specs.declared.group.Group.{Group}
+use Rattle.misp_elem.specs.Row.{text_size}
+use Rattle.misp_groups.specs.declared.group.GroupFields.{GroupFields as Group}
 use Rattle.misp_elem.specs.Draft.{DraftFields as Draft}
 use Rattle.misp_elem.specs.Draft.{EventDraftFields as EventDraft}
 use Rattle.misp_elem.specs.Draft.{ReferenceDraftFields as ReferenceDraft}

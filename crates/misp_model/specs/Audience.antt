@@ -7,7 +7,7 @@ use Rattle.misp_ids.specs.declared.label.Label.{Label}
 use Rattle.misp_ids.specs.declared.label.Label.TheVariants as label
 use Rattle.misp_ids.specs.declared.label.Way.{Way}
 use Rattle.misp_ids.specs.declared.label.Way.TheVariants.{Pull, Push}
-use Rattle.misp_groups.specs.declared.group.Group.{Group}
+use Rattle.misp_groups.specs.declared.group.GroupFields.{GroupFields as Group}
 use Rattle.misp_model.specs.Names.{Inst, same_inst, same_org, same_group}
 
 -- the group is active, and the organisation is in it or the instance is one of its servers with all

@@ -11,7 +11,7 @@ use Rattle.misp_requests.specs.declared.change.Change.TheVariants.{AddEvent, Add
 use Rattle.misp_requests.specs.declared.change.Change.TheVariants as change
 use Rattle.misp_elem.specs.declared.key.Place.TheVariants as place
 use Rattle.misp_requests.specs.declared.ask.Ask.{Ask}
-use Rattle.misp_requests.specs.declared.ask.Ask.TheVariants.{View, Propose, Judge, Sight, Index, TakePart}
+use Rattle.misp_requests.specs.declared.ask.Ask.TheVariants.{View, Propose, Judge, Sight, Index, Groups, TakePart}
 use Rattle.misp_requests.specs.declared.ask.Ask.TheVariants as ask
 use Rattle.misp_model.specs.Names.{Inst, same_org, event_key, parents}
 use Rattle.misp_model.specs.History.{Version}
@@ -76,6 +76,7 @@ erased_ask keep s (ask.Change (change.Untag e p name)) =
     where_kept (keep (Element e p)) (ask.Change (change.Untag e p name))
 erased_ask keep s (Sight e t d) = where_kept (keep (sighting_key s e t d)) (Sight e t d)
 erased_ask keep s Index = None
+erased_ask keep s Groups = None
 erased_ask keep s (ask.Change (EditAttribute e p edit)) =
     where_kept (keep (Element e p)) (ask.Change (EditAttribute e p edit))
 erased_ask keep s (ask.Change (DeleteEvent e)) =
@@ -147,6 +148,7 @@ HasPair keep s (ask.Change c) = Unit {0}
 HasPair keep s (Propose d) = Unit {0}
 HasPair keep s (Sight e t d) = Unit {0}
 HasPair keep s Index = Unit {0}
+HasPair keep s Groups = Unit {0}
 HasPair keep s (TakePart p) = Unit {0}
 
 unfoldable pub HasPairs : (Key → Bool) → ℕ → World → Act → Type 0

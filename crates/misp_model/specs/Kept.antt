@@ -6,7 +6,7 @@ use Rattle.misp_ids.specs.declared.uid.OrgId.{OrgId}
 use Rattle.misp_elem.specs.declared.key.KeyForm.{KeyForm as Key}
 use Rattle.misp_elem.specs.declared.key.KeyForm.TheVariants.{Element, Reference, Proposal, Verdict, Sighting}
 use Rattle.misp_requests.specs.declared.ask.Ask.{Ask}
-use Rattle.misp_requests.specs.declared.ask.Ask.TheVariants.{View, Propose, Judge, Sight, Index, TakePart}
+use Rattle.misp_requests.specs.declared.ask.Ask.TheVariants.{View, Propose, Judge, Sight, Index, Groups, TakePart}
 use Rattle.misp_requests.specs.declared.ask.Ask.TheVariants as ask
 use Rattle.misp_model.specs.Names.{same_org, same_key, parents}
 use Rattle.misp_model.specs.Asking.{Scene, judged_place}
@@ -45,6 +45,7 @@ acceptance_in s (ask.Change c) = []
 acceptance_in s (Propose d) = []
 acceptance_in s (Sight e t d) = []
 acceptance_in s Index = []
+acceptance_in s Groups = []
 acceptance_in s (TakePart p) = []
 
 unfoldable pub acceptance_of : ℕ → World → Act → List Key

@@ -1,5 +1,5 @@
 -- Names: when two are the same, and what hangs on what.
-use Rattle.std.specs.Prelude.{ℕ, Bool, true, false, eqb, ◌&&◌, List, [], ◌∷◌, bytes_eq}
+use Rattle.std.specs.Prelude.{ℕ, Bool, true, false, eqb, ltb, ◌&&◌, ◌||◌, List, [], ◌∷◌, bytes_eq}
 use Rattle.misp_ids.specs.declared.uid.OrgId.{OrgId}
 use Rattle.misp_ids.specs.declared.uid.EventId.{EventId}
 use Rattle.misp_ids.specs.declared.uid.ElemId.{ElemId}
@@ -39,6 +39,12 @@ same_elem a b = eqb a.0.0 b.0.0
 -- two groups are the same
 unfoldable pub same_group : GroupId → GroupId → Bool
 same_group a b = same_org a.creator b.creator && eqb a.uuid.0 b.uuid.0
+
+-- the name of a group stands before that of another: by its creator, and then by its own
+-- identifier
+unfoldable pub group_before : GroupId → GroupId → Bool
+group_before a b =
+    ltb a.creator.0.0 b.creator.0.0 || same_org a.creator b.creator && ltb a.uuid.0 b.uuid.0
 
 -- two places of one event are the same
 unfoldable pub same_place : Place → Place → Bool

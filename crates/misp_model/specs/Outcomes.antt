@@ -3,7 +3,7 @@ use Rattle.std.specs.Prelude.{ℕ, suc, ◌+◌, ◌/◌, max, Bool, not, eqb, l
 use Rattle.std.specs.List.{list_any}
 use Rattle.misp_ids.specs.declared.uid.EventId.{EventId}
 use Rattle.misp_elem.specs.declared.row.RowFields.{RowFields as Row}
-use Rattle.misp_groups.specs.declared.group.Group.{Group}
+use Rattle.misp_groups.specs.declared.group.GroupFields.{GroupFields as Group}
 use Rattle.misp_model.specs.Names.{same_event, same_key, event_of, event_key}
 use Rattle.misp_model.specs.Order.{is_less}
 use Rattle.misp_model.specs.View.{is_row_of}

@@ -12,17 +12,18 @@ ghost use Rattle.misp_elem.specs.Draft.{SubmissionFields as Submission};
 ghost use Rattle.misp_elem.specs.Key.{IsKey};
 ghost use Rattle.misp_elem.specs.Row.{IsRow};
 ghost use Rattle.misp_elem.specs.Spelling as spelling;
+ghost use Rattle.misp_groups.specs.declared.group.GroupFields.{GroupFields as Group};
 ghost use Rattle.misp_requests.specs.declared.change.Change.{Change};
 ghost use Rattle.misp_requests.specs.declared.change.Change.TheVariants.{AddEvent};
 ghost use Rattle.misp_requests.specs.declared.ask.Ask.{Ask};
-ghost use Rattle.misp_requests.specs.declared.ask.Ask.TheVariants.{View, Index};
+ghost use Rattle.misp_requests.specs.declared.ask.Ask.TheVariants.{View, Index, Groups};
 ghost use Rattle.misp_requests.specs.declared.ask.Ask.TheVariants as ask;
 ghost use Rattle.misp_model.specs.Names.{Inst, same_inst, same_org, same_key};
 ghost use Rattle.misp_model.specs.Order.{put, is_less};
 ghost use Rattle.misp_model.specs.History.{Version, Written, is_published, same_cell, row_of, fresh_row, spell, stands_before, tables};
 ghost use Rattle.misp_model.specs.Machine.{put_all, event_number, name_bytes, raw_before};
 ghost use Rattle.misp_model.specs.Asking.{Scene, Rule, first_rule, change_writes};
-ghost use Rattle.misp_model.specs.Acts.{World, Act, Net, Caller, Asks, Misfits, Nothing, Refused, scene, ask_rules, brings, is_accepted, answer, ok_answer, step};
+ghost use Rattle.misp_model.specs.Acts.{World, Act, Net, Caller, Asks, Misfits, Administers, Nothing, Refused, scene, ask_rules, brings, is_accepted, answer, ok_answer, with_groups, administered, step};
 
 /// No two keys have one spelling by numbers.
 pub fn each_key_has_its_own_spelling()
@@ -90,9 +91,10 @@ pub fn the_first_rule_decides()
         answer s a ≡ Refused r }
 {}
 
-/// An accepted request adds to the history what it brings. A refused one, a view, the index, a
-/// request refused by its form and an act that does nothing leave the state as it is. After each
-/// act the history has no number of a later one.
+/// An accepted request adds to the history what it brings. A refused one, a view, the index, the
+/// groups, a request refused by its form and an act that does nothing leave the state as it is. An
+/// administration changes the groups of its instance, and nothing else. After each act the history
+/// has no number of a later one.
 pub fn what_an_act_leaves()
     ensures accepted { (net : Net) (n : ℕ) (w : World) (act : Act) (c : Caller) (a : Ask) →
         act.deed ≡ Asks c a → is_accepted (scene n w act c) a ≡ true →
@@ -107,6 +109,15 @@ pub fn what_an_act_leaves()
         act.deed ≡ Asks c (View e o) → step net n w act ≡ w }
     ensures index { (net : Net) (n : ℕ) (w : World) (act : Act) (c : Caller) →
         act.deed ≡ Asks c Index → step net n w act ≡ w }
+    ensures groups { (net : Net) (n : ℕ) (w : World) (act : Act) (c : Caller) →
+        act.deed ≡ Asks c Groups → step net n w act ≡ w }
+    ensures administers { (net : Net) (n : ℕ) (w : World) (act : Act)
+        (by : OrgId) (add : Bool) (g : Group) →
+        act.deed ≡ Administers by add g →
+        step net n w act ≡ record w {
+          groups = with_groups w.groups act.at
+              (administered act.now by add g (w.groups act.at));
+        } }
     ensures misfit { (net : Net) (n : ℕ) (w : World) (act : Act) (c : Caller) →
         act.deed ≡ Misfits c → step net n w act ≡ w }
     ensures nothing { (net : Net) (n : ℕ) (w : World) (act : Act) →

@@ -5,7 +5,7 @@ ghost use Rattle.misp_ids.specs.declared.uid.OrgId.{OrgId};
 ghost use Rattle.misp_ids.specs.declared.uid.EventId.{EventId};
 ghost use Rattle.misp_elem.specs.declared.row.RowFields.{RowFields as Row};
 ghost use Rattle.misp_elem.specs.Draft.{SubmissionFields as Submission};
-ghost use Rattle.misp_groups.specs.declared.group.Group.{Group};
+ghost use Rattle.misp_groups.specs.declared.group.GroupFields.{GroupFields as Group};
 ghost use Rattle.misp_requests.specs.declared.change.Change.TheVariants.{AddEvent};
 ghost use Rattle.misp_requests.specs.declared.ask.Ask.TheVariants.{View};
 ghost use Rattle.misp_requests.specs.declared.ask.Ask.TheVariants as ask;

@@ -28,5 +28,7 @@ pub enum Ask {
         draft: SightingDraft,
     },
     Index,
+    /// Lists the sharing groups that the organisation created or that allow it.
+    Groups,
     TakePart(Package),
 }
