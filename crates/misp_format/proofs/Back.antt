@@ -1,6 +1,7 @@
 -- Members that are written are read back.
 use Rattle.std.proofs.Common.{◌≡◌, ℕ, ◌+◌, ◌*◌, ◌<◌, ◌≤◌, ◌^◌, zero, suc, Bool, true, false, List, [], ◌∷◌, length, map, Option, Some, None, Result, Ok, Err, refl, ap, ◌∙◌, subst, arith, lit<, le-leb}
-use Rattle.std.specs.Prelude.{codes, decimal, nat_lt, ◌==◌}
+use Rattle.std.specs.Option.{option_map_or}
+use Rattle.std.specs.Prelude.{codes, option_and_then, decimal, nat_lt}
 use Rattle.std.specs.Char.{is_ascii_digit}
 use Rattle.std.specs.List.{AllByRecursion, list_all, fold}
 use Rattle.std.specs.Str.{bytes_eq}
@@ -11,9 +12,12 @@ use Rattle.std.proofs.lemmas.Str.Parse.{digit_from_value}
 use Rattle.std.proofs.lemmas.Slice.Eq.{bytes_eq-Decides}
 use Rattle.hex.specs.Hex.{decode_sized, encode_lower, lower_digits}
 use Rattle.hex.proofs.HexLemmas.{length-encode_with, decode_sized-twice, decode_of-encode_lower}
-use Rattle.serde_json.specs.Data.{Data, Members, string}
+use Rattle.serde_json.specs.Data.{Data, Members, string, object, put}
+use Rattle.serde_json.specs.Find.{get_member}
+use Rattle.serde_json.proofs.Views.{get_member-put, get_member-put_other}
 use Rattle.serde_json.specs.View.{items_of}
 use Rattle.misp_ids.specs.declared.uid.Uid.{Uid}
+use Rattle.misp_ids.specs.declared.uid.GroupId.{GroupId}
 use Rattle.misp_ids.specs.declared.label.Label.{Label}
 use Rattle.misp_ids.specs.declared.label.Label.TheVariants as labels
 use Rattle.misp_ids.specs.Uid.{text_of, read_uid}
@@ -22,15 +26,16 @@ use Rattle.misp_types.specs.Checked.{Checked}
 use Rattle.misp_types.specs.Kinds.{rule_of}
 use Rattle.misp_types.specs.Values.{kept_of, is_kept, keeps}
 use Rattle.misp_elem.specs.Key.{IsUid}
-use Rattle.misp_elem.specs.Row.{IsColour, IsOptionalUid, IsBetween, label_kind}
+use Rattle.misp_elem.specs.Row.{IsColour, IsOptionalUid, IsBetween, IsLabel, label_kind}
 use Rattle.misp_fields.specs.declared.need.Need.{Need}
-use Rattle.misp_fields.specs.Fields.{member_of, number_of, is_number_text, uuid_of, optional_uuid_in, optional_uuid_of, colour_of}
+use Rattle.misp_fields.specs.Fields.{member_of, present, number_of, is_number_text, uuid_of, optional_uuid_in, optional_uuid_of, colour_of}
 use Rattle.misp_format.specs.Body.{Body}
-use Rattle.misp_format.specs.Fields.{GroupNames, with_group, number_data, uuid_data, optional_uuid_data}
+use Rattle.misp_format.specs.Fields.{GroupNames, group_data, with_group, number_data, uuid_data, optional_uuid_data}
 use Rattle.misp_format.specs.Kinds.{category_of, category_name, is_file_type}
-use Rattle.misp_format.specs.Labels.{numbered_at, label_at}
-use Rattle.misp_format.specs.Readers.{number_within}
-use Rattle.misp_format.specs.Rows.{Reading, ◌>>=◌, row, each}
+use Rattle.misp_format.specs.Labels.{group_at, named_group_at, numbered_at, label_at}
+use Rattle.misp_format.specs.Path.{member_path}
+use Rattle.misp_format.specs.Readers.{any_of, number_within}
+use Rattle.misp_format.specs.Rows.{Reading, ◌>>=◌, at, row, must_be, each}
 use Rattle.misp_format.specs.Written.{colour_text}
 
 -- ---- rows
@@ -47,10 +52,6 @@ each_back reads one step h n so_far [] all = refl
 each_back {A} {S} reads one step h n so_far (x ∷ xs) all =
     ap (λ (r : Reading S). r >>= λ more. each reads (n + 1) more (items_of (map one xs))) (h n so_far x all.0)
     ∙ each_back reads one step h (n + 1) (step so_far x) xs all.1
-
-pub both : {A : Type 0} (P Q : A → Type 0) (xs : List A) → AllByRecursion P xs → AllByRecursion Q xs → AllByRecursion (λ x. P x × Q x) xs
-both P Q [] p q = tt
-both P Q (x ∷ xs) p q = ((p.0, q.0), both P Q xs p.1 q.1)
 
 -- ---- numbers
 
@@ -75,14 +76,6 @@ number_back n h =
 pub within_back : (least most n : ℕ) → IsBetween least most n → n < 2 ^ 64 → number_within least most (number_data n) ≡ Ok n
 within_back least most n between h = rw (number_back n h, between) refl
 
-numbered_back : (it : Body) (label : Label) → (label_kind label == 4) ≡ false → numbered_at it (label_kind label) ≡ Ok label
-numbered_back it labels.Own free = refl
-numbered_back it labels.Community free = refl
-numbered_back it labels.Connected free = refl
-numbered_back it labels.All free = refl
-numbered_back it (labels.Group group) free = absurd cc
-numbered_back it labels.Inherit free = refl
-
 pub at_most_5 : (label : Label) → label_kind label ≤ 5
 at_most_5 labels.Own = omega arith
 at_most_5 labels.Community = omega arith
@@ -90,25 +83,6 @@ at_most_5 labels.Connected = omega arith
 at_most_5 labels.All = omega arith
 at_most_5 (labels.Group group) = omega arith
 at_most_5 labels.Inherit = omega arith
-
-pub label_back : (it : Body) (most absent : ℕ) (label : Label) → label_kind label ≤ most → (label_kind label == 4) ≡ false
-    → member_of (codes "distribution") it.value ≡ Some (number_data (label_kind label)) → label_at it most absent ≡ Ok label
-unfolding label_at
-label_back it most absent label le free here =
-    let n = label_kind label in
-    let between : IsBetween 0 most n = rw (le-leb 0 n (omega arith), le-leb n most le) refl in
-    let small : n < 2 ^ 64 = let five = at_most_5 label in let large : 5 < 2 ^ 64 = lit< tt in omega arith in
-    let number : row it (codes "distribution") (number_within 0 most) (Ok absent) ≡ Ok n = row_back it (codes "distribution") (number_within 0 most) (Ok absent) (number_data n) n here (within_back 0 most n between small) in
-    ap (λ (r : Reading ℕ). r >>= λ number. numbered_at it number) number ∙ numbered_back it label free
-
--- without a group the members are as they are
-pub ungrouped : (names : GroupNames) (label : Label) (ms : Members) → (label_kind label == 4) ≡ false → with_group names label ms ≡ ms
-ungrouped names labels.Own ms free = refl
-ungrouped names labels.Community ms free = refl
-ungrouped names labels.Connected ms free = refl
-ungrouped names labels.All ms free = refl
-ungrouped names (labels.Group group) ms free = absurd cc
-ungrouped names labels.Inherit ms free = refl
 
 -- ---- identifiers
 
@@ -122,6 +96,63 @@ optional_in (b ∷ bs) u h = rw h refl
 pub optional_back : (u : Option Uid) → IsOptionalUid u → optional_uuid_of (optional_uuid_data u) ≡ Ok u
 optional_back None h = refl
 optional_back (Some u) h = optional_in (text_of u) u (reads_back u h)
+
+-- ---- members beside a sharing group
+
+apart : (name : List ℕ) → bytes_eq name (codes "SharingGroup") ≡ false → name ≡ codes "SharingGroup" → ⊥
+apart name differs is = let yes : bytes_eq name (codes "SharingGroup") ≡ true = (bytes_eq-Decides name (codes "SharingGroup")).1 is in absurd cc
+
+-- the other names have what they have without it
+pub beside : (names : GroupNames) (label : Label) (ms : Members) (name : List ℕ) → bytes_eq name (codes "SharingGroup") ≡ false → get_member name (with_group names label ms) ≡ get_member name ms
+beside names labels.Own ms name differs = refl
+beside names labels.Community ms name differs = refl
+beside names labels.Connected ms name differs = refl
+beside names labels.All ms name differs = refl
+beside names (labels.Group group) ms name differs = get_member-put_other name (codes "SharingGroup") (group_data names group) ms (apart name differs)
+beside names labels.Inherit ms name differs = refl
+
+pub found_beside : (names : GroupNames) (label : Label) (ms : Members) (name : List ℕ) (d : Data) → bytes_eq name (codes "SharingGroup") ≡ false
+    → member_of name (object ms) ≡ Some d → member_of name (object (with_group names label ms)) ≡ Some d
+found_beside names label ms name d differs found = ap (λ o. option_and_then present o) (beside names label ms name differs) ∙ found
+
+pub row_beside : {A : Type 0} (path : List ℕ) (names : GroupNames) (label : Label) (ms : Members) (name : List ℕ) (reader : Data → Result A Need) (absent : Result A Need) (x : A)
+    → bytes_eq name (codes "SharingGroup") ≡ false → row (record { path = path; value = object ms }) name reader absent ≡ Ok x
+    → row (record { path = path; value = object (with_group names label ms) }) name reader absent ≡ Ok x
+row_beside {A} path names label ms name reader absent x differs h =
+    ap (λ o. at {A = A} (record { path = path; value = object ms }) name (option_map_or reader (option_and_then present o) absent)) (beside names label ms name differs) ∙ h
+
+-- ---- labels
+
+group_read : (path : List ℕ) (names : GroupNames) (group : GroupId) → IsLabel (labels.Group group) → group_at path (group_data names group) ≡ Ok group
+unfolding group_at
+group_read path names group h = rw (uuid_back group.creator.0 h.0, uuid_back group.uuid h.1) refl
+
+named_back : (path : List ℕ) (names : GroupNames) (group : GroupId) (ms : Members) → IsLabel (labels.Group group)
+    → named_group_at (record { path = path; value = object (put (codes "SharingGroup") (group_data names group) ms) }) ≡ Ok group
+named_back path names group ms h =
+    let it : Body = record { path = path; value = object (put (codes "SharingGroup") (group_data names group) ms) } in
+    let there : row it (codes "SharingGroup") any_of must_be ≡ Ok (group_data names group) = row_back it (codes "SharingGroup") any_of must_be (group_data names group) (group_data names group) (ap (λ o. option_and_then present o) (get_member-put (codes "SharingGroup") (group_data names group) ms)) refl in
+    ap (λ (r : Reading Data). r >>= λ group. group_at (member_path path (codes "SharingGroup")) group) there ∙ group_read (member_path path (codes "SharingGroup")) names group h
+
+numbered_back : (path : List ℕ) (names : GroupNames) (label : Label) (ms : Members) → IsLabel label → numbered_at (record { path = path; value = object (with_group names label ms) }) (label_kind label) ≡ Ok label
+numbered_back path names labels.Own ms h = refl
+numbered_back path names labels.Community ms h = refl
+numbered_back path names labels.Connected ms h = refl
+numbered_back path names labels.All ms h = refl
+numbered_back path names (labels.Group group) ms h = ap (λ (r : Reading GroupId). r >>= λ group. Ok (labels.Group group)) (named_back path names group ms h)
+numbered_back path names labels.Inherit ms h = refl
+
+pub label_back : (path : List ℕ) (names : GroupNames) (label : Label) (ms : Members) (most absent : ℕ) → label_kind label ≤ most → IsLabel label
+    → member_of (codes "distribution") (object ms) ≡ Some (number_data (label_kind label))
+    → label_at (record { path = path; value = object (with_group names label ms) }) most absent ≡ Ok label
+unfolding label_at
+label_back path names label ms most absent le fits here =
+    let it : Body = record { path = path; value = object (with_group names label ms) } in
+    let n = label_kind label in
+    let between : IsBetween 0 most n = rw (le-leb 0 n (omega arith), le-leb n most le) refl in
+    let small : n < 2 ^ 64 = let five = at_most_5 label in let large : 5 < 2 ^ 64 = lit< tt in omega arith in
+    let number : row it (codes "distribution") (number_within 0 most) (Ok absent) ≡ Ok n = row_back it (codes "distribution") (number_within 0 most) (Ok absent) (number_data n) n (found_beside names label ms (codes "distribution") (number_data n) refl here) (within_back 0 most n between small) in
+    ap (λ (r : Reading ℕ). r >>= λ number. numbered_at it number) number ∙ numbered_back path names label ms fits
 
 -- ---- colours
 

@@ -1,7 +1,11 @@
+mod Ascending
 mod Back
 mod EventBack
 mod Fitting
+mod GroupBack
 mod GroupNames
+mod GroupTexts
+mod Grouped
 mod Kept
 mod Plain
 mod ReadBack
@@ -10,3 +14,4 @@ mod StandardFacts
 mod Tags
 mod TagsBack
 mod Texts
+mod Utf8

@@ -28,7 +28,7 @@ use Rattle.misp_elem.specs.declared.visible.VisibleAttribute.{VisibleAttribute}
 use Rattle.misp_elem.specs.declared.visible.VisibleObject.{VisibleObject}
 use Rattle.misp_elem.specs.declared.visible.VisibleEvent.{VisibleEvent}
 use Rattle.misp_format.specs.Fields.{GroupNames, optional_uuid_data, with_group, group_data, group_names}
-use Rattle.misp_format.specs.Replies.{saved_data, refusal_data}
+use Rattle.misp_format.specs.Replies.{saved_data, taken_data, refusal_data}
 use Rattle.misp_format.specs.Written.{tag_data, reference_with, reference_of, reference_data, proposal_with, proposal_of, proposal_data, sighting_with, sighting_of, sighting_data, attribute_members, attribute_with, attribute_of, attribute_data, object_members, object_with, object_of, object_data, event_members, event_others, others_with, event_with, event_of, event_data, body_data}
 
 -- no float, and at most so many levels
@@ -55,7 +55,7 @@ right_false : (a b : Bool) → (a || b) ≡ false → b ≡ false
 right_false true b h = absurd cc
 right_false false b h = h
 
-plain_items : {A : Type 0} (n : ℕ) (one : A → Data) → ((a : A) → Plain n (one a)) → (xs : List A) → PlainItems n (items_of (map one xs))
+pub plain_items : {A : Type 0} (n : ℕ) (one : A → Data) → ((a : A) → Plain n (one a)) → (xs : List A) → PlainItems n (items_of (map one xs))
 plain_items n one h [] = record { no_float = refl; levels = omega arith }
 plain_items n one h (x ∷ xs) =
     let here = h x in
@@ -253,6 +253,10 @@ plain_body e =
 pub plain_saved : (elements : ℕ) (event : EventId) (stamp : ℕ) → Plain 1 (saved_data elements event stamp)
 unfolding saved_data
 plain_saved elements event stamp = record { no_float = refl; levels = omega arith }
+
+pub plain_taken : (count : ℕ) → Plain 1 (taken_data count)
+unfolding taken_data
+plain_taken count = record { no_float = refl; levels = omega arith }
 
 pub plain_refusal : (r : Refusal) → Plain 1 (refusal_data r)
 unfolding refusal_data

@@ -40,7 +40,7 @@ use Rattle.misp_format.proofs.Plain.{plain_body}
 -- ---- data without a number
 
 abbrev mutual
-  has_number : Data → Bool
+  pub has_number : Data → Bool
   has_number null = false
   has_number (boolean b) = false
   has_number (number n) = true
@@ -48,11 +48,11 @@ abbrev mutual
   has_number (array ds) = items_have_number ds
   has_number (object ms) = members_have_number ms
 
-  items_have_number : Items → Bool
+  pub items_have_number : Items → Bool
   items_have_number no_items = false
   items_have_number (item d ds) = has_number d || items_have_number ds
 
-  members_have_number : Members → Bool
+  pub members_have_number : Members → Bool
   members_have_number no_members = false
   members_have_number (member k d ms) = has_number d || members_have_number ms
 
@@ -93,13 +93,13 @@ mutual
   outline_members_depth (member k d ms) = ap₂ max (outline_depth d) (outline_members_depth ms)
 
 -- as JSON it has no number, and is the same data again
-record Returns (d : Data) : Type 0 where
-  no_number : has_number d ≡ false
-  back : of_json (outline d) ≡ Some d
+pub record Returns (d : Data) : Type 0 where
+  pub no_number : has_number d ≡ false
+  pub back : of_json (outline d) ≡ Some d
 
-record ReturnItems (ds : Items) : Type 0 where
-  no_number : items_have_number ds ≡ false
-  back : of_items (items_outline ds) ≡ Some ds
+pub record ReturnItems (ds : Items) : Type 0 where
+  pub no_number : items_have_number ds ≡ false
+  pub back : of_items (items_outline ds) ≡ Some ds
 
 record ReturnMembers (ms : Members) : Type 0 where
   no_number : members_have_number ms ≡ false
@@ -109,7 +109,7 @@ record ReturnMembers (ms : Members) : Type 0 where
 abbrev whole : Option (json.Json × List Token) → Option Data
 whole o = option_and_then of_json (option_and_then (λ p. json.if_last p.0 p.1) o)
 
-returned : (d : Data) → Returns d → depth d ≤ max_depth → read (compact_text d) ≡ Some d
+pub returned : (d : Data) → Returns d → depth d ≤ max_depth → read (compact_text d) ≡ Some d
 returned d h shallow =
     let written : tokens (compact_text d) ≡ json_tokens (outline d) =
     ap tokens (sym (print-outline d)) ∙ tokens-print (json_tokens (outline d)) (ArePrintable-json_tokens (outline d) (numbers_of d h.no_number)) in
@@ -117,7 +117,7 @@ returned d h shallow =
 
 -- ---- lists, and the sharing group
 
-return_items : {A : Type 0} (one : A → Data) → ((a : A) → Returns (one a)) → (xs : List A) → ReturnItems (items_of (map one xs))
+pub return_items : {A : Type 0} (one : A → Data) → ((a : A) → Returns (one a)) → (xs : List A) → ReturnItems (items_of (map one xs))
 return_items one h [] = record { no_number = refl; back = refl }
 return_items one h (x ∷ xs) =
     let here = h x in

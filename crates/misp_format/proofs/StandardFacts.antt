@@ -13,7 +13,7 @@ use Rattle.misp_fields.specs.declared.need.Need.TheVariants as needs
 use Rattle.misp_format.specs.declared.fault.FormatFault.TheVariants as faults
 use Rattle.misp_format.specs.Path.{member_path, item_path}
 use Rattle.misp_format.specs.Kinds.{category_of}
-use Rattle.misp_format.specs.Elements.{attribute_at, attributes_at, objects_at, tag_at, tags_at, object_at, object_and_others_at, reference_at, references_at}
+use Rattle.misp_format.specs.Elements.{attribute_at, attributes_at, objects_at, tag_at, tags_at, object_at, object_and_others_at}
 use Rattle.misp_format.specs.Labels.{group_at, label_at}
 use Rattle.misp_format.specs.Tables.{event_at, event_itself_at}
 

@@ -1,13 +1,13 @@
 -- THE TABLE of a whole sharing group.
 --     MEMBER ← row it NAME READER WHERE-ABSENT
-use Rattle.std.specs.Prelude.{ℕ, ◌+◌, Bool, true, false, List, [], map, codes, Result, Ok}
+use Rattle.std.specs.Prelude.{◌≡◌, ℕ, Bool, true, false, List, [], map, codes, Result, Ok}
 use Rattle.std.specs.BTreeMap.{insert_entry}
 use Rattle.std.specs.Cmp.Lexicographic.{slice_cmp}
 use Rattle.std.specs.Ordering.{nat_cmp}
 use Rattle.serde_json.specs.Data.{Data, no_items}
 use Rattle.misp_ids.specs.declared.uid.Uid.{Uid}
 use Rattle.misp_ids.specs.Names.{is_inst_name}
-use Rattle.misp_groups.specs.declared.group.Group.{Group}
+use Rattle.misp_groups.specs.declared.group.GroupFields.{GroupFields as Group}
 use Rattle.misp_groups.specs.declared.group.GroupOrg.{GroupOrg}
 use Rattle.misp_groups.specs.declared.group.GroupServer.{GroupServer}
 use Rattle.misp_fields.specs.declared.need.Need.{Need}
@@ -93,6 +93,10 @@ server_at path d = do
   name ← named_server_at it
   all_orgs ← row it (codes "all_orgs") flag_of (Ok false)
   Ok (record { name = name; all_orgs = all_orgs })
+
+-- an instance stands by its own name
+abbrev pub IsSpelled : List ℕ × (List ℕ × Bool) → Type 0
+IsSpelled e = e.0 ≡ e.1.0
 
 abbrev pub server_of : List ℕ × (List ℕ × Bool) → GroupServer
 server_of e = record { name = e.1.0; all_orgs = e.1.1 }

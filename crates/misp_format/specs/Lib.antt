@@ -3,6 +3,7 @@ pub mod Brought
 pub mod Elements
 pub mod Fields
 pub mod Gathered
+pub mod GroupText
 pub mod Groups
 pub mod Kinds
 pub mod Labels
@@ -12,4 +13,5 @@ pub mod Readers
 pub mod Replies
 pub mod Rows
 pub mod Tables
+pub mod WholeGroup
 pub mod Written

@@ -14,6 +14,10 @@ saved_data elements event stamp = object (
     member (codes "timestamp") (number_data stamp)
     no_members)))
 
+-- TAKEN: how many were taken
+unfoldable pub taken_data : ℕ → Data
+taken_data count = object (member (codes "taken") (count_data count) no_members)
+
 -- REFUSAL: the rule's name and number, and what it says of the place
 unfoldable pub refusal_data : Refusal → Data
 refusal_data r = object (

@@ -1,10 +1,16 @@
 //! Sharing groups, read whole.
 
-ghost use Rattle.std.specs.Prelude.{◌≡◌, [], Ok, codes, map};
+ghost use Rattle.std.specs.Prelude.{◌≡◌, ℕ, List, [], Ok, IfOk, codes, map};
+ghost use Rattle.std.specs.Cmp.Lexicographic.{slice_cmp};
+ghost use Rattle.std.specs.List.{AllByRecursion};
+ghost use Rattle.std.specs.List.Sorted.{IsStrictlySortedBy};
+ghost use Rattle.std.specs.Map.{keys_of};
+ghost use Rattle.std.specs.Ordering.{nat_cmp};
 ghost use Rattle.serde_json.specs.View.{view, items_of};
+ghost use Rattle.misp_groups.specs.Group.{by_org, by_server, IsOrg, AreOrgs, IsServer, AreServers};
 ghost use Rattle.misp_fields.specs.Fields.{stamp_of};
 ghost use Rattle.misp_format.specs.Body.{body_of};
-ghost use Rattle.misp_format.specs.Groups.{organisation_at, named_organisation_at, org_at, next_org, org_of, orgs_at, inst_name_of, server_name_at, named_server_at, server_at, next_server, server_of, servers_at, whole_group_at, group_body_at};
+ghost use Rattle.misp_format.specs.Groups.{organisation_at, named_organisation_at, org_at, next_org, org_of, orgs_at, inst_name_of, server_name_at, named_server_at, server_at, IsSpelled, next_server, server_of, servers_at, whole_group_at, group_body_at};
 ghost use Rattle.misp_format.specs.Path.{path_text};
 ghost use Rattle.misp_format.specs.Rows.{Gives, Shows, row, each};
 
@@ -13,7 +19,7 @@ use crate::fault::FormatFault;
 use crate::members::Members;
 use crate::path::Path;
 use misp_fields::{self as fields, Need, member};
-use misp_groups::{Group, GroupOrg, GroupServer};
+use misp_groups::{Group, GroupFields, GroupOrg, GroupServer};
 use misp_ids::{GroupId, InstId, Items, OrgId, Stamp, Text, Uid};
 use serde_json::Value;
 use std::alloc::Global;
@@ -70,23 +76,34 @@ fn orgs_in(alloc: Global, path: &Path<'_>, list: &[Value]) -> Result<Orgs, Forma
     Ok(orgs)
 }
 
+fn org_of(uuid: u128, name: Text, extend: bool) -> GroupOrg
+    ensures value { result ≡ org_of (uuid, (name, extend)) }
+    ensures fits { IsOrg result }
+{
+    GroupOrg {
+        org: OrgId(Uid(uuid)),
+        name,
+        extend,
+    }
+}
+
 fn org_list(alloc: Global, entries: Orgs) -> Result<Vec<GroupOrg>, FormatFault>
-    ensures { Shows (λ v. v.items) result (Ok (map org_of entries.entries)) }
+    ensures gives { Shows (λ v. v.items) result (Ok (map org_of entries.entries)) }
+    ensures ordered { IsStrictlySortedBy nat_cmp (keys_of entries.entries) }
+    ensures fit { IfOk result (λ v. AreOrgs v.items) }
 {
     let mut orgs = Vec::new(alloc);
     for (uuid, (name, extend)) in entries {
-        orgs.push(GroupOrg {
-            org: OrgId(Uid(uuid)),
-            name,
-            extend,
-        })?;
+        orgs.push(org_of(uuid, name, extend))?;
     }
     Ok(orgs)
 }
 
 #[tactic(auto, unfolding(crate::specs::Groups::orgs_at))]
 fn orgs(it: &Members<'_>) -> Result<Items<GroupOrg>, FormatFault>
-    ensures { Gives result (orgs_at (body_of it.now)) }
+    ensures gives { Gives result (orgs_at (body_of it.now)) }
+    ensures fit { IfOk result AreOrgs }
+    ensures ascend { IfOk result (IsStrictlySortedBy by_org) }
 {
     let list = it.list("SharingGroupOrg")?;
     let entries = orgs_in(it.alloc, &Path::Member(it.path, "SharingGroupOrg"), list)?;
@@ -139,8 +156,9 @@ fn server(alloc: Global, path: &Path<'_>, value: &Value) -> Result<GroupServer, 
 
 /// The instances in a list. Of two of one name the later counts.
 fn servers_in(alloc: Global, path: &Path<'_>, list: &[Value]) -> Result<Servers, FormatFault>
-    ensures { Shows (λ m. m.entries) result
+    ensures gives { Shows (λ m. m.entries) result
         (each (next_server (path_text path.now)) 0 [] (items_of (map view list.now))) }
+    ensures spelled { IfOk result (λ m. AllByRecursion IsSpelled m.entries) }
 {
     let mut servers = BTreeMap::new(alloc);
     for (index, value) in list.iter().enumerate() {
@@ -151,19 +169,30 @@ fn servers_in(alloc: Global, path: &Path<'_>, list: &[Value]) -> Result<Servers,
     Ok(servers)
 }
 
+fn server_of(name: InstId, all_orgs: bool) -> GroupServer
+    ensures value { (key : List ℕ) → result ≡ server_of (key, (name, all_orgs)) }
+    ensures fits { IsServer result }
+{
+    GroupServer { name, all_orgs }
+}
+
 fn server_list(alloc: Global, entries: Servers) -> Result<Vec<GroupServer>, FormatFault>
-    ensures { Shows (λ v. v.items) result (Ok (map server_of entries.entries)) }
+    ensures gives { Shows (λ v. v.items) result (Ok (map server_of entries.entries)) }
+    ensures ordered { IsStrictlySortedBy (slice_cmp nat_cmp) (keys_of entries.entries) }
+    ensures fit { IfOk result (λ v. AreServers v.items) }
 {
     let mut servers = Vec::new(alloc);
     for (_, (name, all_orgs)) in entries {
-        servers.push(GroupServer { name, all_orgs })?;
+        servers.push(server_of(name, all_orgs))?;
     }
     Ok(servers)
 }
 
 #[tactic(auto, unfolding(crate::specs::Groups::servers_at))]
 fn servers(it: &Members<'_>) -> Result<Items<GroupServer>, FormatFault>
-    ensures { Gives result (servers_at (body_of it.now)) }
+    ensures gives { Gives result (servers_at (body_of it.now)) }
+    ensures fit { IfOk result AreServers }
+    ensures ascend { IfOk result (IsStrictlySortedBy by_server) }
 {
     let list = it.list("SharingGroupServer")?;
     let entries = servers_in(it.alloc, &Path::Member(it.path, "SharingGroupServer"), list)?;
@@ -172,21 +201,12 @@ fn servers(it: &Members<'_>) -> Result<Items<GroupServer>, FormatFault>
 
 // ---- groups
 
-fn first_moment() -> Stamp
-    ensures { result ≡ 0 }
-{
-    match Stamp::new(0) {
-        Some(moment) => moment,
-        None => unreachable!(),
-    }
-}
-
 fn modified(it: &Members<'_>) -> Result<Stamp, FormatFault>
     ensures { Gives result (row (body_of it.now) (codes "modified") stamp_of (Ok 0)) }
 {
     match member(it.value, "modified") {
         Some(value) => it.kept("modified", fields::stamp(value)),
-        None => Ok(first_moment()),
+        None => Ok(Stamp::first()),
     }
 }
 
@@ -197,7 +217,7 @@ fn whole_group(alloc: Global, path: &Path<'_>, value: &Value) -> Result<Group, F
     let it = Members::of(alloc, path, value)?;
     let uuid = it.needed_uuid("uuid")?;
     let creator = OrgId(it.needed_uuid("organisation_uuid")?);
-    Ok(Group {
+    Ok(Group::of(GroupFields {
         id: GroupId { creator, uuid },
         name: it.some_text("name")?,
         description: it.text("description")?,
@@ -208,7 +228,7 @@ fn whole_group(alloc: Global, path: &Path<'_>, value: &Value) -> Result<Group, F
         orgs: orgs(&it)?,
         servers: servers(&it)?,
         carried: false,
-    })
+    }))
 }
 
 /// A body that is a sharing group. Its organisations stand in the order of their identifiers, and

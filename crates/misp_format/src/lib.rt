@@ -8,6 +8,8 @@ mod event;
 mod fault;
 mod fields;
 mod group;
+mod group_text;
+mod group_writing;
 mod groups;
 mod keys;
 mod kinds;
@@ -27,8 +29,10 @@ mod writing;
 pub use event::read_event;
 pub use fault::FormatFault;
 pub use group::read_group;
+pub use group_text::{GroupTextFault, a_group_is_read_from_its_text, read_group_text};
+pub use group_writing::{put_groups, write_group};
 pub use parts::{PartForm, read_parts, read_tag};
-pub use replies::{write_refusal, write_saved};
+pub use replies::{write_refusal, write_saved, write_taken};
 pub use writing::{put_event, write_event};
 
 #[cfg(test)]

@@ -29,7 +29,12 @@ fn put_value(text: &mut Vec<u8>, alloc: Global, value: &Value) -> Result<(), NoM
 }
 
 /// A value of a list, behind a comma where it is not the first.
-fn put_item(text: &mut Vec<u8>, alloc: Global, later: bool, value: &Value) -> Result<(), NoMemory>
+pub(crate) fn put_item(
+    text: &mut Vec<u8>,
+    alloc: Global,
+    later: bool,
+    value: &Value,
+) -> Result<(), NoMemory>
     requires { has_float (view value.now) ≡ false }
     ensures { OnOk result (text.new.items ≡ text.old.items
         ++ (comma_if later ++ compact_text (view value.now))) }

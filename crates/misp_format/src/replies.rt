@@ -4,7 +4,7 @@ ghost use Rattle.std.specs.Prelude.{◌≡◌, IfOk, Some};
 ghost use Rattle.serde_json.specs.Read.{read};
 ghost use Rattle.serde_json.specs.View.{view};
 ghost use Rattle.serde_json.specs.Written.{compact_text};
-ghost use Rattle.misp_format.specs.Replies.{saved_data, refusal_data};
+ghost use Rattle.misp_format.specs.Replies.{saved_data, taken_data, refusal_data};
 
 use crate::fields::Fields;
 use misp_elem::Refusal;
@@ -43,6 +43,26 @@ pub fn write_saved(
         ≡ Some (saved_data elements event.now stamp)) }
 {
     let value = saved_value(alloc, elements, event, stamp)?;
+    Ok(value.to_vec(alloc)?)
+}
+
+#[tactic(auto, unfolding(crate::specs::Replies::taken_data))]
+fn taken_value(alloc: Global, count: u64) -> Result<Value, NoMemory>
+    ensures { IfOk result (λ v. view v ≡ taken_data count) }
+{
+    let mut it = Fields::new(alloc);
+    it.count("taken", count)?;
+    Ok(it.done())
+}
+
+/// The reply that tells how many were taken.
+pub fn write_taken(alloc: Global, count: u64) -> Result<Vec<u8>, NoMemory>
+    // The text, byte for byte.
+    ensures text { IfOk result (λ b. b.items ≡ compact_text (taken_data count)) }
+    // It is read to the same data.
+    ensures reads_back { IfOk result (λ b. read b.items ≡ Some (taken_data count)) }
+{
+    let value = taken_value(alloc, count)?;
     Ok(value.to_vec(alloc)?)
 }
 

@@ -15,143 +15,154 @@ use std::test::Fail;
 
 const WORD: u128 = 0xe100_0000_0000_4000_8000_0000_0000_0000;
 
+/// The text in which `'` stands for `"`, `$by` for Alpha as the creator of a group, and `$id` for
+/// the end of an identifier.
+fn filled(alloc: Global, text: &str) -> Result<String, Fail> {
+    let text = text.replace(alloc, "$by", "'organisation_uuid':'aaaaaaaa$id'")?;
+    let text = text
+        .as_str()
+        .replace(alloc, "$id", "-0000-4000-8000-000000000001")?;
+    Ok(text.as_str().replace(alloc, "'", "\"")?)
+}
+
+/// The value of such a text.
+fn json(alloc: Global, text: &str) -> Result<Value, Fail> {
+    Ok(Value::from_str(alloc, filled(alloc, text)?.as_str())?)
+}
+
 /// A body, the path of its first faulty place, and the need there, or none for a file.
 const FAULTS: [(&str, &str, Option<Need>); 30] = [
     ("[]", "Event", Some(Need::Object)),
     ("{}", "Event.info", Some(Need::Present)),
+    ("{'Event':{'info':''}}", "Event.info", Some(Need::Range)),
+    ("{'uuid':7,'info':''}", "Event.uuid", Some(Need::Uuid)),
     (
-        "{\"Event\":{\"info\":\"\"}}",
-        "Event.info",
-        Some(Need::Range),
-    ),
-    ("{\"uuid\":7,\"info\":\"\"}", "Event.uuid", Some(Need::Uuid)),
-    (
-        "{\"info\":\"a\",\"date\":\"2023-02-29\"}",
+        "{'info':'a','date':'2023-02-29'}",
         "Event.date",
         Some(Need::Date),
     ),
     (
-        "{\"info\":\"a\",\"threat_level_id\":\"5\"}",
+        "{'info':'a','threat_level_id':'5'}",
         "Event.threat_level_id",
         Some(Need::Range),
     ),
     (
-        "{\"info\":\"a\",\"distribution\":\"4\"}",
+        "{'info':'a','distribution':'4'}",
         "Event.SharingGroup",
         Some(Need::Present),
     ),
     (
-        "{\"info\":\"a\",\"distribution\":4,\"SharingGroup\":[],\"extends_uuid\":7}",
+        "{'info':'a','distribution':4,'SharingGroup':[],'extends_uuid':7}",
         "Event.SharingGroup",
         Some(Need::Object),
     ),
     (
-        "{\"info\":\"a\",\"distribution\":4,\"SharingGroup\":{\"uuid\":7}}",
+        "{'info':'a','distribution':4,'SharingGroup':{'uuid':7}}",
         "Event.SharingGroup.organisation_uuid",
         Some(Need::Present),
     ),
     (
-        "{\"info\":\"a\",\"distribution\":4,\"SharingGroup\":{\"organisation_uuid\":\"\",\"uuid\":7}}",
+        "{'info':'a','distribution':4,'SharingGroup':{'organisation_uuid':'','uuid':7}}",
         "Event.SharingGroup.organisation_uuid",
         Some(Need::Uuid),
     ),
     (
-        "{\"info\":\"a\",\"distribution\":4,\"SharingGroup\":{\"organisation_uuid\":\"aaaaaaaa-0000-4000-8000-000000000001\"}}",
+        "{'info':'a','distribution':4,'SharingGroup':{$by}}",
         "Event.SharingGroup.uuid",
         Some(Need::Present),
     ),
     (
-        "{\"info\":\"a\",\"distribution\":4,\"SharingGroup\":{\"organisation_uuid\":\"aaaaaaaa-0000-4000-8000-000000000001\",\"uuid\":7}}",
+        "{'info':'a','distribution':4,'SharingGroup':{$by,'uuid':7}}",
         "Event.SharingGroup.uuid",
         Some(Need::Uuid),
     ),
     (
-        "{\"info\":\"a\",\"distribution\":3,\"SharingGroup\":7,\"extends_uuid\":7}",
+        "{'info':'a','distribution':3,'SharingGroup':7,'extends_uuid':7}",
         "Event.extends_uuid",
         Some(Need::Uuid),
     ),
     (
-        "{\"info\":\"a\",\"Tag\":[{}]}",
+        "{'info':'a','Tag':[{}]}",
         "Event.Tag[0].name",
         Some(Need::Present),
     ),
     (
-        "{\"info\":\"a\",\"Tag\":[{\"name\":\"b\",\"colour\":\"ffffff\"}]}",
+        "{'info':'a','Tag':[{'name':'b','colour':'ffffff'}]}",
         "Event.Tag[0].colour",
         Some(Need::Colour),
     ),
     (
-        "{\"info\":\"a\",\"Attribute\":{}}",
+        "{'info':'a','Attribute':{}}",
         "Event.Attribute",
         Some(Need::List),
     ),
     (
-        "{\"info\":\"a\",\"Attribute\":[7],\"Object\":[{}]}",
+        "{'info':'a','Attribute':[7],'Object':[{}]}",
         "Event.Attribute[0]",
         Some(Need::Object),
     ),
     (
-        "{\"info\":\"a\",\"Attribute\":[{\"type\":\"text\",\"value\":\"b\"},{\"type\":\"md5\",\"value\":\"b\"}]}",
+        "{'info':'a','Attribute':[{'type':'text','value':'b'},{'type':'md5','value':'b'}]}",
         "Event.Attribute[1].value",
         Some(Need::Length),
     ),
     (
-        "{\"info\":\"a\",\"Attribute\":[{\"type\":\"\"}]}",
+        "{'info':'a','Attribute':[{'type':''}]}",
         "Event.Attribute[0].type",
         Some(Need::Range),
     ),
     (
-        "{\"info\":\"a\",\"Attribute\":[{\"type\":\"text\",\"category\":\"person\"}]}",
+        "{'info':'a','Attribute':[{'type':'text','category':'person'}]}",
         "Event.Attribute[0].category",
         Some(Need::Range),
     ),
     (
-        "{\"info\":\"a\",\"Attribute\":[{\"type\":\"text\",\"distribution\":4,\"SharingGroup\":null,\"comment\":7}]}",
+        "{'info':'a','Attribute':[{'type':'AS','distribution':4,'SharingGroup':null,'comment':7}]}",
         "Event.Attribute[0].SharingGroup",
         Some(Need::Present),
     ),
     (
-        "{\"info\":\"a\",\"Attribute\":[{\"type\":\"text\",\"SharingGroup\":7,\"comment\":7}]}",
+        "{'info':'a','Attribute':[{'type':'text','SharingGroup':7,'comment':7}]}",
         "Event.Attribute[0].comment",
         Some(Need::Text),
     ),
     (
-        "{\"info\":\"a\",\"Attribute\":[{\"type\":\"text\",\"data\":\"AA==\"}]}",
+        "{'info':'a','Attribute':[{'type':'text','data':'AA=='}]}",
         "Event.Attribute[0].data",
         None,
     ),
     (
-        "{\"info\":\"a\",\"Attribute\":[{\"type\":\"malware-sample\"}]}",
+        "{'info':'a','Attribute':[{'type':'malware-sample'}]}",
         "Event.Attribute[0].type",
         None,
     ),
     (
-        "{\"info\":\"a\",\"Attribute\":[{\"type\":\"text\",\"data\":7,\"value\":\"\"}]}",
+        "{'info':'a','Attribute':[{'type':'text','data':7,'value':''}]}",
         "Event.Attribute[0].value",
         Some(Need::Length),
     ),
     (
-        "{\"info\":\"a\",\"Object\":[{}]}",
+        "{'info':'a','Object':[{}]}",
         "Event.Object[0].name",
         Some(Need::Present),
     ),
     (
-        "{\"info\":\"a\",\"Object\":[{\"name\":\"b\",\"distribution\":4,\"SharingGroup\":{},\"deleted\":7}]}",
+        "{'info':'a','Object':[{'name':'b','distribution':4,'SharingGroup':{},'deleted':7}]}",
         "Event.Object[0].SharingGroup.organisation_uuid",
         Some(Need::Present),
     ),
     (
-        "{\"info\":\"a\",\"Object\":[{\"name\":\"b\",\"Attribute\":[{\"type\":\"md5\",\"value\":\"\"}]}]}",
+        "{'info':'a','Object':[{'name':'b','Attribute':[{'type':'md5','value':''}]}]}",
         "Event.Object[0].Attribute[0].value",
         Some(Need::Length),
     ),
     (
-        "{\"info\":\"a\",\"Object\":[{\"name\":\"b\",\"Attribute\":[{\"type\":\"port\",\"value\":\"0\"}]}]}",
+        "{'info':'a','Object':[{'name':'b','Attribute':[{'type':'port','value':'0'}]}]}",
         "Event.Object[0].Attribute[0].value",
         Some(Need::Part(1)),
     ),
     (
-        "{\"info\":\"a\",\"Object\":[{\"name\":\"b\",\"ObjectReference\":[{}]}]}",
+        "{'info':'a','Object':[{'name':'b','ObjectReference':[{}]}]}",
         "Event.Object[0].ObjectReference[0].referenced_uuid",
         Some(Need::Present),
     ),
@@ -168,7 +179,7 @@ fn fault(alloc: Global, path: &str, need: Option<Need>) -> Result<FormatFault, F
 #[test]
 fn the_first_faulty_place_is_named(rt: HostRuntime) -> Result<(), Fail> {
     for (text, path, need) in &FAULTS {
-        let value = Value::from_str(rt.alloc(), text)?;
+        let value = json(rt.alloc(), text)?;
         match read_event(rt.alloc(), &value, WORD) {
             Ok(_) => assert!(rt; false, "{text}"),
             Err(found) => { assert!(rt; found == fault(rt.alloc(), path, *need)?, "{text}") }
@@ -179,8 +190,13 @@ fn the_first_faulty_place_is_named(rt: HostRuntime) -> Result<(), Fail> {
 
 /// An event with one attribute, an object with an attribute and a reference, and another object.
 /// The labels of the event, the first attribute and the first object are those of groups.
-const WHOLE: &str =
-    "{\"Event\":{\"info\":\"Wave\",\"distribution\":\"4\",\"SharingGroup\":{\"name\":\"G\",\"organisation_uuid\":\"aaaaaaaa-0000-4000-8000-000000000001\",\"uuid\":\"c1000000-0000-4000-8000-000000000001\"},\"Tag\":[{\"name\":\"b\"},{\"name\":\"a\",\"colour\":\"#FF8000\"},{\"name\":\"b\",\"exportable\":false}],\"Attribute\":[{\"type\":\"AS\",\"distribution\":\"4\",\"SharingGroup\":{\"name\":\"G\",\"organisation_uuid\":\"aaaaaaaa-0000-4000-8000-000000000001\",\"uuid\":\"c2000000-0000-4000-8000-000000000001\"},\"value\":\"as64500\"}],\"Object\":[{\"name\":\"file\",\"distribution\":\"4\",\"SharingGroup\":{\"name\":\"G\",\"organisation_uuid\":\"aaaaaaaa-0000-4000-8000-000000000001\",\"uuid\":\"c3000000-0000-4000-8000-000000000001\"},\"Attribute\":[{\"type\":\"text\",\"value\":\"x\"}],\"ObjectReference\":[{\"referenced_uuid\":\"a1000000-0000-4000-8000-000000000001\"}]},{\"name\":\"url\"}]}}";
+const WHOLE: &str = "{'Event':{'info':'Wave','distribution':'4','SharingGroup':\
+     {'name':'G',$by,'uuid':'c1000000$id'},'Tag':[{'name':'b'},{'name':'a',\
+     'colour':'#FF8000'},{'name':'b','exportable':false}],'Attribute':[{'type':'AS',\
+     'distribution':'4','SharingGroup':{'name':'G',$by,'uuid':'c2000000$id'},'value':'as64500'}],\
+     'Object':[{'name':'file','distribution':'4','SharingGroup':{'name':'G',$by,\
+     'uuid':'c3000000$id'},'Attribute':[{'type':'text','value':'x'}],'ObjectReference':\
+     [{'referenced_uuid':'a1000000$id'}]},{'name':'url'}]}}";
 
 fn made(n: u32) -> ElemId {
     ElemId(Uid::made(WORD, n))
@@ -195,7 +211,7 @@ fn group(uuid: u128) -> Label {
 
 #[test]
 fn elements_have_their_places_identifiers_and_labels(rt: HostRuntime) -> Result<(), Fail> {
-    let value = Value::from_str(rt.alloc(), WHOLE)?;
+    let value = json(rt.alloc(), WHOLE)?;
     let read = read_event(rt.alloc(), &value, WORD).ok().ok_or("fault")?;
     let parts = [
         (1, Place::Attribute(made(1)), group(G2)),
@@ -223,12 +239,24 @@ fn elements_have_their_places_identifiers_and_labels(rt: HostRuntime) -> Result<
 }
 
 /// A group with two organisations and two instances, each told out of order, and one twice.
-const GROUP: &str =
-    "{\"SharingGroup\":{\"uuid\":\"c1000000-0000-4000-8000-000000000001\",\"organisation_uuid\":\"aaaaaaaa-0000-4000-8000-000000000001\",\"name\":\"G\",\"roaming\":1,\"SharingGroupOrg\":[{\"Organisation\":{\"uuid\":\"bbbbbbbb-0000-4000-8000-000000000001\",\"name\":\"b\"}},{\"Organisation\":{\"uuid\":\"aaaaaaaa-0000-4000-8000-000000000001\"}},{\"Organisation\":{\"uuid\":\"bbbbbbbb-0000-4000-8000-000000000001\",\"name\":\"Beta\"},\"extend\":true}],\"SharingGroupServer\":[{\"Server\":{\"name\":\"north\"},\"all_orgs\":true},{\"Server\":{\"name\":\"hub\"}}]}}";
+const GROUP: &str = "{'SharingGroup':{'uuid':'c1000000$id',$by,'name':'G','roaming':1,\
+     'SharingGroupOrg':[{'Organisation':{'uuid':'bbbbbbbb$id','name':'b'}},\
+     {'Organisation':{'uuid':'aaaaaaaa$id'}},\
+     {'Organisation':{'uuid':'bbbbbbbb$id','name':'Beta'},'extend':true}],\
+     'SharingGroupServer':[{'Server':{'name':'north'},'all_orgs':true},\
+     {'Server':{'name':'hub'}}]}}";
+
+/// The text of that group.
+const GROUP_TEXT: &str = "{'SharingGroupOrg':[{'Organisation':{'name':'','uuid':'aaaaaaaa$id'},\
+     'extend':false},{'Organisation':{'name':'Beta','uuid':'bbbbbbbb$id'},'extend':true}],\
+     'SharingGroupServer':[{'Server':{'name':'hub','url':'http://hub/'},'all_orgs':false},\
+     {'Server':{'name':'north','url':'http://north/'},'all_orgs':true}],'active':true,\
+     'description':'','modified':'0','name':'G',$by,'releasability':'','roaming':true,\
+     'uuid':'c1000000$id'}";
 
 #[test]
 fn a_group_is_read_in_the_order_of_its_members(rt: HostRuntime) -> Result<(), Fail> {
-    let value = Value::from_str(rt.alloc(), GROUP)?;
+    let value = json(rt.alloc(), GROUP)?;
     let read = read_group(rt.alloc(), &value).ok().ok_or("fault")?;
     assert!(rt; Label::Group(read.id) == group(G1));
     assert!(rt; read.active && read.roaming && !read.carried);
@@ -245,21 +273,57 @@ fn a_group_is_read_in_the_order_of_its_members(rt: HostRuntime) -> Result<(), Fa
     Ok(())
 }
 
+#[test]
+fn groups_are_written_as_their_texts_and_read_from_them(rt: HostRuntime) -> Result<(), Fail> {
+    let given = filled(rt.alloc(), GROUP)?;
+    let text = filled(rt.alloc(), GROUP_TEXT)?;
+    let mut groups = Vec::new(rt.alloc());
+    for text in [given.as_str(), text.as_str()] {
+        let read = read_group_text(rt.alloc(), text.as_bytes());
+        groups.push(read.ok().ok_or("fault")?)?;
+    }
+    for group in groups.as_slice() {
+        let written = write_group(rt.alloc(), group).ok().ok_or("memory")?;
+        assert!(rt; written.as_slice() == text.as_bytes());
+    }
+    let mut listed = Vec::new(rt.alloc());
+    put_groups(&mut listed, rt.alloc(), groups.as_slice())
+        .ok()
+        .ok_or("memory")?;
+    let texts = format!(in rt.alloc(); "[{text},{text}]")?;
+    assert!(rt; listed.as_slice() == texts.as_bytes());
+    Ok(())
+}
+
+/// Texts that are no groups, and whether they are JSON.
+const NO_GROUPS: [(&str, bool); 3] = [("", false), ("{", false), ("[]", true)];
+
+#[test]
+fn what_is_no_json_is_told_apart(rt: HostRuntime) -> Result<(), Fail> {
+    for (text, is_json) in &NO_GROUPS {
+        match read_group_text(rt.alloc(), text.as_bytes()) {
+            Ok(_) => assert!(rt; false, "{text}"),
+            Err(found) => { assert!(rt; (found == GroupTextFault::NoJson) != *is_json, "{text}") }
+        }
+    }
+    Ok(())
+}
+
 /// A body of a group, the path of its first faulty place, and the need there.
 const GROUP_FAULTS: [(&str, &str, Need); 4] = [
-    ("{\"uuid\":7}", "SharingGroup.uuid", Need::Uuid),
+    ("{'uuid':7}", "SharingGroup.uuid", Need::Uuid),
     (
-        "{\"uuid\":\"c1000000-0000-4000-8000-000000000001\",\"name\":\"G\"}",
+        "{'uuid':'c1000000$id','name':'G'}",
         "SharingGroup.organisation_uuid",
         Need::Present,
     ),
     (
-        "{\"uuid\":\"c1000000-0000-4000-8000-000000000001\",\"organisation_uuid\":\"aaaaaaaa-0000-4000-8000-000000000001\",\"name\":\"G\",\"SharingGroupOrg\":[{\"Organisation\":{}}]}",
+        "{'uuid':'c1000000$id',$by,'name':'G','SharingGroupOrg':[{'Organisation':{}}]}",
         "SharingGroup.SharingGroupOrg[0].Organisation.uuid",
         Need::Present,
     ),
     (
-        "{\"uuid\":\"c1000000-0000-4000-8000-000000000001\",\"organisation_uuid\":\"aaaaaaaa-0000-4000-8000-000000000001\",\"name\":\"G\",\"SharingGroupServer\":[{\"Server\":{\"name\":\"North\"}}]}",
+        "{'uuid':'c1000000$id',$by,'name':'G','SharingGroupServer':[{'Server':{'name':'North'}}]}",
         "SharingGroup.SharingGroupServer[0].Server.name",
         Need::Range,
     ),
@@ -268,7 +332,7 @@ const GROUP_FAULTS: [(&str, &str, Need); 4] = [
 #[test]
 fn the_first_faulty_place_of_a_group_is_named(rt: HostRuntime) -> Result<(), Fail> {
     for (text, path, need) in &GROUP_FAULTS {
-        let value = Value::from_str(rt.alloc(), text)?;
+        let value = json(rt.alloc(), text)?;
         match read_group(rt.alloc(), &value) {
             Ok(_) => assert!(rt; false, "{text}"),
             Err(found) => { assert!(rt; found == fault(rt.alloc(), path, Some(*need))?, "{text}") }
@@ -279,15 +343,15 @@ fn the_first_faulty_place_of_a_group_is_named(rt: HostRuntime) -> Result<(), Fai
 
 #[test]
 fn lists_of_attributes_and_tags_are_bodies(rt: HostRuntime) -> Result<(), Fail> {
-    let text = "[{\"type\":\"text\",\"value\":\"x\"},{\"type\":\"text\"}]";
-    let value = Value::from_str(rt.alloc(), text)?;
+    let text = "[{'type':'text','value':'x'},{'type':'text'}]";
+    let value = json(rt.alloc(), text)?;
     match read_parts(rt.alloc(), &value, E1, None, PartForm::Attributes, WORD) {
         Ok(_) => assert!(rt; false),
         Err(found) => {
             assert!(rt; found == fault(rt.alloc(), "Attribute[1].value", Some(Need::Present))?)
         }
     }
-    let tag = Value::from_str(rt.alloc(), "{\"Tag\":{\"name\":\"a\"}}")?;
+    let tag = json(rt.alloc(), "{'Tag':{'name':'a'}}")?;
     let tag = read_tag(rt.alloc(), &tag).ok().ok_or("fault")?;
     assert!(rt; tag.name.as_str() == "a" && tag.exportable);
     Ok(())
@@ -367,13 +431,18 @@ fn attribute_row(alloc: Global, stamp: Stamp) -> Result<Row, Fail> {
     }))
 }
 
-const SAVED: &str =
-    "{\"elements\":2,\"event\":\"e1000000-0000-4000-8000-000000000001\",\"timestamp\":\"1700000000\"}";
+const SAVED: &str = "{'elements':2,'event':'e1000000$id','timestamp':'1700000000'}";
 
-const REFUSED: &str = "{\"name\":\"NotGranted\",\"place\":\"\",\"rule\":9}";
+const REFUSED: &str = "{'name':'NotGranted','place':'','rule':9}";
 
-const WAVE: &str =
-    "{\"Event\":{\"Attribute\":[{\"ShadowAttribute\":[],\"Sighting\":[],\"Tag\":[],\"category\":\"Other\",\"comment\":\"\",\"deleted\":false,\"distribution\":\"5\",\"timestamp\":\"1700000000\",\"to_ids\":false,\"type\":\"text\",\"uuid\":\"a1000000-0000-4000-8000-000000000001\",\"value\":\"x\"}],\"Object\":[],\"Org\":{\"name\":\"Alpha\",\"uuid\":\"aaaaaaaa-0000-4000-8000-000000000001\"},\"Orgc\":{\"name\":\"Alpha\",\"uuid\":\"aaaaaaaa-0000-4000-8000-000000000001\"},\"ShadowAttribute\":[],\"Tag\":[],\"analysis\":\"0\",\"attribute_count\":\"1\",\"date\":\"2023-11-14\",\"distribution\":\"1\",\"extends_uuid\":\"\",\"info\":\"Wave\",\"publish_timestamp\":\"0\",\"published\":false,\"threat_level_id\":\"4\",\"timestamp\":\"1700000000\",\"uuid\":\"e1000000-0000-4000-8000-000000000001\"}}";
+const WAVE: &str = "{'Event':{'Attribute':[{'ShadowAttribute':[],'Sighting':[],'Tag':[],\
+     'category':'Other','comment':'','deleted':false,'distribution':'5',\
+     'timestamp':'1700000000','to_ids':false,'type':'text','uuid':'a1000000$id','value':'x'}],\
+     'Object':[],'Org':{'name':'Alpha','uuid':'aaaaaaaa$id'},\
+     'Orgc':{'name':'Alpha','uuid':'aaaaaaaa$id'},'ShadowAttribute':[],'Tag':[],'analysis':'0',\
+     'attribute_count':'1','date':'2023-11-14','distribution':'1','extends_uuid':'',\
+     'info':'Wave','publish_timestamp':'0','published':false,'threat_level_id':'4',\
+     'timestamp':'1700000000','uuid':'e1000000$id'}}";
 
 /// An event of the level Community, with one attribute.
 fn wave(alloc: Global, stamp: Stamp, never: Stamp) -> Result<VisibleEvent, Fail> {
@@ -399,7 +468,7 @@ fn an_event_is_written_as_its_text(rt: HostRuntime) -> Result<(), Fail> {
     let never = Stamp::new(0).ok_or("late")?;
     let event = wave(rt.alloc(), stamp, never)?;
     let written = write_event(rt.alloc(), &event).ok().ok_or("memory")?;
-    assert!(rt; written.as_slice() == WAVE.as_bytes());
+    assert!(rt; written.as_slice() == filled(rt.alloc(), WAVE)?.as_bytes());
     Ok(())
 }
 
@@ -407,12 +476,14 @@ fn an_event_is_written_as_its_text(rt: HostRuntime) -> Result<(), Fail> {
 fn replies_are_written_as_their_texts(rt: HostRuntime) -> Result<(), Fail> {
     let stamp = Stamp::new(1_700_000_000).ok_or("late")?;
     let saved = write_saved(rt.alloc(), 2, &E1, stamp).ok().ok_or("memory")?;
-    assert!(rt; saved.as_slice() == SAVED.as_bytes());
+    assert!(rt; saved.as_slice() == filled(rt.alloc(), SAVED)?.as_bytes());
+    let taken = write_taken(rt.alloc(), 1).ok().ok_or("memory")?;
+    assert!(rt; taken.as_slice() == filled(rt.alloc(), "{'taken':1}")?.as_bytes());
     let refusal = Refusal {
         name: RuleName::NotGranted,
         place: text(rt.alloc(), "")?,
     };
     let refused = write_refusal(rt.alloc(), &refusal).ok().ok_or("memory")?;
-    assert!(rt; refused.as_slice() == REFUSED.as_bytes());
+    assert!(rt; refused.as_slice() == filled(rt.alloc(), REFUSED)?.as_bytes());
     Ok(())
 }

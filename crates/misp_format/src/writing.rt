@@ -4,7 +4,7 @@ ghost use Rattle.std.specs.Prelude.{◌≡◌, ◌++◌, ℕ, IfOk, OnOk, Some, 
 ghost use Rattle.serde_json.specs.Data.{Data, no_members};
 ghost use Rattle.serde_json.specs.Read.{read};
 ghost use Rattle.serde_json.specs.Written.{compact_text};
-ghost use Rattle.misp_elem.specs.Visible.{IsWhole, HasNoGroups};
+ghost use Rattle.misp_elem.specs.Visible.{IsWhole};
 ghost use Rattle.misp_format.specs.Brought.{brought};
 ghost use Rattle.misp_format.specs.Fields.{members_of};
 ghost use Rattle.misp_format.specs.Names.{names_in};
@@ -133,9 +133,8 @@ pub fn write_event(alloc: Global, event: &VisibleEvent) -> Result<Vec<u8>, NoMem
     ensures text { IfOk result (λ b. b.items ≡ compact_text (body_data event.now)) }
     // It is read to the same data.
     ensures reads_back { IfOk result (λ b. read b.items ≡ Some (body_data event.now)) }
-    // A whole event without groups is read again as it is, whatever the word.
-    ensures same { IfOk result (λ b. IsWhole event.now → HasNoGroups event.now
-        → (d : Data) → read b.items ≡ Some d
+    // A whole event is read again as it is, whatever the word.
+    ensures same { IfOk result (λ b. IsWhole event.now → (d : Data) → read b.items ≡ Some d
         → (word : ℕ) → event_at word d ≡ Ok (brought event.now)) }
 {
     let mut text = Vec::new(alloc);

@@ -1,6 +1,7 @@
 use Rattle.std.proofs.Common.{◌≡◌, map}
+use Rattle.misp_groups.specs.Group.{AreServers}
 use Rattle.misp_format.specs.Groups.{server_of}
 use Rattle.misp_format.proofs.group.server_list.Given as goal
 
 abbrev pub invariant-loop-name : goal.invariant-loop-name
-invariant-loop-name l = l.servers.items ≡ map server_of l.yielded
+invariant-loop-name l = (l.servers.items ≡ map server_of l.yielded) × AreServers l.servers.items

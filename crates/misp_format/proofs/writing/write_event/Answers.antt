@@ -13,4 +13,4 @@ returns-clause-reads_back c =
     ap read (c.in_ok-put_event.ensures ∙ ap (λ t. t ++ text) c.new-text.ensures.items) ∙ body_returned c.args.event.now
 
 pub returns-clause-same : goal.returns-clause-same
-returns-clause-same c = λ whole free d other word. text_back _ c.args.event.now whole free (returns-clause-reads_back c) d other word
+returns-clause-same c = λ whole d other word. text_back _ c.args.event.now whole (returns-clause-reads_back c) d other word

@@ -1,0 +1,156 @@
+-- The text of a group is read to the group.
+use Rattle.std.proofs.Common.{◌≡◌, ℕ, ◌<◌, ◌≤◌, ◌^◌, true, List, Some, None, Ok, IsUtf8, inl, refl, ap, ◌∙◌, arith, lit<}
+use Rattle.std.specs.Prelude.{codes, decimal, if◌then◌else◌}
+use Rattle.std.specs.Str.{is_utf8}
+use Rattle.std.proofs.lemmas.Fmt.{IsAscii-decimal}
+use Rattle.std.proofs.lemmas.Str.{IsUtf8-append, IsUtf8-from_ascii, IsUtf8-from_is_utf8, is_utf8-from_IsUtf8}
+use Rattle.json.proofs.Printed.Utf8.{IsUtf8-are_ascii}
+use Rattle.serde_json.specs.Read.{read}
+use Rattle.uuid.specs.Text.{lower}
+use Rattle.uuid.proofs.TextLemmas.{hyphenated_ascii}
+use Rattle.misp_ids.specs.declared.uid.Uid.{Uid}
+use Rattle.misp_ids.specs.declared.stamp.TheConstants.{LAST_SECOND}
+use Rattle.misp_ids.specs.Uid.{bytes_of, text_of}
+use Rattle.misp_ids.proofs.NamesLemmas.{IsUtf8-inst_name}
+use Rattle.misp_groups.specs.declared.group.GroupFields.{GroupFields as Group}
+use Rattle.misp_groups.specs.declared.group.GroupOrg.{GroupOrg}
+use Rattle.misp_groups.specs.declared.group.GroupServer.{GroupServer}
+use Rattle.misp_groups.specs.Group.{IsOrg, IsServer, IsGroup}
+use Rattle.misp_format.specs.declared.fault.FormatFault.{FormatFault}
+use Rattle.misp_format.specs.declared.fault.FormatFault.TheVariants as faults
+use Rattle.misp_format.specs.declared.group_text.GroupTextFault.TheVariants.{Format}
+use Rattle.misp_format.specs.GroupText.{FailsAsText, json_or_none, json_in, of_value, group_of_json, group_in_text}
+use Rattle.misp_format.specs.Rows.{Reading, Fails}
+use Rattle.misp_format.specs.WholeGroup.{group_org_data, server_url, group_server_data, whole_group_data, group_text, uncarried}
+use Rattle.misp_format.proofs.GroupBack.{all_orgs, all_servers, whole_back}
+use Rattle.misp_format.proofs.Plain.{Plain, plain_items}
+use Rattle.misp_format.proofs.ReadBack.{Returns, returned, return_items}
+use Rattle.misp_format.proofs.Utf8.{IsText, text_utf8, are_texts}
+
+-- ---- no float, and not deep
+
+plain_org : (o : GroupOrg) → Plain 2 (group_org_data o)
+unfolding group_org_data
+plain_org o = record { no_float = refl; levels = omega arith }
+
+plain_server : (s : GroupServer) → Plain 2 (group_server_data s)
+unfolding group_server_data
+plain_server s = record { no_float = refl; levels = omega arith }
+
+pub plain_whole : (g : Group) → Plain 4 (whole_group_data g)
+unfolding whole_group_data
+plain_whole g =
+    let orgs = plain_items 2 group_org_data plain_org g.orgs in
+    let servers = plain_items 2 group_server_data plain_server g.servers in
+    record { no_float = rw (orgs.no_float, servers.no_float) refl; levels = omega arith }
+
+-- ---- its text is read to the same data
+
+return_org : (o : GroupOrg) → Returns (group_org_data o)
+unfolding group_org_data
+return_org o = record { no_number = refl; back = refl }
+
+return_server : (s : GroupServer) → Returns (group_server_data s)
+unfolding group_server_data
+return_server s = record { no_number = refl; back = refl }
+
+pub whole_returned : (g : Group) → read (group_text g) ≡ Some (whole_group_data g)
+unfolding whole_group_data
+whole_returned g =
+    let orgs = return_items group_org_data return_org g.orgs in
+    let servers = return_items group_server_data return_server g.servers in
+    returned (whole_group_data g) (record { no_number = rw (orgs.no_number, servers.no_number) refl; back = rw (orgs.back, servers.back) refl }) (omega (arith, (plain_whole g).levels))
+
+-- ---- its text is UTF-8
+
+uuid_utf8 : (u : Uid) → IsUtf8 (text_of u)
+uuid_utf8 u = IsUtf8-from_ascii (text_of u) (hyphenated_ascii lower (bytes_of u) (inl refl))
+
+org_utf8 : (o : GroupOrg) → IsOrg o → IsText (group_org_data o)
+unfolding group_org_data
+org_utf8 o h = (refl, ((refl, (IsUtf8-from_is_utf8 o.name h.1, (refl, (uuid_utf8 o.org.0, tt)))), (refl, (tt, tt))))
+
+url_utf8 : (name : List ℕ) → IsUtf8 name → IsUtf8 (server_url name)
+url_utf8 name h = IsUtf8-append (codes "http://") _ (IsUtf8-are_ascii (codes "http://") refl) (IsUtf8-append name (codes "/") h (IsUtf8-are_ascii (codes "/") refl))
+
+server_utf8 : (s : GroupServer) → IsServer s → IsText (group_server_data s)
+unfolding group_server_data
+server_utf8 s h =
+    let name = IsUtf8-inst_name s.name h in
+    (refl, ((refl, (name, (refl, (url_utf8 s.name name, tt)))), (refl, (tt, tt))))
+
+number_utf8 : (n : ℕ) → n ≤ LAST_SECOND → IsUtf8 (decimal n)
+number_utf8 n h =
+    let large : LAST_SECOND < 2 ^ 64 = lit< tt in
+    IsUtf8-from_ascii (decimal n) (IsAscii-decimal n (omega arith))
+
+whole_utf8 : (g : Group) → IsGroup g → IsUtf8 (group_text g)
+unfolding whole_group_data
+whole_utf8 g h =
+    text_utf8 (whole_group_data g) (
+      refl,
+      (
+        are_texts group_org_data org_utf8 g.orgs (all_orgs g.orgs h.orgs),
+        (
+          refl,
+          (
+            are_texts group_server_data server_utf8 g.servers (all_servers g.servers h.servers),
+            (
+              refl,
+              (
+                tt,
+                (
+                  refl,
+                  (
+                    IsUtf8-from_is_utf8 g.description h.description,
+                    (
+                      refl,
+                      (
+                        number_utf8 g.modified h.modified,
+                        (
+                          refl,
+                          (
+                            IsUtf8-from_is_utf8 g.name h.name,
+                            (
+                              refl,
+                              (
+                                uuid_utf8 g.id.creator.0,
+                                (
+                                  refl,
+                                  (
+                                    IsUtf8-from_is_utf8 g.releasability h.releasability,
+                                    (refl, (tt, (refl, (uuid_utf8 g.id.uuid, tt)))),
+                                  ),
+                                ),
+                              ),
+                            ),
+                          ),
+                        ),
+                      ),
+                    ),
+                  ),
+                ),
+              ),
+            ),
+          ),
+        ),
+      ),
+    )
+
+-- ---- THE LAW: a group is read from its text
+
+pub text_back : (g : Group) → IsGroup g → group_in_text (group_text g) ≡ Ok (uncarried g)
+unfolding group_in_text json_in
+text_back g h =
+    let utf8 : is_utf8 (group_text g) ≡ true = is_utf8-from_IsUtf8 (group_text g) (whole_utf8 g h) in
+    ap (λ b. group_of_json (json_or_none (if b then read (group_text g) else None))) utf8
+    ∙ ap (λ o. group_of_json (json_or_none o)) (whole_returned g)
+    ∙ ap of_value (whole_back g h)
+
+-- ---- faults
+
+-- the fault of a value is that of its text
+pub fails_as_text : (fault : FormatFault) (value : Reading Group) → Fails fault value → FailsAsText (Format fault) (of_value value)
+fails_as_text (faults.BadField path need) value h = ap of_value h
+fails_as_text (faults.BinaryType path) value h = ap of_value h
+fails_as_text faults.NoMemory value h = tt
