@@ -5,6 +5,7 @@ mod Documents
 mod Lookups
 mod Marks
 mod Parts
+mod Sites
 mod Steps
 mod Visible
 pub mod Nets

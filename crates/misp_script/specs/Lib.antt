@@ -1,3 +1,4 @@
+pub mod Directory
 pub mod Entries
 pub mod Faults
 pub mod Fields

@@ -1,12 +1,18 @@
 -- What a line says.
-use Rattle.std.specs.Prelude.{ℕ, ◌<◌, ◌&&◌, Bool, nat_le, nat_lt, List, [], length, position, codes, bytes_eq, Option, Some, None, option_map, unwrap_or, Ok, if◌then◌else◌}
+use Rattle.std.specs.Prelude.{ℕ, ◌<◌, ◌&&◌, Bool, nat_le, nat_lt, List, [], length, codes, bytes_eq, Option, Some, None, option_map, unwrap_or, Ok, true, false, if◌then◌else◌}
 use Rattle.std.specs.List.{list_all}
+use Rattle.std.specs.Option.{option_and_then}
+use Rattle.misp_ids.specs.declared.uid.Uid.{Uid}
+use Rattle.misp_ids.specs.declared.uid.OrgId.{OrgId}
+use Rattle.misp_ids.specs.Uid.{read_uid}
 use Rattle.misp_script.specs.declared.deed.Verb.{Verb}
 use Rattle.misp_script.specs.declared.deed.Verb.TheVariants as verbs
 use Rattle.misp_script.specs.declared.step.Step.{Step}
 use Rattle.misp_script.specs.declared.step.Deed.{Deed}
 use Rattle.misp_script.specs.declared.step.Deed.TheVariants as deeds
 use Rattle.misp_script.specs.declared.step.RequestLine.{RequestLine}
+use Rattle.misp_script.specs.declared.step.GroupLine.{GroupLine}
+use Rattle.misp_script.specs.Directory.{Site, site_names, place_of, knows}
 use Rattle.misp_script.specs.Fields.{Reading, ◌>>=◌, field_in, next_field, kept, no_field}
 use Rattle.misp_script.specs.Numbers.{time_of, word_of}
 
@@ -20,9 +26,18 @@ pub record RequestData : Type 0 where
   pub target : List ℕ
   pub body : List ℕ
 
+-- a sharing group that an organisation administers: the place of the instance, the organisation,
+-- whether the group is added there (else it is edited), and the text of the group
+pub record GroupData : Type 0 where
+  pub at : ℕ
+  pub org : OrgId
+  pub add : Bool
+  pub body : List ℕ
+
 pub data DeedData : Type 0 where
   Nothing : DeedData
   Request : RequestData → DeedData
+  Group : GroupData → DeedData
 
 -- a step: its moment, its word and its deed
 pub record StepData : Type 0 where
@@ -40,9 +55,13 @@ request_data r =
       body = r.body.now;
     }
 
+abbrev pub group_data : GroupLine → GroupData
+group_data g = record { at = g.at; org = g.org; add = g.add; body = g.body.now }
+
 abbrev pub deed_data : Deed → DeedData
 deed_data deeds.Nothing = Nothing
 deed_data (deeds.Request request) = Request (request_data request)
+deed_data (deeds.Group group) = Group (group_data group)
 
 abbrev pub step_data : Step → StepData
 step_data step = record { time = step.time; word = step.word; deed = deed_data step.deed }
@@ -51,6 +70,7 @@ step_data step = record { time = step.time; word = step.word; deed = deed_data s
 abbrev pub IsPlaced : ℕ → DeedData → Type 0
 IsPlaced count Nothing = Unit {0}
 IsPlaced count (Request request) = request.at < count
+IsPlaced count (Group group) = group.at < count
 
 -- ---- fields
 
@@ -58,11 +78,9 @@ abbrev pub verb_of : List ℕ → Option Verb
 verb_of text =
     if bytes_eq text (codes "none") then Some verbs.Nothing
     else if bytes_eq text (codes "req") then Some verbs.Request
+    else if bytes_eq text (codes "group-add") then Some verbs.AddGroup
+    else if bytes_eq text (codes "group-edit") then Some verbs.EditGroup
     else None
-
--- the place of the instance of this name
-abbrev pub place_of : List (List ℕ) → List ℕ → Option ℕ
-place_of names text = position (λ name. bytes_eq name text) names
 
 -- a byte from 33 to 126
 abbrev pub is_visible : ℕ → Bool
@@ -80,12 +98,28 @@ key_of text = if bytes_eq text (codes "-") then None else Some text
 abbrev pub body_of : Option (List ℕ) → List ℕ
 body_of left = unwrap_or left []
 
+-- a uuid in the hyphenated form, whose bytes are visible
+abbrev pub uuid_of : List ℕ → Option Uid
+uuid_of text = option_and_then read_uid (visible_of text)
+
+-- the organisation of a uuid, if it is known at the instance of this place
+abbrev pub known_org : List Site → ℕ → Uid → Option OrgId
+known_org sites at uuid =
+    if knows sites at (record { 0 = uuid }) then Some (record { 0 = uuid }) else None
+
+abbrev pub org_of : List Site → ℕ → List ℕ → Option OrgId
+org_of sites at text = option_and_then (known_org sites at) (uuid_of text)
+
+-- the rest of the line, which must be there, and may be empty
+abbrev pub rest_of : List ℕ → Option (List ℕ) → Reading (List ℕ)
+rest_of line left = kept (length line) left
+
 -- ---- lines
 
-unfoldable pub request_of : List (List ℕ) → List ℕ → Option (List ℕ) → Reading RequestData
-request_of names line left = do
+unfoldable pub request_of : List Site → List ℕ → Option (List ℕ) → Reading RequestData
+request_of sites line left = do
   inst ← next_field line left
-  at ← kept inst.place (place_of names inst.text)
+  at ← kept inst.place (place_of (site_names sites) inst.text)
   key ← next_field line inst.rest
   key_text ← kept key.place (visible_of key.text)
   method ← next_field line key.rest
@@ -100,19 +134,32 @@ request_of names line left = do
     body = body_of target.rest;
   })
 
-abbrev pub deed_of : List (List ℕ) → List ℕ → Verb → Option (List ℕ) → Reading DeedData
-deed_of names line verbs.Nothing left = no_field line left >>= λ done. Ok Nothing
-deed_of names line verbs.Request left =
-    request_of names line left >>= λ request. Ok (Request request)
+unfoldable pub group_of : List Site → List ℕ → Bool → Option (List ℕ) → Reading GroupData
+group_of sites line add left = do
+  inst ← next_field line left
+  at ← kept inst.place (place_of (site_names sites) inst.text)
+  org ← next_field line inst.rest
+  named ← kept org.place (org_of sites at org.text)
+  body ← rest_of line org.rest
+  Ok (record { at = at; org = named; add = add; body = body })
+
+abbrev pub deed_of : List Site → List ℕ → Verb → Option (List ℕ) → Reading DeedData
+deed_of sites line verbs.Nothing left = no_field line left >>= λ done. Ok Nothing
+deed_of sites line verbs.Request left =
+    request_of sites line left >>= λ request. Ok (Request request)
+deed_of sites line verbs.AddGroup left =
+    group_of sites line true left >>= λ group. Ok (Group group)
+deed_of sites line verbs.EditGroup left =
+    group_of sites line false left >>= λ group. Ok (Group group)
 
 -- a time, a word, and a verb with its fields
-unfoldable pub step_of : List (List ℕ) → List ℕ → Reading StepData
-step_of names line = do
+unfoldable pub step_of : List Site → List ℕ → Reading StepData
+step_of sites line = do
   time ← Ok (field_in line line)
   moment ← kept time.place (time_of time.text)
   word ← next_field line time.rest
   number ← kept word.place (word_of word.text)
   verb ← next_field line word.rest
   named ← kept verb.place (verb_of verb.text)
-  deed ← deed_of names line named verb.rest
+  deed ← deed_of sites line named verb.rest
   Ok (record { time = moment; word = number; deed = deed })

@@ -3,11 +3,13 @@
 ghost use Rattle.std.specs.Prelude.{◌≡◌, ◌<◌, length, option_map, IfOk, IfSome};
 ghost use Rattle.std.specs.List.{list_all};
 ghost use Rattle.misp_script.specs.Fields.{Shows, kept, field_of};
-ghost use Rattle.misp_script.specs.Step.{IsPlaced, verb_of, place_of, is_visible, visible_of, key_of, body_of, request_data, request_of, deed_data, deed_of};
+ghost use Rattle.misp_script.specs.Step.{IsPlaced, verb_of, is_visible, visible_of, uuid_of, org_of, key_of, body_of, rest_of, request_data, request_of, group_data, group_of, deed_data, deed_of};
+ghost use Rattle.misp_script.specs.Directory.{site_names, place_of};
 
+use crate::directory::Directory;
 use crate::field::{BadLine, Field, kept, next_field, no_field};
-use crate::step::{Deed, RequestLine};
-use misp_ids::InstId;
+use crate::step::{Deed, GroupLine, RequestLine};
+use misp_ids::{OrgId, Uid};
 use std::str;
 
 /// The verb of a line.
@@ -15,6 +17,8 @@ use std::str;
 pub(crate) enum Verb {
     Nothing,
     Request,
+    AddGroup,
+    EditGroup,
 }
 
 pub(crate) fn read_verb(text: &[u8]) -> Option<Verb>
@@ -24,16 +28,13 @@ pub(crate) fn read_verb(text: &[u8]) -> Option<Verb>
         Some(Verb::Nothing)
     } else if text == b"req".as_slice() {
         Some(Verb::Request)
+    } else if text == b"group-add".as_slice() {
+        Some(Verb::AddGroup)
+    } else if text == b"group-edit".as_slice() {
+        Some(Verb::EditGroup)
     } else {
         None
     }
-}
-
-fn place_of(names: &[InstId], text: &[u8]) -> Option<usize>
-    ensures place { result ≡ place_of names.now text.now }
-    ensures inside { IfSome result (λ at. at < length names.now) }
-{
-    names.iter().position(|name| name.text().as_bytes() == text)
 }
 
 fn is_visible(byte: u8) -> bool
@@ -67,6 +68,27 @@ fn key(text: &str) -> Option<&str>
     if text == "-" { None } else { Some(text) }
 }
 
+fn uuid(text: &[u8]) -> Option<Uid>
+    ensures { result ≡ uuid_of text.now }
+{
+    match visible(text) {
+        Some(text) => Uid::read(text),
+        None => None,
+    }
+}
+
+/// The organisation of a uuid, if it is known at the instance of this place.
+fn org(directory: &Directory, at: usize, text: &[u8]) -> Option<OrgId>
+    ensures { result ≡ org_of directory.now at text.now }
+{
+    let org = OrgId(uuid(text)?);
+    if directory.knows(at, &org) {
+        Some(org)
+    } else {
+        None
+    }
+}
+
 /// What follows a field, and nothing where it is the last.
 fn body<'a>(before: &Field<'a>) -> &'a [u8]
     ensures { result.now ≡ body_of (field_of before.now).rest }
@@ -74,6 +96,16 @@ fn body<'a>(before: &Field<'a>) -> &'a [u8]
     match before.rest {
         Some(body) => body,
         None => &[],
+    }
+}
+
+/// The rest of a line behind a field.
+fn rest<'a>(line: &[u8], before: &Field<'a>) -> Result<&'a [u8], BadLine>
+    ensures { Shows (λ rest. rest.now) result (rest_of line.now (field_of before.now).rest) }
+{
+    match before.rest {
+        Some(rest) => Ok(rest),
+        None => Err(BadLine { place: line.len() }),
     }
 }
 
@@ -90,15 +122,15 @@ fn visible_field<'a>(field: &Field<'a>) -> Result<&'a str, BadLine>
 #[tactic(auto, unfolding(crate::specs::Step::request_of))]
 fn request<'a>(
     line: &[u8],
-    names: &[InstId],
+    directory: &Directory,
     before: &Field<'a>,
 ) -> Result<RequestLine<'a>, BadLine>
     ensures request { Shows request_data result
-        (request_of names.now line.now (field_of before.now).rest) }
-    ensures placed { IfOk result (λ request. request.at < length names.now) }
+        (request_of directory.now line.now (field_of before.now).rest) }
+    ensures placed { IfOk result (λ request. request.at < length directory.now) }
 {
     let inst = next_field(line, before)?;
-    let at = kept(inst.place, place_of(names, inst.text))?;
+    let at = kept(inst.place, directory.place_of(inst.text))?;
     let key_field = next_field(line, &inst)?;
     let key_text = visible_field(&key_field)?;
     let method_field = next_field(line, &key_field)?;
@@ -114,16 +146,35 @@ fn request<'a>(
     })
 }
 
+#[tactic(auto, unfolding(crate::specs::Step::group_of))]
+fn group<'a>(
+    line: &[u8],
+    directory: &Directory,
+    add: bool,
+    before: &Field<'a>,
+) -> Result<GroupLine<'a>, BadLine>
+    ensures group { Shows group_data result
+        (group_of directory.now line.now add (field_of before.now).rest) }
+    ensures placed { IfOk result (λ group. group.at < length directory.now) }
+{
+    let inst = next_field(line, before)?;
+    let at = kept(inst.place, directory.place_of(inst.text))?;
+    let org_field = next_field(line, &inst)?;
+    let org = kept(org_field.place, org(directory, at, org_field.text))?;
+    let body = rest(line, &org_field)?;
+    Ok(GroupLine { at, org, add, body })
+}
+
 /// The deed of a verb, whose fields stand behind it.
 pub(crate) fn deed<'a>(
     line: &[u8],
-    names: &[InstId],
+    directory: &Directory,
     verb: Verb,
     before: &Field<'a>,
 ) -> Result<Deed<'a>, BadLine>
     ensures deed { Shows deed_data result
-        (deed_of names.now line.now verb (field_of before.now).rest) }
-    ensures placed { IfOk result (λ deed. IsPlaced (length names.now) (deed_data deed)) }
+        (deed_of directory.now line.now verb (field_of before.now).rest) }
+    ensures placed { IfOk result (λ deed. IsPlaced (length directory.now) (deed_data deed)) }
 {
     match verb {
         Verb::Nothing => {
@@ -131,8 +182,16 @@ pub(crate) fn deed<'a>(
             Ok(Deed::Nothing)
         }
         Verb::Request => {
-            let request = request(line, names, before)?;
+            let request = request(line, directory, before)?;
             Ok(Deed::Request(request))
+        }
+        Verb::AddGroup => {
+            let group = group(line, directory, true, before)?;
+            Ok(Deed::Group(group))
+        }
+        Verb::EditGroup => {
+            let group = group(line, directory, false, before)?;
+            Ok(Deed::Group(group))
         }
     }
 }

@@ -1,8 +1,9 @@
 //! What a description says.
 
 ghost use Rattle.std.specs.Prelude.{◌≡◌, IfOk};
-ghost use Rattle.misp_script.specs.Names.{names_of};
+ghost use Rattle.misp_script.specs.Directory.{directory_of};
 
+use crate::directory::{Directory, Site};
 use misp_ids::{InstId, Items, NoMemory, Text};
 use misp_orgs::{Admin, KeyRecord, Link};
 use std::alloc::Global;
@@ -22,15 +23,15 @@ pub struct Entry {
 }
 
 impl Description {
-    /// The names of the instances, in their order.
-    pub fn names(&self, alloc: Global) -> Result<Items<InstId>, NoMemory>
-        ensures { IfOk result (λ names. names ≡ names_of self.now) }
+    /// The instances and the organisations known at each, by which lines are read.
+    pub fn directory(&self, alloc: Global) -> Result<Directory, NoMemory>
+        ensures { IfOk result (λ directory. directory ≡ directory_of self.now) }
     {
-        let mut names = Vec::new(alloc);
+        let mut directory = Directory::new(alloc);
         for entry in self.instances.as_slice() {
-            names.push(entry.name)?;
+            directory = directory.with(alloc, Site::of(alloc, entry)?)?;
         }
-        Ok(Items::of(names))
+        Ok(directory)
     }
 }
 

@@ -3,6 +3,7 @@
 
 mod deed;
 mod description;
+mod directory;
 mod document;
 mod fault;
 mod field;
@@ -20,6 +21,7 @@ mod source;
 mod step;
 
 pub use description::{Description, Entry};
+pub use directory::Directory;
 pub use document::{INSTANCE_LIMIT, KEY_LIMIT, LINK_LIMIT, ORG_LIMIT};
 pub use fault::{DescFault, DescNeed};
 pub use field::BadLine;
@@ -27,7 +29,7 @@ pub use line::read_line;
 pub use lines::split_line;
 pub use network::read_description;
 pub use source::split_source;
-pub use step::{Deed, RequestLine, Step};
+pub use step::{Deed, GroupLine, RequestLine, Step};
 
 #[cfg(test)]
 mod tests;

@@ -5,17 +5,17 @@ ghost use Rattle.misp_script.specs.Fields.{Shows};
 ghost use Rattle.misp_script.specs.Step.{step_data, deed_data, step_of, IsPlaced};
 
 use crate::deed::{deed, read_verb};
+use crate::directory::Directory;
 use crate::field::{BadLine, field_in, kept, next_field};
 use crate::numbers::{time, word};
 use crate::step::Step;
-use misp_ids::InstId;
 
-/// The step that a line says, among instances of these names: a time, a word, and a verb with its
-/// fields, with single spaces between.
+/// The step that a line says, among the instances of a directory: a time, a word, and a verb with
+/// its fields, with single spaces between.
 #[tactic(auto, unfolding(crate::specs::Step::step_of))]
-pub fn read_line<'a>(line: &'a [u8], names: &[InstId]) -> Result<Step<'a>, BadLine>
-    ensures step { Shows step_data result (step_of names.now line.now) }
-    ensures placed { IfOk result (λ step. IsPlaced (length names.now) (deed_data step.deed)) }
+pub fn read_line<'a>(line: &'a [u8], directory: &Directory) -> Result<Step<'a>, BadLine>
+    ensures step { Shows step_data result (step_of directory.now line.now) }
+    ensures placed { IfOk result (λ step. IsPlaced (length directory.now) (deed_data step.deed)) }
 {
     let time_field = field_in(line, line);
     let time = kept(time_field.place, time(time_field.text))?;
@@ -23,6 +23,6 @@ pub fn read_line<'a>(line: &'a [u8], names: &[InstId]) -> Result<Step<'a>, BadLi
     let word = kept(word_field.place, word(word_field.text))?;
     let verb_field = next_field(line, &word_field)?;
     let verb = kept(verb_field.place, read_verb(verb_field.text))?;
-    let deed = deed(line, names, verb, &verb_field)?;
+    let deed = deed(line, directory, verb, &verb_field)?;
     Ok(Step { time, word, deed })
 }

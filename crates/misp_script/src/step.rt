@@ -1,6 +1,6 @@
 //! The steps of a script.
 
-use misp_ids::Stamp;
+use misp_ids::{OrgId, Stamp};
 
 /// What a line of a script says.
 #[derive(Clone, Copy, Debug, PartialEq, Eq)]
@@ -17,6 +17,7 @@ pub struct Step<'a> {
 pub enum Deed<'a> {
     Nothing,
     Request(RequestLine<'a>),
+    Group(GroupLine<'a>),
 }
 
 /// A request to an instance.
@@ -28,5 +29,18 @@ pub struct RequestLine<'a> {
     pub key: Option<&'a str>,
     pub method: &'a str,
     pub target: &'a str,
+    pub body: &'a [u8],
+}
+
+/// The administration of a sharing group at an instance.
+#[derive(Clone, Copy, Debug, PartialEq, Eq)]
+pub struct GroupLine<'a> {
+    /// The place of the instance in the description, from 0.
+    pub at: usize,
+    /// By whom it is administered: an organisation that is known there.
+    pub org: OrgId,
+    /// Whether the group is added; else it is edited.
+    pub add: bool,
+    /// The text of the group. It may be no JSON.
     pub body: &'a [u8],
 }

@@ -1,5 +1,4 @@
 use super::*;
-use misp_ids::InstId;
 use std::alloc::Global;
 use std::fmt::Write;
 use std::test::Fail;
@@ -15,6 +14,14 @@ const KEY: &str =
 
 const LINK: &str = "[[link]]\nname = 'l'\nat = 'one'\nto = 'two'\n\
      key = 'kkkkkkkkkkkkkkkkkkkkkkkkkkkkkkkkkkkkkkkk'\nholder = 'A'\npush_org = 'A'\n";
+
+const TABLES: [(&str, &str); 5] = [
+    ("{org}", ORG),
+    ("{host}", HOST),
+    ("{two}", TWO),
+    ("{key}", KEY),
+    ("{link}", LINK),
+];
 
 /// What a description is read as: what it brings, or its fault.
 fn shown(alloc: Global, text: &str) -> Result<String, Fail> {
@@ -40,14 +47,13 @@ fn shown(alloc: Global, text: &str) -> Result<String, Fail> {
     Ok(out)
 }
 
-/// The same of a text in which names stand for tables.
-fn filled_shown(alloc: Global, text: &str) -> Result<String, Fail> {
-    let text = text.replace(alloc, "{org}", ORG)?;
-    let text = text.as_str().replace(alloc, "{host}", HOST)?;
-    let text = text.as_str().replace(alloc, "{two}", TWO)?;
-    let text = text.as_str().replace(alloc, "{key}", KEY)?;
-    let text = text.as_str().replace(alloc, "{link}", LINK)?;
-    shown(alloc, text.as_str())
+/// A text in which each of these names is replaced by what it stands for.
+fn filled(alloc: Global, names: &[(&str, &str)], text: &str) -> Result<String, Fail> {
+    let mut filled = String::from_str(alloc, text)?;
+    for (name, stands_for) in names {
+        filled = filled.as_str().replace(alloc, name, stands_for)?;
+    }
+    Ok(filled)
 }
 
 /// Descriptions that are read, and each instance with the numbers of its organisations, keys
@@ -64,16 +70,6 @@ const READ: [(&str, &str); 3] = [
     ),
 ];
 
-#[test]
-fn descriptions_are_read(rt: HostRuntime) -> Result<(), Fail> {
-    let alloc = rt.alloc();
-    for (text, told) in &READ {
-        let is = filled_shown(alloc, text)?;
-        assert!(rt; is.as_str() == *told, "{text} is {is}");
-    }
-    Ok(())
-}
-
 /// Descriptions that are not four lists of tables within their limits, and their faults.
 const BAD_LISTS: [(&str, &str); 5] = [
     ("x = [", "- toml"),
@@ -85,16 +81,6 @@ const BAD_LISTS: [(&str, &str); 5] = [
         "instance limit",
     ),
 ];
-
-#[test]
-fn other_than_four_lists_within_their_limits_is_refused(rt: HostRuntime) -> Result<(), Fail> {
-    let alloc = rt.alloc();
-    for (text, told) in &BAD_LISTS {
-        let is = filled_shown(alloc, text)?;
-        assert!(rt; is.as_str() == *told, "{text} is {is}");
-    }
-    Ok(())
-}
 
 /// Descriptions of which an organisation has a fault.
 const BAD_ORGS: [(&str, &str); 8] = [
@@ -114,32 +100,12 @@ const BAD_ORGS: [(&str, &str); 8] = [
     ("{org}zz = 1\nb = 2\n", "org[0].b member"),
 ];
 
-#[test]
-fn the_first_fault_of_an_organisation_is_told(rt: HostRuntime) -> Result<(), Fail> {
-    let alloc = rt.alloc();
-    for (text, told) in &BAD_ORGS {
-        let is = filled_shown(alloc, text)?;
-        assert!(rt; is.as_str() == *told, "{text} is {is}");
-    }
-    Ok(())
-}
-
 /// Descriptions of which an instance has a fault.
 const BAD_INSTANCES: [(&str, &str); 3] = [
     ("[[instance]]\nname = 'One'\n", "instance[0].name name"),
     ("{host}{host}", "instance[1].name distinct"),
     ("{host}address = 1\n", "instance[0].address text"),
 ];
-
-#[test]
-fn the_first_fault_of_an_instance_is_told(rt: HostRuntime) -> Result<(), Fail> {
-    let alloc = rt.alloc();
-    for (text, told) in &BAD_INSTANCES {
-        let is = filled_shown(alloc, text)?;
-        assert!(rt; is.as_str() == *told, "{text} is {is}");
-    }
-    Ok(())
-}
 
 /// Descriptions of which a key has a fault.
 const BAD_KEYS: [(&str, &str); 10] = [
@@ -166,16 +132,6 @@ const BAD_KEYS: [(&str, &str); 10] = [
     ),
     ("{org}{host}{key}role = 'user'\nx = 1\n", "key[0].x member"),
 ];
-
-#[test]
-fn the_first_fault_of_a_key_is_told(rt: HostRuntime) -> Result<(), Fail> {
-    let alloc = rt.alloc();
-    for (text, told) in &BAD_KEYS {
-        let is = filled_shown(alloc, text)?;
-        assert!(rt; is.as_str() == *told, "{text} is {is}");
-    }
-    Ok(())
-}
 
 /// Descriptions of which a link has a fault.
 const BAD_LINKS: [(&str, &str); 12] = [
@@ -209,11 +165,22 @@ const BAD_LINKS: [(&str, &str); 12] = [
 ];
 
 #[test]
-fn the_first_fault_of_a_link_is_told(rt: HostRuntime) -> Result<(), Fail> {
+fn descriptions_are_read_or_their_first_fault_is_told(rt: HostRuntime) -> Result<(), Fail> {
     let alloc = rt.alloc();
-    for (text, told) in &BAD_LINKS {
-        let is = filled_shown(alloc, text)?;
-        assert!(rt; is.as_str() == *told, "{text} is {is}");
+    let tables = [
+        READ.as_slice(),
+        BAD_LISTS.as_slice(),
+        BAD_ORGS.as_slice(),
+        BAD_INSTANCES.as_slice(),
+        BAD_KEYS.as_slice(),
+        BAD_LINKS.as_slice(),
+    ];
+    for table in &tables {
+        for (text, told) in *table {
+            let description = filled(alloc, TABLES.as_slice(), text)?;
+            let is = shown(alloc, description.as_str())?;
+            assert!(rt; is.as_str() == *told, "{text} is {is}");
+        }
     }
     Ok(())
 }
@@ -228,14 +195,25 @@ fn request_shown(alloc: Global, request: &RequestLine<'_>) -> Result<String, Fai
     Ok(format!(in alloc; "{at} {key} {method} {target} [{body}]")?)
 }
 
+/// The administration of a group, as a test shows it.
+fn group_shown(alloc: Global, group: &GroupLine<'_>) -> Result<String, Fail> {
+    let at = group.at;
+    let deed = if group.add { "adds" } else { "edits" };
+    let org = group.org.0.to_text(alloc)?;
+    let org = org.as_str();
+    let body = std::str::from_utf8(group.body)?;
+    Ok(format!(in alloc; "{at} {org} {deed} [{body}]")?)
+}
+
 /// What a line is read as: its step, or the place of its fault.
-fn step_shown(alloc: Global, line: &str, names: &[InstId]) -> Result<String, Fail> {
-    match read_line(line.as_bytes(), names) {
+fn step_shown(alloc: Global, line: &str, directory: &Directory) -> Result<String, Fail> {
+    match read_line(line.as_bytes(), directory) {
         Ok(step) => {
             let time = step.time.get();
             let deed = match &step.deed {
                 Deed::Nothing => String::from_str(alloc, "none")?,
                 Deed::Request(request) => request_shown(alloc, request)?,
+                Deed::Group(group) => group_shown(alloc, group)?,
             };
             Ok(format!(in alloc; "{time} {deed}")?)
         }
@@ -245,6 +223,14 @@ fn step_shown(alloc: Global, line: &str, names: &[InstId]) -> Result<String, Fai
         }
     }
 }
+
+const WORDS: [(&str, &str); 5] = [
+    ("{word}", "0123456789abcdef0123456789abcdef"),
+    ("{WORD}", "0123456789ABCDEF0123456789abcdef"),
+    ("{a}", "aaaaaaaa-0000-4000-8000-000000000001"),
+    ("{A}", "AAAAAAAA-0000-4000-8000-000000000001"),
+    ("{b}", "aaaaaaaa-0000-4000-8000-000000000002"),
+];
 
 #[test]
 fn lines_are_steps_or_bad_at_a_place(rt: HostRuntime) -> Result<(), Fail> {
@@ -272,15 +258,24 @@ fn lines_are_steps_or_bad_at_a_place(rt: HostRuntime) -> Result<(), Fail> {
         ("1 {word} req one - GET /\u{e9}", "bad 49"),
         ("1 {word} req one - GET /", "1 0 none GET / []"),
         ("1 {word} req one k POST /a  b c", "1 0 k POST /a [ b c]"),
+        ("1 {word} group-add", "bad 44"),
+        ("1 {word} group-add two {a} {}", "bad 45"),
+        ("1 {word} group-add one", "bad 48"),
+        ("1 {word} group-add one a {}", "bad 49"),
+        ("1 {word} group-add one {b} {}", "bad 49"),
+        ("1 {word} group-add one {a}", "bad 85"),
+        ("1 {word} group-add one {A} ", "1 0 {a} adds []"),
+        ("1 {word} group-edit one {a} {} b", "1 0 {a} edits [{} b]"),
+        ("1 {word} group-del one {a} {}", "bad 35"),
     ];
-    let names = [InstId::read("one").ok_or("one")?];
+    let network = filled(alloc, TABLES.as_slice(), "{org}{host}")?;
+    let described = read_description(alloc, network.as_str().as_bytes())?;
+    let directory = described.directory(alloc)?;
     for (line, told) in &rows {
-        let line = line.replace(alloc, "{word}", "0123456789abcdef0123456789abcdef")?;
-        let line = line
-            .as_str()
-            .replace(alloc, "{WORD}", "0123456789ABCDEF0123456789abcdef")?;
-        let is = step_shown(alloc, line.as_str(), &names)?;
-        assert!(rt; is.as_str() == *told, "{line} is {is}");
+        let line = filled(alloc, WORDS.as_slice(), line)?;
+        let told = filled(alloc, WORDS.as_slice(), told)?;
+        let is = step_shown(alloc, line.as_str(), &directory)?;
+        assert!(rt; is.as_str() == told.as_str(), "{line} is {is}");
     }
     Ok(())
 }

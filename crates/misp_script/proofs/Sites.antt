@@ -1,0 +1,160 @@
+-- The places of names, and organisations that ascend.
+use Rattle.std.proofs.Common.{◌≡◌, ℕ, suc, ◌+◌, ◌<◌, ltb, Bool, true, false, cond, List, [], ◌∷◌, ◌++◌, length, get_or, map, find, position, Option, Some, None, option_map, is_some, Result, Ok, Err, IfSome, refl, sym, ap, ◌∙◌, inl, inr, arith, Vec}
+use Rattle.std.specs.declared.cmp.Ordering.{Ordering}
+use Rattle.std.specs.declared.cmp.Ordering.TheVariants.{Less}
+use Rattle.std.specs.Ordering.{is_eq, nat_cmp}
+use Rattle.std.specs.Cmp.Lexicographic.{slice_cmp}
+use Rattle.std.specs.Global.{Global}
+use Rattle.std.specs.Cmp.{eq_by_cmp_equiv}
+use Rattle.std.proofs.lemmas.Cmp.{nat_list_cmp_total}
+use Rattle.std.specs.Str.{bytes_eq}
+use Rattle.std.specs.Result.{MatchResult, is_ok}
+use Rattle.std.specs.List.{AllByRecursion, list_any, position_or_len}
+use Rattle.std.specs.List.Sorted.{IsStrictlySortedBy}
+use Rattle.std.specs.BTreeMap.{BTreeMap, UpdatesBy}
+use Rattle.std.specs.Map.{IsKeyTest, AreApart, KeepsOthers, lookup}
+use Rattle.std.proofs.lemmas.Bool.{cases_Bool}
+use Rattle.std.proofs.lemmas.Bool.Decides.{nat_tests}
+use Rattle.std.proofs.lemmas.List.{map-append}
+use Rattle.std.proofs.lemmas.List.Quantifiers.{position-Some}
+use Rattle.std.proofs.lemmas.Map.Text.{is_eq-slice_cmp}
+use Rattle.misp_script.specs.Directory.{Site, place_of, site_names, place_in, HasPlaces}
+use Rattle.misp_script.proofs.Lookups.{bytes_eq-true}
+use Rattle.misp_script.proofs.Parts.{bytes_eq-refl}
+
+-- ---- organisations
+
+all_map : {A B : Type 0} (f : A → B) (P : B → Type 0) (xs : List A) → AllByRecursion (λ x. P (f x)) xs → AllByRecursion P (map f xs)
+all_map f P [] all = tt
+all_map f P (x ∷ xs) all = (all.0, all_map f P xs all.1)
+
+-- what ascends by a number has numbers that ascend
+pub ascend_map : {A B : Type 0} (f : A → B) (order : B → B → Ordering) (xs : List A) → IsStrictlySortedBy (λ a b. order (f a) (f b)) xs → IsStrictlySortedBy order (map f xs)
+unfolding IsStrictlySortedBy
+ascend_map f order [] up = tt
+ascend_map f order (x ∷ xs) up = (all_map f (λ y. order (f x) y ≡ Less) xs up.0, ascend_map f order xs up.1)
+
+any_from_find : {A : Type 0} (p : A → Bool) (xs : List A) → is_some (find p xs) ≡ list_any p xs
+any_from_find p [] = refl
+any_from_find p (x ∷ xs) = elim (cases_Bool (p x)) [
+  | inl hit ↦ rw hit refl
+  | inr miss ↦ rw miss (any_from_find p xs)
+]
+
+-- a search that ends at an item finds one
+pub any_from_search : {A : Type 0} (p : A → Bool) (xs : List A) (d : A) (r : Result ℕ ℕ) → MatchResult r (λ i. (e : A) → find p xs ≡ Some (get_or xs i e)) (λ i. find p xs ≡ None) → is_ok r ≡ list_any p xs
+any_from_search p xs d (Ok i) found = sym (ap is_some (found d)) ∙ any_from_find p xs
+any_from_search p xs d (Err i) none = sym (ap is_some none) ∙ any_from_find p xs
+
+-- ---- places
+
+here_place : (n : ℕ) → cond {A = Option ℕ} (ltb 0 (suc n)) (Some 0) None ≡ Some 0
+here_place n = let up : ltb 0 (suc n) ≡ true = grind (arith, nat_tests) in rw up refl
+
+later_place : (k n : ℕ) → cond {A = Option ℕ} (ltb (1 + k) (suc n)) (Some (1 + k)) None ≡ option_map suc (cond (ltb k n) (Some k) None)
+later_place k n = elim (cases_Bool (ltb k n)) [
+  | inl hit ↦
+      let up : ltb (1 + k) (suc n) ≡ true = grind (arith, nat_tests) in
+      let one : 1 + k ≡ suc k = omega arith in
+      rw (up, hit) (ap Some one)
+  | inr miss ↦ let up : ltb (1 + k) (suc n) ≡ false = grind (arith, nat_tests) in rw (up, miss) refl
+]
+
+first_place : {A : Type 0} (p : A → Bool) (x : A) (xs : List A) → position p (x ∷ xs) ≡ cond (p x) (Some 0) (option_map suc (position p xs))
+first_place p x xs = elim (cases_Bool (p x)) [
+  | inl hit ↦ rw hit (here_place (length xs))
+  | inr miss ↦ rw miss (later_place (position_or_len p xs) (length xs))
+]
+
+-- the place with one more at the end: what was found stays
+abbrev after : Option ℕ → Bool → ℕ → Option ℕ
+after (Some i) hit n = Some i
+after None hit n = cond hit (Some n) None
+
+shifted : (here : Bool) (o : Option ℕ) (hit : Bool) (n : ℕ) → cond here (Some 0) (option_map suc (after o hit n)) ≡ after (cond here (Some 0) (option_map suc o)) hit (suc n)
+shifted true o hit n = refl
+shifted false (Some i) hit n = refl
+shifted false None true n = refl
+shifted false None false n = refl
+
+place_last : {A : Type 0} (p : A → Bool) (xs : List A) (x : A) → position p (xs ++ x ∷ []) ≡ after (position p xs) (p x) (length xs)
+place_last p [] x = elim (cases_Bool (p x)) [
+  | inl hit ↦ rw hit refl
+  | inr miss ↦ rw miss refl
+]
+place_last p (y ∷ ys) x =
+    first_place p y (ys ++ x ∷ [])
+    ∙ ap (λ o. cond (p y) (Some 0) (option_map suc o)) (place_last p ys x)
+    ∙ shifted (p y) (position p ys) (p x) (length ys)
+    ∙ ap (λ o. after o (p x) (suc (length ys))) (sym (first_place p y ys))
+
+after_known : (o : Option ℕ) (hit : Bool) (n : ℕ) → (hit ≡ true → is_some o ≡ true) → o ≡ after o hit n
+after_known (Some i) hit n known = refl
+after_known None true n known = absurd (let e : false ≡ true = known refl in cc)
+after_known None false n known = refl
+
+after_new : (o : Option ℕ) (hit : Bool) (n : ℕ) → (hit ≡ true → is_some o ≡ false) → cond hit (Some n) o ≡ after o hit n
+after_new (Some i) true n fresh = absurd (let e : true ≡ false = fresh refl in cc)
+after_new (Some i) false n fresh = refl
+after_new None hit n fresh = refl
+
+length_names : (sites : List Site) → length (site_names sites) ≡ length sites
+length_names [] = refl
+length_names (site ∷ sites) = ap suc (length_names sites)
+
+-- the place of a name, with one more instance at the end
+place_more : (sites : List Site) (next : Site) (text : List ℕ) → place_of (site_names (sites ++ next ∷ [])) text ≡ after (place_of (site_names sites) text) (bytes_eq next.name text) (length sites)
+place_more sites next text =
+    ap (λ names. place_of names text) (map-append (λ (site : Site). site.name) sites (next ∷ []))
+    ∙ place_last (λ name. bytes_eq name text) (site_names sites) next.name
+    ∙ ap (after (place_of (site_names sites) text) (bytes_eq next.name text)) (length_names sites)
+
+module _ (sites : List Site) (next : Site) (places : BTreeMap (Vec ℕ Global) ℕ) (has : HasPlaces sites places) where
+  known_as : (text : List ℕ) (b : Bool) → is_some (place_in places next.name) ≡ b → bytes_eq next.name text ≡ true → is_some (place_of (site_names sites) text) ≡ b
+  known_as text b is hit =
+      ap is_some (sym (has text)) ∙ ap (λ t. is_some (place_in places t)) (sym (bytes_eq-true next.name text hit)) ∙ is
+
+  -- a name that is known keeps its place
+  pub places_old : is_some (place_in places next.name) ≡ true → HasPlaces (sites ++ next ∷ []) places
+  places_old is text =
+      has text ∙ after_known (place_of (site_names sites) text) (bytes_eq next.name text) (length sites) (known_as text true is) ∙ sym (place_more sites next text)
+
+  -- a new one has the place at the end
+  pub places_new : (got : BTreeMap (Vec ℕ Global) ℕ) → is_some (place_in places next.name) ≡ false
+      → ((text : List ℕ) → place_in got text ≡ cond (bytes_eq next.name text) (Some (length sites)) (place_in places text)) → HasPlaces (sites ++ next ∷ []) got
+  places_new got is puts text =
+      puts text ∙ ap (cond (bytes_eq next.name text) (Some (length sites))) (has text)
+      ∙ after_new (place_of (site_names sites) text) (bytes_eq next.name text) (length sites) (known_as text false is) ∙ sym (place_more sites next text)
+
+-- ---- the map
+
+module _ {K X : Type 0} (eq : K → K → Bool) (test : K → Bool) where
+  other_entries : (old new : List (K × X)) → KeepsOthers eq test old new → (other : K → Bool) → IsKeyTest eq other → AreApart test other → lookup other new ≡ lookup other old
+  unfolding KeepsOthers
+  other_entries old new h = h
+
+apart_in_order : (name text key : List ℕ) → bytes_eq name text ≡ false → is_eq (slice_cmp nat_cmp name key) ≡ true → is_eq (slice_cmp nat_cmp text key) ≡ false
+apart_in_order name text key other same = elim (cases_Bool (bytes_eq text key)) [
+  | inr miss ↦ is_eq-slice_cmp text key ∙ miss
+  | inl hit ↦
+      let to_key : name ≡ key = bytes_eq-true name key (sym (is_eq-slice_cmp name key) ∙ same) in
+      let both : name ≡ text = to_key ∙ sym (bytes_eq-true text key hit) in
+      absurd (let e : true ≡ false = sym (bytes_eq-refl text) ∙ (rw both at other) in cc)
+]
+
+-- what a map has for a text after a place was put at a name
+pub place_put : (name : List ℕ) (places got : BTreeMap (Vec ℕ Global) ℕ) (at : ℕ)
+    → UpdatesBy (λ x y. slice_cmp nat_cmp x.items y.items) (λ key. slice_cmp nat_cmp name key.items) places got (Some at)
+    → (text : List ℕ) → place_in got text ≡ cond (bytes_eq name text) (Some at) (place_in places text)
+place_put name places got at h text = elim (cases_Bool (bytes_eq name text)) [
+  | inl hit ↦ rw hit (ap (place_in got) (sym (bytes_eq-true name text hit)) ∙ h.1)
+  | inr miss ↦ rw miss (other_entries _ _ _ _ h.3 _ (λ x y. (eq_by_cmp_equiv nat_list_cmp_total).congr text x.items y.items) (λ key. apart_in_order name text key.items miss))
+]
+
+-- ---- what is found
+
+-- the place of a name is one of the instances
+pub placed_within : (sites : List Site) (text : List ℕ) (o : Option ℕ) → o ≡ place_of (site_names sites) text → IfSome o (λ at. at < length sites)
+placed_within sites text None is = tt
+placed_within sites text (Some at) is =
+    omega (arith, length_names sites, (position-Some (λ name. bytes_eq name text) (site_names sites) at [] (sym is)).0)

@@ -1,0 +1,62 @@
+-- The instances that a line may name, and the organisations known at each.
+use Rattle.std.specs.Prelude.{◌≡◌, ℕ, ◌==◌, Bool, false, List, map, position, bytes_eq, slice_get, Option, Vec}
+use Rattle.std.specs.declared.cmp.Ordering.{Ordering}
+use Rattle.std.specs.Global.{Global}
+use Rattle.std.specs.Ordering.{nat_cmp}
+use Rattle.std.specs.Cmp.Lexicographic.{slice_cmp}
+use Rattle.std.specs.List.{list_any}
+use Rattle.std.specs.List.Sorted.{IsStrictlySortedBy}
+use Rattle.std.specs.Option.{option_map_or}
+use Rattle.std.specs.BTreeMap.{BTreeMap, get_by}
+use Rattle.misp_ids.specs.declared.uid.OrgId.{OrgId}
+use Rattle.misp_script.specs.declared.description.Description.{Description}
+use Rattle.misp_script.specs.declared.description.Entry.{Entry}
+
+-- an instance, and the identifiers of the organisations known there, in ascending order
+pub record Site : Type 0 where
+  pub name : List ℕ
+  pub orgs : List OrgId
+
+-- ---- of a description
+
+abbrev pub site_of : Entry → Site
+site_of entry = record { name = entry.name; orgs = map (λ org. org.uuid) entry.admin.orgs }
+
+-- in the order of the instances
+abbrev pub directory_of : Description → List Site
+directory_of d = map site_of d.instances
+
+-- ---- looking up
+
+abbrev pub site_names : List Site → List (List ℕ)
+site_names sites = map (λ site. site.name) sites
+
+-- the place of the instance of this name
+abbrev pub place_of : List (List ℕ) → List ℕ → Option ℕ
+place_of names text = position (λ name. bytes_eq name text) names
+
+-- the organisation is one of these
+abbrev pub is_among : List OrgId → OrgId → Bool
+is_among orgs org = list_any (λ known. known.0.0 == org.0.0) orgs
+
+-- the organisation is known at the instance of this place
+abbrev pub knows : List Site → ℕ → OrgId → Bool
+knows sites at org = option_map_or (λ site. is_among site.orgs org) (slice_get sites at) false
+
+-- ---- how it is kept
+
+-- by the number that the identifier is
+abbrev pub by_number : OrgId → OrgId → Ordering
+by_number a b = nat_cmp a.0.0 b.0.0
+
+-- each organisation stands once, in ascending order
+abbrev pub IsSite : Site → Type 0
+IsSite site = IsStrictlySortedBy by_number site.orgs
+
+-- the place that the map has for a text
+abbrev pub place_in : BTreeMap (Vec ℕ Global) ℕ → List ℕ → Option ℕ
+place_in places text = get_by (λ name. slice_cmp nat_cmp text name.items) places
+
+-- the map has the places of the instances by name
+abbrev pub HasPlaces : List Site → BTreeMap (Vec ℕ Global) ℕ → Type 0
+HasPlaces sites places = (text : List ℕ) → place_in places text ≡ place_of (site_names sites) text
