@@ -12,6 +12,7 @@ use Rattle.misp_elem.specs.declared.key.KeyForm.TheVariants.{Element, Reference}
 use Rattle.misp_elem.specs.declared.key.Place.{Place}
 use Rattle.misp_elem.specs.declared.row.RowFields.{RowFields as Row}
 use Rattle.misp_elem.specs.Draft.{DraftFields as Draft, EventDraftFields as EventDraft, ReferenceDraftFields as ReferenceDraft, SubmissionFields as Submission}
+use Rattle.misp_groups.specs.declared.group.GroupFields.{GroupFields as Group}
 use Rattle.misp_model.specs.Names.{Inst, Stamp, event_key}
 use Rattle.misp_model.specs.History.{fresh_row, is_gone, is_statement, is_published}
 use Rattle.misp_model.specs.Asking.{Scene, written, part_version, target_of, reference_key, reference_version, parts_written, new_event, event_written}
@@ -27,10 +28,10 @@ map_after : {A B : Type 0} (f : A → B) (xs ys : List A) → map f (xs ++ ys) �
 map_after f [] ys = refl
 map_after f (x ∷ xs) ys = ap (λ zs. f x ∷ zs) (map_after f xs ys)
 
-module _ (act : ℕ) (at : Inst) (w : OrgId) (name : List ℕ) (now : Stamp) (today : List ℕ) (rows : List Row) where
+module _ (act : ℕ) (at : Inst) (w : OrgId) (name : List ℕ) (now : Stamp) (today : List ℕ) (groups : List Group) (rows : List Row) where
   -- a written version's row
   new_row_is : (e : EventId) (p : Place) (l : Label) (c : Content) →
-      new_row w e now p l c ≡ fresh_row (written (scene_of act at w name now today rows) (Element e p) now l c)
+      new_row w e now p l c ≡ fresh_row (written (scene_of act at w name now today groups rows) (Element e p) now l c)
   unfolding new_row fresh_row written is_statement is_gone is_published
   new_row_is e p l contents.Gone = refl
   new_row_is e p l (contents.Event b) = refl
@@ -41,29 +42,29 @@ module _ (act : ℕ) (at : Inst) (w : OrgId) (name : List ℕ) (now : Stamp) (to
   new_row_is e p l (contents.Verdict b) = refl
   new_row_is e p l (contents.Sighting b) = refl
 
-  part_row_is : (e : EventId) (d : Draft) → part_row w e now d ≡ fresh_row (part_version (scene_of act at w name now today rows) e d)
+  part_row_is : (e : EventId) (d : Draft) → part_row w e now d ≡ fresh_row (part_version (scene_of act at w name now today groups rows) e d)
   unfolding part_row part_version
   part_row_is e d = new_row_is e d.place d.label d.content
 
   event_row_is : (e : EventId) (l : Label) (d : EventDraft) →
-      event_row w name today e now l d ≡ fresh_row (written (scene_of act at w name now today rows) (event_key e) now l (contents.Event (new_event (scene_of act at w name now today rows) d)))
+      event_row w name today e now l d ≡ fresh_row (written (scene_of act at w name now today groups rows) (event_key e) now l (contents.Event (new_event (scene_of act at w name now today groups rows) d)))
   unfolding event_row event_key body_of new_event
   event_row_is e l d = new_row_is e _ l _
 
   reference_row_is : (e : EventId) (r : ReferenceDraft) (t : Place) →
-      reference_row w e now r t ≡ fresh_row (written (scene_of act at w name now today rows) (Reference e r.object t r.uuid) now labels.Inherit (contents.Reference r.body))
+      reference_row w e now r t ≡ fresh_row (written (scene_of act at w name now today groups rows) (Reference e r.object t r.uuid) now labels.Inherit (contents.Reference r.body))
   unfolding reference_row fresh_row written is_statement is_gone is_published
   reference_row_is e r t = refl
 
-  module _ (b : Submission) (target : ElemId → Option Place) (is : (u : ElemId) → target u ≡ target_of (scene_of act at w name now today rows) b.event b.parts u) where
+  module _ (b : Submission) (target : ElemId → Option Place) (is : (u : ElemId) → target u ≡ target_of (scene_of act at w name now today groups rows) b.event b.parts u) where
     references_are : (rs : List ReferenceDraft) →
-        filter_map (row_with_target target w b.event now) rs ≡ map fresh_row (filter_map (reference_version (scene_of act at w name now today rows) b.event b.parts) rs)
+        filter_map (row_with_target target w b.event now) rs ≡ map fresh_row (filter_map (reference_version (scene_of act at w name now today groups rows) b.event b.parts) rs)
     unfolding row_with_target reference_version reference_key
     references_are [] = refl
-    references_are (r ∷ rs) = rw (is r.referenced) (one (target_of (scene_of act at w name now today rows) b.event b.parts r.referenced) (references_are rs))
+    references_are (r ∷ rs) = rw (is r.referenced) (one (target_of (scene_of act at w name now today groups rows) b.event b.parts r.referenced) (references_are rs))
       where
         s : Scene
-        s = scene_of act at w name now today rows
+        s = scene_of act at w name now today groups rows
 
         one : (t : Option Place) → filter_map (row_with_target target w b.event now) rs ≡ map fresh_row (filter_map (reference_version s b.event b.parts) rs) →
             cons_option (option_map (reference_row w b.event now r) t) (filter_map (row_with_target target w b.event now) rs)
@@ -72,10 +73,10 @@ module _ (act : ℕ) (at : Inst) (w : OrgId) (name : List ℕ) (now : Stamp) (to
         one (Some p) ih = λ i. reference_row_is b.event r p i ∷ ih i
 
     -- all rows of a body, by what the references name
-    pub added_rows_are : added_rows target w name today now b ≡ map fresh_row (event_written (scene_of act at w name now today rows) b)
+    pub added_rows_are : added_rows target w name today now b ≡ map fresh_row (event_written (scene_of act at w name now today groups rows) b)
     unfolding added_rows event_written parts_written
     added_rows_are =
-        let s : Scene = scene_of act at w name now today rows in
+        let s : Scene = scene_of act at w name now today groups rows in
         append_assoc (map (event_row w name today b.event now b.label) (option_to_list b.body)) (map (part_row w b.event now) b.parts) (filter_map (row_with_target target w b.event now) b.references)
         ∙ rw (
           map_after fresh_row (map (λ d. written s (event_key b.event) now b.label (contents.Event (new_event s d))) (option_to_list b.body)) (map (part_version s b.event) b.parts ++ filter_map (reference_version s b.event b.parts) b.references),

@@ -9,12 +9,11 @@ use Rattle.misp_ids.specs.declared.label.Label.TheVariants as labels
 use Rattle.misp_elem.specs.declared.key.Place.{Place}
 use Rattle.misp_elem.specs.Draft.{SubmissionFields as Submission}
 use Rattle.misp_model.specs.Order.{in_order}
-use Rattle.misp_model.specs.Audience.{group_passes, known_group}
 use Rattle.misp_model.specs.View.{has_copy, has_gone}
 use Rattle.misp_model.specs.Asking.{Scene, Rule, first_rule, change_rules, holds_copy, holds_mark, target_of, is_taken, are_distinct, is_usable, clashes, has_unusable, EventExists, EventGone, ElementExists, GroupNotUsable}
 use Rattle.misp_edit.specs.declared.fault.AddFault.TheVariants as fault
 use Rattle.misp_edit.specs.Adding.{refusing, numbered_uuids, is_read_before, read_uuids, is_clash, first_clash, labels_of, first_unusable, Refuses}
-use Rattle.misp_edit.specs.Rows.{is_group}
+use Rattle.misp_edit.specs.Labels.{is_unusable}
 use Rattle.misp_edit.specs.Uuids.{has_uuid, is_used, numbered_in, clash_in}
 use Rattle.misp_edit.specs.Targets.{target_places, target_in, AreTargets}
 use Rattle.misp_edit.proofs.ListLemmas.{find_same, find_any, any_map}
@@ -54,21 +53,23 @@ rule_is : (s : Scene) (b : Submission) →
 unfolding change_rules
 rule_is s b = rw (clash_known s b, unusable_known s b) refl
 
--- where there are no groups, a scene's rows and its caller say all
-module _ (s : Scene) (alone : s.groups ≡ []) (b : Submission) where
-  -- just the labels that are no group's are usable
-  usable : (l : Label) → not (is_usable s l) ≡ is_group l
-  unfolding is_usable group_passes known_group
-  usable (labels.Group g) = rw alone refl
+-- a scene's rows, its groups and its caller say all
+module _ (s : Scene) (b : Submission) where
+  abbrev bars : Label → Bool
+  bars = is_unusable s.groups s.at s.by
+
+  usable : (l : Label) → not (is_usable s l) ≡ bars l
+  unfolding is_usable is_unusable
+  usable (labels.Group g) = refl
   usable labels.Own = refl
   usable labels.Community = refl
   usable labels.Connected = refl
   usable labels.All = refl
   usable labels.Inherit = refl
 
-  unusable_by : (found : Option Label) → find is_group (b.label ∷ map (λ d. d.label) b.parts) ≡ found → first_unusable s b ≡ found
+  unusable_by : (found : Option Label) → find bars (b.label ∷ map (λ d. d.label) b.parts) ≡ found → first_unusable s b ≡ found
   unfolding first_unusable labels_of
-  unusable_by found h = find_same (λ l. not (is_usable s l)) is_group (b.label ∷ map (λ d. d.label) b.parts) usable ∙ h
+  unusable_by found h = find_same (λ l. not (is_usable s l)) bars (b.label ∷ map (λ d. d.label) b.parts) usable ∙ h
 
   -- the caller has the event
   pub exists : has_copy s.rows s.by b.event ≡ true → Refuses s b fault.EventExists
@@ -104,13 +105,13 @@ module _ (s : Scene) (alone : s.groups ≡ []) (b : Submission) where
       clash u e = (rule_is s b ∙ rw (h, k, clash_by _ e) refl, clash_by _ e)
 
       module _ (e : found_clash ≡ None) where
-        -- a label is a group's
-        pub group : (g : GroupId) → find is_group (b.label ∷ map (λ d. d.label) b.parts) ≡ Some (labels.Group g) →
+        -- a label is that of a group that is not usable
+        pub group : (g : GroupId) → find bars (b.label ∷ map (λ d. d.label) b.parts) ≡ Some (labels.Group g) →
             Refuses s b (fault.GroupNotUsable g)
         unfolding first_rule holds_copy holds_mark
         group g f = (rule_is s b ∙ rw (h, k, clash_by _ e, unusable_by _ f) refl, unusable_by _ f)
 
         -- nothing refuses
-        pub free : find is_group (b.label ∷ map (λ d. d.label) b.parts) ≡ None → refusing s b ≡ None
+        pub free : find bars (b.label ∷ map (λ d. d.label) b.parts) ≡ None → refusing s b ≡ None
         unfolding first_rule holds_copy holds_mark
         free f = rule_is s b ∙ rw (h, k, clash_by _ e, unusable_by _ f) refl

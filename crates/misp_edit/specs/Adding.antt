@@ -7,6 +7,7 @@ use Rattle.misp_ids.specs.declared.label.Label.{Label}
 use Rattle.misp_ids.specs.declared.label.Label.TheVariants as labels
 use Rattle.misp_elem.specs.declared.row.RowFields.{RowFields as Row}
 use Rattle.misp_elem.specs.Draft.{SubmissionFields as Submission}
+use Rattle.misp_groups.specs.declared.group.GroupFields.{GroupFields as Group}
 use Rattle.misp_requests.specs.declared.change.Change.TheVariants.{AddEvent}
 use Rattle.misp_model.specs.Names.{Inst, Stamp}
 use Rattle.misp_model.specs.Order.{in_order}
@@ -16,9 +17,10 @@ use Rattle.misp_model.specs.Asking as rule
 use Rattle.misp_edit.specs.declared.fault.AddFault.{AddFault}
 use Rattle.misp_edit.specs.declared.fault.AddFault.TheVariants.{EventExists, EventGone, ElementExists, GroupNotUsable, NoMemory}
 
--- the surroundings of a request at an instance that has no groups
-abbrev pub scene_of : ℕ → Inst → OrgId → List ℕ → Stamp → List ℕ → List Row → Scene
-scene_of act at by by_name now today rows =
+-- the surroundings of a request
+abbrev pub scene_of :
+    ℕ → Inst → OrgId → List ℕ → Stamp → List ℕ → List Group → List Row → Scene
+scene_of act at by by_name now today groups rows =
     record {
       act = act;
       at = at;
@@ -27,7 +29,7 @@ scene_of act at by by_name now today rows =
       now = now;
       today = today;
       rows = rows;
-      groups = [];
+      groups = groups;
     }
 
 -- the rule that refuses to add the event, if there is one

@@ -73,11 +73,6 @@ unfoldable pub row_with_target :
     (ElemId → Option Place) → OrgId → EventId → ℕ → ReferenceDraft → Option Row
 row_with_target target w e now r = option_map (reference_row w e now r) (target r.referenced)
 
--- the label is a group's
-abbrev pub is_group : Label → Bool
-is_group (labels.Group g) = true
-is_group label = false
-
 -- the row of the event, where the body has it, those of the parts, and those of the references
 -- that have a target
 unfoldable pub added_rows :

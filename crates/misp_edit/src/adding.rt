@@ -10,17 +10,19 @@ use crate::refusing::admitted;
 use crate::rows::added_rows;
 use misp_elem::{Row, Submission};
 use misp_ids::{InstId, OrgId, Stamp, Text};
+use misp_levels::Groups;
 use std::alloc::Global;
 
 /// The rows that adding an event writes: the event's own, those of its parts in their order, and
 /// those of its references that name a part of the same body or a live element of the caller's
-/// copy. An event without a date has that of the moment. The rows given are those that the caller
-/// knows of the event. No group is known at `here`, so a label that names one is not usable.
+/// copy. An event without a date has that of the moment. The groups are those of the instance
+/// `here`, and the rows those that the caller knows of the event.
 pub fn add_event(
     alloc: Global,
     submission: Submission,
     org: &OrgId,
     name: &Text,
+    groups: &Groups,
     here: &InstId,
     now: Stamp,
     rows: &[Row],
@@ -28,13 +30,14 @@ pub fn add_event(
     requires name { IsText 0 64 name.now }
     requires body { is_some submission.body ≡ true }
     ensures err { (act : ℕ) → IfErr result
-        (Refuses (scene_of act here.now org.now name.now now (date_of now) rows.now) submission) }
+        (Refuses (scene_of act here.now org.now name.now now (date_of now) groups.now rows.now)
+        submission) }
     ensures ok { (act : ℕ) → IfOk result (λ added.
-        Adds (scene_of act here.now org.now name.now now (date_of now) rows.now) submission
-        added.items) }
+        Adds (scene_of act here.now org.now name.now now (date_of now) groups.now rows.now)
+        submission added.items) }
     ensures are_rows { IfOk result (λ added. AreRows added.items) }
 {
-    match admitted(alloc, &submission, *org, rows) {
+    match admitted(alloc, &submission, *org, groups, here, rows) {
         Err(fault) => Err(fault),
         Ok(targets) => Ok(added_rows(alloc, submission, &targets, *org, name, now)?),
     }

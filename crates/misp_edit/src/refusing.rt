@@ -1,17 +1,18 @@
 //! The rules that refuse to add an event.
 
 ghost use Rattle.std.specs.Prelude.{◌≡◌, ℕ, List, IfOk, IfErr, OnOk, None};
-ghost use Rattle.misp_model.specs.Names.{Inst, Stamp};
+ghost use Rattle.misp_model.specs.Names.{Stamp};
 ghost use Rattle.misp_edit.specs.Adding.{scene_of, refusing, Refuses};
 ghost use Rattle.misp_edit.specs.Targets.{target_places, AreTargets};
 
 use crate::clash::first_clash;
 use crate::copies::{has_copy, has_mark};
 use crate::fault::AddFault;
-use crate::labels::first_group;
+use crate::labels::first_unusable;
 use crate::targets::{Targets, targets};
 use misp_elem::{Row, Submission};
-use misp_ids::{OrgId, Uid};
+use misp_ids::{InstId, OrgId, Uid};
+use misp_levels::Groups;
 use std::alloc::Global;
 
 // The first rule that refuses, or, where none does, what the references name.
@@ -19,13 +20,16 @@ pub(crate) fn admitted(
     alloc: Global,
     submission: &Submission,
     owner: OrgId,
+    groups: &Groups,
+    here: &InstId,
     rows: &[Row],
 ) -> Result<Targets, AddFault>
-    ensures err { (act : ℕ) (at : Inst) (name : List ℕ) (now : Stamp) (today : List ℕ) →
-        IfErr result (Refuses (scene_of act at owner name now today rows.now) submission.now) }
-    ensures ok { (act : ℕ) (at : Inst) (name : List ℕ) (now : Stamp) (today : List ℕ) →
-        OnOk result
-        (refusing (scene_of act at owner name now today rows.now) submission.now ≡ None) }
+    ensures err { (act : ℕ) (name : List ℕ) (now : Stamp) (today : List ℕ) → IfErr result
+        (Refuses (scene_of act here.now owner name now today groups.now rows.now)
+        submission.now) }
+    ensures ok { (act : ℕ) (name : List ℕ) (now : Stamp) (today : List ℕ) → OnOk result
+        (refusing (scene_of act here.now owner name now today groups.now rows.now)
+        submission.now ≡ None) }
     ensures targets { IfOk result (λ targets.
         AreTargets targets
         (target_places rows.now owner submission.now.event submission.now.parts)) }
@@ -42,7 +46,7 @@ pub(crate) fn admitted(
     if let Some(uuid) = first_clash(alloc, submission, &targets, rows, owner)? {
         return Err(AddFault::ElementExists(Uid(uuid)));
     }
-    match first_group(submission.label, parts) {
+    match first_unusable(submission.label, parts, groups, here, &owner) {
         Some(group) => Err(AddFault::GroupNotUsable(group)),
         None => Ok(targets),
     }

@@ -9,6 +9,7 @@ use misp_elem::{
     Row, Submission,
 };
 use misp_ids::{ElemId, EventId, GroupId, InstId, Items, Label, OrgId, Stamp, Text, Uid};
+use misp_levels::Groups;
 use std::alloc::{AllocError, Global};
 use std::test::*;
 
@@ -149,7 +150,8 @@ fn added(
     let now = Stamp::new(1_700_000_000).ok_or("the moment is one")?;
     let submission = submission(alloc, brought)?;
     let name = name(alloc)?;
-    Ok(add_event(alloc, submission, &org, &name, &here, now, rows))
+    let groups = Groups::new(alloc);
+    Ok(add_event(alloc, submission, &org, &name, &groups, &here, now, rows))
 }
 
 /// An event with two objects, the first of which refers to the second.

@@ -14,6 +14,7 @@ use Rattle.misp_elem.specs.declared.key.KeyForm.TheVariants.{Element, Reference,
 use Rattle.misp_elem.specs.declared.row.RowFields.{RowFields as Row}
 use Rattle.misp_elem.specs.declared.visible.VisibleAttribute.{VisibleAttribute}
 use Rattle.misp_elem.specs.declared.visible.VisibleEvent.{VisibleEvent}
+use Rattle.misp_groups.specs.declared.group.GroupFields.{GroupFields as Group}
 use Rattle.misp_model.specs.Names.{Inst, same_event, same_elem, same_key, event_key}
 use Rattle.misp_model.specs.Order.{in_order}
 use Rattle.misp_model.specs.History.{is_statement}
@@ -59,17 +60,17 @@ map_where f g q h (x ∷ xs) e = let both : (q x ≡ true) × (list_all q xs ≡
 
 -- ---- statements
 
-module _ (i : Inst) (o : OrgId) (e : EventId) (w : OrgId) (rows : List Row) (v : Sight) (s : IsSight v i o e w rows) where
-  given_is : (row : Row) → of_these rows row ≡ true → granted_in v.grants v.here v.org row ≡ granted rows [] i o row
-  given_is row h = ap {A = Inst × OrgId} (λ m. granted_in v.grants m.0 m.1 row) (λ k. (s.here k, s.org k)) ∙ granted_is i o rows v.grants s.grants row h
+module _ (groups : List Group) (i : Inst) (o : OrgId) (e : EventId) (w : OrgId) (rows : List Row) (v : Sight) (s : IsSight v groups i o e w rows) where
+  given_is : (row : Row) → of_these rows row ≡ true → granted_in v.grants v.who.now.groups.now v.who.now.here v.who.now.org row ≡ granted rows groups i o row
+  given_is row h = ap {A = List Group × Inst × OrgId} (λ m. granted_in v.grants m.0 m.1 m.2 row) (λ k. (s.known k, s.here k, s.org k)) ∙ granted_is groups i o rows v.grants s.grants row h
 
   told : List Row
   told = filter (is_told v) rows
 
   lesser_row : (row : Row) → is_statement row.key ≡ true → (r : Row) → of_these rows r ≡ true →
-      (is_lesser row r && is_told v r) ≡ (same_key r.key row.key && ltb r.owner.0.0 row.owner.0.0 && granted rows [] i o r)
+      (is_lesser row r && is_told v r) ≡ (same_key r.key row.key && ltb r.owner.0.0 row.owner.0.0 && granted rows groups i o r)
   unfolding is_told
-  lesser_row row k r h = rw (given_is r h) (one (ltb r.owner.0.0 row.owner.0.0) (same_key r.key row.key) refl (granted rows [] i o r))
+  lesser_row row k r h = rw (given_is r h) (one (ltb r.owner.0.0 row.owner.0.0) (same_key r.key row.key) refl (granted rows groups i o r))
     where
       one : (a b : Bool) → same_key r.key row.key ≡ b → (t : Bool) → ((a && b) && (is_statement r.key && t)) ≡ (b && a && t)
       one a true g t = rw (lesser_told row r g k) (two a t)
@@ -80,50 +81,50 @@ module _ (i : Inst) (o : OrgId) (e : EventId) (w : OrgId) (rows : List Row) (v :
       one true false g t = refl
       one false false g t = refl
 
-  least_is : (row : Row) → of_these rows row ≡ true → is_statement row.key ≡ true → (granted_in v.grants v.here v.org row && is_least_of told row) ≡ is_least rows [] i o row
+  least_is : (row : Row) → of_these rows row ≡ true → is_statement row.key ≡ true → (granted_in v.grants v.who.now.groups.now v.who.now.here v.who.now.org row && is_least_of told row) ≡ is_least rows groups i o row
   unfolding is_least is_least_of told
   least_is row h k = λ j. given_is row h j && not ((any_of_kept (is_lesser row) (is_told v) rows ∙ any_where _ _ (of_these rows) (lesser_row row k) rows (all_of_these rows)) j)
 
-  closed_is : (orgc : OrgId) (k : Key) → is_closed_by told orgc k ≡ is_closed (scene_of i o rows) orgc k
+  closed_is : (orgc : OrgId) (k : Key) → is_closed_by told orgc k ≡ is_closed (scene_of groups i o rows) orgc k
   unfolding is_closed_by is_closed told is_told
   closed_is orgc k =
       any_of_kept (λ (row : Row). is_verdict_on k orgc row.key) (is_told v) rows
-      ∙ any_where _ _ (of_these rows) (λ (r : Row) h. verdict_told k r.key orgc (granted_in v.grants v.here v.org r) ∙ ap (λ b. is_verdict_on k orgc r.key && b) (given_is r h)) rows (all_of_these rows)
+      ∙ any_where _ _ (of_these rows) (λ (r : Row) h. verdict_told k r.key orgc (granted_in v.grants v.who.now.groups.now v.who.now.here v.who.now.org r) ∙ ap (λ b. is_verdict_on k orgc r.key && b) (given_is r h)) rows (all_of_these rows)
 
   proposal_row : (orgc : OrgId) (test : Key → Bool) (row : Row) → of_these rows row ≡ true →
-      ((is_told v row && is_open_proposal told orgc row) && test row.key) ≡ ((is_proposal row.key && test row.key) && is_least rows [] i o row && not (is_closed (scene_of i o rows) orgc row.key))
+      ((is_told v row && is_open_proposal told orgc row) && test row.key) ≡ ((is_proposal row.key && test row.key) && is_least rows groups i o row && not (is_closed (scene_of groups i o rows) orgc row.key))
   unfolding is_told is_open_proposal
   proposal_row orgc test row h = one (is_proposal row.key) refl
     where
       one : (b : Bool) → is_proposal row.key ≡ b →
-          (((is_statement row.key && granted_in v.grants v.here v.org row) && (b && is_least_of told row && not (is_closed_by told orgc row.key))) && test row.key)
-          ≡ ((b && test row.key) && is_least rows [] i o row && not (is_closed (scene_of i o rows) orgc row.key))
+          (((is_statement row.key && granted_in v.grants v.who.now.groups.now v.who.now.here v.who.now.org row) && (b && is_least_of told row && not (is_closed_by told orgc row.key))) && test row.key)
+          ≡ ((b && test row.key) && is_least rows groups i o row && not (is_closed (scene_of groups i o rows) orgc row.key))
       one true k =
           rw (proposal_told row.key k, ← least_is row h (proposal_told row.key k), closed_is orgc row.key)
-          (two (granted_in v.grants v.here v.org row) (is_least_of told row) (not (is_closed (scene_of i o rows) orgc row.key)) (test row.key))
+          (two (granted_in v.grants v.who.now.groups.now v.who.now.here v.who.now.org row) (is_least_of told row) (not (is_closed (scene_of groups i o rows) orgc row.key)) (test row.key))
         where
           two : (a b c d : Bool) → (((true && a) && (true && b && c)) && d) ≡ ((true && d) && (a && b) && c)
           two a b c d = grind arith
-      one false k = three (is_statement row.key && granted_in v.grants v.here v.org row) (test row.key)
+      one false k = three (is_statement row.key && granted_in v.grants v.who.now.groups.now v.who.now.here v.who.now.org row) (test row.key)
         where
           three : (a d : Bool) → ((a && false) && d) ≡ false
           three true d = refl
           three false d = refl
 
   sighting_row : (test : Key → Bool) (row : Row) → of_these rows row ≡ true →
-      ((is_told v row && is_least_sighting told row) && test row.key) ≡ ((is_sighting row.key && test row.key) && is_least rows [] i o row)
+      ((is_told v row && is_least_sighting told row) && test row.key) ≡ ((is_sighting row.key && test row.key) && is_least rows groups i o row)
   unfolding is_told is_least_sighting
   sighting_row test row h = one (is_sighting row.key) refl
     where
       one : (b : Bool) → is_sighting row.key ≡ b →
-          (((is_statement row.key && granted_in v.grants v.here v.org row) && (b && is_least_of told row)) && test row.key) ≡ ((b && test row.key) && is_least rows [] i o row)
+          (((is_statement row.key && granted_in v.grants v.who.now.groups.now v.who.now.here v.who.now.org row) && (b && is_least_of told row)) && test row.key) ≡ ((b && test row.key) && is_least rows groups i o row)
       one true k =
           rw (sighting_told row.key k, ← least_is row h (sighting_told row.key k))
-          (two (granted_in v.grants v.here v.org row) (is_least_of told row) (test row.key))
+          (two (granted_in v.grants v.who.now.groups.now v.who.now.here v.who.now.org row) (is_least_of told row) (test row.key))
         where
           two : (a b d : Bool) → (((true && a) && (true && b)) && d) ≡ ((true && d) && (a && b))
           two a b d = grind arith
-      one false k = three (is_statement row.key && granted_in v.grants v.here v.org row) (test row.key)
+      one false k = three (is_statement row.key && granted_in v.grants v.who.now.groups.now v.who.now.here v.who.now.org row) (test row.key)
         where
           three : (a d : Bool) → ((a && false) && d) ≡ false
           three true d = refl
@@ -132,7 +133,7 @@ module _ (i : Inst) (o : OrgId) (e : EventId) (w : OrgId) (rows : List Row) (v :
   -- what is cut out of all that show
   proposals_cut : (orgc : OrgId) (test : Key → Bool) →
       filter (λ (r : Row). test r.key) (in_order goes_before (filter (is_open_proposal told orgc) told))
-      ≡ sorted (filter (λ (row : Row). (is_proposal row.key && test row.key) && is_least rows [] i o row && not (is_closed (scene_of i o rows) orgc row.key)) rows)
+      ≡ sorted (filter (λ (row : Row). (is_proposal row.key && test row.key) && is_least rows groups i o row && not (is_closed (scene_of groups i o rows) orgc row.key)) rows)
   unfolding is_open_proposal told
   proposals_cut orgc test =
       ap (filter (λ (r : Row). test r.key)) (sorted_class 1 refl _ (all_of_kept (of_class 1) (is_open_proposal told orgc) (λ row h. proposal_class row.key (and_parts _ _ (and_parts _ _ h).0).0) told))
@@ -143,7 +144,7 @@ module _ (i : Inst) (o : OrgId) (e : EventId) (w : OrgId) (rows : List Row) (v :
 
   sightings_cut : (test : Key → Bool) →
       filter (λ (r : Row). test r.key) (in_order goes_before (filter (is_least_sighting told) told))
-      ≡ sorted (filter (λ (row : Row). (is_sighting row.key && test row.key) && is_least rows [] i o row) rows)
+      ≡ sorted (filter (λ (row : Row). (is_sighting row.key && test row.key) && is_least rows groups i o row) rows)
   unfolding is_least_sighting told
   sightings_cut test =
       ap (filter (λ (r : Row). test r.key)) (sorted_class 3 refl _ (all_of_kept (of_class 3) (is_least_sighting told) (λ row h. sighting_class row.key (and_parts _ _ h).0) told))
@@ -159,29 +160,29 @@ module _ (i : Inst) (o : OrgId) (e : EventId) (w : OrgId) (rows : List Row) (v :
     S : List Row
     S = in_order goes_before (filter (is_least_sighting told) told)
 
-    proposals_are : (k : Key) → filter (λ (r : Row). is_about k r.key) P ≡ proposals_on (scene_of i o rows) orgc k
+    proposals_are : (k : Key) → filter (λ (r : Row). is_about k r.key) P ≡ proposals_on (scene_of groups i o rows) orgc k
     unfolding proposals_on P
     proposals_are k =
         proposals_cut orgc (is_about k)
-        ∙ ap (λ (f : Row → Bool). sorted (filter (λ (row : Row). f row && is_least rows [] i o row && not (is_closed (scene_of i o rows) orgc row.key)) rows)) (λ j row. sym (on_is k row.key) j)
+        ∙ ap (λ (f : Row → Bool). sorted (filter (λ (row : Row). f row && is_least rows groups i o row && not (is_closed (scene_of groups i o rows) orgc row.key)) rows)) (λ j row. sym (on_is k row.key) j)
 
-    event_proposals_are : (k : Key) → filter (λ (r : Row). is_proposal_on k r.key) P ≡ proposals_on (scene_of i o rows) orgc k
+    event_proposals_are : (k : Key) → filter (λ (r : Row). is_proposal_on k r.key) P ≡ proposals_on (scene_of groups i o rows) orgc k
     unfolding proposals_on P
     event_proposals_are k =
         proposals_cut orgc (is_proposal_on k)
-        ∙ ap (λ (f : Row → Bool). sorted (filter (λ (row : Row). f row && is_least rows [] i o row && not (is_closed (scene_of i o rows) orgc row.key)) rows)) (λ j row. sym (only_on k row.key) j)
+        ∙ ap (λ (f : Row → Bool). sorted (filter (λ (row : Row). f row && is_least rows groups i o row && not (is_closed (scene_of groups i o rows) orgc row.key)) rows)) (λ j row. sym (only_on k row.key) j)
 
-    sightings_are : (k : Key) → filter (λ (r : Row). is_about k r.key) S ≡ sightings_on (scene_of i o rows) k
+    sightings_are : (k : Key) → filter (λ (r : Row). is_about k r.key) S ≡ sightings_on (scene_of groups i o rows) k
     unfolding sightings_on S
     sightings_are k =
         sightings_cut (is_about k)
-        ∙ ap (λ (f : Row → Bool). sorted (filter (λ (row : Row). f row && is_least rows [] i o row) rows)) (λ j row. sym (of_is k row.key) j)
+        ∙ ap (λ (f : Row → Bool). sorted (filter (λ (row : Row). f row && is_least rows groups i o row) rows)) (λ j row. sym (of_is k row.key) j)
 
-    attribute_is : (row : Row) → attribute_in P S row ≡ shown_attribute (scene_of i o rows) orgc row
+    attribute_is : (row : Row) → attribute_in P S row ≡ shown_attribute (scene_of groups i o rows) orgc row
     unfolding attribute_in shown_attribute
     attribute_is row = λ j. record { row = row; proposals = proposals_are row.key j; sightings = sightings_are row.key j }
 
-    all_attributes : (list : List Row) → map (attribute_in P S) list ≡ map (shown_attribute (scene_of i o rows) orgc) list
+    all_attributes : (list : List Row) → map (attribute_in P S) list ≡ map (shown_attribute (scene_of groups i o rows) orgc) list
     all_attributes list = ap {A = Row → VisibleAttribute} (λ f. map f list) (λ j row. attribute_is row j)
 
     -- ---- objects
@@ -208,7 +209,7 @@ module _ (i : Inst) (o : OrgId) (e : EventId) (w : OrgId) (rows : List Row) (v :
       inner_row (Verdict f n j z) k h = absurd (false≢true h)
       inner_row (Sighting f t j z u) k h = absurd (false≢true h)
 
-      reference_row : (r k : Key) → is_object e r ≡ true → (is_reference i o e w rows v s seen are_seen k && eqb (around r) (around k)) ≡ is_reference_of (scene_of i o rows) w e (object_of r) k
+      reference_row : (r k : Key) → is_object e r ≡ true → (is_reference groups i o e w rows v s seen are_seen k && eqb (around r) (around k)) ≡ is_reference_of (scene_of groups i o rows) w e (object_of r) k
       unfolding is_object around is_reference_of object_of uuid_at same_elem
       reference_row (Element f (Object y)) (Reference g x t u) h = rw (turned y.0.0 x.0.0) (one (same_event g e) (list_any _ rows) (eqb x.0.0 y.0.0))
         where
@@ -227,42 +228,42 @@ module _ (i : Inst) (o : OrgId) (e : EventId) (w : OrgId) (rows : List Row) (v :
       reference_row (Sighting f t j z u) k h = absurd (false≢true h)
 
       -- those of a list that stand in the object
-      beside_is : (r : Row) (a b : Key → Bool) → ((k : Key) → (a k && eqb (around r.key) (around k)) ≡ b k) → beside r (shown_at (scene_of i o rows) w a) ≡ shown_at (scene_of i o rows) w b
+      beside_is : (r : Row) (a b : Key → Bool) → ((k : Key) → (a k && eqb (around r.key) (around k)) ≡ b k) → beside r (shown_at (scene_of groups i o rows) w a) ≡ shown_at (scene_of groups i o rows) w b
       unfolding shown_at
       beside_is r a b h =
-          sorted_cut (λ (x : Row). eqb (around r.key) (around x.key)) (filter (λ (row : Row). is_shown (scene_of i o rows) w row && a row.key) rows)
-          ∙ ap sorted (filter_twice (λ (row : Row). is_shown (scene_of i o rows) w row && a row.key) (λ (x : Row). eqb (around r.key) (around x.key)) rows)
-          ∙ ap (λ (f : Row → Bool). sorted (filter f rows)) (λ j row. (one (is_shown (scene_of i o rows) w row) (a row.key) (eqb (around r.key) (around row.key)) ∙ ap (λ t. is_shown (scene_of i o rows) w row && t) (h row.key)) j)
+          sorted_cut (λ (x : Row). eqb (around r.key) (around x.key)) (filter (λ (row : Row). is_shown (scene_of groups i o rows) w row && a row.key) rows)
+          ∙ ap sorted (filter_twice (λ (row : Row). is_shown (scene_of groups i o rows) w row && a row.key) (λ (x : Row). eqb (around r.key) (around x.key)) rows)
+          ∙ ap (λ (f : Row → Bool). sorted (filter f rows)) (λ j row. (one (is_shown (scene_of groups i o rows) w row) (a row.key) (eqb (around r.key) (around row.key)) ∙ ap (λ t. is_shown (scene_of groups i o rows) w row && t) (h row.key)) j)
         where
           one : (x y z : Bool) → ((x && y) && z) ≡ (x && (y && z))
           one true y z = refl
           one false y z = refl
 
       object_is : (r : Row) → is_object e r.key ≡ true →
-          object_in (in_list kinds.Inner v seen rows) (in_list kinds.Reference v seen rows) P S r ≡ shown_object (scene_of i o rows) orgc w e r
+          object_in (in_list kinds.Inner v seen rows) (in_list kinds.Reference v seen rows) P S r ≡ shown_object (scene_of groups i o rows) orgc w e r
       unfolding object_in shown_object
       object_is r h = λ j. record {
         row = r;
         attributes = (all_attributes (beside r (in_list kinds.Inner v seen rows))
-            ∙ ap (λ l. map (shown_attribute (scene_of i o rows) orgc) (beside r l)) (list_is i o e w rows v s seen are_seen kinds.Inner)
-            ∙ ap (map (shown_attribute (scene_of i o rows) orgc)) (beside_is r (is_inner e) (is_attribute_of e (object_of r.key)) (λ k. inner_row r.key k h))) j;
-        references = (ap (beside r) (list_is i o e w rows v s seen are_seen kinds.Reference)
-            ∙ beside_is r (is_reference i o e w rows v s seen are_seen) (is_reference_of (scene_of i o rows) w e (object_of r.key)) (λ k. reference_row r.key k h)) j;
+            ∙ ap (λ l. map (shown_attribute (scene_of groups i o rows) orgc) (beside r l)) (list_is groups i o e w rows v s seen are_seen kinds.Inner)
+            ∙ ap (map (shown_attribute (scene_of groups i o rows) orgc)) (beside_is r (is_inner e) (is_attribute_of e (object_of r.key)) (λ k. inner_row r.key k h))) j;
+        references = (ap (beside r) (list_is groups i o e w rows v s seen are_seen kinds.Reference)
+            ∙ beside_is r (is_reference groups i o e w rows v s seen are_seen) (is_reference_of (scene_of groups i o rows) w e (object_of r.key)) (λ k. reference_row r.key k h)) j;
       }
 
       all_of_sorted : (q : Row → Bool) (xs : List Row) → list_all q xs ≡ true → list_all q (sorted xs) ≡ true
       all_of_sorted q xs h = all_sorted q xs h
 
       objects_are : map (object_in (in_list kinds.Inner v seen rows) (in_list kinds.Reference v seen rows) P S) (in_list kinds.Object v seen rows)
-          ≡ map (shown_object (scene_of i o rows) orgc w e) (shown_at (scene_of i o rows) w (is_object e))
+          ≡ map (shown_object (scene_of groups i o rows) orgc w e) (shown_at (scene_of groups i o rows) w (is_object e))
       unfolding shown_at
       objects_are =
-          ap (map (object_in (in_list kinds.Inner v seen rows) (in_list kinds.Reference v seen rows) P S)) (list_is i o e w rows v s seen are_seen kinds.Object)
-          ∙ map_where _ _ (λ (r : Row). is_object e r.key) object_is (sorted (filter (λ (row : Row). is_shown (scene_of i o rows) w row && is_object e row.key) rows))
+          ap (map (object_in (in_list kinds.Inner v seen rows) (in_list kinds.Reference v seen rows) P S)) (list_is groups i o e w rows v s seen are_seen kinds.Object)
+          ∙ map_where _ _ (λ (r : Row). is_object e r.key) object_is (sorted (filter (λ (row : Row). is_shown (scene_of groups i o rows) w row && is_object e row.key) rows))
           (all_of_sorted _ _ (all_of_kept (λ (r : Row). is_object e r.key) _ (λ row h. (and_parts _ _ h).1) rows))
 
-      attributes_are : map (attribute_in P S) (in_list kinds.Attribute v seen rows) ≡ map (shown_attribute (scene_of i o rows) orgc) (shown_at (scene_of i o rows) w (is_plain_attribute e))
-      attributes_are = all_attributes _ ∙ ap (map (shown_attribute (scene_of i o rows) orgc)) (list_is i o e w rows v s seen are_seen kinds.Attribute)
+      attributes_are : map (attribute_in P S) (in_list kinds.Attribute v seen rows) ≡ map (shown_attribute (scene_of groups i o rows) orgc) (shown_at (scene_of groups i o rows) w (is_plain_attribute e))
+      attributes_are = all_attributes _ ∙ ap (map (shown_attribute (scene_of groups i o rows) orgc)) (list_is groups i o e w rows v s seen are_seen kinds.Attribute)
 
 -- what shows of an event, by its row
 pub shown_some : (s : Scene) (e : EventId) (owner : Option OrgId) (row : Row) (form : VisibleEvent) → event_row s e owner ≡ Some row → form ≡ form_of s e row → Some form ≡ shown s e owner
@@ -274,20 +275,20 @@ unfolding shown
 shown_none s e owner h = sym (ap (option_map (form_of s e)) h)
 
 -- the form of one copy
-pub form_is : (i : Inst) (o : OrgId) (e : EventId) (row copy : Row) (rows : List Row) (v : Sight) (s : IsSight v i o e row.owner rows) (n : Inside) (proposals sightings on_event all : List Row)
+pub form_is : (groups : List Group) (i : Inst) (o : OrgId) (e : EventId) (row copy : Row) (rows : List Row) (v : Sight) (s : IsSight v groups i o e row.owner rows) (n : Inside) (proposals sightings on_event all : List Row)
     (orgc : OrgId) (name : List ℕ) (names : List (GroupId × List ℕ)) → copy ≡ row → orgc ≡ creator row → all ≡ filter (is_told v) rows →
     proposals ≡ in_order goes_before (filter (is_open_proposal all orgc) all) → sightings ≡ in_order goes_before (filter (is_least_sighting all) all) →
     IsInside n v proposals sightings rows → on_event ≡ filter (λ (r : Row). is_proposal_on (event_key e) r.key) proposals → name ≡ [] → names ≡ [] →
-    ◌≡◌ {A = VisibleEvent} (record { row = copy; org_name = name; attributes = n.attributes; objects = n.objects; proposals = on_event; group_names = names }) (form_of (scene_of i o rows) e row)
+    ◌≡◌ {A = VisibleEvent} (record { row = copy; org_name = name; attributes = n.attributes; objects = n.objects; proposals = on_event; group_names = names }) (form_of (scene_of groups i o rows) e row)
 unfolding form_of told P S
-form_is i o e row copy rows v s n proposals sightings on_event all orgc name names a b c d f g h k l =
-    let p : proposals ≡ P i o e row.owner rows v s (creator row) = d ∙ (λ j. in_order goes_before (filter (is_open_proposal (c j) (b j)) (c j))) in
-    let q : sightings ≡ S i o e row.owner rows v s (creator row) = f ∙ (λ j. in_order goes_before (filter (is_least_sighting (c j)) (c j))) in
+form_is groups i o e row copy rows v s n proposals sightings on_event all orgc name names a b c d f g h k l =
+    let p : proposals ≡ P groups i o e row.owner rows v s (creator row) = d ∙ (λ j. in_order goes_before (filter (is_open_proposal (c j) (b j)) (c j))) in
+    let q : sightings ≡ S groups i o e row.owner rows v s (creator row) = f ∙ (λ j. in_order goes_before (filter (is_least_sighting (c j)) (c j))) in
     λ j. record {
       row = a j;
       org_name = k j;
-      attributes = (g.attributes ∙ (λ m. map (attribute_in (p m) (q m)) (in_list kinds.Attribute v g.seen rows)) ∙ attributes_are i o e row.owner rows v s (creator row) g.seen g.are_seen) j;
-      objects = (g.objects ∙ (λ m. map (object_in (in_list kinds.Inner v g.seen rows) (in_list kinds.Reference v g.seen rows) (p m) (q m)) (in_list kinds.Object v g.seen rows)) ∙ objects_are i o e row.owner rows v s (creator row) g.seen g.are_seen) j;
-      proposals = (h ∙ ap (filter (λ (r : Row). is_proposal_on (event_key e) r.key)) p ∙ event_proposals_are i o e row.owner rows v s (creator row) (event_key e)) j;
+      attributes = (g.attributes ∙ (λ m. map (attribute_in (p m) (q m)) (in_list kinds.Attribute v g.seen rows)) ∙ attributes_are groups i o e row.owner rows v s (creator row) g.seen g.are_seen) j;
+      objects = (g.objects ∙ (λ m. map (object_in (in_list kinds.Inner v g.seen rows) (in_list kinds.Reference v g.seen rows) (p m) (q m)) (in_list kinds.Object v g.seen rows)) ∙ objects_are groups i o e row.owner rows v s (creator row) g.seen g.are_seen) j;
+      proposals = (h ∙ ap (filter (λ (r : Row). is_proposal_on (event_key e) r.key)) p ∙ event_proposals_are groups i o e row.owner rows v s (creator row) (event_key e)) j;
       group_names = l j;
     }

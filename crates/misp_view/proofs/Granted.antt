@@ -11,6 +11,7 @@ use Rattle.misp_elem.specs.declared.key.Place.TheVariants.{Event, Object, Attrib
 use Rattle.misp_elem.specs.declared.key.KeyForm.{KeyForm as Key}
 use Rattle.misp_elem.specs.declared.key.KeyForm.TheVariants.{Element, Reference, Proposal, Verdict, Sighting}
 use Rattle.misp_elem.specs.declared.row.RowFields.{RowFields as Row}
+use Rattle.misp_groups.specs.declared.group.GroupFields.{GroupFields as Group}
 use Rattle.misp_model.specs.Names.{Inst, same_org, same_key, event_of, parents, above, up_to}
 use Rattle.misp_model.specs.History.{is_statement}
 use Rattle.misp_model.specs.View.{is_row_of, row_is_open, has_open, element_granted, granted_somewhere, granted_by, granted, is_known, known}
@@ -82,12 +83,12 @@ parents_reached false (Proposal e n) h = absurd (false≢true h)
 parents_reached false (Verdict e n i o) h = absurd (false≢true h)
 parents_reached false (Sighting e t i o u) h = absurd (false≢true h)
 
-module _ (i : Inst) (o : OrgId) (rows : List Row) (linked : Bool) (opened : BTreeSet Numbers) (opens : IsOpenings opened i o linked rows) where
+module _ (groups : List Group) (i : Inst) (o : OrgId) (rows : List Row) (linked : Bool) (opened : BTreeSet Numbers) (opens : IsOpenings opened groups i o linked rows) where
   -- a row of an element that is reached
   open_row : (w : OrgId) (e : EventId) (p : Place) → (linked || is_upper (Element e p)) ≡ true → (row : Row) →
-      (is_row_of w (Element e p) row && (row_is_open [] i o row && (linked || is_upper row.key))) ≡ (is_row_of w (Element e p) row && row_is_open [] i o row)
+      (is_row_of w (Element e p) row && (row_is_open groups i o row && (linked || is_upper row.key))) ≡ (is_row_of w (Element e p) row && row_is_open groups i o row)
   unfolding is_row_of
-  open_row w e p h row = one (same_org row.owner w) (same_key row.key (Element e p)) refl (row_is_open [] i o row)
+  open_row w e p h row = one (same_org row.owner w) (same_key row.key (Element e p)) refl (row_is_open groups i o row)
     where
       one : (a b : Bool) → same_key row.key (Element e p) ≡ b → (t : Bool) → ((a && b) && (t && (linked || is_upper row.key))) ≡ ((a && b) && t)
       one a true k t = let is : (linked || is_upper row.key) ≡ true = ap (λ q. linked || is_upper q) (same_key-sound row.key (Element e p) k) ∙ h in rw is (two a t)
@@ -97,7 +98,7 @@ module _ (i : Inst) (o : OrgId) (rows : List Row) (linked : Bool) (opened : BTre
       one true false k t = refl
       one false false k t = refl
 
-  opened_is : (w : OrgId) (k : Key) → reached linked k ≡ true → key_is opened w true k ≡ has_open rows [] i o w k
+  opened_is : (w : OrgId) (k : Key) → reached linked k ≡ true → key_is opened w true k ≡ has_open rows groups i o w k
   unfolding has_open has_key reached
   opened_is w (Element e p) h = opens w e p ∙ any_by _ _ (open_row w e p h) rows
   opened_is w (Reference e x t u) h = absurd (false≢true h)
@@ -105,16 +106,16 @@ module _ (i : Inst) (o : OrgId) (rows : List Row) (linked : Bool) (opened : BTre
   opened_is w (Verdict e n j v) h = absurd (false≢true h)
   opened_is w (Sighting e t j v u) h = absurd (false≢true h)
 
-  pub all_opened : (w : OrgId) (k : Key) → (linked || not (is_link k)) ≡ true → list_all (key_is opened w true) (parents k) ≡ list_all (has_open rows [] i o w) (parents k)
-  all_opened w k h = all_same (key_is opened w true) (has_open rows [] i o w) (reached linked) (opened_is w) (parents k) (parents_reached linked k h)
+  pub all_opened : (w : OrgId) (k : Key) → (linked || not (is_link k)) ≡ true → list_all (key_is opened w true) (parents k) ≡ list_all (has_open rows groups i o w) (parents k)
+  all_opened w k h = all_same (key_is opened w true) (has_open rows groups i o w) (reached linked) (opened_is w) (parents k) (parents_reached linked k h)
 
   module _ (copied : BTreeSet (ℕ × ℕ)) (copies : IsCopies copied rows) where
-    pub element_is : (row : Row) → (linked || not (is_link row.key)) ≡ true → element_in copied opened i o row ≡ element_granted rows [] i o row
+    pub element_is : (row : Row) → (linked || not (is_link row.key)) ≡ true → element_in copied opened groups i o row ≡ element_granted rows groups i o row
     unfolding element_in element_granted
     element_is row h = rw (copies (event_of row.key) row.owner, all_opened row.owner row.key h) refl
 
     somewhere_row : (e : EventId) (p : Place) (row : Row) →
-        ((same_org o o && same_key row.key (Element e p)) && (true && element_in copied opened i o row)) ≡ (same_key row.key (Element e p) && element_granted rows [] i o row)
+        ((same_org o o && same_key row.key (Element e p)) && (true && element_in copied opened groups i o row)) ≡ (same_key row.key (Element e p) && element_granted rows groups i o row)
     unfolding is_link
     somewhere_row e p row = rw (same_org-refl o) (one (same_key row.key (Element e p)) refl)
       where
@@ -125,11 +126,11 @@ module _ (i : Inst) (o : OrgId) (rows : List Row) (linked : Bool) (opened : BTre
             two true = refl
             two false = refl
 
-        one : (b : Bool) → same_key row.key (Element e p) ≡ b → (b && element_in copied opened i o row) ≡ (b && element_granted rows [] i o row)
+        one : (b : Bool) → same_key row.key (Element e p) ≡ b → (b && element_in copied opened groups i o row) ≡ (b && element_granted rows groups i o row)
         one true k = element_is row (unlinked k)
         one false k = refl
 
-    pub somewhere_is : (spots : BTreeSet Numbers) → IsGranted spots copied opened i o true rows → (e : EventId) (p : Place) → has_spot spots o e p ≡ granted_somewhere rows [] i o (Element e p)
+    pub somewhere_is : (spots : BTreeSet Numbers) → IsGranted spots copied opened groups i o true rows → (e : EventId) (p : Place) → has_spot spots o e p ≡ granted_somewhere rows groups i o (Element e p)
     unfolding granted_somewhere
     somewhere_is spots h e p = h o e p ∙ any_by _ _ (somewhere_row e p) rows
 
@@ -148,15 +149,15 @@ both_all p q (x ∷ xs) a b = grind (arith, both_all p q xs)
 pub all_of_these : (rows : List Row) → list_all (of_these rows) rows ≡ true
 all_of_these rows = both_all _ _ rows (passing_is_any (λ row. is_link row.key) _ rows (λ h. h)) (passing_is_any (λ row. is_statement row.key) _ rows (λ h. h))
 
-module _ (i : Inst) (o : OrgId) (rows : List Row) (g : Grants) (h : IsGrants g i o rows) where
-  told_is : list_any (λ r. is_statement r.key) rows ≡ true → (e : EventId) (p : Place) → has_spot g.granted o e p ≡ granted_somewhere rows [] i o (Element e p)
-  told_is told = somewhere_is i o rows (list_any (λ row. is_link row.key) rows) g.opened h.opens g.copied h.copies g.granted (one _ told h.grants)
+module _ (groups : List Group) (i : Inst) (o : OrgId) (rows : List Row) (g : Grants) (h : IsGrants g groups i o rows) where
+  told_is : list_any (λ r. is_statement r.key) rows ≡ true → (e : EventId) (p : Place) → has_spot g.granted o e p ≡ granted_somewhere rows groups i o (Element e p)
+  told_is told = somewhere_is groups i o rows (list_any (λ row. is_link row.key) rows) g.opened h.opens g.copied h.copies g.granted (one _ told h.grants)
     where
-      one : (t : Bool) → t ≡ true → IsGranted g.granted g.copied g.opened i o t rows → IsGranted g.granted g.copied g.opened i o true rows
+      one : (t : Bool) → t ≡ true → IsGranted g.granted g.copied g.opened groups i o t rows → IsGranted g.granted g.copied g.opened groups i o true rows
       one true e k = k
       one false e k = absurd (false≢true e)
 
-  as_is : (w : OrgId) (a b : Bool) (k : Key) → a ≡ b → (list_any (λ r. is_statement r.key) rows || not (is_statement k)) ≡ true → granted_as g o w a k ≡ granted_by rows [] i o w b k
+  as_is : (w : OrgId) (a b : Bool) (k : Key) → a ≡ b → (list_any (λ r. is_statement r.key) rows || not (is_statement k)) ≡ true → granted_as g o w a k ≡ granted_by rows groups i o w b k
   unfolding granted_as granted_by is_statement
   as_is w a b (Element e p) s t = s
   as_is w a b (Reference e x u v) s t = s
@@ -164,12 +165,12 @@ module _ (i : Inst) (o : OrgId) (rows : List Row) (g : Grants) (h : IsGrants g i
   as_is w a b (Verdict e n j v) s t = ap (λ c. same_org o w || c) (told_is (or_nothing _ t) e n.target)
   as_is w a b (Sighting e u j v n) s t = (λ k. same_org o w || (h.copies e o k && told_is (or_nothing _ t) e u k))
 
-  pub granted_is : (row : Row) → of_these rows row ≡ true → granted_in g i o row ≡ granted rows [] i o row
+  pub granted_is : (row : Row) → of_these rows row ≡ true → granted_in g groups i o row ≡ granted rows groups i o row
   unfolding granted_in granted
   granted_is row k =
       let both : ((list_any (λ r. is_link r.key) rows || not (is_link row.key)) ≡ true) × ((list_any (λ r. is_statement r.key) rows || not (is_statement row.key)) ≡ true) = and_parts _ _ k in
-      as_is row.owner _ _ row.key (element_is i o rows (list_any (λ r. is_link r.key) rows) g.opened h.opens g.copied h.copies row both.0) both.1
+      as_is row.owner _ _ row.key (element_is groups i o rows (list_any (λ r. is_link r.key) rows) g.opened h.opens g.copied h.copies row both.0) both.1
 
-  pub known_is : filter (λ row. same_org row.owner o || granted_in g i o row) rows ≡ known rows [] i o
+  pub known_is : filter (λ row. same_org row.owner o || granted_in g groups i o row) rows ≡ known rows groups i o
   unfolding known is_known
   known_is = filter_where _ _ (of_these rows) (λ row k. ap (λ b. same_org row.owner o || b) (granted_is row k)) rows (all_of_these rows)

@@ -1,5 +1,5 @@
 -- What shows of an event hangs on the rows, the groups, the instance and the caller alone.
-use Rattle.std.proofs.Common.{◌≡◌, refl, ap, ◌∙◌, List, []}
+use Rattle.std.proofs.Common.{◌≡◌, refl, ap, ◌∙◌, []}
 use Rattle.std.specs.Prelude.{Option, Some, None, Bool, map, option_map}
 use Rattle.misp_ids.specs.declared.uid.OrgId.{OrgId}
 use Rattle.misp_ids.specs.declared.uid.EventId.{EventId}
@@ -9,13 +9,12 @@ use Rattle.misp_elem.specs.declared.key.KeyForm.TheVariants.{Element, Reference,
 use Rattle.misp_elem.specs.declared.row.RowFields.{RowFields as Row}
 use Rattle.misp_elem.specs.declared.visible.VisibleObject.{VisibleObject}
 use Rattle.misp_elem.specs.declared.visible.VisibleEvent.{VisibleEvent}
-use Rattle.misp_groups.specs.declared.group.Group.{Group}
 use Rattle.misp_model.specs.Names.{event_key}
 use Rattle.misp_model.specs.Asking.{Scene}
 use Rattle.misp_model.specs.Shown.{is_shown, shown_at, is_attribute_of, is_object, is_plain_attribute, object_of, creator, is_reference_of, is_closed, proposals_on, sightings_on, shown_attribute, shown_object, form_of, event_row, shown}
 use Rattle.misp_view.specs.View.{scene_of}
 
--- the scene with another number, moment and names, and no groups
+-- the scene with another number, moment and names
 abbrev bare_scene : Scene → Scene
 bare_scene s = record { act = 0; at = s.at; by = s.by; by_name = []; now = 0; today = []; rows = s.rows; groups = s.groups }
 
@@ -47,10 +46,9 @@ form_same s e row = ap {B = VisibleEvent} (λ (object : Row → VisibleObject). 
   group_names = [];
 }) (λ j r. object_same s (creator row) row.owner e r j)
 
--- so any scene of these rows serves, where there are no groups
-pub shown_in_scene : (s : Scene) (e : EventId) (owner : Option OrgId) → s.groups ≡ [] → shown s e owner ≡ shown (scene_of s.at s.by s.rows) e owner
+-- so any scene of these rows and groups serves
+pub shown_in_scene : (s : Scene) (e : EventId) (owner : Option OrgId) → shown s e owner ≡ shown (scene_of s.groups s.at s.by s.rows) e owner
 unfolding shown
-shown_in_scene s e owner h =
+shown_in_scene s e owner =
     ap (λ (form : Row → VisibleEvent). option_map form (event_row s e owner)) (λ j r. form_same s e r j)
     ∙ ap (option_map (form_of (bare_scene s) e)) (event_row_same s e owner)
-    ∙ ap (λ (groups : List Group). shown (record (bare_scene s) { groups = groups }) e owner) h

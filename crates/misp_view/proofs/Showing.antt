@@ -11,6 +11,7 @@ use Rattle.misp_elem.specs.declared.key.Place.{Place}
 use Rattle.misp_elem.specs.declared.key.KeyForm.{KeyForm as Key}
 use Rattle.misp_elem.specs.declared.key.KeyForm.TheVariants.{Element, Reference, Proposal, Verdict, Sighting}
 use Rattle.misp_elem.specs.declared.row.RowFields.{RowFields as Row}
+use Rattle.misp_groups.specs.declared.group.GroupFields.{GroupFields as Group}
 use Rattle.misp_model.specs.Names.{Inst, same_org, same_event, same_key, event_of, parents}
 use Rattle.misp_model.specs.Order.{in_order, is_less}
 use Rattle.misp_model.specs.History.{is_statement}
@@ -80,7 +81,7 @@ filter_twice p q (x ∷ xs) = one (p x) (filter_twice p q xs)
 
 -- ---- what shows
 
-module _ (i : Inst) (o : OrgId) (e : EventId) (w : OrgId) (rows : List Row) (v : Sight) (s : IsSight v i o e w rows) where
+module _ (groups : List Group) (i : Inst) (o : OrgId) (e : EventId) (w : OrgId) (rows : List Row) (v : Sight) (s : IsSight v groups i o e w rows) where
   kept_is : (u : OrgId) (k : Key) → reached true k ≡ true → key_is v.deleted u false k ≡ not (has_deleted rows u k)
   unfolding has_key reached
   kept_is u (Element f p) h = ap not (s.deletions u f p)
@@ -92,19 +93,19 @@ module _ (i : Inst) (o : OrgId) (e : EventId) (w : OrgId) (rows : List Row) (v :
   all_kept : (row : Row) → list_all (key_is v.deleted row.owner false) (parents row.key) ≡ list_all (λ k. not (has_deleted rows row.owner k)) (parents row.key)
   all_kept row = all_same (key_is v.deleted row.owner false) (λ k. not (has_deleted rows row.owner k)) (reached true) (kept_is row.owner) (parents row.key) (parents_reached true row.key refl)
 
-  pub shows_is : (row : Row) → of_these rows row ≡ true → shows_in v row ≡ is_shown (scene_of i o rows) w row
+  pub shows_is : (row : Row) → of_these rows row ≡ true → shows_in v row ≡ is_shown (scene_of groups i o rows) w row
   unfolding shows_in is_shown is_live
   shows_is row h = λ j.
-      same_org row.owner (s.owner j) && (ap (λ (m : Inst × OrgId). granted_in v.grants m.0 m.1 row) (λ k. (s.here k, s.org k)) ∙ granted_is i o rows v.grants s.grants row h) j
+      same_org row.owner (s.owner j) && (ap (λ (m : List Group × Inst × OrgId). granted_in v.grants m.0 m.1 m.2 row) (λ k. (s.known k, s.here k, s.org k)) ∙ granted_is groups i o rows v.grants s.grants row h) j
       && (not (is_deleted row) && not (s.marks (event_of row.key) row.owner j) && all_kept row j)
 
   module _ (seen : BTreeSet Numbers) (are_seen : IsSeen seen v (list_any (λ row. is_link row.key) rows) rows) where
     -- a reference of the event, whose target shows
     abbrev pub is_reference : Key → Bool
-    is_reference k = elim k [ Reference f x t u ↦ same_event f e && list_any (λ row. is_row_of w (Element e t) row && is_shown (scene_of i o rows) w row) rows | Element f p ↦ false | Proposal f n ↦ false | Verdict f n j z ↦ false | Sighting f t j z u ↦ false ]
+    is_reference k = elim k [ Reference f x t u ↦ same_event f e && list_any (λ row. is_row_of w (Element e t) row && is_shown (scene_of groups i o rows) w row) rows | Element f p ↦ false | Proposal f n ↦ false | Verdict f n j z ↦ false | Sighting f t j z u ↦ false ]
 
     seen_row : (linked : Bool) → linked ≡ list_any (λ row. is_link row.key) rows → linked ≡ true → (f : EventId) (t : Place) (row : Row) →
-        (is_row_of w (Element f t) row && (linked && shows_in v row)) ≡ (is_row_of w (Element f t) row && is_shown (scene_of i o rows) w row)
+        (is_row_of w (Element f t) row && (linked && shows_in v row)) ≡ (is_row_of w (Element f t) row && is_shown (scene_of groups i o rows) w row)
     unfolding is_row_of is_link is_statement
     seen_row linked is on f t row = rw on (one (same_org row.owner w) (same_key row.key (Element f t)) refl)
       where
@@ -117,7 +118,7 @@ module _ (i : Inst) (o : OrgId) (e : EventId) (w : OrgId) (rows : List Row) (v :
             two true = refl
             two false = refl
 
-        one : (a b : Bool) → same_key row.key (Element f t) ≡ b → ((a && b) && shows_in v row) ≡ ((a && b) && is_shown (scene_of i o rows) w row)
+        one : (a b : Bool) → same_key row.key (Element f t) ≡ b → ((a && b) && shows_in v row) ≡ ((a && b) && is_shown (scene_of groups i o rows) w row)
         one true true k = shows_is row (here k)
         one true false k = refl
         one false b k = refl
@@ -147,7 +148,7 @@ module _ (i : Inst) (o : OrgId) (e : EventId) (w : OrgId) (rows : List Row) (v :
     test_of kinds.Inner k = is_inner e k
     test_of kinds.Reference k = is_reference k
 
-    one_is : (kind : Kind) (row : Row) → of_these rows row ≡ true → is_one kind v seen row ≡ (is_shown (scene_of i o rows) w row && test_of kind row.key)
+    one_is : (kind : Kind) (row : Row) → of_these rows row ≡ true → is_one kind v seen row ≡ (is_shown (scene_of groups i o rows) w row && test_of kind row.key)
     unfolding is_one is_of_kind
     one_is kinds.Attribute row h = λ j. shows_is row h j && is_plain_attribute (s.event j) row.key
     one_is kinds.Object row h = λ j. shows_is row h j && is_object (s.event j) row.key
@@ -171,7 +172,7 @@ module _ (i : Inst) (o : OrgId) (e : EventId) (w : OrgId) (rows : List Row) (v :
     test_class kinds.Inner (Sighting f t j z u) h = absurd (false≢true h)
     test_class kinds.Reference (Sighting f t j z u) h = absurd (false≢true h)
 
-    pub list_is : (kind : Kind) → in_list kind v seen rows ≡ shown_at (scene_of i o rows) w (test_of kind)
+    pub list_is : (kind : Kind) → in_list kind v seen rows ≡ shown_at (scene_of groups i o rows) w (test_of kind)
     unfolding in_list shown_at
     list_is kind =
         ap (in_order goes_before) (filter_where _ _ (of_these rows) (one_is kind) rows (all_of_these rows))

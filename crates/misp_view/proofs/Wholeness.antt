@@ -14,6 +14,7 @@ use Rattle.misp_elem.specs.declared.content.Content.{Content}
 use Rattle.misp_elem.specs.declared.content.Content.TheVariants as contents
 use Rattle.misp_elem.specs.declared.row.RowFields.{RowFields as Row}
 use Rattle.misp_elem.specs.Row.{IsRow, AreRows, content_kind, fits, label_kind}
+use Rattle.misp_groups.specs.declared.group.GroupFields.{GroupFields as Group}
 use Rattle.misp_model.specs.Names.{Inst, same_event, same_elem, same_key, event_key}
 use Rattle.misp_model.specs.Order.{put, in_order}
 use Rattle.misp_model.specs.Asking.{Scene, uuid_at}
@@ -196,7 +197,7 @@ no_mark r e is k m = one r.content refl m (subst (λ q. fits q (label_kind r.lab
         two contents.Gone x y z = absurd (false≢true (sym x))
 
 -- the row of the event itself that is looked at
-module _ (i : Inst) (o : OrgId) (rows : List Row) (e : EventId) (are : AreRows rows) (unmixed : IsUnmixed e rows) where
+module _ (groups : List Group) (i : Inst) (o : OrgId) (rows : List Row) (e : EventId) (are : AreRows rows) (unmixed : IsUnmixed e rows) where
   abbrev Known : Row → Type 0
   Known r = IsRow r × ((same_key r.key (event_key e) && is_mark r) ≡ true → has_gone rows r.owner e ≡ true)
 
@@ -206,32 +207,32 @@ module _ (i : Inst) (o : OrgId) (rows : List Row) (e : EventId) (are : AreRows r
       (each_of (λ x row. is_row_of x.owner (event_key e) row && is_mark row) (λ (r : Row). same_key r.key (event_key e) && is_mark r)
       (λ x h. and_from _ _ (and_from _ _ (same_org-refl x.owner) (and_parts _ _ h).0) (and_parts _ _ h).1) rows rows (λ x h. h))
 
-  whole_row : (r : Row) → Known r → same_key r.key (event_key e) ≡ true → granted rows [] i o r ≡ true → content_kind r.content ≡ 0
+  whole_row : (r : Row) → Known r → same_key r.key (event_key e) ≡ true → granted rows groups i o r ≡ true → content_kind r.content ≡ 0
   whole_row r k m g = no_mark r e k.0 (same_key-sound r.key (event_key e) m) (one (is_mark r) refl)
     where
       copied : has_copy rows r.owner e ≡ true
-      copied = (and_parts _ _ (sym (granted_at rows i o r e m) ∙ g)).0
+      copied = (and_parts _ _ (sym (granted_at rows groups i o r e m) ∙ g)).0
 
       one : (b : Bool) → is_mark r ≡ b → b ≡ false
       one true h = absurd (false≢true (sym (unmixed r.owner copied) ∙ k.1 (and_from _ _ m h)))
       one false h = refl
 
-  make : (r : Row) → Known r → same_key r.key (event_key e) ≡ true → granted rows [] i o r ≡ true → IsWhole (form_of (scene_of i o rows) e r)
+  make : (r : Row) → Known r → same_key r.key (event_key e) ≡ true → granted rows groups i o r ≡ true → IsWhole (form_of (scene_of groups i o rows) e r)
   unfolding form_of event_key
   make r k m g = record {
     row = k.0;
     event = e;
     key = same_key-sound r.key (event_key e) m;
     content = whole_row r k m g;
-    attributes = all_map _ _ _ (attribute_of (scene_of i o rows) r.owner are e (creator r)) _ (at_of (scene_of i o rows) r.owner are (is_plain_attribute e));
-    objects = all_map _ _ _ (object_at (scene_of i o rows) r.owner are e (creator r)) _ (at_of (scene_of i o rows) r.owner are (is_object e));
+    attributes = all_map _ _ _ (attribute_of (scene_of groups i o rows) r.owner are e (creator r)) _ (at_of (scene_of groups i o rows) r.owner are (is_plain_attribute e));
+    objects = all_map _ _ _ (object_at (scene_of groups i o rows) r.owner are e (creator r)) _ (at_of (scene_of groups i o rows) r.owner are (is_object e));
   }
 
-  pub whole_is : (owner : Option OrgId) (r : Row) → event_row (scene_of i o rows) e owner ≡ Some r → IsWhole (form_of (scene_of i o rows) e r)
+  pub whole_is : (owner : Option OrgId) (r : Row) → event_row (scene_of groups i o rows) e owner ≡ Some r → IsWhole (form_of (scene_of groups i o rows) e r)
   unfolding event_row chosen first_of_all is_row_of
   whole_is None r h =
-      let both : Known r × ((same_key r.key (event_key e) && granted rows [] i o r) ≡ true) = all_found _ _ _ r (all_filter Known (λ (row : Row). same_key row.key (event_key e) && granted rows [] i o row) rows all_known) h in
+      let both : Known r × ((same_key r.key (event_key e) && granted rows groups i o r) ≡ true) = all_found _ _ _ r (all_filter Known (λ (row : Row). same_key row.key (event_key e) && granted rows groups i o row) rows all_known) h in
       make r both.0 (and_parts _ _ both.1).0 (and_parts _ _ both.1).1
   whole_is (Some w) r h =
-      let passed : (is_row_of w (event_key e) r && granted rows [] i o r) ≡ true = find_passes (λ row. is_row_of w (event_key e) row && granted rows [] i o row) rows r h in
+      let passed : (is_row_of w (event_key e) r && granted rows groups i o r) ≡ true = find_passes (λ row. is_row_of w (event_key e) row && granted rows groups i o row) rows r h in
       make r (all_found Known _ rows r all_known h) (and_parts _ _ (and_parts _ _ passed).0).1 (and_parts _ _ passed).1

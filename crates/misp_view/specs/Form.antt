@@ -1,10 +1,11 @@
 -- The form of one copy, by the lists of what shows there.
-use Rattle.std.specs.Prelude.{Bool, eqb, ◌&&◌, List, [], map, filter}
+use Rattle.std.specs.Prelude.{Bool, eqb, ◌&&◌, List, map, filter}
 use Rattle.misp_ids.specs.declared.uid.OrgId.{OrgId}
 use Rattle.misp_ids.specs.declared.uid.EventId.{EventId}
 use Rattle.misp_elem.specs.declared.row.RowFields.{RowFields as Row}
 use Rattle.misp_elem.specs.declared.visible.VisibleAttribute.{VisibleAttribute}
 use Rattle.misp_elem.specs.declared.visible.VisibleObject.{VisibleObject}
+use Rattle.misp_groups.specs.declared.group.GroupFields.{GroupFields as Group}
 use Rattle.misp_model.specs.Names.{Inst, event_key}
 use Rattle.misp_model.specs.View.{is_row_of, granted}
 use Rattle.misp_view.specs.Parts.{around}
@@ -33,5 +34,7 @@ object_in inner references proposals sightings row =
     }
 
 -- it is the owner's row of the event itself, and is granted
-unfoldable pub is_granted_row_of : Inst → OrgId → EventId → OrgId → List Row → Row → Bool
-is_granted_row_of i o e w rows row = is_row_of w (event_key e) row && granted rows [] i o row
+unfoldable pub is_granted_row_of : List Group → Inst → OrgId → EventId → OrgId
+    → List Row → Row → Bool
+is_granted_row_of groups i o e w rows row =
+    is_row_of w (event_key e) row && granted rows groups i o row

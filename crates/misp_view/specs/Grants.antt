@@ -1,5 +1,5 @@
 -- What is granted, by sets that are found once for all rows.
-use Rattle.std.specs.Prelude.{◌≡◌, ℕ, Bool, true, ◌&&◌, ◌||◌, List, []}
+use Rattle.std.specs.Prelude.{◌≡◌, ℕ, Bool, true, ◌&&◌, ◌||◌, List}
 use Rattle.std.specs.BTreeSet.{BTreeSet}
 use Rattle.std.specs.List.{list_any, list_all}
 use Rattle.misp_ids.specs.declared.uid.OrgId.{OrgId}
@@ -8,6 +8,7 @@ use Rattle.misp_elem.specs.declared.key.Place.{Place}
 use Rattle.misp_elem.specs.declared.key.KeyForm.{KeyForm as Key}
 use Rattle.misp_elem.specs.declared.key.KeyForm.TheVariants.{Element, Reference, Proposal, Verdict, Sighting}
 use Rattle.misp_elem.specs.declared.row.RowFields.{RowFields as Row}
+use Rattle.misp_groups.specs.declared.group.GroupFields.{GroupFields as Group}
 use Rattle.misp_model.specs.Names.{Inst, same_org, same_key, event_of, parents}
 use Rattle.misp_model.specs.History.{is_statement}
 use Rattle.misp_model.specs.View.{is_row_of, row_is_open}
@@ -23,23 +24,24 @@ IsSpots spots test rows =
     ≡ list_any (λ row. is_row_of w (Element e p) row && test row) rows
 
 -- the set has what is open to the organisation, and of attributes only where there are links
-abbrev pub IsOpenings : BTreeSet Numbers → Inst → OrgId → Bool → List Row → Type 0
-IsOpenings spots i o linked rows =
-    IsSpots spots (λ row. row_is_open [] i o row && (linked || is_upper row.key)) rows
+abbrev pub IsOpenings : BTreeSet Numbers → List Group → Inst → OrgId → Bool → List Row → Type 0
+IsOpenings spots groups i o linked rows =
+    IsSpots spots (λ row. row_is_open groups i o row && (linked || is_upper row.key)) rows
 
 -- an element or reference row is granted, by the sets of copies and of what is open
-unfoldable pub element_in : BTreeSet (ℕ × ℕ) → BTreeSet Numbers → Inst → OrgId → Row → Bool
-element_in copied opened i o row =
-    has_pair copied (event_of row.key) row.owner && row_is_open [] i o row
+unfoldable pub element_in : BTreeSet (ℕ × ℕ) → BTreeSet Numbers → List Group
+    → Inst → OrgId → Row → Bool
+element_in copied opened groups i o row =
+    has_pair copied (event_of row.key) row.owner && row_is_open groups i o row
     && list_all (key_is opened row.owner true) (parents row.key)
 
 -- the set has the elements that are granted so, for the organisation, where there are statements
 abbrev pub IsGranted : BTreeSet Numbers → BTreeSet (ℕ × ℕ) → BTreeSet Numbers
-    → Inst → OrgId → Bool → List Row → Type 0
-IsGranted spots copied opened i o told rows =
+    → List Group → Inst → OrgId → Bool → List Row → Type 0
+IsGranted spots copied opened groups i o told rows =
     (w : OrgId) (e : EventId) (p : Place) → has_spot spots w e p
     ≡ list_any (λ row. (same_org o w && same_key row.key (Element e p))
-    && (told && element_in copied opened i o row)) rows
+    && (told && element_in copied opened groups i o row)) rows
 
 -- whether a row of this key is granted, by the sets; element says it for an element or a reference
 unfoldable pub granted_as : Grants → OrgId → OrgId → Bool → Key → Bool
@@ -50,12 +52,15 @@ granted_as g o w element (Verdict e n j v) = same_org o w || has_spot g.granted 
 granted_as g o w element (Sighting e t j v u) =
     same_org o w || has_pair g.copied e o && has_spot g.granted o e t
 
-unfoldable pub granted_in : Grants → Inst → OrgId → Row → Bool
-granted_in g i o row = granted_as g o row.owner (element_in g.copied g.opened i o row) row.key
+unfoldable pub granted_in : Grants → List Group → Inst → OrgId → Row → Bool
+granted_in g groups i o row =
+    granted_as g o row.owner (element_in g.copied g.opened groups i o row) row.key
 
 -- the sets are those of the rows
-pub record IsGrants (g : Grants) (i : Inst) (o : OrgId) (rows : List Row) : Type 0 where
+pub record IsGrants (g : Grants) (groups : List Group) (i : Inst) (o : OrgId)
+    (rows : List Row) : Type 0 where
   pub copies : IsCopies g.copied rows
-  pub opens : IsOpenings g.opened i o (list_any (λ row. is_link row.key) rows) rows
+  pub opens : IsOpenings g.opened groups i o (list_any (λ row. is_link row.key) rows) rows
   pub grants :
-      IsGranted g.granted g.copied g.opened i o (list_any (λ row. is_statement row.key) rows) rows
+      IsGranted g.granted g.copied g.opened groups i o
+      (list_any (λ row. is_statement row.key) rows) rows

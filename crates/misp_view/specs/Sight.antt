@@ -9,6 +9,7 @@ use Rattle.misp_elem.specs.declared.key.Place.TheVariants.{Event, Object, Attrib
 use Rattle.misp_elem.specs.declared.key.KeyForm.{KeyForm as Key}
 use Rattle.misp_elem.specs.declared.key.KeyForm.TheVariants.{Element, Reference, Proposal, Verdict, Sighting}
 use Rattle.misp_elem.specs.declared.row.RowFields.{RowFields as Row}
+use Rattle.misp_groups.specs.declared.group.GroupFields.{GroupFields as Group}
 use Rattle.misp_model.specs.Names.{Inst, same_org, same_event, event_of, parents}
 use Rattle.misp_model.specs.View.{is_deleted}
 use Rattle.misp_model.specs.Shown.{is_plain_attribute, is_object}
@@ -20,20 +21,22 @@ use Rattle.misp_view.specs.Spots.{Numbers, has_spot, key_is}
 use Rattle.misp_view.specs.Grants.{IsSpots, IsGrants, granted_in}
 
 -- the sets are those of the rows
-pub record IsSight (v : Sight) (i : Inst) (o : OrgId) (e : EventId) (w : OrgId)
-    (rows : List Row) : Type 0 where
-  pub here : v.here ≡ i
-  pub org : v.org ≡ o
+pub record IsSight (v : Sight) (groups : List Group) (i : Inst) (o : OrgId) (e : EventId)
+    (w : OrgId) (rows : List Row) : Type 0 where
+  pub known : v.who.now.groups.now ≡ groups
+  pub here : v.who.now.here ≡ i
+  pub org : v.who.now.org ≡ o
   pub event : v.event ≡ e
   pub owner : v.owner ≡ w
-  pub grants : IsGrants v.grants i o rows
+  pub grants : IsGrants v.grants groups i o rows
   pub marks : IsMarks v.gone rows
   pub deletions : IsSpots v.deleted is_deleted rows
 
 -- the row is of the owner's copy, granted, and live there
 unfoldable pub shows_in : Sight → Row → Bool
 shows_in v row =
-    same_org row.owner v.owner && granted_in v.grants v.here v.org row
+    same_org row.owner v.owner
+    && granted_in v.grants v.who.now.groups.now v.who.now.here v.who.now.org row
     && (not (is_deleted row) && not (has_pair v.gone (event_of row.key) row.owner)
     && list_all (key_is v.deleted row.owner false) (parents row.key))
 

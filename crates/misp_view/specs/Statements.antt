@@ -13,7 +13,9 @@ use Rattle.misp_view.specs.Grants.{granted_in}
 
 -- it is a statement, and granted
 unfoldable pub is_told : Sight → Row → Bool
-is_told v row = is_statement row.key && granted_in v.grants v.here v.org row
+is_told v row =
+    is_statement row.key
+    && granted_in v.grants v.who.now.groups.now v.who.now.here v.who.now.org row
 
 -- it is a proposal; a sighting
 unfoldable pub is_proposal : Key → Bool

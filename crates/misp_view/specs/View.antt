@@ -5,13 +5,14 @@ use Rattle.misp_ids.specs.declared.uid.OrgId.{OrgId}
 use Rattle.misp_ids.specs.declared.uid.EventId.{EventId}
 use Rattle.misp_elem.specs.declared.key.KeyForm.{KeyForm as Key}
 use Rattle.misp_elem.specs.declared.row.RowFields.{RowFields as Row}
+use Rattle.misp_groups.specs.declared.group.GroupFields.{GroupFields as Group}
 use Rattle.misp_model.specs.Names.{Inst, same_key, event_key}
 use Rattle.misp_model.specs.Asking.{Scene}
 use Rattle.misp_model.specs.View.{is_row_of, is_deleted, is_before, granted, first_of_all}
 
--- a scene of these rows alone, as the organisation looks at them there
-abbrev pub scene_of : Inst → OrgId → List Row → Scene
-scene_of at by rows =
+-- a scene of these rows and groups alone, as the organisation looks at them there
+abbrev pub scene_of : List Group → Inst → OrgId → List Row → Scene
+scene_of groups at by rows =
     record {
       act = 0;
       at = at;
@@ -20,7 +21,7 @@ scene_of at by rows =
       now = 0;
       today = [];
       rows = rows;
-      groups = [];
+      groups = groups;
     }
 
 -- the owner has a deleted row of the key
@@ -32,8 +33,9 @@ unfoldable pub is_kept : List Row → OrgId → Key → Bool
 is_kept rows w k = not (has_deleted rows w k)
 
 -- it is a granted row of the event itself
-unfoldable pub is_granted_itself : Inst → OrgId → EventId → List Row → Row → Bool
-is_granted_itself i o e rows row = same_key row.key (event_key e) && granted rows [] i o row
+unfoldable pub is_granted_itself : List Group → Inst → OrgId → EventId → List Row → Row → Bool
+is_granted_itself groups i o e rows row =
+    same_key row.key (event_key e) && granted rows groups i o row
 
 -- the first of the best so far and one more row, where that counts
 abbrev pub better : Option Row → Row → Bool → Option Row

@@ -1,6 +1,6 @@
 //! Which copy of an event is chosen.
 
-ghost use Rattle.std.specs.Prelude.{◌≡◌, true, []};
+ghost use Rattle.std.specs.Prelude.{◌≡◌, true};
 ghost use Rattle.std.specs.List.{Contains};
 ghost use Rattle.std.specs.Option.{option_copied, option_map};
 ghost use Rattle.misp_model.specs.Names.{event_key, same_key};
@@ -9,8 +9,10 @@ ghost use Rattle.misp_view.specs.View.{better, is_granted_itself};
 
 use crate::copies::has_copy;
 use crate::rows::{is_itself, is_mark, is_open};
+use crate::viewer::Viewer;
 use misp_elem::Row;
 use misp_ids::{EventId, InstId, OrgId};
+use misp_levels::Groups;
 
 // Whether the first goes before the second.
 #[tactic(auto, unfolding(misp_model::specs::View::is_before))]
@@ -46,31 +48,27 @@ fn is_of_copy(rows: &[Row], event: &EventId, row: &Row) -> bool
 }
 
 // Whether it is a row of the event itself that is granted.
-fn is_candidate(rows: &[Row], here: &InstId, org: &OrgId, event: &EventId, row: &Row) -> bool
-    ensures { Contains rows.now row.now →
-        result ≡ is_granted_itself here.now org.now event.now rows.now row.now }
+fn is_candidate(rows: &[Row], who: &Viewer, event: &EventId, row: &Row) -> bool
+    ensures { Contains rows.now row.now → result
+        ≡ is_granted_itself who.now.groups.now who.now.here who.now.org event.now rows.now row.now }
 {
     if !is_itself(row, event) {
         return false;
     }
-    if !is_open(row, here, org) {
+    if !is_open(row, who) {
         return false;
     }
     is_of_copy(rows, event, row)
 }
 
 /// The event row of the chosen copy.
-pub(crate) fn chosen_row<'a>(
-    rows: &'a [Row],
-    here: &InstId,
-    org: &OrgId,
-    event: &EventId,
-) -> Option<&'a Row>
-    ensures { option_copied result ≡ chosen rows.now [] here.now org.now event.now }
+pub(crate) fn chosen_row<'a>(rows: &'a [Row], who: &Viewer, event: &EventId) -> Option<&'a Row>
+    ensures { option_copied result
+        ≡ chosen rows.now who.now.groups.now who.now.here who.now.org event.now }
 {
     let mut best = None;
     for row in rows {
-        best = better(best, row, is_candidate(rows, here, org, event, row));
+        best = better(best, row, is_candidate(rows, who, event, row));
     }
     best
 }
@@ -78,11 +76,22 @@ pub(crate) fn chosen_row<'a>(
 /// Whose copy of the event is chosen for the organisation at this instance, of those granted to it:
 /// that of the greatest stamp, of equals one of this instance, and of equals that of the least
 /// owner.
-pub fn chosen(rows: &[Row], here: &InstId, org: &OrgId, event: &EventId) -> Option<OrgId>
+pub fn chosen(
+    rows: &[Row],
+    groups: &Groups,
+    here: &InstId,
+    org: &OrgId,
+    event: &EventId,
+) -> Option<OrgId>
     ensures { result
-        ≡ option_map (λ row. row.owner) (chosen rows.now [] here.now org.now event.now) }
+        ≡ option_map (λ row. row.owner) (chosen rows.now groups.now here.now org.now event.now) }
 {
-    match chosen_row(rows, here, org, event) {
+    let who = Viewer {
+        groups,
+        here: *here,
+        org: *org,
+    };
+    match chosen_row(rows, &who, event) {
         Some(row) => Some(row.owner),
         None => None,
     }

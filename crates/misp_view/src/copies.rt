@@ -1,14 +1,15 @@
 //! Which copies there are of an event, and what stands in them.
 
-ghost use Rattle.std.specs.Prelude.{◌≡◌, []};
+ghost use Rattle.std.specs.Prelude.{◌≡◌};
 ghost use Rattle.misp_elem.specs.declared.key.KeyForm.TheVariants.{Element};
 ghost use Rattle.misp_model.specs.Names.{event_key};
 ghost use Rattle.misp_model.specs.View.{has_copy, has_gone, has_open};
 ghost use Rattle.misp_view.specs.View.{has_deleted};
 
 use crate::rows::{is_deleted, is_event_row, is_mark, is_open, is_row_at};
+use crate::viewer::Viewer;
 use misp_elem::{Place, Row};
-use misp_ids::{EventId, InstId, OrgId};
+use misp_ids::{EventId, OrgId};
 
 /// Whether the owner has a copy that is not gone.
 #[tactic(auto, unfolding(misp_model::specs::View::has_copy))]
@@ -39,14 +40,14 @@ pub(crate) fn has_deleted(rows: &[Row], owner: &OrgId, event: &EventId, place: &
 #[tactic(auto, unfolding(misp_model::specs::View::has_open))]
 pub(crate) fn has_open(
     rows: &[Row],
-    here: &InstId,
-    org: &OrgId,
+    who: &Viewer,
     owner: &OrgId,
     event: &EventId,
     place: &Place,
 ) -> bool
     ensures { result
-        ≡ has_open rows.now [] here.now org.now owner.now (Element event.now place.now) }
+        ≡ has_open rows.now who.now.groups.now who.now.here who.now.org owner.now
+        (Element event.now place.now) }
 {
-    rows.iter().any(|row| is_row_at(row, owner, event, place) && is_open(row, here, org))
+    rows.iter().any(|row| is_row_at(row, owner, event, place) && is_open(row, who))
 }

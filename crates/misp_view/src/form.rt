@@ -11,59 +11,51 @@ ghost use Rattle.misp_view.specs.View.{scene_of};
 ghost use Rattle.misp_view.specs.Form.{is_granted_row_of};
 
 use crate::choice::chosen_row;
-use crate::granting::row_granted;
+use crate::granting::is_granted;
 use crate::inside::inside_of;
 use crate::rows::{copy, is_event_row};
 use crate::sight::Sight;
 use crate::statements::{on_event, proposals, sightings, told};
+use crate::viewer::Viewer;
 use misp_elem::{Content, Row, VisibleEvent};
 use misp_ids::{EventId, InstId, Items, NoMemory, OrgId, Text};
+use misp_levels::Groups;
 use std::alloc::Global;
 
 // Whether it is the owner's row of the event itself, and is granted.
 #[tactic(auto, unfolding(crate::specs::Form::is_granted_row_of))]
-fn is_granted_row_of(
-    rows: &[Row],
-    here: &InstId,
-    org: &OrgId,
-    event: &EventId,
-    owner: &OrgId,
-    row: &Row,
-) -> bool
-    ensures { result ≡ is_granted_row_of here.now org.now event.now owner.now rows.now row.now }
+fn is_granted_row_of(rows: &[Row], who: &Viewer, event: &EventId, owner: &OrgId, row: &Row) -> bool
+    ensures { result ≡ is_granted_row_of who.now.groups.now who.now.here who.now.org
+        event.now owner.now rows.now row.now }
 {
-    is_event_row(row, owner, event) && row_granted(rows, here, org, row)
+    is_event_row(row, owner, event) && is_granted(rows, who, row)
 }
 
 // The row of the event itself in the named owner's copy.
-fn row_of<'a>(
-    rows: &'a [Row],
-    here: &InstId,
-    org: &OrgId,
-    event: &EventId,
-    owner: &OrgId,
-) -> Option<&'a Row>
+fn row_of<'a>(rows: &'a [Row], who: &Viewer, event: &EventId, owner: &OrgId) -> Option<&'a Row>
     ensures { option_copied result
-        ≡ find (is_granted_row_of here.now org.now event.now owner.now rows.now) rows.now }
+        ≡ find (is_granted_row_of who.now.groups.now who.now.here who.now.org
+        event.now owner.now rows.now) rows.now }
 {
-    rows.iter().find(|row| is_granted_row_of(rows, here, org, event, owner, row))
+    rows.iter()
+        .find(|row| is_granted_row_of(rows, who, event, owner, row))
 }
 
 // The row of the event itself in the named owner's copy, or in the chosen one.
 #[tactic(auto, unfolding(misp_model::specs::Shown::event_row, crate::specs::Form::is_granted_row_of))]
 fn event_row<'a>(
     rows: &'a [Row],
-    here: &InstId,
-    org: &OrgId,
+    who: &Viewer,
     event: &EventId,
     owner: Option<OrgId>,
 ) -> Option<&'a Row>
     ensures { option_copied result
-        ≡ event_row (scene_of here.now org.now rows.now) event.now owner }
+        ≡ event_row (scene_of who.now.groups.now who.now.here who.now.org rows.now)
+        event.now owner }
 {
     match owner {
-        None => chosen_row(rows, here, org, event),
-        Some(owner) => row_of(rows, here, org, event, &owner),
+        None => chosen_row(rows, who, event),
+        Some(owner) => row_of(rows, who, event, &owner),
     }
 }
 
@@ -82,16 +74,16 @@ fn creator(row: &Row) -> OrgId
 fn form(
     alloc: Global,
     rows: &[Row],
-    here: &InstId,
-    org: &OrgId,
+    who: &Viewer,
     event: &EventId,
     row: &Row,
 ) -> Result<VisibleEvent, NoMemory>
     ensures form { IfOk result (λ form. form
-        ≡ form_of (scene_of here.now org.now rows.now) event.now row.now) }
+        ≡ form_of (scene_of who.now.groups.now who.now.here who.now.org rows.now)
+        event.now row.now) }
     ensures rows { OnOk result (AreRows rows.now) }
 {
-    let sight = Sight::of(alloc, rows, here, org, event, &row.owner)?;
+    let sight = Sight::of(alloc, rows, who, event, &row.owner)?;
     let told = told(alloc, &sight, rows)?;
     let proposals = proposals(alloc, told.as_slice(), &creator(row))?;
     let sightings = sightings(alloc, told.as_slice())?;
@@ -119,17 +111,23 @@ fn form(
 pub fn shown(
     alloc: Global,
     rows: &[Row],
+    groups: &Groups,
     here: &InstId,
     org: &OrgId,
     event: &EventId,
     owner: Option<OrgId>,
 ) -> Result<Option<VisibleEvent>, NoMemory>
     ensures seen { IfOk result (λ seen. seen
-        ≡ shown (scene_of here.now org.now rows.now) event.now owner) }
+        ≡ shown (scene_of groups.now here.now org.now rows.now) event.now owner) }
     ensures whole { IsUnmixed event.now rows.now → IfOk result (λ seen. IfSome seen IsWhole) }
 {
-    match event_row(rows, here, org, event, owner) {
-        Some(row) => Ok(Some(form(alloc, rows, here, org, event, row)?)),
+    let who = Viewer {
+        groups,
+        here: *here,
+        org: *org,
+    };
+    match event_row(rows, &who, event, owner) {
+        Some(row) => Ok(Some(form(alloc, rows, &who, event, row)?)),
         None => Ok(None),
     }
 }

@@ -1,6 +1,6 @@
 //! What is granted to an organisation, found once for all rows.
 
-ghost use Rattle.std.specs.Prelude.{◌≡◌, ◌&&◌, ◌||◌, [], IfOk};
+ghost use Rattle.std.specs.Prelude.{◌≡◌, ◌&&◌, ◌||◌, IfOk};
 ghost use Rattle.std.specs.List.{list_any};
 ghost use Rattle.misp_model.specs.History as history;
 ghost use Rattle.misp_model.specs.View.{row_is_open};
@@ -10,8 +10,9 @@ ghost use Rattle.misp_view.specs.Grants.{IsOpenings, IsGranted, IsGrants, elemen
 use crate::rows::{event_of, is_link, is_of, is_open, is_statement, is_upper};
 use crate::spots::{Spots, add, add_own, has_spot, parents};
 use crate::table::{Pairs, copies, has};
+use crate::viewer::Viewer;
 use misp_elem::{KeyForm, Row};
-use misp_ids::{InstId, NoMemory, OrgId};
+use misp_ids::NoMemory;
 use std::alloc::Global;
 use std::collections::BTreeSet;
 
@@ -40,27 +41,22 @@ fn are_told(rows: &[Row]) -> bool
 }
 
 // Whether it is open to the organisation, and is of an event or an object, or something is linked.
-fn is_opening(row: &Row, here: &InstId, org: &OrgId, linked: bool) -> bool
-    ensures { result
-        ≡ (row_is_open [] here.now org.now row.now && (linked || kinds.is_upper row.now.key)) }
+fn is_opening(row: &Row, who: &Viewer, linked: bool) -> bool
+    ensures { result ≡ (row_is_open who.now.groups.now who.now.here who.now.org row.now
+        && (linked || kinds.is_upper row.now.key)) }
 {
-    is_open(row, here, org) && (linked || is_upper(row))
+    is_open(row, who) && (linked || is_upper(row))
 }
 
 // What is open to the organisation in each copy: events and objects, and where they are linked
 // attributes too.
-fn openings(
-    alloc: Global,
-    rows: &[Row],
-    here: &InstId,
-    org: &OrgId,
-    linked: bool,
-) -> Result<Spots, NoMemory>
-    ensures { IfOk result (λ spots. IsOpenings spots here.now org.now linked rows.now) }
+fn openings(alloc: Global, rows: &[Row], who: &Viewer, linked: bool) -> Result<Spots, NoMemory>
+    ensures { IfOk result (λ spots.
+        IsOpenings spots who.now.groups.now who.now.here who.now.org linked rows.now) }
 {
     let mut spots = BTreeSet::new(alloc);
     for row in rows {
-        let wanted = is_opening(row, here, org, linked);
+        let wanted = is_opening(row, who, linked);
         add_own(&mut spots, row, wanted)?;
     }
     Ok(spots)
@@ -68,11 +64,12 @@ fn openings(
 
 // Whether a row is granted as that of an element or a reference is.
 #[tactic(auto, unfolding(crate::specs::Grants::element_in))]
-fn is_element_granted(copied: &Pairs, opened: &Spots, here: &InstId, org: &OrgId, row: &Row) -> bool
-    ensures { result ≡ element_in copied.now opened.now here.now org.now row.now }
+fn is_element_granted(copied: &Pairs, opened: &Spots, who: &Viewer, row: &Row) -> bool
+    ensures { result ≡ element_in copied.now opened.now who.now.groups.now who.now.here who.now.org
+        row.now }
 {
     has(copied, &event_of(row), &row.owner)
-        && is_open(row, here, org)
+        && is_open(row, who)
         && parents(opened, &row.owner, row, true)
 }
 
@@ -82,34 +79,29 @@ fn granted(
     rows: &[Row],
     copied: &Pairs,
     opened: &Spots,
-    here: &InstId,
-    org: &OrgId,
+    who: &Viewer,
     told: bool,
 ) -> Result<Spots, NoMemory>
-    ensures { IfOk result (λ spots.
-        IsGranted spots copied.now opened.now here.now org.now told rows.now) }
+    ensures { IfOk result (λ spots. IsGranted spots copied.now opened.now
+        who.now.groups.now who.now.here who.now.org told rows.now) }
 {
     let mut spots = BTreeSet::new(alloc);
     for row in rows {
-        let wanted = told && is_element_granted(copied, opened, here, org, row);
-        add(&mut spots, org, row, wanted)?;
+        let wanted = told && is_element_granted(copied, opened, who, row);
+        add(&mut spots, &who.org, row, wanted)?;
     }
     Ok(spots)
 }
 
 impl Grants {
     /// What is granted to the organisation of these rows.
-    pub(crate) fn of(
-        alloc: Global,
-        rows: &[Row],
-        here: &InstId,
-        org: &OrgId,
-    ) -> Result<Grants, NoMemory>
-        ensures { IfOk result (λ grants. IsGrants grants here.now org.now rows.now) }
+    pub(crate) fn of(alloc: Global, rows: &[Row], who: &Viewer) -> Result<Grants, NoMemory>
+        ensures { IfOk result (λ grants.
+            IsGrants grants who.now.groups.now who.now.here who.now.org rows.now) }
     {
         let copied = copies(alloc, rows)?;
-        let opened = openings(alloc, rows, here, org, are_linked(rows))?;
-        let granted = granted(alloc, rows, &copied, &opened, here, org, are_told(rows))?;
+        let opened = openings(alloc, rows, who, are_linked(rows))?;
+        let granted = granted(alloc, rows, &copied, &opened, who, are_told(rows))?;
         Ok(Grants {
             copied,
             opened,
@@ -119,19 +111,20 @@ impl Grants {
 
     /// Whether one of the rows is granted to the organisation.
     #[tactic(auto, unfolding(crate::specs::Grants::granted_in, crate::specs::Grants::granted_as))]
-    pub(crate) fn has(&self, here: &InstId, org: &OrgId, row: &Row) -> bool
-        ensures { result ≡ granted_in self.now here.now org.now row.now }
+    pub(crate) fn has(&self, who: &Viewer, row: &Row) -> bool
+        ensures { result ≡ granted_in self.now who.now.groups.now who.now.here who.now.org row.now }
     {
         match &row.key.form {
             KeyForm::Element { .. } | KeyForm::Reference { .. } => {
-                is_element_granted(&self.copied, &self.opened, here, org, row)
+                is_element_granted(&self.copied, &self.opened, who, row)
             }
             KeyForm::Proposal { event, name } | KeyForm::Verdict { event, name, .. } => {
-                is_of(org, row) || has_spot(&self.granted, org, event, &name.target)
+                is_of(&who.org, row) || has_spot(&self.granted, &who.org, event, &name.target)
             }
             KeyForm::Sighting { event, target, .. } => {
-                is_of(org, row)
-                    || has(&self.copied, event, org) && has_spot(&self.granted, org, event, target)
+                is_of(&who.org, row)
+                    || has(&self.copied, event, &who.org)
+                        && has_spot(&self.granted, &who.org, event, target)
             }
         }
     }

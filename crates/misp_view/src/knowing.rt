@@ -1,22 +1,24 @@
 //! What an organisation knows.
 
-ghost use Rattle.std.specs.Prelude.{◌≡◌, ◌||◌, [], IfOk};
+ghost use Rattle.std.specs.Prelude.{◌≡◌, ◌||◌, IfOk};
 ghost use Rattle.misp_model.specs.Names.{same_org};
 ghost use Rattle.misp_model.specs.View.{known};
 ghost use Rattle.misp_view.specs.Grants.{granted_in};
 
 use crate::grants::Grants;
+use crate::viewer::Viewer;
 use misp_elem::Row;
 use misp_ids::{InstId, NoMemory, OrgId};
+use misp_levels::Groups;
 use std::alloc::Global;
 
 // Whether the organisation knows one of the rows.
 #[tactic(auto, unfolding(misp_model::specs::Names::same_org))]
-fn is_known(grants: &Grants, here: &InstId, org: &OrgId, row: &Row) -> bool
-    ensures { result
-        ≡ (same_org row.now.owner org.now || granted_in grants.now here.now org.now row.now) }
+fn is_known(grants: &Grants, who: &Viewer, row: &Row) -> bool
+    ensures { result ≡ (same_org row.now.owner who.now.org
+        || granted_in grants.now who.now.groups.now who.now.here who.now.org row.now) }
 {
-    row.owner == *org || grants.has(here, org, row)
+    row.owner == who.org || grants.has(who, row)
 }
 
 /// The rows that the organisation knows at this instance: what is granted to it, and all that is
@@ -24,13 +26,19 @@ fn is_known(grants: &Grants, here: &InstId, org: &OrgId, row: &Row) -> bool
 pub fn known(
     alloc: Global,
     rows: Vec<Row>,
+    groups: &Groups,
     here: &InstId,
     org: &OrgId,
 ) -> Result<Vec<Row>, NoMemory>
-    ensures { IfOk result (λ kept. kept.items ≡ known rows.items [] here.now org.now) }
+    ensures { IfOk result (λ kept. kept.items ≡ known rows.items groups.now here.now org.now) }
 {
-    let grants = Grants::of(alloc, rows.as_slice(), here, org)?;
+    let who = Viewer {
+        groups,
+        here: *here,
+        org: *org,
+    };
+    let grants = Grants::of(alloc, rows.as_slice(), &who)?;
     let mut rows = rows;
-    rows.retain(|row| is_known(&grants, here, org, row));
+    rows.retain(|row| is_known(&grants, &who, row));
     Ok(rows)
 }

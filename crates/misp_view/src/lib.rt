@@ -19,6 +19,7 @@ mod spots;
 mod standing;
 mod statements;
 mod table;
+mod viewer;
 
 pub use choice::chosen;
 pub use form::shown;

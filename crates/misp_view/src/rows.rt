@@ -1,16 +1,18 @@
 //! What one row says.
 
-ghost use Rattle.std.specs.Prelude.{◌≡◌, [], IfOk};
+ghost use Rattle.std.specs.Prelude.{◌≡◌, IfOk};
 ghost use Rattle.misp_elem.specs.declared.key.KeyForm.TheVariants.{Element};
 ghost use Rattle.misp_model.specs.Names.{event_key, event_of, same_key, same_org, same_place};
 ghost use Rattle.misp_model.specs.History.{is_statement};
 ghost use Rattle.misp_view.specs.Kinds.{is_upper, is_link};
-ghost use Rattle.misp_model.specs.Audience.{label_opens};
+ghost use Rattle.misp_levels.specs.Levels.{SaysOfGroup};
 ghost use Rattle.misp_view.specs.Table.{event_itself};
 ghost use Rattle.misp_model.specs.View.{is_row_of, is_mark, is_deleted, row_is_open};
 
+use crate::viewer::Viewer;
 use misp_elem::{Content, Key, KeyForm, Place, Row, compare_keys};
-use misp_ids::{EventId, InstId, Label, NoMemory, OrgId};
+use misp_ids::{EventId, Label, NoMemory, OrgId};
+use misp_levels::{allows, open};
 
 /// Whether it is the mark of a deleted event.
 #[tactic(auto, unfolding(misp_model::specs::View::is_mark))]
@@ -34,23 +36,27 @@ pub(crate) fn is_deleted(row: &Row) -> bool
     }
 }
 
-// Whether a label opens a row to others than its owner, where no group is known.
-#[tactic(auto, unfolding(misp_model::specs::Audience::label_opens, misp_model::specs::Audience::group_passes, misp_model::specs::Audience::known_group))]
-fn opens(label: &Label, here: &InstId, org: &OrgId) -> bool
-    ensures { result ≡ label_opens [] here.now org.now label.now }
+// Whether a label is that of a group that is known and allows the organisation.
+#[tactic(auto, unfolding(misp_model::specs::Audience::group_passes))]
+fn opens(label: &Label, who: &Viewer) -> bool
+    ensures { SaysOfGroup who.now.groups.now who.now.here who.now.org label.now result }
 {
     match label {
-        Label::Own | Label::Group(_) => false,
-        Label::Community | Label::Connected | Label::All | Label::Inherit => true,
+        Label::Group(id) => match who.groups.get(id) {
+            Some(group) => allows(group, &who.org, &who.here),
+            None => false,
+        },
+        _ => false,
     }
 }
 
 /// Whether it is open to the organisation.
-#[tactic(auto, unfolding(misp_model::specs::View::row_is_open, misp_model::specs::Audience::is_open, misp_model::specs::Names::same_org))]
-pub(crate) fn is_open(row: &Row, here: &InstId, org: &OrgId) -> bool
-    ensures { result ≡ row_is_open [] here.now org.now row.now }
+#[tactic(auto, unfolding(misp_model::specs::View::row_is_open))]
+pub(crate) fn is_open(row: &Row, who: &Viewer) -> bool
+    ensures { result ≡ row_is_open who.now.groups.now who.now.here who.now.org row.now }
 {
-    row.owner == *org || opens(&row.label, here, org)
+    let group_allows = opens(&row.label, who);
+    open(&who.org, &row.owner, &row.label, group_allows)
 }
 
 /// The event that it is of.

@@ -10,17 +10,17 @@ use crate::grants::Grants;
 use crate::rows::{event_of, is_deleted, is_owned};
 use crate::spots::{Spots, add_own, parents};
 use crate::table::{Pairs, has, marks};
+use crate::viewer::Viewer;
 use misp_elem::Row;
-use misp_ids::{EventId, InstId, NoMemory, OrgId};
+use misp_ids::{EventId, NoMemory, OrgId};
 use std::alloc::Global;
 use std::collections::BTreeSet;
 
 /// Who looks at whose copy of which event, what is granted there, which copies are gone, and what
 /// is deleted in each.
 #[derive(Drop)]
-pub(crate) struct Sight {
-    pub(crate) here: InstId,
-    pub(crate) org: OrgId,
+pub(crate) struct Sight<'a> {
+    pub(crate) who: &'a Viewer<'a>,
     pub(crate) event: EventId,
     pub(crate) owner: OrgId,
     pub(crate) grants: Grants,
@@ -41,26 +41,25 @@ fn deletions(alloc: Global, rows: &[Row]) -> Result<Spots, NoMemory>
     Ok(spots)
 }
 
-impl Sight {
+impl<'a> Sight<'a> {
     /// The sight of the owner's copy, where these are the rows.
     pub(crate) fn of(
         alloc: Global,
         rows: &[Row],
-        here: &InstId,
-        org: &OrgId,
+        who: &'a Viewer<'a>,
         event: &EventId,
         owner: &OrgId,
-    ) -> Result<Sight, NoMemory>
+    ) -> Result<Sight<'a>, NoMemory>
         ensures found { IfOk result (λ sight.
-            IsSight sight here.now org.now event.now owner.now rows.now) }
+            IsSight sight who.now.groups.now who.now.here who.now.org
+            event.now owner.now rows.now) }
         ensures rows { OnOk result (AreRows rows.now) }
     {
-        let grants = Grants::of(alloc, rows, here, org)?;
+        let grants = Grants::of(alloc, rows, who)?;
         let gone = marks(alloc, rows)?;
         let deleted = deletions(alloc, rows)?;
         Ok(Sight {
-            here: *here,
-            org: *org,
+            who,
             event: *event,
             owner: *owner,
             grants,
@@ -71,9 +70,11 @@ impl Sight {
 
     /// Whether one of the rows is granted to the organisation.
     pub(crate) fn grants(&self, row: &Row) -> bool
-        ensures { result ≡ granted_in self.now.grants self.now.here self.now.org row.now }
+        ensures { result
+            ≡ granted_in self.now.grants self.now.who.now.groups.now self.now.who.now.here
+            self.now.who.now.org row.now }
     {
-        self.grants.has(&self.here, &self.org, row)
+        self.grants.has(self.who, row)
     }
 
     /// Whether one of the rows is of the owner's copy and shows.

@@ -1,81 +1,68 @@
 //! What stands above a row in its copy, looked up in all rows.
 
-ghost use Rattle.std.specs.Prelude.{◌≡◌, []};
+ghost use Rattle.std.specs.Prelude.{◌≡◌};
 ghost use Rattle.std.specs.List.{list_all};
 ghost use Rattle.misp_model.specs.Names.{above, up_to, parents};
 ghost use Rattle.misp_model.specs.View.{has_open};
 ghost use Rattle.misp_view.specs.View.{is_kept};
 
 use crate::copies::{has_deleted, has_open};
+use crate::viewer::Viewer;
 use misp_elem::{KeyForm, Place, Row};
-use misp_ids::{EventId, InstId, OrgId};
+use misp_ids::{EventId, OrgId};
 
 // Whether what stands above a place in the owner's copy is open to the organisation.
 #[tactic(auto, unfolding(misp_model::specs::Names::above))]
-fn open_above(
-    rows: &[Row],
-    here: &InstId,
-    org: &OrgId,
-    owner: &OrgId,
-    event: &EventId,
-    place: &Place,
-) -> bool
+fn open_above(rows: &[Row], who: &Viewer, owner: &OrgId, event: &EventId, place: &Place) -> bool
     ensures { result
-        ≡ list_all (has_open rows.now [] here.now org.now owner.now) (above event.now place.now) }
+        ≡ list_all (has_open rows.now who.now.groups.now who.now.here who.now.org owner.now)
+        (above event.now place.now) }
 {
     match place {
         Place::Event => true,
         Place::Object(_) | Place::Attribute(_) => {
-            has_open(rows, here, org, owner, event, &Place::Event)
+            has_open(rows, who, owner, event, &Place::Event)
         }
         Place::ObjectAttribute(object, _) => {
-            has_open(rows, here, org, owner, event, &Place::Event)
-                && has_open(rows, here, org, owner, event, &Place::Object(*object))
+            has_open(rows, who, owner, event, &Place::Event)
+                && has_open(rows, who, owner, event, &Place::Object(*object))
         }
     }
 }
 
 // The same of a place and what stands above it.
 #[tactic(auto, unfolding(misp_model::specs::Names::up_to), using(crate::proofs::SpotSets::all_last))]
-fn open_up_to(
-    rows: &[Row],
-    here: &InstId,
-    org: &OrgId,
-    owner: &OrgId,
-    event: &EventId,
-    place: &Place,
-) -> bool
+fn open_up_to(rows: &[Row], who: &Viewer, owner: &OrgId, event: &EventId, place: &Place) -> bool
     ensures { result
-        ≡ list_all (has_open rows.now [] here.now org.now owner.now) (up_to event.now place.now) }
+        ≡ list_all (has_open rows.now who.now.groups.now who.now.here who.now.org owner.now)
+        (up_to event.now place.now) }
 {
-    open_above(rows, here, org, owner, event, place)
-        && has_open(rows, here, org, owner, event, place)
+    open_above(rows, who, owner, event, place) && has_open(rows, who, owner, event, place)
 }
 
 /// Whether what stands above the row is open to the organisation in the same copy.
 #[tactic(auto, unfolding(misp_model::specs::Names::parents))]
-pub(crate) fn is_open_above(rows: &[Row], here: &InstId, org: &OrgId, row: &Row) -> bool
+pub(crate) fn is_open_above(rows: &[Row], who: &Viewer, row: &Row) -> bool
     ensures { result
-        ≡ list_all (has_open rows.now [] here.now org.now row.now.owner) (parents row.now.key) }
+        ≡ list_all (has_open rows.now who.now.groups.now who.now.here who.now.org row.now.owner)
+        (parents row.now.key) }
 {
     let owner = &row.owner;
     match &row.key.form {
-        KeyForm::Element { event, place } => open_above(rows, here, org, owner, event, place),
+        KeyForm::Element { event, place } => open_above(rows, who, owner, event, place),
         KeyForm::Reference {
             event,
             object,
             target,
             ..
         } => {
-            has_open(rows, here, org, owner, event, &Place::Object(*object))
-                && open_up_to(rows, here, org, owner, event, target)
+            has_open(rows, who, owner, event, &Place::Object(*object))
+                && open_up_to(rows, who, owner, event, target)
         }
         KeyForm::Proposal { event, name } | KeyForm::Verdict { event, name, .. } => {
-            open_up_to(rows, here, org, owner, event, &name.target)
+            open_up_to(rows, who, owner, event, &name.target)
         }
-        KeyForm::Sighting { event, target, .. } => {
-            open_up_to(rows, here, org, owner, event, target)
-        }
+        KeyForm::Sighting { event, target, .. } => { open_up_to(rows, who, owner, event, target) }
     }
 }
 

@@ -1,6 +1,11 @@
+ghost use Rattle.std.specs.Prelude.{◌≡◌, true, IfOk};
+ghost use Rattle.std.specs.Str.{is_utf8};
+
 use super::*;
 use misp_elem::{Row, VisibleEvent, decode};
-use misp_ids::{EventId, InstId, OrgId, Uid};
+use misp_groups::{Group, GroupFields, GroupOrg, GroupServer};
+use misp_ids::{EventId, GroupId, InstId, Items, OrgId, Stamp, Text, Uid};
+use misp_levels::Groups;
 use std::alloc::{AllocError, Global};
 use std::test::*;
 
@@ -23,6 +28,11 @@ const ALL: u8 = 3;
 
 const INHERIT: u8 = 5;
 
+// The label of Beta's group, and that of one of Beta's that is not known.
+const GROUP: u8 = 0x71;
+
+const UNKNOWN: u8 = 0x72;
+
 fn put_uid(out: &mut Vec<u8>, uid: u128) -> Result<(), AllocError> {
     out.extend_from_slice(&uid.to_be_bytes())
 }
@@ -30,6 +40,17 @@ fn put_uid(out: &mut Vec<u8>, uid: u128) -> Result<(), AllocError> {
 fn put_text(out: &mut Vec<u8>, text: &[u8]) -> Result<(), AllocError> {
     out.extend_from_slice(&[0, 0, 0, (text.len() % 256) as u8])?;
     out.extend_from_slice(text)
+}
+
+/// A label's spelling, in which a group's creator and number stand behind a 4.
+fn put_label(out: &mut Vec<u8>, label: u8) -> Result<(), AllocError> {
+    if label < GROUP {
+        out.push(label)?;
+        return Ok(());
+    }
+    out.push(4)?;
+    put_uid(out, BETA)?;
+    put_uid(out, u128::from(label))
 }
 
 /// What stands before a row's content. The key is spelled without the event.
@@ -46,7 +67,9 @@ fn front(
     out.push(kind)?;
     put_uid(&mut out, EVENT)?;
     out.extend_from_slice(key)?;
-    out.extend_from_slice(&[0, 0, 0, 0, 0, 0, 0, stamp, label, flags])?;
+    out.extend_from_slice(&[0, 0, 0, 0, 0, 0, 0, stamp])?;
+    put_label(&mut out, label)?;
+    out.push(flags)?;
     Ok(out)
 }
 
@@ -159,8 +182,8 @@ enum Item {
 
 /// Alpha has a copy for itself alone, Beta a carried one of a later stamp, and Gamma a mark. Beta
 /// has two objects, the second for itself alone. From the first a reference leads to an attribute
-/// that is for Beta alone, and one to an attribute for all.
-const TABLE: [Item; 15] = [
+/// that is for Beta alone, and one to an attribute for all. Two attributes are for groups.
+const TABLE: [Item; 17] = [
     Item::Event(ALPHA, [10, OWN, 0]),
     Item::Attribute(ALPHA, None, 0x41, [ALL, 0]),
     Item::Event(BETA, [20, COMMUNITY, 2]),
@@ -176,6 +199,8 @@ const TABLE: [Item; 15] = [
     Item::Attribute(BETA, Some(0x51), 0x45, [OWN, 0]),
     Item::Reference(0x41, 0x61),
     Item::Reference(0x43, 0x62),
+    Item::Attribute(BETA, None, 0x48, [GROUP, 0]),
+    Item::Attribute(BETA, None, 0x49, [UNKNOWN, 0]),
 ];
 
 fn bytes_of(alloc: Global, item: Item) -> Result<Vec<u8>, AllocError> {
@@ -206,21 +231,74 @@ fn here() -> Result<InstId, Fail> {
     Ok(InstId::read("north").ok_or("that is a name")?)
 }
 
+fn text(alloc: Global, text: &str) -> Result<Text, AllocError>
+    ensures value { IfOk result (λ copy. copy ≡ text.now) }
+    ensures utf8 { IfOk result (λ copy. is_utf8 copy ≡ true) }
+{
+    Ok(Text::of(String::from_str(alloc, text)?))
+}
+
+/// Beta's group of this number, of which Alpha is a member.
+fn group(alloc: Global, number: u128) -> Result<Group, AllocError> {
+    let mut orgs = Vec::new(alloc);
+    orgs.push(GroupOrg {
+        org: OrgId(Uid(ALPHA)),
+        name: text(alloc, "alpha")?,
+        extend: false,
+    })?;
+    let servers: Vec<GroupServer> = Vec::new(alloc);
+    Ok(Group::of(GroupFields {
+        id: GroupId {
+            creator: OrgId(Uid(BETA)),
+            uuid: Uid(number),
+        },
+        name: text(alloc, "bank")?,
+        description: text(alloc, "")?,
+        releasability: text(alloc, "")?,
+        active: true,
+        roaming: false,
+        orgs: Items::of(orgs),
+        servers: Items::of(servers),
+        modified: Stamp::first(),
+        carried: false,
+    }))
+}
+
+/// The groups that are known: that one.
+fn known_groups(alloc: Global) -> Result<Groups, Fail> {
+    let mut groups = Groups::new(alloc);
+    let group = group(alloc, u128::from(GROUP))?;
+    let added = groups.add(&OrgId(Uid(BETA)), group, Stamp::first());
+    added.ok().ok_or("memory is there")?;
+    Ok(groups)
+}
+
 fn seen(
     alloc: Global,
     rows: &[Row],
     org: u128,
     owner: Option<OrgId>,
 ) -> Result<Option<VisibleEvent>, Fail> {
+    let groups = known_groups(alloc)?;
     let event = EventId(Uid(EVENT));
-    let seen = shown(alloc, rows, &here()?, &OrgId(Uid(org)), &event, owner).ok();
+    let seen = shown(
+        alloc,
+        rows,
+        &groups,
+        &here()?,
+        &OrgId(Uid(org)),
+        &event,
+        owner,
+    )
+    .ok();
     Ok(seen.ok_or("memory is there")?)
 }
 
 /// How many rows an organisation knows.
 fn count_known(alloc: Global, org: u128) -> Result<usize, Fail> {
     let rows = table(alloc)?;
-    let known = known(alloc, rows, &here()?, &OrgId(Uid(org))).ok();
+    let groups = known_groups(alloc)?;
+    let known = known(alloc, rows, &groups, &here()?, &OrgId(Uid(org))).ok();
     Ok(known.ok_or("memory is there")?.len())
 }
 
@@ -247,8 +325,8 @@ fn counts(event: &VisibleEvent) -> [usize; 4] {
 fn each_sees_what_is_open_to_it(rt: HostRuntime) -> Result<(), Fail> {
     let rows = table(rt.alloc())?;
     for (org, known, shown) in [
-        (ALPHA, 9, [2, 1, 1, 1]),
-        (BETA, 12, [3, 2, 2, 2]),
+        (ALPHA, 10, [3, 1, 1, 1]),
+        (BETA, 14, [5, 2, 2, 2]),
         (GAMMA, 8, [2, 1, 1, 1]),
         (DELTA, 7, [2, 1, 1, 1]),
     ] {

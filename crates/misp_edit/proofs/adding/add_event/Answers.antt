@@ -12,7 +12,7 @@ use Rattle.misp_edit.proofs.adding.add_event.Goals as goal
 
 pub returns-in-Err-clause-err : goal.returns-in-Err-clause-err
 returns-in-Err-clause-err c = λ act.
-    c.in-Err.ensures.err act c.args.here.now c.args.name.now c.args.now (date_of c.args.now)
+    c.in-Err.ensures.err act c.args.name.now c.args.now (date_of c.args.now)
 
 pub added_rows-requires-clause-targets : goal.added_rows-requires-clause-targets
 added_rows-requires-clause-targets c = λ u.
@@ -21,9 +21,9 @@ added_rows-requires-clause-targets c = λ u.
 
 pub returns-in_ok-added_rows-in-Ok-clause-ok : goal.returns-in_ok-added_rows-in-Ok-clause-ok
 returns-in_ok-added_rows-in-Ok-clause-ok c = λ act.
-    let s : Scene = scene_of act c.args.here.now c.args.org.now c.args.name.now c.args.now (date_of c.args.now) c.args.rows.now in (
-      c.in-Ok.ensures.ok act c.args.here.now c.args.name.now c.args.now (date_of c.args.now),
+    let s : Scene = scene_of act c.args.here.now c.args.org.now c.args.name.now c.args.now (date_of c.args.now) c.args.groups.now c.args.rows.now in (
+      c.in-Ok.ensures.ok act c.args.name.now c.args.now (date_of c.args.now),
       c.in_ok-added_rows-in-Ok.ensures.all
-          ∙ added_rows_are act c.args.here.now c.args.org.now c.args.name.now c.args.now (date_of c.args.now) c.args.rows.now c.args.submission (target_in c.in-Ok.targets)
+          ∙ added_rows_are act c.args.here.now c.args.org.now c.args.name.now c.args.now (date_of c.args.now) c.args.groups.now c.args.rows.now c.args.submission (target_in c.in-Ok.targets)
           (λ u. c.in-Ok.ensures.targets u ∙ sym (target_is s c.args.submission.event u c.args.submission.parts)),
     )

@@ -16,8 +16,8 @@ behind list = map (λ r. r.now) list
 
 pub returns-clause-form : goal.returns-clause-form
 returns-clause-form c =
-    form_is c.args.here.now c.args.org.now c.args.event.now c.args.row.now c.in_ok-copy.field-0 c.args.rows.now c.in_ok-sight.sight
-    (subst (λ (r : Row). IsSight c.in_ok-sight.sight c.args.here.now c.args.org.now c.args.event.now r.owner c.args.rows.now) c.row.view_is c.in_ok-sight.ensures.found)
+    form_is c.args.who.now.groups.now c.args.who.now.here c.args.who.now.org c.args.event.now c.args.row.now c.in_ok-copy.field-0 c.args.rows.now c.in_ok-sight.sight
+    (subst (λ (r : Row). IsSight c.in_ok-sight.sight c.args.who.now.groups.now c.args.who.now.here c.args.who.now.org c.args.event.now r.owner c.args.rows.now) c.row.view_is c.in_ok-sight.ensures.found)
     c.in_ok-inside.inside (behind c.as_slice-3.result.now) (behind c.as_slice-4.result.now) c.in_ok-on_event.on_event (behind c.as_slice.result.now) c.creator.result c.of-2.result c.of-3.result
     c.in_ok-copy.ensures c.creator.ensures
     (ap behind c.as_slice.ensures.value ∙ c.in_ok-told.ensures)

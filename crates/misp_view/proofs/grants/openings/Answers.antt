@@ -1,4 +1,4 @@
-use Rattle.std.specs.Prelude.{◌&&◌, ◌||◌, []}
+use Rattle.std.specs.Prelude.{◌&&◌, ◌||◌}
 use Rattle.std.proofs.Common.{ap, ◌∙◌}
 use Rattle.misp_elem.specs.declared.key.KeyForm.TheVariants.{Element}
 use Rattle.misp_model.specs.View.{is_row_of, row_is_open}
@@ -13,6 +13,6 @@ loop-row-init c = λ w e p. none_has c.new-spots.result w e p c.new-spots.ensure
 
 pub loop-row-preserved : goal.loop-row-preserved
 loop-row-preserved c = λ w e p.
-    any_more (λ row. is_row_of w (Element e p) row && (row_is_open [] c.args.here.now c.args.org.now row && (c.args.linked || is_upper row.key))) c.args.rows.now c.loop-row.row-index c.row-item.result
+    any_more (λ row. is_row_of w (Element e p) row && (row_is_open c.args.who.now.groups.now c.args.who.now.here c.args.who.now.org row && (c.args.linked || is_upper row.key))) c.args.rows.now c.loop-row.row-index c.row-item.result
     (has_spot c.add_own.new.spots w e p) (has_spot c.loop-row.spots w e p) c.loop-row-test.true c.row-item.is (c.loop-row.invariant w e p)
     (c.in_ok-add_own.ensures w e p ∙ ap (λ b. has_spot c.loop-row.spots w e p || is_row_of w (Element e p) c.row-item.result && b) c.is_opening-wanted.ensures)
