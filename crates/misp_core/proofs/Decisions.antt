@@ -1,5 +1,6 @@
 -- What the definitions answer to the asks that are built, by what refuses them.
 use Rattle.std.proofs.Common.{◌≡◌, List, [], ◌∷◌, Bool, true, false, refl, ap, sym, ◌∙◌, map, cond, length, Option, Some, None}
+use Rattle.std.specs.List.{filter}
 use Rattle.std.proofs.lemmas.List.{length-map}
 use Rattle.misp_ids.specs.declared.uid.OrgId.{OrgId}
 use Rattle.misp_ids.specs.declared.uid.EventId.{EventId}
@@ -9,6 +10,7 @@ use Rattle.misp_elem.specs.declared.refusal.Refusal.{Refusal}
 use Rattle.misp_elem.specs.declared.refusal.RuleName.TheVariants as rules
 use Rattle.misp_elem.specs.Draft.{SubmissionFields as Submission}
 use Rattle.misp_elem.specs.Row.{AreRows}
+use Rattle.misp_groups.specs.declared.group.GroupFields.{GroupFields as Group}
 use Rattle.misp_requests.specs.declared.ask.Ask.TheVariants.{View}
 use Rattle.misp_requests.specs.declared.ask.Ask.TheVariants as asks
 use Rattle.misp_requests.specs.declared.change.Change.TheVariants.{AddEvent}
@@ -17,12 +19,12 @@ use Rattle.misp_model.specs.History.{Version, fresh_row}
 use Rattle.misp_model.specs.Asking.{Scene, Rule, first_rule, event_written, change_rules, change_writes}
 use Rattle.misp_model.specs.Asking as asking
 use Rattle.misp_model.specs.Shown.{shown}
-use Rattle.misp_model.specs.Acts.{answer, ok_answer, ask_rules, brings, is_accepted, Refused, Seen, Saved}
+use Rattle.misp_model.specs.Acts.{answer, ok_answer, ask_rules, brings, is_accepted, concerning, Refused, Seen, Saved}
 use Rattle.misp_model.specs.Acts as model
 use Rattle.misp_edit.specs.Adding.{refusing, Refuses}
 use Rattle.misp_edit.specs.declared.fault.AddFault.{AddFault}
 use Rattle.misp_edit.specs.declared.fault.AddFault.TheVariants as faults
-use Rattle.misp_core.specs.Answers.{IsDecision, IsRefusal, reply_of, reply_in, writes_in, greatest, named, named_event, uuid_text, group_text, added_place, bare}
+use Rattle.misp_core.specs.Answers.{IsDecision, IsRefusal, reply_of, reply_in, writes_in, concerns, greatest, named, named_event, uuid_text, group_text, added_place, bare}
 use Rattle.misp_core.specs.declared.reply.Answer.TheVariants as answers
 use Rattle.misp_core.specs.declared.reply.Reply.TheVariants as replies
 
@@ -90,7 +92,7 @@ module _ (s : Scene) (admin : Admin) (event : EventId) (owner : Option OrgId) wh
       one false = refl
 
   -- the event is shown
-  pub sighted : (v : VisibleEvent) → shown s event owner ≡ Some v → IsDecision s admin (View event owner) (record { reply = replies.Ok (answers.Event (named_event admin v)); writes = [] })
+  pub sighted : (v : VisibleEvent) → shown s event owner ≡ Some v → IsDecision s admin (View event owner) (record { reply = replies.Ok (answers.Event (named_event admin s.groups v)); writes = [] })
   unfolding reply_in answer ask_rules ok_answer first_rule
   sighted v e = record {
     reply = ap (reply_of admin s (View event owner)) (sym (ap (λ (seen : Option VisibleEvent).
@@ -106,5 +108,23 @@ module _ (s : Scene) (admin : Admin) (event : EventId) (owner : Option OrgId) wh
     reply = ap (reply_of admin s (View event owner)) (sym (ap (λ (seen : Option VisibleEvent).
         elim (first_rule ((elim seen [ None ↦ true | Some x ↦ false ], asking.NotGranted) ∷ [])) [ None ↦ elim seen [ None ↦ model.Other | Some x ↦ Seen x ] | Some r ↦ Refused r ]) e));
     writes = sym none_written;
+    are_rows = tt;
+  }
+
+module _ (s : Scene) (admin : Admin) where
+  pub none_for_groups : writes_in s asks.Groups ≡ []
+  unfolding writes_in brings is_accepted
+  none_for_groups = one (is_accepted s asks.Groups)
+    where
+      one : (b : Bool) → cond b (map fresh_row []) [] ≡ []
+      one true = refl
+      one false = refl
+
+  -- the groups are told
+  pub listed : (groups : List Group) → groups ≡ filter (concerns s.by s.at) s.groups → IsDecision s admin asks.Groups (record { reply = replies.Ok (answers.Groups groups); writes = [] })
+  unfolding reply_in answer ask_rules ok_answer first_rule concerning
+  listed groups e = record {
+    reply = ap (λ (gs : List Group). replies.Ok (answers.Groups gs)) e;
+    writes = sym none_for_groups;
     are_rows = tt;
   }

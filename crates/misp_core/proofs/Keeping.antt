@@ -1,9 +1,13 @@
 -- A request to an instance whose keeper holds the tables is an act of the history.
-use Rattle.std.proofs.Common.{◌≡◌, ℕ, [], Bool, true, false, ltb, refl, sym, ap, subst, ◌∙◌, map, cond, Ok, inl, inr}
+use Rattle.std.proofs.Common.{◌≡◌, ℕ, List, [], Bool, true, false, ltb, refl, sym, ap, subst, ◌∙◌, map, cond, Ok, inl, inr}
 use Rattle.std.specs.List.{list_all}
+use Rattle.std.specs.List.Sorted.{IsStrictlySortedBy}
 use Rattle.std.proofs.lemmas.Bool.{cases_Bool}
+use Rattle.misp_ids.specs.declared.uid.EventId.{EventId}
 use Rattle.misp_elem.specs.Draft.{SubmissionFields as Submission}
 use Rattle.misp_elem.specs.Row.{AreRows}
+use Rattle.misp_groups.specs.declared.group.GroupFields.{GroupFields as Group}
+use Rattle.misp_groups.specs.Group.{AreGroups}
 use Rattle.misp_requests.specs.declared.ask.Ask.{Ask}
 use Rattle.misp_requests.specs.declared.ask.Ask.TheVariants.{View}
 use Rattle.misp_requests.specs.declared.ask.Ask.TheVariants as asks
@@ -17,53 +21,82 @@ use Rattle.misp_model.specs.History.{tables, fresh_row}
 use Rattle.misp_model.specs.Machine.{put_all, event_rows}
 use Rattle.misp_model.specs.Asking.{Scene, change_writes}
 use Rattle.misp_model.specs.Acts.{World, Net, scene, known_at, step, asked, brings, is_accepted}
-use Rattle.misp_model.proofs.Steps.{step_view, step_refused, step_changed}
+use Rattle.misp_model.proofs.Steps.{step_view, step_groups, step_refused, step_changed}
 use Rattle.misp_model.proofs.Submitted.{added_tables, added_elsewhere}
+use Rattle.misp_levels.specs.Groups.{by_name}
 use Rattle.misp_core.specs.Raw.{raw_row, rows_in}
-use Rattle.misp_core.specs.Answers.{Surroundings, event_asked, IsBuilt, scene_at, name_in, reply_in, writes_in, reply_over, writes_over}
+use Rattle.misp_core.specs.Sharing.{or_none, groups_of}
+use Rattle.misp_core.specs.Answers.{Surroundings, IsBuilt, scene_at, name_in, reply_in, writes_in, reply_over, writes_over}
 use Rattle.misp_core.specs.Outcome.{asked_of, with_rows}
 use Rattle.misp_core.specs.Keeping.{caller_at, act_at, Keeps}
-use Rattle.misp_core.proofs.Decisions.{none_written}
+use Rattle.misp_core.proofs.Decisions.{none_written, none_for_groups}
 use Rattle.misp_core.proofs.HeldRows.{rows_again, rows_of_event, rows_kept, rows_put, rows_put_held}
-use Rattle.misp_core.proofs.OwnRows.{own_alike}
+use Rattle.misp_core.proofs.OwnRows.{own_rows, own_alike}
 
--- what is held of the event that is asked about is that event's rows
-asked_rows : (here : Inst) (w : World) (ask : Ask) (held : Held) → Keeps here w held → asked_of ask held ≡ Ok (event_rows (event_asked ask) (tables w.log here))
-asked_rows here w ask held keeps =
-    ap (λ raws. rows_in (rows_of (event_asked ask) raws)) keeps.rows
-    ∙ ap rows_in (rows_of_event (event_asked ask) (tables w.log here))
-    ∙ rows_again _ (rows_kept (event_asked ask) (tables w.log here) keeps.are_rows)
+module _ (here : Inst) (w : World) (held : Held) (keeps : Keeps here w held) where
+  -- what is held of an event is that event's rows
+  event_read : (e : EventId) → rows_in (rows_of e held.rows) ≡ Ok (event_rows e (tables w.log here))
+  event_read e =
+      ap (λ raws. rows_in (rows_of e raws)) keeps.rows
+      ∙ ap rows_in (rows_of_event e (tables w.log here))
+      ∙ rows_again _ (rows_kept e (tables w.log here) keeps.are_rows)
 
--- where there are no groups, the scene over the tables is that of the act
-scene_there : (n : ℕ) (w : World) (at : Surroundings) (ask : Ask) → w.groups at.here ≡ [] → scene_at n at (tables w.log at.here) ≡ scene n w (act_at at ask) (caller_at at)
+  -- the groups that are held are those of the instance
+  pub groups_there : groups_of held ≡ w.groups here
+  groups_there = ap or_none keeps.groups
+
+  -- what is held of the event that is asked about is that event's rows
+  asked_rows : (ask : Ask) → IsBuilt ask → asked_of ask held ≡ Ok (own_rows ask (tables w.log here))
+  unfolding rows_in
+  asked_rows (View e owner) built = event_read e
+  asked_rows (asks.Change (AddEvent b)) built = event_read b.event
+  asked_rows (asks.Change (changes.AddParts e b)) built = absurd built
+  asked_rows (asks.Change (changes.EditEvent e edit)) built = absurd built
+  asked_rows (asks.Change (changes.EditAttribute e p edit)) built = absurd built
+  asked_rows (asks.Change (changes.EditObject e x edit)) built = absurd built
+  asked_rows (asks.Change (changes.Delete e p)) built = absurd built
+  asked_rows (asks.Change (changes.DeleteReference e x u)) built = absurd built
+  asked_rows (asks.Change (changes.Tag e p t)) built = absurd built
+  asked_rows (asks.Change (changes.Untag e p t)) built = absurd built
+  asked_rows (asks.Change (changes.DeleteEvent e)) built = absurd built
+  asked_rows (asks.Change (changes.Publish e)) built = absurd built
+  asked_rows (asks.Propose d) built = absurd built
+  asked_rows (asks.Judge e n accept) built = absurd built
+  asked_rows (asks.Sight e t d) built = absurd built
+  asked_rows asks.Index built = absurd built
+  asked_rows asks.Groups built = refl
+  asked_rows (asks.TakePart p) built = absurd built
+
+-- where the groups are those of the instance, the scene over the tables is that of the act
+scene_there : (n : ℕ) (w : World) (at : Surroundings) (ask : Ask) → at.groups ≡ w.groups at.here → scene_at n at (tables w.log at.here) ≡ scene n w (act_at at ask) (caller_at at)
 unfolding scene known_at
-scene_there n w at ask none = λ i. record {
+scene_there n w at ask same = λ i. record {
   act = n;
   at = at.here;
   by = at.caller.org;
   by_name = name_in at.admin at.caller.org;
   now = at.now;
   today = date_of at.now;
-  rows = known (tables w.log at.here) (sym none i) at.here at.caller.org;
-  groups = sym none i;
+  rows = known (tables w.log at.here) (same i) at.here at.caller.org;
+  groups = same i;
 }
 
 module _ (n : ℕ) (w : World) (at : Surroundings) (ask : Ask) (held : Held) where
   -- the reply is that of the history
-  pub replied_there : IsBuilt ask → w.groups at.here ≡ [] → Keeps at.here w held →
+  pub replied_there : IsBuilt ask → at.groups ≡ groups_of held → Keeps at.here w held →
       reply_over n at ask (asked_of ask held) ≡ reply_in at.admin (scene n w (act_at at ask) (caller_at at)) ask
-  replied_there built none keeps =
-      ap (reply_over n at ask) (asked_rows at.here w ask held keeps)
+  replied_there built same keeps =
+      ap (reply_over n at ask) (asked_rows at.here w held keeps ask built)
       ∙ (own_alike at.admin ask (tables w.log at.here) (scene_at n at []) built).replies
-      ∙ ap (λ s. reply_in at.admin s ask) (scene_there n w at ask none)
+      ∙ ap (λ s. reply_in at.admin s ask) (scene_there n w at ask (same ∙ groups_there at.here w held keeps))
 
   -- what is written is what the history has as rows
-  written_there : IsBuilt ask → w.groups at.here ≡ [] → Keeps at.here w held →
+  written_there : IsBuilt ask → at.groups ≡ groups_of held → Keeps at.here w held →
       writes_over n at ask (asked_of ask held) ≡ writes_in (scene n w (act_at at ask) (caller_at at)) ask
-  written_there built none keeps =
-      ap (writes_over n at ask) (asked_rows at.here w ask held keeps)
+  written_there built same keeps =
+      ap (writes_over n at ask) (asked_rows at.here w held keeps ask built)
       ∙ (own_alike at.admin ask (tables w.log at.here) (scene_at n at []) built).writes
-      ∙ ap (λ s. writes_in s ask) (scene_there n w at ask none)
+      ∙ ap (λ s. writes_in s ask) (scene_there n w at ask (same ∙ groups_there at.here w held keeps))
 
 module _ (net : Net) (n : ℕ) (w : World) (at : Surroundings) where
   abbrev there : Ask → Scene
@@ -80,6 +113,12 @@ module _ (net : Net) (n : ℕ) (w : World) (at : Surroundings) where
   view_left e owner =
       ap (λ (v : World). tables v.log at.here) (step_view net n w (act_at at (View e owner)) (caller_at at) e owner refl)
       ∙ sym (ap (λ rows. put_all rows (tables w.log at.here)) (none_written (there (View e owner)) at.admin e owner))
+
+  told_left : tables (step net n w (act_at at asks.Groups)).log at.here ≡ put_all (writes_in (there asks.Groups) asks.Groups) (tables w.log at.here)
+  unfolding put_all
+  told_left =
+      ap (λ (v : World). tables v.log at.here) (step_groups net n w (act_at at asks.Groups) (caller_at at) refl)
+      ∙ sym (ap (λ rows. put_all rows (tables w.log at.here)) (none_for_groups (there asks.Groups) at.admin))
 
   module _ (b : Submission) where
     abbrev ask : Ask
@@ -126,6 +165,7 @@ module _ (net : Net) (n : ℕ) (w : World) (at : Surroundings) where
   tables_left (asks.Judge e n accept) built older = absurd built
   tables_left (asks.Sight e t d) built older = absurd built
   tables_left asks.Index built older = absurd built
+  tables_left asks.Groups built older = told_left
   tables_left (asks.TakePart p) built older = absurd built
 
   -- the act changes no tables elsewhere
@@ -146,6 +186,7 @@ module _ (net : Net) (n : ℕ) (w : World) (at : Surroundings) where
   same_elsewhere (asks.Judge e n accept) built j apart = absurd built
   same_elsewhere (asks.Sight e t d) built j apart = absurd built
   same_elsewhere asks.Index built j apart = absurd built
+  same_elsewhere asks.Groups built j apart = ap (λ (v : World). tables v.log j) (step_groups net n w (act_at at asks.Groups) (caller_at at) refl)
   same_elsewhere (asks.TakePart p) built j apart = absurd built
 
   -- it changes no groups
@@ -154,10 +195,10 @@ module _ (net : Net) (n : ℕ) (w : World) (at : Surroundings) where
   same_groups a = refl
 
   -- and its keeper holds the tables after it
-  pub left_there : (a : Ask) (held : Held) → IsBuilt a → list_all (λ v. ltb v.act n) w.log ≡ true → w.groups at.here ≡ [] → Keeps at.here w held →
+  pub left_there : (a : Ask) (held : Held) → IsBuilt a → list_all (λ v. ltb v.act n) w.log ≡ true → at.groups ≡ groups_of held → Keeps at.here w held →
       AreRows (writes_over n at a (asked_of a held)) → Keeps at.here (step net n w (act_at at a)) (with_rows (writes_over n at a (asked_of a held)) held)
-  left_there a held built older none keeps are =
-      let written : writes_over n at a (asked_of a held) ≡ writes_in (there a) a = written_there n w at a held built none keeps in
+  left_there a held built older same keeps are =
+      let written : writes_over n at a (asked_of a held) ≡ writes_in (there a) a = written_there n w at a held built same keeps in
       let left : tables (step net n w (act_at at a)).log at.here ≡ put_all (writes_over n at a (asked_of a held)) (tables w.log at.here) =
       tables_left a built older ∙ sym (ap (λ rows. put_all rows (tables w.log at.here)) written) in
       record {
@@ -166,4 +207,7 @@ module _ (net : Net) (n : ℕ) (w : World) (at : Surroundings) where
             ∙ rows_put_held _ (tables w.log at.here) are keeps.are_rows
             ∙ sym (ap (map raw_row) left);
         are_rows = subst AreRows (sym left) (rows_put _ (tables w.log at.here) are keeps.are_rows);
+        groups = keeps.groups ∙ ap (λ (groups : Inst → List Group). Ok (groups at.here)) (sym (same_groups a));
+        are_groups = subst (λ (groups : Inst → List Group). AreGroups (groups at.here)) (sym (same_groups a)) keeps.are_groups;
+        ascend = subst (λ (groups : Inst → List Group). IsStrictlySortedBy by_name (groups at.here)) (sym (same_groups a)) keeps.ascend;
       }

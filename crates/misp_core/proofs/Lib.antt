@@ -1,6 +1,9 @@
 pub mod Decisions
 pub mod Serving
 pub mod HeldRows
+pub mod GroupRows
 pub mod OwnRows
 pub mod Keeping
 pub mod Ordering
+pub mod Administered
+pub mod KeepingGroups

@@ -49,7 +49,7 @@ by_rule admin s b (Some r) = refl
 
 -- of an ask in its scene
 in_scene : (admin : Admin) (s : Scene) (ask : Ask) → IsBuilt ask → rule_of (reply_in admin s ask) ≡ first_ground (map ground_of (ask_rules s ask))
-unfolding reply_in answer ask_rules ok_answer
+unfolding reply_in answer ask_rules ok_answer first_ground first_rule
 in_scene admin s (View event owner) built = by_seen admin s event owner (shown s event owner)
 in_scene admin s (asks.Change (AddEvent b)) built =
     by_rule admin s b (first_rule (change_rules s (AddEvent b))) ∙ sym (first_named (change_rules s (AddEvent b)))
@@ -67,6 +67,7 @@ in_scene admin s (asks.Propose d) built = absurd built
 in_scene admin s (asks.Judge e n accept) built = absurd built
 in_scene admin s (asks.Sight e t d) built = absurd built
 in_scene admin s asks.Index built = absurd built
+in_scene admin s asks.Groups built = refl
 in_scene admin s (asks.TakePart p) built = absurd built
 
 -- over the rows of the event, by whether the role permits the ask
@@ -85,7 +86,7 @@ in_order n at ask held reply built is went =
     ap rule_of (is ∙ ap (λ (o : Outcome). step_reply o n at ask held) went)
     ∙ by_rows n at ask (is_permitted at.caller ask) (asked_of ask held) built
 
-pub told_in_order : (n : ℕ) (at : Surroundings) (ask : Ask) (old new : Option Held) (reply : Reply) → IsBuilt ask
-    → IfSome old (λ held. IsAnswered n at ask held reply new) → IfSome old (λ held. IsInOrder (grounds n at ask held) reply)
+pub told_in_order : (n : ℕ) (at : Held → Surroundings) (ask : Ask) (old new : Option Held) (reply : Reply) → IsBuilt ask
+    → IfSome old (λ held. IsAnswered n (at held) ask held reply new) → IfSome old (λ held. IsInOrder (grounds n (at held) ask held) reply)
 told_in_order n at ask None new reply built is = tt
-told_in_order n at ask (Some held) new reply built is = in_order n at ask held reply built is.reply_is
+told_in_order n at ask (Some held) new reply built is = in_order n (at held) ask held reply built is.reply_is

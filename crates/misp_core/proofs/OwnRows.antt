@@ -20,13 +20,15 @@ use Rattle.misp_model.specs.History.{fresh_row}
 use Rattle.misp_model.specs.Asking.{Scene, Rule, takes_uuid, is_taken, is_usable, has_target, uuid_at}
 use Rattle.misp_model.specs.Order.{in_order}
 use Rattle.misp_model.specs.Asking as asking
-use Rattle.misp_model.specs.Acts.{answer, brings, is_accepted}
+use Rattle.misp_model.specs.Acts.{ask_rules, answer, ok_answer, brings, is_accepted, concerning}
 use Rattle.misp_model.specs.Acts as model
 use Rattle.misp_model.specs.Machine.{event_rows, seeing}
 use Rattle.misp_model.proofs.Lists.{any_cut}
 use Rattle.misp_model.proofs.OneEvent.{IsSame, known_here, has_target_of_event, view_of_event, add_of_event}
 use Rattle.misp_edit.specs.Adding.{numbered_uuids, is_read_before, read_uuids, with_those_before, is_clash, first_clash, labels_of, first_unusable}
-use Rattle.misp_core.specs.Answers.{Surroundings, event_asked, IsBuilt, added_place, place_of, uuid_text, group_text, reply_of, reply_in, writes_in, scene_at}
+use Rattle.misp_core.specs.declared.reply.Answer.TheVariants as answers
+use Rattle.misp_core.specs.declared.reply.Reply.TheVariants as replies
+use Rattle.misp_core.specs.Answers.{event_asked, IsBuilt, named, named_event, added_place, place_of, uuid_text, group_text, reply_of, reply_in, writes_in}
 
 -- ---- places
 
@@ -94,25 +96,36 @@ pub record IsAlike (admin : Admin) (s t : Scene) (ask : Ask) : Type 0 where
   pub replies : reply_in admin s ask ≡ reply_in admin t ask
   pub writes : writes_in s ask ≡ writes_in t ask
 
-reply_alike : (admin : Admin) (s t : Scene) (ask : Ask) → ((rule : Rule) → place_of s ask rule ≡ place_of t ask rule) → (r : model.Reply) → reply_of admin s ask r ≡ reply_of admin t ask r
-reply_alike admin s t ask h (model.Refused rule) = λ i. Rattle.misp_core.specs.declared.reply.Reply.TheVariants.Refused (record { name = Rattle.misp_core.specs.Answers.named rule; place = h rule i })
-reply_alike admin s t ask h (model.Seen v) = refl
-reply_alike admin s t ask h (model.Saved vs) = refl
-reply_alike admin s t ask h (model.Listed vs) = refl
-reply_alike admin s t ask h (model.Taken n) = refl
-reply_alike admin s t ask h model.Other = refl
+reply_alike : (admin : Admin) (s t : Scene) (ask : Ask) → s.groups ≡ t.groups → ((rule : Rule) → place_of s ask rule ≡ place_of t ask rule) → (r : model.Reply) → reply_of admin s ask r ≡ reply_of admin t ask r
+reply_alike admin s t ask g h (model.Refused rule) = λ i. replies.Refused (record { name = named rule; place = h rule i })
+reply_alike admin s t ask g h (model.Seen v) = ap (λ groups. replies.Ok (answers.Event (named_event admin groups v))) g
+reply_alike admin s t ask g h (model.Saved vs) = refl
+reply_alike admin s t ask g h (model.Shares groups) = refl
+reply_alike admin s t ask g h (model.Listed vs) = refl
+reply_alike admin s t ask g h (model.Taken n) = refl
+reply_alike admin s t ask g h model.Other = refl
 
-alike : (admin : Admin) (s t : Scene) (ask : Ask) → ((rule : Rule) → place_of s ask rule ≡ place_of t ask rule) → IsSame s t ask → IsAlike admin s t ask
+alike : (admin : Admin) (s t : Scene) (ask : Ask) → s.groups ≡ t.groups → ((rule : Rule) → place_of s ask rule ≡ place_of t ask rule) → IsSame s t ask → IsAlike admin s t ask
 unfolding reply_in writes_in
-alike admin s t ask h same = record {
-  replies = reply_alike admin s t ask h (answer s ask) ∙ ap (reply_of admin t ask) same.answers;
+alike admin s t ask g h same = record {
+  replies = reply_alike admin s t ask g h (answer s ask) ∙ ap (reply_of admin t ask) same.answers;
   writes = λ i. cond (same.accepted i) (map fresh_row (same.brought i)) [];
 }
 
+-- the rows that an ask is about, among those of a table
+abbrev pub own_rows : Ask → List Row → List Row
+own_rows asks.Groups rows = []
+own_rows ask rows = event_rows (event_asked ask) rows
+
+-- the groups are told whatever the rows are
+groups_of_any : (s : Scene) (rows others : List Row) → IsSame (seeing s rows) (seeing s others) asks.Groups
+unfolding ask_rules is_accepted answer ok_answer brings concerning
+groups_of_any s rows others = record { rules = refl; accepted = refl; answers = refl; brought = refl }
+
 -- what is asked of an event is replied and written over its own rows as over all
-pub own_alike : (admin : Admin) (ask : Ask) (rows : List Row) (s : Scene) → IsBuilt ask → IsAlike admin (seeing s (event_rows (event_asked ask) rows)) (seeing s rows) ask
-own_alike admin (View e owner) rows s built = alike admin _ _ (View e owner) (λ rule. refl) (view_of_event e rows s owner)
-own_alike admin (asks.Change (AddEvent b)) rows s built = alike admin _ _ (asks.Change (AddEvent b)) (added_place_own b rows s) (add_of_event b rows s)
+pub own_alike : (admin : Admin) (ask : Ask) (rows : List Row) (s : Scene) → IsBuilt ask → IsAlike admin (seeing s (own_rows ask rows)) (seeing s rows) ask
+own_alike admin (View e owner) rows s built = alike admin _ _ (View e owner) refl (λ rule. refl) (view_of_event e rows s owner)
+own_alike admin (asks.Change (AddEvent b)) rows s built = alike admin _ _ (asks.Change (AddEvent b)) refl (added_place_own b rows s) (add_of_event b rows s)
 own_alike admin (asks.Change (changes.AddParts e b)) rows s built = absurd built
 own_alike admin (asks.Change (changes.EditEvent e edit)) rows s built = absurd built
 own_alike admin (asks.Change (changes.EditAttribute e p edit)) rows s built = absurd built
@@ -127,4 +140,5 @@ own_alike admin (asks.Propose d) rows s built = absurd built
 own_alike admin (asks.Judge e n accept) rows s built = absurd built
 own_alike admin (asks.Sight e t d) rows s built = absurd built
 own_alike admin asks.Index rows s built = absurd built
+own_alike admin asks.Groups rows s built = alike admin _ _ asks.Groups refl (λ rule. refl) (groups_of_any s [] rows)
 own_alike admin (asks.TakePart p) rows s built = absurd built

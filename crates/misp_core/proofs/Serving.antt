@@ -3,16 +3,18 @@ use Rattle.std.proofs.Common.{◌≡◌, ℕ, ◌<◌, List, [], ◌∷◌, leng
 use Rattle.std.specs.Prelude.{Bool, true, false, if◌then◌else◌, IfOk, IfSome, OnErr}
 use Rattle.misp_elem.specs.declared.row.RowFields.{RowFields as Row}
 use Rattle.misp_elem.specs.Row.{AreRows}
+use Rattle.misp_groups.specs.declared.group.GroupFields.{GroupFields as Group}
 use Rattle.misp_requests.specs.declared.ask.Ask.{Ask}
 use Rattle.misp_requests.specs.declared.ask.Ask.TheVariants.{View}
 use Rattle.misp_requests.specs.declared.ask.Ask.TheVariants as asks
 use Rattle.misp_requests.specs.declared.change.Change.TheVariants.{AddEvent}
 use Rattle.misp_requests.specs.declared.change.Change.TheVariants as changes
 use Rattle.misp_orgs.specs.Admin.{AdminFields as Admin}
+use Rattle.misp_orgs.specs.Keys.{CallerFields as Caller}
 use Rattle.misp_outside.specs.declared.fault.KeeperFault.{KeeperFault}
 use Rattle.misp_outside.specs.declared.fault.KeeperFault.TheVariants as stops
 use Rattle.misp_outside.specs.declared.row.RawRow.{RawRow}
-use Rattle.misp_outside.specs.Held.{Held, put_rows, put_admins, with_batch, rows_of}
+use Rattle.misp_outside.specs.Held.{Held, put_rows, put_admins, with_batch}
 use Rattle.misp_model.specs.Asking.{Scene, Rule, first_rule}
 use Rattle.misp_model.specs.Asking as asking
 use Rattle.misp_model.specs.Acts.{answer}
@@ -21,12 +23,14 @@ use Rattle.misp_edit.specs.Adding.{refusing}
 use Rattle.misp_elem.specs.declared.refusal.RuleName.TheVariants as rules
 use Rattle.misp_core.specs.Permission.{is_permitted}
 use Rattle.misp_core.specs.Raw.{raw_row, rows_in}
-use Rattle.misp_core.specs.Answers.{Surroundings, event_asked, IsBuilt, IsVerdict, reply_of, reply_in, writes_in, reply_over, writes_over, named, scene_at, bare}
-use Rattle.misp_core.specs.Outcome.{Outcome, Went, ByKeeper, ByMemory, outcome_of, asked_of, reply_to, held_after, refusal_by, forbidden, step_reply, step_held, with_rows, IsServed, IsAnswered, IsRefused, replied_of}
+use Rattle.misp_core.specs.Sharing.{HoldsGroups, or_none, groups_of}
+use Rattle.misp_core.specs.Standing.{Standing}
+use Rattle.misp_core.specs.Answers.{Surroundings, site_at, IsBuilt, IsVerdict, reply_of, reply_in, writes_in, reply_over, writes_over, named, scene_at, bare}
+use Rattle.misp_core.specs.Outcome.{Outcome, Went, ByKeeper, ByMemory, outcome_of, rows_asked, asked_of, reply_to, held_after, refusal_by, forbidden, step_reply, step_held, with_rows, IsServed, IsAnswered, IsRefused, replied_of}
 use Rattle.misp_core.specs.declared.decide.Verdict.{Verdict}
 use Rattle.misp_core.specs.declared.reply.Reply.{Reply}
 use Rattle.misp_core.specs.declared.reply.Reply.TheVariants as replies
-use Rattle.misp_core.proofs.Decisions.{answered, unwritten, none_written}
+use Rattle.misp_core.proofs.Decisions.{answered, unwritten, none_written, none_for_groups}
 
 -- no rows put change nothing
 pub put_none : (held : Option Held) → held ≡ option_map (with_rows []) held
@@ -58,6 +62,7 @@ reply_went : (admin : Admin) (s : Scene) (ask : Ask) (r : model.Reply) → outco
 reply_went admin s ask (model.Refused rule) = rule_went rule
 reply_went admin s ask (model.Seen v) = refl
 reply_went admin s ask (model.Saved vs) = refl
+reply_went admin s ask (model.Shares groups) = refl
 reply_went admin s ask (model.Listed vs) = refl
 reply_went admin s ask (model.Taken n) = refl
 reply_went admin s ask model.Other = refl
@@ -91,6 +96,7 @@ refused_writes admin s (asks.Propose d) built refused = absurd built
 refused_writes admin s (asks.Judge e n accept) built refused = absurd built
 refused_writes admin s (asks.Sight e t d) built refused = absurd built
 refused_writes admin s asks.Index built refused = absurd built
+refused_writes admin s asks.Groups built refused = none_for_groups s admin
 refused_writes admin s (asks.TakePart p) built refused = absurd built
 
 pub verdict_refused : (n : ℕ) (at : Surroundings) (ask : Ask) (rows : Result (List Row) (List ℕ)) (verdict : Verdict) → IsBuilt ask → IsVerdict n at ask rows verdict → IsRefused verdict.reply → verdict.writes ≡ []
@@ -158,15 +164,15 @@ module _ (n : ℕ) (at : Surroundings) (ask : Ask) where
     are_rows = λ w. absurd cc;
   }
 
-  -- an ask that is not permitted is refused, and what is held stays
-  pub turned_away : (old : Option Held) (reply : Reply) → is_permitted at.caller ask ≡ false → reply ≡ refusal_by (outcome_of reply) (forbidden ask)
-      → IfSome old (λ held. IsAnswered n at ask held reply old)
-  turned_away None reply may is = tt
-  turned_away (Some held) reply may is = record {
-    reply_is = is ∙ unless _ (reply_to (outcome_of reply) n at ask held) _ may;
-    left = ap (λ (h : Held). Some h) (unless _ (held_after (outcome_of reply) n at ask held) held may);
-    are_rows = λ w. subst AreRows (unless _ (writes_over n at ask (asked_of ask held)) [] may) tt;
-  }
+-- an ask that is not permitted is refused, and what is held stays
+pub turned_away : (n : ℕ) (i : Standing) (caller : Caller) (now : ℕ) (ask : Ask) (old : Option Held) (reply : Reply) → is_permitted caller ask ≡ false → reply ≡ refusal_by (outcome_of reply) (forbidden ask)
+    → IfSome old (λ held. IsAnswered n (site_at i held caller now) ask held reply old)
+turned_away n i caller now ask None reply may is = tt
+turned_away n i caller now ask (Some held) reply may is = record {
+  reply_is = is ∙ unless _ (reply_to (outcome_of reply) n (site_at i held caller now) ask held) _ may;
+  left = ap (λ (h : Held). Some h) (unless _ (held_after (outcome_of reply) n (site_at i held caller now) ask held) held may);
+  are_rows = λ w. subst AreRows (unless _ (writes_over n (site_at i held caller now) ask (asked_of ask held)) [] may) tt;
+}
 
 pub empty_below : (rows : List Row) → length rows < 1 → rows ≡ []
 empty_below [] few = refl
@@ -174,8 +180,22 @@ empty_below (r ∷ rows) few = absurd (omega arith)
 
 -- the same over a keeper that may not tell
 pub served_told : (n : ℕ) (at : Surroundings) (ask : Ask) (old new : Option Held) (raws : List RawRow) (verdict : Verdict)
-    → IfSome old (λ told. raws ≡ rows_of (event_asked ask) told.rows) → IsVerdict n at ask (rows_in raws) verdict
+    → IfSome old (λ told. raws ≡ rows_asked ask told.rows) → IsVerdict n at ask (rows_in raws) verdict
     → new ≡ option_map (with_rows verdict.writes) old → IfSome old (λ held. IsServed n at ask held verdict.reply new)
 served_told n at ask None new raws verdict found is put = tt
 served_told n at ask (Some held) new raws verdict found is put =
     served n at ask held new verdict (subst (λ rs. IsVerdict n at ask (rows_in rs) verdict) found is) put
+
+-- rows of events that are put leave the groups
+pub groups_stay : (rows : List Row) (old new : Option Held) → new ≡ option_map (with_rows rows) old → (groups : List Group) → HoldsGroups old groups → HoldsGroups new groups
+groups_stay rows None new e groups holds = subst (λ held. HoldsGroups held groups) (sym e) tt
+groups_stay rows (Some held) new e groups holds = subst (λ (h : Option Held). HoldsGroups h groups) (sym e) holds
+
+-- and so does a keeper that holds what it held
+pub groups_as_held : (old new : Option Held) → new ≡ old → (groups : List Group) → HoldsGroups old groups → HoldsGroups new groups
+groups_as_held old new e groups holds = subst (λ held. HoldsGroups held groups) (sym e) holds
+
+-- where a keeper tells what it holds, the groups are those that are held
+pub at_groups : (old : Option Held) (groups : List Group) (P : Held → List Group → Type 0) → HoldsGroups old groups → IfSome old (λ held. P held groups) → IfSome old (λ held. P held (groups_of held))
+at_groups None groups P holds is = tt
+at_groups (Some held) groups P holds is = subst (P held) (sym (ap or_none holds)) is

@@ -1,5 +1,5 @@
 -- What a request is answered where nothing stops it, and what it writes.
-use Rattle.std.specs.Prelude.{◌≡◌, ℕ, true, cond, is_some, List, [], map, length, fold, max, unwrap_or, Result, Ok, Err}
+use Rattle.std.specs.Prelude.{◌≡◌, ℕ, Bool, true, ◌||◌, cond, is_some, List, [], map, length, fold, max, unwrap_or, Result, Ok, Err}
 use Rattle.std.specs.declared.option.Option.{Option}
 use Rattle.std.specs.declared.option.Option.TheVariants.{None, Some}
 use Rattle.hex.specs.Hex.{encode_lower}
@@ -15,6 +15,7 @@ use Rattle.misp_elem.specs.declared.refusal.RuleName.TheVariants as rules
 use Rattle.misp_elem.specs.declared.visible.VisibleEvent.{VisibleEvent}
 use Rattle.misp_elem.specs.Draft.{SubmissionFields as Submission}
 use Rattle.misp_elem.specs.Row.{AreRows}
+use Rattle.misp_groups.specs.declared.group.GroupFields.{GroupFields as Group}
 use Rattle.misp_requests.specs.declared.ask.Ask.{Ask}
 use Rattle.misp_requests.specs.declared.ask.Ask.TheVariants.{View}
 use Rattle.misp_requests.specs.declared.ask.Ask.TheVariants as asks
@@ -22,7 +23,10 @@ use Rattle.misp_requests.specs.declared.change.Change.TheVariants.{AddEvent}
 use Rattle.misp_orgs.specs.Admin.{AdminFields as Admin}
 use Rattle.misp_orgs.specs.Keys.{CallerFields as Caller}
 use Rattle.misp_orgs.specs.Org.{name_of}
+use Rattle.misp_outside.specs.Held.{Held}
 use Rattle.misp_dates.specs.Dates.{date_of}
+use Rattle.misp_model.specs.Names.{same_org}
+use Rattle.misp_model.specs.Audience.{allows}
 use Rattle.misp_model.specs.View.{known}
 use Rattle.misp_model.specs.History.{Version, fresh_row}
 use Rattle.misp_model.specs.Asking.{Scene, Rule}
@@ -33,10 +37,13 @@ use Rattle.misp_edit.specs.Adding.{scene_of, first_clash, first_unusable}
 use Rattle.misp_edit.specs.declared.fault.AddFault.{AddFault}
 use Rattle.misp_edit.specs.declared.fault.AddFault.TheVariants as faults
 use Rattle.misp_core.specs.Standing.{Standing}
+use Rattle.misp_core.specs.Sharing.{groups_of}
+use Rattle.misp_core.specs.Naming.{group_names}
 use Rattle.misp_core.specs.declared.reply.Answer.{Answer}
 use Rattle.misp_core.specs.declared.reply.Answer.TheVariants as answers
 use Rattle.misp_core.specs.declared.reply.Reply.{Reply}
 use Rattle.misp_core.specs.declared.reply.Reply.TheVariants as replies
+use Rattle.misp_core.specs.declared.site.Site.{Site}
 use Rattle.misp_core.specs.declared.decide.Verdict.{Verdict}
 
 -- ---- asks
@@ -45,9 +52,10 @@ use Rattle.misp_core.specs.declared.decide.Verdict.{Verdict}
 abbrev pub IsAdded : Submission → Type 0
 IsAdded b = is_some b.body ≡ true
 
--- the asks that are built: showing an event, and adding one
+-- the asks that are built: showing an event, adding one, and telling the groups
 abbrev pub IsBuilt : Ask → Type 0
 IsBuilt (View event owner) = Unit {0}
+IsBuilt asks.Groups = Unit {0}
 IsBuilt (asks.Change (AddEvent b)) = IsAdded b
 IsBuilt ask = ⊥
 
@@ -70,23 +78,30 @@ name_in admin org = unwrap_or (name_of admin.orgs org) []
 pub record Surroundings : Type 0 where
   pub here : List ℕ
   pub admin : Admin
+  pub groups : List Group
   pub caller : Caller
   pub now : ℕ
 
-abbrev pub site : List ℕ → Admin → Caller → ℕ → Surroundings
-site here admin caller now = record { here = here; admin = admin; caller = caller; now = now }
+abbrev pub site : List ℕ → Admin → List Group → Caller → ℕ → Surroundings
+site here admin groups caller now =
+    record { here = here; admin = admin; groups = groups; caller = caller; now = now }
 
-abbrev pub site_at : Standing → Caller → ℕ → Surroundings
-site_at i caller now = site i.name i.admin caller now
+abbrev pub site_of : Site → Surroundings
+site_of s = site s.here.now s.admin.now s.groups.now s.caller.now s.moment
+
+-- the surroundings at an instance that holds this
+abbrev pub site_at : Standing → Held → Caller → ℕ → Surroundings
+site_at i held caller now = site i.name i.admin (groups_of held) caller now
 
 -- the scene of the n-th request, over what the caller knows
 abbrev pub scene_with : ℕ → Surroundings → List Row → Scene
 scene_with n at rows =
-    scene_of n at.here at.caller.org (name_in at.admin at.caller.org) at.now (date_of at.now) rows
+    scene_of n at.here at.caller.org (name_in at.admin at.caller.org) at.now (date_of at.now)
+    at.groups rows
 
 -- the scene of the n-th request, over these rows
 abbrev pub scene_at : ℕ → Surroundings → List Row → Scene
-scene_at n at rows = scene_with n at (known rows [] at.here at.caller.org)
+scene_at n at rows = scene_with n at (known rows at.groups at.here at.caller.org)
 
 -- ---- refusals
 
@@ -135,6 +150,10 @@ bad_row name = record { name = rules.BadRow; place = encode_lower name }
 
 -- ---- answers
 
+-- the organisation created the group, or the group allows it here
+abbrev pub concerns : OrgId → List ℕ → Group → Bool
+concerns org here g = same_org g.id.creator org || allows g org here
+
 -- the greatest of the stamps, or 0 where there is none
 unfoldable pub greatest : List ℕ → ℕ
 greatest stamps = fold max 0 stamps
@@ -143,15 +162,18 @@ greatest stamps = fold max 0 stamps
 abbrev pub saved : EventId → List Version → Answer
 saved event vs = answers.Saved (length vs) event (greatest (map (λ v. v.stamp) vs))
 
--- the event with the name of its holder
-abbrev pub named_event : Admin → VisibleEvent → VisibleEvent
-named_event admin v = record v { org_name = name_in admin v.row.owner }
+-- the event with the name of its holder, and with those of the groups that its labels name
+abbrev pub named_event : Admin → List Group → VisibleEvent → VisibleEvent
+named_event admin groups v =
+    record v { org_name = name_in admin v.row.owner; group_names = group_names groups v }
 
 -- a reply of the definitions, as it is given
 abbrev pub reply_of : Admin → Scene → Ask → model.Reply → Reply
 reply_of admin s ask (model.Refused rule) =
     replies.Refused (record { name = named rule; place = place_of s ask rule })
-reply_of admin s ask (model.Seen v) = replies.Ok (answers.Event (named_event admin v))
+reply_of admin s ask (model.Seen v) =
+    replies.Ok (answers.Event (named_event admin s.groups v))
+reply_of admin s ask (model.Shares groups) = replies.Ok (answers.Groups groups)
 reply_of admin s ask (model.Saved vs) = replies.Ok (saved (event_asked ask) vs)
 reply_of admin s ask _ = replies.Refused (bare rules.NoRoute)
 

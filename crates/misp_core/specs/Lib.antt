@@ -1,7 +1,11 @@
 pub mod Raw
+pub mod Sharing
 pub mod Standing
 pub mod Permission
+pub mod Naming
 pub mod Answers
 pub mod Outcome
+pub mod Administering
+pub mod Opening
 pub mod Keeping
 pub mod Order

@@ -1,5 +1,5 @@
 -- What stopped a request, and what it is answered and leaves where that is known.
-use Rattle.std.specs.Prelude.{◌≡◌, ℕ, ◌==◌, List, [], map, Result, Ok, Err, if◌then◌else◌}
+use Rattle.std.specs.Prelude.{◌≡◌, ℕ, Bool, true, false, ◌==◌, List, [], map, Result, Ok, Err, if◌then◌else◌}
 use Rattle.std.specs.declared.option.Option.{Option}
 use Rattle.std.specs.declared.option.Option.TheVariants.{Some}
 use Rattle.misp_elem.specs.declared.refusal.Refusal.{Refusal}
@@ -8,9 +8,11 @@ use Rattle.misp_elem.specs.declared.refusal.RuleName.TheVariants as rules
 use Rattle.misp_elem.specs.Refusal.{rule_number}
 use Rattle.misp_elem.specs.Row.{AreRows}
 use Rattle.misp_requests.specs.declared.ask.Ask.{Ask}
+use Rattle.misp_requests.specs.declared.ask.Ask.TheVariants as asks
 use Rattle.misp_elem.specs.declared.row.RowFields.{RowFields as Row}
 use Rattle.misp_outside.specs.declared.fault.KeeperFault.{KeeperFault}
 use Rattle.misp_outside.specs.declared.fault.KeeperFault.TheVariants as stops
+use Rattle.misp_outside.specs.declared.row.RawRow.{RawRow}
 use Rattle.misp_outside.specs.Held.{Held, rows_of, put_rows}
 use Rattle.misp_core.specs.Raw.{raw_row, rows_in}
 use Rattle.misp_core.specs.Permission.{permission_of, is_permitted, no_permission}
@@ -34,9 +36,15 @@ abbrev pub outcome_of : Reply → Outcome
 outcome_of (replies.Ok answer) = Went
 outcome_of (replies.Refused refusal) = outcome_by refusal.name
 
+-- of what is held the rows of the event that is asked about; who asks for the groups asks about
+-- no event
+abbrev pub rows_asked : Ask → List RawRow → List RawRow
+rows_asked asks.Groups raws = []
+rows_asked ask raws = rows_of (event_asked ask) raws
+
 -- what is held of the event that is asked about, as rows
 abbrev pub asked_of : Ask → Held → Result (List Row) (List ℕ)
-asked_of ask held = rows_in (rows_of (event_asked ask) held.rows)
+asked_of ask held = rows_in (rows_asked ask held.rows)
 
 -- the reply to the n-th request, where this is held, under this outcome
 abbrev pub reply_to : Outcome → ℕ → Surroundings → Ask → Held → Reply
@@ -95,6 +103,11 @@ pub record IsServed (n : ℕ) (at : Surroundings) (ask : Ask)
   pub reply_is : reply ≡ reply_over n at ask (asked_of ask held)
   pub left : new ≡ Some (with_rows (writes_over n at ask (asked_of ask held)) held)
   pub are_rows : AreRows (writes_over n at ask (asked_of ask held))
+
+-- the reply is a refusal
+abbrev pub is_refused : Reply → Bool
+is_refused (replies.Refused refusal) = true
+is_refused (replies.Ok answer) = false
 
 abbrev pub IsRefused : Reply → Type 0
 IsRefused (replies.Refused refusal) = Unit {0}

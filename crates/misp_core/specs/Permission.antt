@@ -20,6 +20,7 @@ change_permission change = perms.Write
 abbrev pub permission_of : Ask → Perm
 permission_of (asks.View event owner) = perms.Read
 permission_of asks.Index = perms.Read
+permission_of asks.Groups = perms.Read
 permission_of (asks.Change change) = change_permission change
 permission_of (asks.Propose draft) = perms.Propose
 permission_of (asks.Judge event proposal accept) = perms.Write

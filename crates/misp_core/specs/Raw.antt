@@ -4,7 +4,6 @@ use Rattle.std.specs.declared.option.Option.{Option}
 use Rattle.std.specs.declared.option.Option.TheVariants.{None, Some}
 use Rattle.misp_elem.specs.declared.row.RowFields.{RowFields as Row}
 use Rattle.misp_elem.specs.Spelling as spelling
-use Rattle.misp_model.specs.Machine.{name_bytes}
 use Rattle.misp_elem.specs.RowReading.{row_of}
 use Rattle.misp_model.specs.Names.{same_event, event_of}
 use Rattle.misp_model.specs.Machine.{name_bytes}
@@ -33,20 +32,22 @@ row_read raw (Err left) = None
 unfoldable pub row_in : RawRow → Option Row
 row_in raw = row_read raw (row_of raw.bytes)
 
-abbrev pub onto : List ℕ → Option Row → Result (List Row) (List ℕ) → Result (List Row) (List ℕ)
+-- what stands under a name before what is read of the others, or the first name of none
+abbrev pub onto : {A : Type 0} → List ℕ → Option A → Result (List A) (List ℕ) →
+    Result (List A) (List ℕ)
 onto name None others = Err name
-onto name (Some row) (Ok rows) = Ok (row ∷ rows)
-onto name (Some row) (Err other) = Err other
+onto name (Some item) (Ok items) = Ok (item ∷ items)
+onto name (Some item) (Err first) = Err first
 
 -- all the rows, or the name of the first that is none
 unfoldable pub rows_in : List RawRow → Result (List Row) (List ℕ)
 rows_in [] = Ok []
 rows_in (raw ∷ raws) = onto raw.name (row_in raw) (rows_in raws)
 
--- these rows, and then those that are read
-abbrev pub after : List Row → Result (List Row) (List ℕ) → Result (List Row) (List ℕ)
-after rows (Ok others) = Ok (rows ++ others)
-after rows (Err name) = Err name
+-- these, and then what is read
+abbrev pub after : {A : Type 0} → List A → Result (List A) (List ℕ) → Result (List A) (List ℕ)
+after items (Ok others) = Ok (items ++ others)
+after items (Err name) = Err name
 
 -- ---- what a reader answers
 

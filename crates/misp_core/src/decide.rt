@@ -1,19 +1,24 @@
 //! What a request comes to over the rows of its event.
 
-ghost use Rattle.std.specs.Prelude.{◌≡◌, ◌≤◌, ℕ, IfOk, Ok, map, length, []};
+ghost use Rattle.std.specs.Prelude.{◌≡◌, ◌≤◌, ℕ, List, IfOk, Ok, map, length, []};
+ghost use Rattle.misp_elem.specs.declared.row.RowFields.{RowFields as SomeRow};
 ghost use Rattle.misp_requests.specs.declared.ask.Ask.TheVariants.{View};
 ghost use Rattle.misp_requests.specs.declared.ask.Ask.TheVariants as asks;
 ghost use Rattle.misp_requests.specs.declared.change.Change.TheVariants.{AddEvent};
 ghost use Rattle.misp_core.specs.declared.reply.Reply.TheVariants as replies;
 ghost use Rattle.misp_core.specs.declared.reply.Answer.TheVariants as answers;
 ghost use Rattle.misp_core.specs.Raw.{rows_in};
-ghost use Rattle.misp_core.specs.Answers.{site, scene_with, IsAdded, IsBuilt, IsDecision, IsVerdict, IsRefusal, name_in, bare, bad_row, greatest};
+ghost use Rattle.misp_core.specs.Answers.{site_of, scene_with, IsAdded, IsBuilt, IsDecision, IsVerdict, IsRefusal, named_event, name_in, bare, bad_row, greatest};
 
+use crate::listing::concerning;
+use crate::naming::group_names;
 use crate::reply::{Answer, Reply};
+use crate::site::Site;
 use crate::store::{RowFault, take_rows};
 use misp_edit::{AddFault, add_event};
 use misp_elem::{NoMemory, Refusal, Row, RuleName, Submission, VisibleEvent};
-use misp_ids::{EventId, InstId, Items, OrgId, Stamp, Text};
+use misp_ids::{EventId, Items, OrgId, Stamp, Text};
+use misp_levels::Groups;
 use misp_orgs::{Admin, Caller};
 use misp_outside::RawRow;
 use misp_requests::{Ask, Change};
@@ -58,22 +63,12 @@ fn name_text(alloc: Global, admin: &Admin, org: &OrgId) -> Result<Text, NoMemory
     }
 }
 
-// The first moment.
-fn first_moment() -> Stamp
-    ensures { result ≡ 0 }
-{
-    match Stamp::new(0) {
-        Some(moment) => moment,
-        None => unreachable!(),
-    }
-}
-
 // The greatest of the rows' stamps.
 #[tactic(auto, unfolding(crate::specs::Answers::greatest))]
 fn greatest(rows: &[Row]) -> Stamp
     ensures { result ≡ greatest (map (λ row. row.stamp) rows.now) }
 {
-    let mut newest = first_moment();
+    let mut newest = Stamp::first();
     for row in rows {
         newest = newest.max(row.stamp);
     }
@@ -133,22 +128,27 @@ fn event_in(submission: &Submission) -> EventId
 // Adds an event, over the rows that the caller knows of it.
 fn add(
     alloc: Global,
-    here: &InstId,
-    admin: &Admin,
-    caller: &Caller,
-    now: Stamp,
+    site: &Site<'_>,
     submission: Submission,
     rows: &[Row],
 ) -> Result<Verdict, NoMemory>
     requires { IsAdded submission }
-    ensures { (n : ℕ) → IfOk result (IsDecision
-        (scene_with n (site here.now admin.now caller.now now) rows.now)
-        admin.now (asks.Change (AddEvent submission))) }
+    ensures { (n : ℕ) → IfOk result (IsDecision (scene_with n (site_of site.now) rows.now)
+        site.now.admin.now (asks.Change (AddEvent submission))) }
 {
-    let org = asker(caller);
-    let name = name_text(alloc, admin, &org)?;
+    let org = asker(site.caller);
+    let name = name_text(alloc, site.admin, &org)?;
     let event = event_in(&submission);
-    match add_event(alloc, submission, &org, &name, here, now, rows) {
+    match add_event(
+        alloc,
+        submission,
+        &org,
+        &name,
+        site.groups,
+        site.here,
+        site.moment,
+        rows,
+    ) {
         Ok(added) => Ok(saved(event, added)),
         Err(fault) => {
             let refusal = refusal(alloc, fault)?;
@@ -163,35 +163,38 @@ fn holder(event: &VisibleEvent) -> OrgId
     event.row.owner
 }
 
-// The event with the name of its holder.
-fn named(event: VisibleEvent, name: Text) -> VisibleEvent
-    ensures { result ≡ record event { org_name = name } }
+// The event with the name of its holder, and with those of the groups that its labels name.
+fn named(
+    alloc: Global,
+    admin: &Admin,
+    groups: &Groups,
+    event: VisibleEvent,
+) -> Result<VisibleEvent, NoMemory>
+    ensures { IfOk result (λ named. named ≡ named_event admin.now groups.now event) }
 {
+    let name = name_text(alloc, admin, &holder(&event))?;
+    let names = group_names(alloc, groups, &event)?;
     let mut event = event;
     event.org_name = name;
-    event
+    event.group_names = Items::of(names);
+    Ok(event)
 }
 
 // Shows an event, over the rows that the caller knows of it.
 fn view(
     alloc: Global,
-    here: &InstId,
-    admin: &Admin,
-    caller: &Caller,
-    now: Stamp,
+    site: &Site<'_>,
     event: &EventId,
     owner: Option<OrgId>,
     rows: &[Row],
 ) -> Result<Verdict, NoMemory>
-    ensures { (n : ℕ) → IfOk result (IsDecision
-        (scene_with n (site here.now admin.now caller.now now) rows.now)
-        admin.now (View event.now owner)) }
+    ensures { (n : ℕ) → IfOk result (IsDecision (scene_with n (site_of site.now) rows.now)
+        site.now.admin.now (View event.now owner)) }
 {
-    let org = asker(caller);
-    match shown(alloc, rows, here, &org, event, owner)? {
+    let org = asker(site.caller);
+    match shown(alloc, rows, site.groups, site.here, &org, event, owner)? {
         Some(seen) => {
-            let name = name_text(alloc, admin, &holder(&seen))?;
-            let seen = named(seen, name);
+            let seen = named(alloc, site.admin, site.groups, seen)?;
             Ok(unwritten(alloc, Reply::Ok(Answer::Event(seen))))
         }
         None => {
@@ -201,64 +204,54 @@ fn view(
     }
 }
 
+// Tells the groups that concern the caller.
+fn list(alloc: Global, site: &Site<'_>) -> Result<Verdict, NoMemory>
+    ensures { (n : ℕ) (rows : List SomeRow) → IfOk result (IsDecision
+        (scene_with n (site_of site.now) rows) site.now.admin.now asks.Groups) }
+{
+    let org = asker(site.caller);
+    let groups = concerning(alloc, site.groups, &org, site.here)?;
+    let answer = Answer::Groups(Items::of(groups));
+    Ok(unwritten(alloc, Reply::Ok(answer)))
+}
+
 // What a request comes to, over the rows that the caller knows of its event.
-fn decide_known(
-    alloc: Global,
-    here: &InstId,
-    admin: &Admin,
-    caller: &Caller,
-    now: Stamp,
-    ask: Ask,
-    rows: &[Row],
-) -> Result<Verdict, NoMemory>
+fn decide_known(alloc: Global, site: &Site<'_>, ask: Ask, rows: &[Row]) -> Result<Verdict, NoMemory>
     requires { IsBuilt ask }
-    ensures { (n : ℕ) → IfOk result (IsDecision
-        (scene_with n (site here.now admin.now caller.now now) rows.now) admin.now ask) }
+    ensures { (n : ℕ) → IfOk result (IsDecision (scene_with n (site_of site.now) rows.now)
+        site.now.admin.now ask) }
 {
     match ask {
-        Ask::View { event, owner } => view(alloc, here, admin, caller, now, &event, owner, rows),
-        Ask::Change(Change::AddEvent(submission)) => {
-            add(alloc, here, admin, caller, now, submission, rows)
-        }
+        Ask::View { event, owner } => view(alloc, site, &event, owner, rows),
+        Ask::Groups => list(alloc, site),
+        Ask::Change(Change::AddEvent(submission)) => add(alloc, site, submission, rows),
         _ => unreachable!(),
     }
 }
 
 // What a request comes to, over all rows of its event.
-fn decide(
-    alloc: Global,
-    here: &InstId,
-    admin: &Admin,
-    caller: &Caller,
-    now: Stamp,
-    ask: Ask,
-    rows: Vec<Row>,
-) -> Result<Verdict, NoMemory>
+fn decide(alloc: Global, site: &Site<'_>, ask: Ask, rows: Vec<Row>) -> Result<Verdict, NoMemory>
     requires { IsBuilt ask }
-    ensures { (n : ℕ) → IfOk result
-        (IsVerdict n (site here.now admin.now caller.now now) ask (Ok rows.items)) }
+    ensures { (n : ℕ) → IfOk result (IsVerdict n (site_of site.now) ask (Ok rows.items)) }
 {
-    let org = asker(caller);
-    let rows = known(alloc, rows, here, &org)?;
-    decide_known(alloc, here, admin, caller, now, ask, &rows)
+    let org = asker(site.caller);
+    let rows = known(alloc, rows, site.groups, site.here, &org)?;
+    decide_known(alloc, site, ask, &rows)
 }
 
 /// What a request comes to, over what a keeper holds of its event.
 pub(crate) fn judge(
     alloc: Global,
-    here: &InstId,
-    admin: &Admin,
-    caller: &Caller,
-    now: Stamp,
+    site: &Site<'_>,
     ask: Ask,
     raws: Vec<RawRow>,
 ) -> Result<Verdict, NoMemory>
     requires { IsBuilt ask }
     ensures { (n : ℕ) → IfOk result
-        (IsVerdict n (site here.now admin.now caller.now now) ask (rows_in raws.items)) }
+        (IsVerdict n (site_of site.now) ask (rows_in raws.items)) }
 {
     match take_rows(alloc, raws) {
-        Ok(rows) => decide(alloc, here, admin, caller, now, ask, rows),
+        Ok(rows) => decide(alloc, site, ask, rows),
         Err(RowFault::BadRow { name }) => {
             let refusal = Refusal {
                 name: RuleName::BadRow,

@@ -1,32 +1,39 @@
 //! An instance over a keeper.
 
-ghost use Rattle.std.specs.Prelude.{◌≡◌, ℕ, IfOk, IfSome, OnOk, OnErr, option_map};
+ghost use Rattle.std.specs.Prelude.{◌≡◌, ◌≤◌, ℕ, IfOk, IfErr, IfSome, OnOk, IsOk, option_map};
 ghost use Rattle.misp_outside.specs.Causes.{HasCause};
-ghost use Rattle.misp_core.specs.Answers.{site, site_at, IsBuilt, event_asked};
+ghost use Rattle.misp_core.specs.Sharing.{groups_in};
+ghost use Rattle.misp_core.specs.Answers.{site_at, IsBuilt};
 ghost use Rattle.misp_core.specs.Standing.{standing};
-ghost use Rattle.misp_core.specs.Permission.{no_permission};
-ghost use Rattle.misp_core.specs.Outcome.{Went, ByKeeper, outcome_of, refusal_by, IsAnswered, IsServed, IsRefused, with_rows, replied_of};
+ghost use Rattle.misp_core.specs.Opening.{NamesFault};
+ghost use Rattle.misp_core.specs.Outcome.{ByKeeper, outcome_of, IsAnswered, IsRefused};
 ghost use Rattle.misp_core.specs.Order.{IsInOrder, grounds};
+ghost use Rattle.misp_core.specs.Administering.{IsAdministered};
+ghost use Rattle.misp_core.specs.declared.opening.OpenFault.TheVariants as faults;
 ghost use Rattle.misp_orgs.specs.Admin.{who_of, link_of};
 
-use crate::decide::{bare, judge};
-use crate::permission::{no_permission, permission_for};
+use crate::administering::administer;
+use crate::answering::{forbidden, replied, serve};
+use crate::opening::{OpenFault, load_groups};
+use crate::permission::permission_for;
 use crate::reply::Reply;
-use crate::store::batch_of;
-use misp_elem::{NoMemory, Row, RuleName};
-use misp_ids::{ApiKey, EventId, InstId, Stamp};
-use misp_orgs::{Admin, Caller, Link, Perm, may};
-use misp_outside::{Keeper, KeeperFault};
-use misp_requests::{Ask, Change};
+use crate::site::Site;
+use misp_groups::Group;
+use misp_ids::{ApiKey, InstId, OrgId, Stamp};
+use misp_levels::Groups;
+use misp_orgs::{Admin, Caller, Link, may};
+use misp_outside::Keeper;
+use misp_requests::Ask;
 use std::alloc::Global;
 use std::marker::Model;
 
 /// An instance, seen as its name, its administration, what its keeper holds, and the count of the
-/// keeper's faults. It keeps nothing else.
+/// keeper's faults. It keeps the groups beside, as they stand among the rows of the administration.
 #[derive(Drop)]
 pub struct Instance<K: Keeper> {
     name: InstId,
     admin: Admin,
+    groups: Groups,
     keeper: K,
 }
 
@@ -41,29 +48,41 @@ impl<K: Keeper> Model for Instance<K> {
       held = K.held a.keeper;
       faults = K.faults a.keeper;
     } };
-}
 
-// The event that a request is about.
-fn event_of(ask: &Ask) -> EventId
-    requires { IsBuilt ask.now }
-    ensures { result ≡ event_asked ask.now }
-{
-    match ask {
-        Ask::View { event, .. } => *event,
-        Ask::Change(Change::AddEvent(submission)) => submission.event,
-        _ => unreachable!(),
-    }
+    ghost use Rattle.misp_core.specs.Sharing.{HoldsGroups};
+
+    ghost invariant = { λ a. HoldsGroups (K.held a.keeper) a.groups };
 }
 
 impl<K: Keeper> Instance<K> {
-    /// An instance of this name and administration over a keeper.
-    pub fn open(name: InstId, admin: Admin, keeper: K) -> Instance<K>
-        ensures { result ≡ standing name admin (K.held keeper) (K.faults keeper) }
+    /// An instance of this name and administration over a keeper, of which it reads the groups. A
+    /// keeper over which none is opened comes back.
+    pub fn open(
+        alloc: Global,
+        name: InstId,
+        admin: Admin,
+        keeper: K,
+    ) -> Result<Instance<K>, (OpenFault, K)>
+        ensures ok { IfOk result (λ instance.
+            instance ≡ standing name admin (K.held keeper) instance.faults) }
+        ensures groups { OnOk result
+            (IfSome (K.held keeper) (λ held. IsOk (groups_in held.admin))) }
+        ensures count { IfOk result (λ instance. K.faults keeper ≤ instance.faults) }
+        ensures back { IfErr result (λ e. K.held e.1 ≡ K.held keeper) }
+        ensures bad { IfErr result (λ e.
+            IfSome (K.held keeper) (λ held. NamesFault (groups_in held.admin) e.0)) }
+        ensures cause { IfErr result (λ e.
+            HasCause (K.faults keeper) (K.faults e.1) (e.0 ≡ faults.KeeperFault)) }
     {
-        Instance {
-            name,
-            admin,
-            keeper,
+        let mut keeper = keeper;
+        match load_groups(&mut keeper, alloc) {
+            Ok(groups) => Ok(Instance {
+                name,
+                admin,
+                groups,
+                keeper,
+            }),
+            Err(fault) => Err((fault, keeper)),
         }
     }
 
@@ -95,11 +114,11 @@ impl<K: Keeper> Instance<K> {
 
         // Reply and rows are the stated functions of what is held, and of what stopped the request.
         ensures answered { (n : ℕ) → IfSome self.old.held (λ held.
-            IsAnswered n (site_at self.old caller.now now) ask held result self.new.held) }
+            IsAnswered n (site_at self.old held caller.now now) ask held result self.new.held) }
 
         // Where several rules refuse it, the first in the one order is answered.
         ensures order { (n : ℕ) → IfSome self.old.held (λ held.
-            IsInOrder (grounds n (site_at self.old caller.now now) ask held) result) }
+            IsInOrder (grounds n (site_at self.old held caller.now now) ask held) result) }
 
         // A refused request changes nothing.
         ensures refused { IsRefused result → self.new.held ≡ self.old.held }
@@ -111,86 +130,37 @@ impl<K: Keeper> Instance<K> {
         if !may(caller.role, perm) {
             return forbidden(alloc, perm);
         }
-        let served = serve(
-            &mut self.keeper,
-            alloc,
-            &self.name,
-            &self.admin,
+        let site = Site {
+            here: &self.name,
+            admin: &self.admin,
+            groups: &self.groups,
             caller,
-            now,
-            ask,
-        );
+            moment: now,
+        };
+        let served = serve(&mut self.keeper, alloc, &site, ask);
         replied(alloc, served)
     }
-}
 
-// The refusal of what a role does not permit.
-fn forbidden(alloc: Global, perm: Perm) -> Reply
-    ensures reply { result ≡ refusal_by (outcome_of result) (no_permission perm) }
-    ensures no_keeper { outcome_of result ≡ ByKeeper → ⊥ }
-{
-    match no_permission(alloc, perm) {
-        Ok(refusal) => Reply::Refused(refusal),
-        Err(NoMemory) => Reply::Refused(bare(alloc, RuleName::NoMemory)),
-    }
-}
+    /// Adds a group at this moment, or edits the one of its name, which the organisation does.
+    pub fn admin_group(
+        &mut self,
+        alloc: Global,
+        now: Stamp,
+        by: &OrgId,
+        group: Group,
+        add: bool,
+    ) -> Reply
+        // The reply names the first cause against it, and where there is none, the group is put.
+        ensures answered { IfSome self.old.held (λ held.
+            IsAdministered now by.now add group held result self.new.held) }
 
-// What was served, or what stopped it, as a reply.
-fn replied(alloc: Global, served: Result<Reply, KeeperFault>) -> Reply
-    ensures { result ≡ replied_of served }
-{
-    match served {
-        Ok(reply) => reply,
-        Err(KeeperFault::Failed) => Reply::Refused(bare(alloc, RuleName::KeeperFault)),
-        Err(KeeperFault::NoMemory) => Reply::Refused(bare(alloc, RuleName::NoMemory)),
-    }
-}
-
-// Puts rows into a keeper, all or nothing.
-#[tactic(auto, using(crate::proofs::Serving::put_none, crate::proofs::Serving::put_batch))]
-fn put<K: Keeper>(keeper: &mut K, alloc: Global, rows: &[Row]) -> Result<(), KeeperFault>
-    ensures ok { OnOk result
-        (K.held keeper.new ≡ option_map (with_rows rows.now) (K.held keeper.old)) }
-    ensures err { OnErr result (K.held keeper.new ≡ K.held keeper.old) }
-    ensures cause { HasCause (K.faults keeper.old) (K.faults keeper.new)
-        (result ≡ Err KeeperFault.Failed) }
-{
-    let [_, ..] = rows else {
-        return Ok(());
-    };
-    match batch_of(alloc, rows) {
-        Ok(batch) => keeper.apply(&batch),
-        Err(NoMemory) => Err(KeeperFault::NoMemory),
-    }
-}
-
-// Answers a request over the keeper.
-fn serve<K: Keeper>(
-    keeper: &mut K,
-    alloc: Global,
-    here: &InstId,
-    admin: &Admin,
-    caller: &Caller,
-    now: Stamp,
-    ask: Ask,
-) -> Result<Reply, KeeperFault>
-    requires { IsBuilt ask }
-    ensures answered { (n : ℕ) → IfSome (K.held keeper.old) (λ held.
-        IfOk result (λ reply. IsServed n (site here.now admin.now caller.now now)
-        ask held reply (K.held keeper.new))) }
-    ensures went { IfOk result (λ reply. outcome_of reply ≡ Went) }
-    ensures refused { IfOk result
-        (λ reply. IsRefused reply → K.held keeper.new ≡ K.held keeper.old) }
-    ensures err { OnErr result (K.held keeper.new ≡ K.held keeper.old) }
-    ensures cause { HasCause (K.faults keeper.old) (K.faults keeper.new)
-        (result ≡ Err KeeperFault.Failed) }
-{
-    let raws = keeper.load_event(alloc, &event_of(&ask))?;
-    match judge(alloc, here, admin, caller, now, ask, raws) {
-        Ok(verdict) => {
-            put(keeper, alloc, verdict.writes.as_slice())?;
-            Ok(verdict.reply)
-        }
-        Err(NoMemory) => Err(KeeperFault::NoMemory),
+        // A refused administration changes nothing.
+        ensures refused { IsRefused result → self.new.held ≡ self.old.held }
+        ensures cause { HasCause self.old.faults self.new.faults (outcome_of result ≡ ByKeeper) }
+        ensures name { self.new.name ≡ self.old.name }
+        ensures admin { self.new.admin ≡ self.old.admin }
+    {
+        let groups = &mut self.groups;
+        administer(groups, &mut self.keeper, alloc, now, by, group, add)
     }
 }

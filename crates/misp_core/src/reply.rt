@@ -1,7 +1,8 @@
 //! What a request is answered.
 
 use misp_elem::{Refusal, VisibleEvent};
-use misp_ids::{EventId, Stamp};
+use misp_groups::Group;
+use misp_ids::{EventId, Items, Stamp};
 
 /// What an accepted request is answered.
 #[derive(Debug, Drop)]
@@ -13,6 +14,10 @@ pub enum Answer {
         stamp: Stamp,
     },
     Event(VisibleEvent),
+    /// The groups that concern the caller.
+    Groups(Items<Group>),
+    /// So many groups were taken.
+    Taken(u64),
 }
 
 #[derive(Debug, Drop)]

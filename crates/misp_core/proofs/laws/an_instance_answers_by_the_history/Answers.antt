@@ -4,8 +4,8 @@ use Rattle.misp_core.proofs.laws.an_instance_answers_by_the_history.Goals as goa
 
 pub returns : goal.returns
 returns c = record {
-  reply = λ n w at ask held built none keeps. replied_there n w at ask held built none keeps;
-  left = λ net n w at ask held built older none keeps are. left_there net n w at ask held built older none keeps are;
+  reply = λ n w at ask held built same keeps. replied_there n w at ask held built same keeps;
+  left = λ net n w at ask held built older same keeps are. left_there net n w at ask held built older same keeps are;
   elsewhere = λ net n w at ask j built apart. same_elsewhere net n w at ask built j apart;
   groups = λ net n w at ask. same_groups net n w at ask;
 }

@@ -1,0 +1,7 @@
+use Rattle.misp_core.proofs.Decisions.{listed}
+use Rattle.misp_core.proofs.decide.list.Goals as goal
+
+pub returns : goal.returns
+returns c = λ n rows.
+    rw (c.unwritten.ensures, ← c.asker-org.ensures, c.of.ensures)
+    (listed _ _ _ c.in_ok-groups.ensures)
