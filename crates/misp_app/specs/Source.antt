@@ -1,14 +1,15 @@
 -- What a source describes, and the line that tells where it does not.
-use Rattle.std.specs.Prelude.{◌≡◌, ℕ, List, length, take, drop, nat_lt, codes, Ok, Err, if◌then◌else◌}
+use Rattle.std.specs.Prelude.{◌≡◌, ℕ, true, List, length, take, drop, nat_lt, codes, Ok, Err, if◌then◌else◌}
 use Rattle.std.specs.declared.option.Option.{Option}
 use Rattle.std.specs.Io.KnownBytes.{Appends}
 use Rattle.misp_script.specs.declared.description.Description.{Description}
 use Rattle.misp_script.specs.declared.fault.DescFault.TheVariants as faults
 use Rattle.misp_script.specs.Faults.{Reading}
 use Rattle.misp_script.specs.Network.{description_at}
-use Rattle.misp_script.specs.Names.{names_of}
+use Rattle.misp_script.specs.Directory.{directory_of}
 use Rattle.misp_script.specs.Source.{description_part, script_part}
 use Rattle.misp_net.specs.Hosts.{Stock, described_hosts}
+use Rattle.misp_net.specs.Opening.{may_be_sound, may_be_unsound}
 use Rattle.misp_net.specs.Run.{acts_of}
 use Rattle.misp_net.specs.History.{AreDistinct}
 use Rattle.misp_net.specs.Promise.{IsPromised}
@@ -36,16 +37,17 @@ IsTold (Ok net) old new = ⊥
 IsTold (Err (faults.Bad path need)) old new = Appends old new (fault_line path need)
 IsTold (Err faults.NoMemory) old new = ⊥
 
--- The source describes a network, its script was run over the first keepers, and its lines were
--- written so. The other keepers are as they were.
+-- The source describes a network, its script was run over the first keepers, whose administration
+-- has no row that is none, and its lines were written so. The other keepers are as they were.
 pub record HasWritten (source : List ℕ) (old new : List Stock)
     (Writes : List ℕ → Type 0) : Type 0 where
   pub net : Description
   pub lines : List ℕ
   pub described_is : described source ≡ Ok net
   pub distinct : AreDistinct (described_hosts net)
-  pub ran : IsPromised (described_hosts net) (acts_of (names_of net) (script_part source))
+  pub ran : IsPromised (described_hosts net) (acts_of (directory_of net) (script_part source))
       (take (length net.instances) old) (take (length net.instances) new) lines
+  pub sound : may_be_sound (take (length net.instances) old) ≡ true
   pub others : drop (length net.instances) new ≡ drop (length net.instances) old
   pub written : Writes lines
 
@@ -57,6 +59,12 @@ IsPartly (Ok net) source old new before after = HasWritten source old new (Appen
 IsPartly (Err (faults.Bad path need)) source old new before after =
     AppendsSome before after (fault_line path need)
 IsPartly (Err faults.NoMemory) source old new before after = ⊥
+
+-- the source describes a network, and as far as the first keepers tell, one of them holds a row of
+-- the administration that is none
+abbrev pub IsUnsound : Reading Description → List Stock → Type 0
+IsUnsound (Ok net) old = may_be_unsound (take (length net.instances) old) ≡ true
+IsUnsound (Err fault) old = ⊥
 
 -- what is written of a description that has no fault
 abbrev pub ok_line : List ℕ

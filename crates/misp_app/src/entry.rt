@@ -3,10 +3,11 @@
 ghost use Rattle.std.specs.Prelude.{◌≡◌, ◌≤◌, ◌↔◌, ◌⊎◌, None, Some, IfErr, IfSome, OnOk, IsSome, ◌<◌, length, map, vec_len, string_bytes};
 ghost use Rattle.misp_outside.specs.Causes.{Rose};
 ghost use Rattle.std.specs.Io.KnownBytes.{Appends};
-ghost use Rattle.misp_net.specs.Hosts.{stocks};
-ghost use Rattle.misp_app.specs.Source.{described, described_status, status_of, ok_line, IsTold, HasWritten, IsPartly, IsPartlyChecked};
+ghost use Rattle.misp_net.specs.Hosts.{stocks, told};
+ghost use Rattle.misp_net.specs.Opening.{OneFailed};
+ghost use Rattle.misp_app.specs.Source.{described, described_status, status_of, ok_line, IsTold, HasWritten, IsPartly, IsPartlyChecked, IsUnsound};
 ghost use Rattle.misp_app.specs.Words.{command_of};
-ghost use Rattle.misp_app.specs.Status.{IsStopped, IsSilent, IsStill, IsSourceEnd};
+ghost use Rattle.misp_app.specs.Status.{IsStopped, IsSilent, IsStill, IsRunEnd, IsUnopened};
 
 use crate::checking::check_source;
 use crate::command::{Command, command_of};
@@ -44,6 +45,17 @@ pub fn run<S: Source, W: Sink, K: Keeper, C: Carry, D: Door, L: Dial, T: Clock>(
     ensures too_much { result ≡ Status.TooMuch →
         IfSome (S.left source.old) (λ left. MAX_SOURCE < length left) }
     ensures silent { IsSilent result → W.written sink.new ≡ W.written sink.old }
+
+    // Where the instances do not open, a keeper failed, or holds a row of the administration that
+    // is none; and each holds what it held.
+    ensures keeper { result ≡ Status.KeeperFault → OneFailed
+        (stocks K.held K.faults keepers.old.items) (stocks K.held K.faults keepers.new.items) }
+    ensures bad_row { result ≡ Status.BadRow → IfSome (S.left source.old)
+        (λ left. IsUnsound (described left) (stocks K.held K.faults keepers.old.items)) }
+    ensures kept { IsUnopened result → told (stocks K.held K.faults keepers.new.items)
+        ≡ told (stocks K.held K.faults keepers.old.items) }
+    ensures opening { IsUnopened result →
+        command_of (map string_bytes words.now) ≡ Some Command.Net }
 
     // The lines written and what is held follow from the source, and from what stopped each line;
     // and what an organisation was never granted changes none of its replies.
@@ -109,7 +121,14 @@ fn run_source<W: Sink, K: Keeper>(
         Rose (W.faults sink.old) (W.faults sink.new) }
     ensures silent { IfErr result (λ status.
         IsSilent status → W.written sink.new ≡ W.written sink.old) }
-    ensures others { IfErr result IsSourceEnd }
+    ensures others { IfErr result IsRunEnd }
+    ensures keeper { result ≡ Err Status.KeeperFault → OneFailed
+        (stocks K.held K.faults keepers.old.items) (stocks K.held K.faults keepers.new.items) }
+    ensures bad_row { result ≡ Err Status.BadRow →
+        IsUnsound (described bytes.now) (stocks K.held K.faults keepers.old.items) }
+    ensures kept { IfErr result (λ status. IsUnopened status →
+        told (stocks K.held K.faults keepers.new.items)
+        ≡ told (stocks K.held K.faults keepers.old.items)) }
     ensures done { OnOk result
         (HasWritten bytes.now (stocks K.held K.faults keepers.old.items)
         (stocks K.held K.faults keepers.new.items)

@@ -22,6 +22,10 @@ pub enum Status {
     OutOfMemory,
     /// The source is longer than it may be.
     TooMuch,
+    /// A keeper failed while an instance was opened.
+    KeeperFault,
+    /// A keeper holds a row of the administration that is none.
+    BadRow,
 }
 
 impl Status {
@@ -37,6 +41,8 @@ impl Status {
             Status::BadDescription => 5,
             Status::OutOfMemory => 8,
             Status::TooMuch => 9,
+            Status::KeeperFault => 10,
+            Status::BadRow => 11,
         }
     }
 }
@@ -82,11 +88,15 @@ impl From<SinkFault> for Status {
 }
 
 impl From<NetFault> for Status {
-    ghost use Rattle.misp_app.specs.declared.status.Status.TheVariants.{OutOfMemory};
+    ghost use Rattle.misp_app.specs.Status.{status_after};
 
-    ghost from_gives = { λ _ status. status ≡ OutOfMemory };
+    ghost from_gives = { λ fault status. status ≡ status_after fault };
 
-    fn from(_fault: NetFault) -> Status {
-        Status::OutOfMemory
+    fn from(fault: NetFault) -> Status {
+        match fault {
+            NetFault::KeeperFault => Status::KeeperFault,
+            NetFault::BadRow => Status::BadRow,
+            NetFault::NoMemory => Status::OutOfMemory,
+        }
     }
 }

@@ -8,7 +8,8 @@ use crate::*;
 use cases::{CASES, Case, NAMES};
 use misp_ids::{EventId, Items, Uid};
 use misp_outside::{
-    Keeper, MemDial, MemDoor, MemKeeper, MemSink, MemSource, RawBatch, RawRow, StepClock, SureCarry,
+    AdminRow, Keeper, MemDial, MemDoor, MemKeeper, MemSink, MemSource, RawBatch, RawRow, StepClock,
+    SureCarry,
 };
 use std::alloc::Global;
 use std::test::Fail;
@@ -26,8 +27,9 @@ fn idle(alloc: Global) -> MemKeeper {
     MemKeeper::new(alloc, Vec::new(alloc))
 }
 
-// The first holds a row without bytes, and its call of this number fails.
-fn keepers(alloc: Global, fails: u64) -> Result<Vec<MemKeeper>, Fail>
+// The first holds a row without bytes and these rows of the administration, and its call of this
+// number fails.
+fn keepers(alloc: Global, fails: u64, admin: Vec<AdminRow>) -> Result<Vec<MemKeeper>, Fail>
     ensures { IfOk result (λ keepers. vec_len keepers ≡ 16) }
 {
     let mut first = MemKeeper::new(alloc, vec![in alloc; fails]?);
@@ -38,7 +40,7 @@ fn keepers(alloc: Global, fails: u64) -> Result<Vec<MemKeeper>, Fail>
     };
     let batch = RawBatch {
         rows: Items::of(vec![in alloc; row]?),
-        admin: Items::of(Vec::new(alloc)),
+        admin: Items::of(admin),
     };
     if first.apply(&batch).is_err() {
         return Err(Fail::from("the row is not put"));
@@ -85,7 +87,7 @@ fn filled(alloc: Global, text: &str, len: usize) -> Result<Vec<u8>, Fail> {
     Ok(bytes)
 }
 
-fn ran(alloc: Global, case: &Case<'_>) -> Result<Outcome, Fail> {
+fn ran(alloc: Global, case: &Case<'_>, admin: Vec<AdminRow>) -> Result<Outcome, Fail> {
     let [reads, writes, calls] = case.fails;
     let mut words = Vec::new(alloc);
     for word in case.words.split(' ') {
@@ -94,7 +96,7 @@ fn ran(alloc: Global, case: &Case<'_>) -> Result<Outcome, Fail> {
     let bytes = filled(alloc, case.source, case.len)?;
     let mut source = MemSource::new(bytes, vec![in alloc; 5usize]?, vec![in alloc; reads]?);
     let mut sink = MemSink::new(alloc, vec![in alloc; writes]?);
-    let mut keepers = keepers(alloc, calls)?;
+    let mut keepers = keepers(alloc, calls, admin)?;
     let status = run(
         alloc,
         &words,
@@ -117,13 +119,18 @@ fn ran(alloc: Global, case: &Case<'_>) -> Result<Outcome, Fail> {
     })
 }
 
+// The first keeper has applied so many batches, and the others none.
+fn applied(first: u64) -> [u64; 16] {
+    [first, 0, 0, 0, 0, 0, 0, 0, 0, 0, 0, 0, 0, 0, 0, 0]
+}
+
 #[test]
 fn runs_end_and_write_as_the_table_says(rt: HostRuntime) -> Result<(), Fail> {
     for case in &CASES {
         let source = case.source;
-        let ran = ran(rt.alloc(), case)?;
+        let ran = ran(rt.alloc(), case, Vec::new(rt.alloc()))?;
         let written = named(rt.alloc(), case.written)?;
-        let batches = [case.batches, 0, 0, 0, 0, 0, 0, 0, 0, 0, 0, 0, 0, 0, 0, 0];
+        let batches = applied(case.batches);
         assert_eq!(rt; ran.status, case.status, "after {source}");
         assert_eq!(rt; ran.written.as_str(), written.as_str(), "after {source}");
         assert_eq!(rt;
@@ -132,5 +139,33 @@ fn runs_end_and_write_as_the_table_says(rt: HostRuntime) -> Result<(), Fail> {
             "after {source}"
         );
     }
+    Ok(())
+}
+
+// A row of the administration that is none.
+fn none(alloc: Global) -> Result<Vec<AdminRow>, Fail> {
+    let row = AdminRow {
+        kind: 1,
+        name: Items::of(b"name".to_vec(alloc)?),
+        bytes: Items::of(Vec::new(alloc)),
+    };
+    Ok(vec![in alloc; row]?)
+}
+
+#[test]
+fn a_row_of_the_administration_that_is_none_ends_the_run(rt: HostRuntime) -> Result<(), Fail> {
+    let case = Case {
+        words: "net",
+        source: "{net}---\n{A adds} {wave}\n",
+        len: 0,
+        fails: [0, 0, 0],
+        status: Status::BadRow,
+        written: "",
+        batches: 1,
+    };
+    let ran = ran(rt.alloc(), &case, none(rt.alloc())?)?;
+    assert_eq!(rt; ran.status, case.status);
+    assert_eq!(rt; ran.written.as_str(), case.written);
+    assert_eq!(rt; ran.batches.as_slice(), applied(case.batches).as_slice());
     Ok(())
 }

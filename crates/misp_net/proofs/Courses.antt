@@ -6,6 +6,7 @@ use Rattle.misp_outside.specs.Causes.{RoseBy}
 use Rattle.misp_model.specs.Acts.{World}
 use Rattle.misp_model.specs.Kept.{start}
 use Rattle.misp_core.specs.Outcome.{Outcome}
+use Rattle.misp_core.proofs.GroupRows.{AreReadBack}
 use Rattle.misp_net.specs.declared.line.Output.{Output}
 use Rattle.misp_net.specs.Hosts.{Host, Stock, Tables, Tell, count_at}
 use Rattle.misp_net.specs.Text.{line_of, text_from}
@@ -71,9 +72,9 @@ no_acts hosts old = record {
   history = λ distinct empty. at_start hosts;
 }
 
-pub one_more : (hosts : List Host) (acts : List Act) (act : Act) (old mid new : List Stock) (text : List ℕ) (output : Output)
+pub one_more : AreReadBack → (hosts : List Host) (acts : List Act) (act : Act) (old mid new : List Stock) (text : List ℕ) (output : Output)
     → HasRun hosts acts old mid text → IsAct (0 + length acts) hosts act mid new output → HasRun hosts (acts ++ act ∷ []) old new (text ++ line_of (1 + length acts) output)
-one_more hosts acts act old mid new text output run step =
+one_more back hosts acts act old mid new text output run step =
     let outcomes : List Outcome = run.outcomes in
     let outputs : List Output = run.outputs in
     let outcome : Outcome = outcome_in output in
@@ -108,8 +109,8 @@ one_more hosts acts act old mid new text output run step =
           ∙ output_told hosts distinct (0 + length acts) (world_left 0 hosts start acts outcomes) (tables_left 0 hosts acts outcomes (empty_tables hosts)) (so_far distinct empty) outcome act step.among)
           ∙ sym (told_push 0 hosts start acts act outcomes outcome each);
       history = λ distinct empty.
-          let after = line_left hosts distinct (0 + length acts) (world_left 0 hosts start acts outcomes) (tables_left 0 hosts acts outcomes (empty_tables hosts)) (so_far distinct empty) outcome act step.among
-          (step.are_rows (tables_left 0 hosts acts outcomes (empty_tables hosts)) (run.tables_are (empty_tables hosts) empty)) in
+          let after = line_left hosts distinct (0 + length acts) (world_left 0 hosts start acts outcomes) (tables_left 0 hosts acts outcomes (empty_tables hosts)) (so_far distinct empty) back outcome act step.among
+          (step.fits (tables_left 0 hosts acts outcomes (empty_tables hosts)) (run.tables_are (empty_tables hosts) empty)) in
           let long : suc (0 + length acts) ≡ length (acts ++ act ∷ []) = omega (arith, length-append acts (act ∷ [])) in
           let world : World = world_after outcome (0 + length acts) hosts (world_left 0 hosts start acts outcomes) act in
           let left : Tables = tables_left 0 hosts (acts ++ act ∷ []) (outcomes ++ outcome ∷ []) (empty_tables hosts) in

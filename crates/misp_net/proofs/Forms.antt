@@ -14,9 +14,9 @@ use Rattle.misp_core.specs.Permission.{permission_of, is_permitted, no_permissio
 use Rattle.misp_core.specs.Answers.{IsAdded, IsBuilt}
 use Rattle.serde_json.specs.Data.{Data}
 use Rattle.misp_net.specs.declared.route.Route.{Route}
-use Rattle.misp_net.specs.declared.route.Route.TheVariants.{AddEvent, ViewEvent}
+use Rattle.misp_net.specs.declared.route.Route.TheVariants.{AddEvent, ViewEvent, Groups}
 use Rattle.misp_net.specs.Route.{route_of}
-use Rattle.misp_net.specs.Request.{Reading, json_in, added, added_by, asked, ask_of}
+use Rattle.misp_net.specs.Request.{Reading, json_in, added, added_by, formed, asked, ask_of}
 use Rattle.misp_net.specs.Answering.{Asked, caller_in, by_body, by_route, read_of, permitted, form_of}
 use Rattle.misp_net.proofs.Built.{event_built}
 
@@ -30,7 +30,7 @@ abbrev pub BuiltForm : Reading Asked → Type 0
 BuiltForm (Ok asked) = IsBuilt asked.1
 BuiltForm (Err refusal) = Unit {0}
 
-asked_built : (read : Result Submission FormatFault) → ((s : Submission) → read ≡ Ok s → IsAdded s) → BuiltAsk (asked read)
+asked_built : (read : Result Submission FormatFault) → ((s : Submission) → read ≡ Ok s → IsAdded s) → BuiltAsk (asked (formed read))
 asked_built (Ok s) built = built s refl
 asked_built (Err (faults.BadField path need)) built = tt
 asked_built (Err (faults.BinaryType path)) built = tt
@@ -44,6 +44,7 @@ ask_built : (route : Route) (body : List ℕ) (word : ℕ) → BuiltAsk (ask_of 
 unfolding added
 ask_built AddEvent body word = added_built word (json_in body)
 ask_built (ViewEvent event owner) body word = tt
+ask_built Groups body word = tt
 
 body_built : (caller : Caller) (read : Reading Ask) → BuiltAsk read → BuiltForm (by_body caller read)
 body_built caller (Ok ask) built = built

@@ -1,30 +1,51 @@
 -- Instances that stand in front of the other keepers.
-use Rattle.std.proofs.Common.{◌≡◌, ℕ, List, ◌++◌, map, length, take, drop, sym, ◌∙◌, ap, subst}
+use Rattle.std.proofs.Common.{◌≡◌, ℕ, ◌≤◌, List, ◌++◌, map, length, take, drop, sym, ◌∙◌, ap, subst, arith}
 use Rattle.std.proofs.lemmas.List.{take_at, drop_at, length-map}
+use Rattle.misp_outside.specs.Causes.{RoseBy}
 use Rattle.misp_script.specs.declared.description.Entry.{Entry}
 use Rattle.misp_core.specs.Standing.{Standing}
 use Rattle.misp_net.specs.Hosts.{Host, host_of, described_host, hosts_of, Stock, stock_of, stocks_of}
+use Rattle.misp_net.specs.Opening.{AreKept}
 use Rattle.misp_net.specs.Run.{Act}
+use Rattle.misp_net.specs.History.{empty_tables}
 use Rattle.misp_net.specs.Course.{HasRun}
+use Rattle.misp_net.proofs.Openings.{kept_long, kept_count, tell_kept}
 
 -- there are as many as are described
 pub opened_long : (instances : List Standing) (entries : List Entry) → hosts_of instances ≡ map described_host entries → length (stocks_of instances) ≡ length entries
 opened_long instances entries hosts =
     length-map instances stock_of ∙ sym (length-map instances host_of) ∙ ap length hosts ∙ length-map entries described_host
 
--- their run is one of the first keepers
+rose_before : (n before old now : ℕ) → before ≤ old → RoseBy n old now → RoseBy n before now
+rose_before n before old now later rose = omega arith
+
+-- their run is one of the keepers as they were before they were opened
+run_before : (hosts : List Host) (acts : List Act) (before old new : List Stock) (text : List ℕ) → AreKept before old → HasRun hosts acts old new text → HasRun hosts acts before new text
+run_before hosts acts before old new text kept run = record {
+  outcomes = run.outcomes;
+  outputs = run.outputs;
+  each = run.each;
+  agree = run.agree;
+  text_is = run.text_is;
+  places = run.places ∙ kept_long before old kept;
+  causes = λ place. rose_before _ _ _ _ (kept_count place before old kept) (run.causes place);
+  outputs_are = λ tables tell. run.outputs_are tables (tell_kept before old tables kept tell);
+  tables_are = λ tables tell. run.tables_are tables (tell_kept before old tables kept tell);
+  told = λ distinct empty. run.told distinct (tell_kept before old (empty_tables hosts) kept empty);
+  history = λ distinct empty. run.history distinct (tell_kept before old (empty_tables hosts) kept empty);
+}
+
+-- and of the first keepers
 pub run_in_front : (hosts described : List Host) (acts : List Act) (front after rest olds news : List Stock) (count : ℕ) (text : List ℕ)
-    → hosts ≡ described → length front ≡ count → front ++ rest ≡ olds → news ≡ after ++ rest
+    → hosts ≡ described → length front ≡ count → AreKept (take count olds) front → news ≡ after ++ rest
     → HasRun hosts acts front after text → HasRun described acts (take count olds) (take count news) text
-run_in_front hosts described acts front after rest olds news count text same long before after_is run =
-    let first : take count olds ≡ front = ap (take count) (sym before) ∙ take_at front rest count long in
+run_in_front hosts described acts front after rest olds news count text same long kept after_is run =
     let last : take count news ≡ after = ap (take count) after_is ∙ take_at after rest count (run.places ∙ long) in
     subst (λ there. HasRun there acts (take count olds) (take count news) text) same
-    (subst (λ old. HasRun hosts acts old (take count news) text) (sym first)
-    (subst (λ new. HasRun hosts acts front new text) (sym last) run))
+    (subst (λ new. HasRun hosts acts (take count olds) new text) (sym last) (run_before hosts acts (take count olds) front after text kept run))
 
 -- the others are as they were
-pub others_kept : (front after rest olds news : List Stock) (count : ℕ) → length front ≡ count → length after ≡ count
-    → front ++ rest ≡ olds → news ≡ after ++ rest → drop count news ≡ drop count olds
-others_kept front after rest olds news count long still before after_is =
-    ap (drop count) after_is ∙ drop_at after rest count still ∙ sym (drop_at front rest count long) ∙ ap (drop count) before
+pub others_kept : (after rest olds news : List Stock) (count : ℕ) → length after ≡ count
+    → rest ≡ drop count olds → news ≡ after ++ rest → drop count news ≡ drop count olds
+others_kept after rest olds news count still rest_is after_is =
+    ap (drop count) after_is ∙ drop_at after rest count still ∙ rest_is

@@ -1,12 +1,14 @@
 -- The history goes on by one line.
 use Rattle.std.proofs.Common.{◌≡◌, ℕ, zero, suc, ◌+◌, List, [], ◌∷◌, ◌++◌, length, refl, ◌∙◌, ap, arith}
 use Rattle.std.proofs.lemmas.List.{length-map}
+use Rattle.std.specs.List.Sorted.{IsStrictlySortedBy}
 use Rattle.misp_outside.specs.Held.{nothing_held}
 use Rattle.misp_model.specs.History.{tables, newest, newest_from}
 use Rattle.misp_model.specs.Order.{in_order}
 use Rattle.misp_model.specs.Acts.{World}
 use Rattle.misp_model.specs.Kept.{start}
 use Rattle.misp_core.specs.Outcome.{Outcome}
+use Rattle.misp_core.specs.Sharing.{groups_in}
 use Rattle.misp_net.specs.Hosts.{Host, held_at}
 use Rattle.misp_net.specs.Run.{Act}
 use Rattle.misp_net.specs.History.{world_after, world_left, told_output, told_outputs, empty_tables, IsHistory}
@@ -43,11 +45,9 @@ empty_at (suc place) (host ∷ hosts) = empty_at place hosts
 
 -- before the first line nothing is held, and there is no history
 pub at_start : (hosts : List Host) → IsHistory hosts 0 start (empty_tables hosts)
-unfolding start tables newest newest_from in_order nothing_held
+unfolding start tables newest newest_from in_order nothing_held groups_in IsStrictlySortedBy
 at_start hosts = record {
   long = length-map hosts (λ host. nothing_held);
-  each = λ place inside. rw (empty_at place hosts) (record { rows = refl; are_rows = tt });
-  no_admin = λ place inside. rw (empty_at place hosts) refl;
+  each = λ place inside. rw (empty_at place hosts) (record { rows = refl; are_rows = tt; groups = refl; are_groups = tt; ascend = tt });
   earlier = refl;
-  none = λ i. refl;
 }

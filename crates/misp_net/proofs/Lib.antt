@@ -1,7 +1,9 @@
 pub mod Kept
 pub mod Built
+pub mod Formed
 pub mod Forms
 pub mod Replying
+pub mod GroupLines
 pub mod Ordering
 pub mod Telling
 pub mod Histories
@@ -9,5 +11,6 @@ pub mod Steps
 pub mod Courses
 pub mod Refusing
 pub mod Privacy
+pub mod Openings
 pub mod Fronts
 pub mod Apart

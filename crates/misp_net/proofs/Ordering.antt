@@ -15,18 +15,19 @@ use Rattle.misp_requests.specs.declared.ask.Ask.{Ask}
 use Rattle.misp_script.specs.Step.{RequestData}
 use Rattle.misp_core.specs.Standing.{Standing}
 use Rattle.misp_core.specs.Answers.{site, site_at}
+use Rattle.misp_core.specs.Sharing.{groups_of}
 use Rattle.misp_core.specs.Outcome.{Went, outcome_of}
 use Rattle.misp_core.specs.Order.{Ground, first_ground, IsInOrder, grounds}
 use Rattle.misp_core.specs.declared.reply.Reply.{Reply}
 use Rattle.misp_core.specs.declared.reply.Reply.TheVariants as replies
 use Rattle.serde_json.specs.Data.{Data}
 use Rattle.misp_net.specs.declared.route.Route.{Route}
-use Rattle.misp_net.specs.declared.route.Route.TheVariants.{AddEvent, ViewEvent}
+use Rattle.misp_net.specs.declared.route.Route.TheVariants.{AddEvent, ViewEvent, Groups}
 use Rattle.misp_net.specs.declared.request.AskFault.{AskFault}
 use Rattle.misp_net.specs.declared.request.AskFault.TheVariants as stops
 use Rattle.misp_net.specs.Route.{method_of, by_method, route_of}
 use Rattle.misp_net.specs.Hosts.{Host, host_of}
-use Rattle.misp_net.specs.Request.{Reading, Gives, json_in, json_or_refusal, added, added_by, asked, ask_of}
+use Rattle.misp_net.specs.Request.{Reading, Gives, json_in, json_or_refusal, added, added_by, formed, asked, ask_of}
 use Rattle.misp_net.specs.Answering.{Asked, caller_in, by_body, by_key, by_route, read_of, fault_reply}
 use Rattle.misp_net.specs.Order.{route_asked, is_refused_by, asked_grounds, order}
 
@@ -47,7 +48,7 @@ unfolding first_ground
 value_named None = λ went. refl
 value_named (Some value) = tt
 
-asked_named : (read : Result Submission FormatFault) → IsNamed (asked read)
+asked_named : (read : Result Submission FormatFault) → IsNamed (asked (formed read))
 unfolding first_ground
 asked_named (Ok submission) = tt
 asked_named (Err (faults.BadField path need)) = λ went. refl
@@ -62,13 +63,14 @@ ask_named : (route : Route) (body : List ℕ) (word : ℕ) → IsNamed (ask_of r
 unfolding added json_in
 ask_named AddEvent body word = added_named word _ (value_named _)
 ask_named (ViewEvent event owner) body word = tt
+ask_named Groups body word = tt
 
 -- ---- from the path on
 
 module _ (n : ℕ) (host : Host) (now : ℕ) (held : Held) where
   -- of what was read the first of these rules is the first of what is asked, and of what was not it is the refusal's
   abbrev IsFirst : Reading Asked → Option RuleName → Type 0
-  IsFirst (Ok it) first = first ≡ first_ground (grounds n (site host.name host.admin it.0 now) it.1 held)
+  IsFirst (Ok it) first = first ≡ first_ground (grounds n (site host.name host.admin (groups_of held) it.0 now) it.1 held)
   IsFirst (Err refusal) first = outcome_of (replies.Refused refusal) ≡ Went → Some refusal.name ≡ first
 
   abbrev from_body : Reading Ask → List Ground → List Ground
@@ -129,7 +131,7 @@ module _ (n : ℕ) (host : Host) (now : ℕ) (held : Held) where
 
 -- what was read is answered by the instance in its order
 pub order_by_step : (n : ℕ) (i : Standing) (now : ℕ) (request : RequestData) (word : ℕ) (it : Asked) (reply : Reply) (old : Option Held)
-    → read_of i.admin request word ≡ Ok it → IfSome old (λ held. IsInOrder (grounds n (site_at i it.0 now) it.1 held) reply)
+    → read_of i.admin request word ≡ Ok it → IfSome old (λ held. IsInOrder (grounds n (site_at i held it.0 now) it.1 held) reply)
     → IfSome old (λ held. IsInOrder (order n (host_of i) now request word held) reply)
 order_by_step n i now request word it reply None is answered = tt
 order_by_step n i now request word it reply (Some held) is answered = λ went.

@@ -67,7 +67,7 @@ module _ (keep : Key → Bool) (closed : IsClosed keep) (o : OrgId) (hosts : Lis
       → told_reply Went n (cut_world keep w) host now form ≡ told_reply Went n w host now form
   own_reply n w host now (Ok asked) caller by own has =
       let same : same_org asked.0.org o ≡ true = subst (λ c. is_caller o c ≡ true) by own in
-      ap (λ s. reply_in host.admin s asked.1) (own_scene n w (act_at (site_of host now asked.0) asked.1) (caller_at (site_of host now asked.0)) same has)
+      ap (λ s. reply_in host.admin s asked.1) (own_scene n w (act_at (site_of w host now asked.0) asked.1) (caller_at (site_of w host now asked.0)) same has)
   own_reply n w host now (Err refusal) caller by own has = refl
 
   own_deed : (n : ℕ) (w : World) (time word : ℕ) (deed : DeedData) → deed_is_of o hosts deed ≡ true → HasKnown o keep w
@@ -76,6 +76,7 @@ module _ (keep : Key → Bool) (closed : IsClosed keep) (o : OrgId) (hosts : Lis
   own_deed n w time word (deeds.Request r) own has =
       ap Replied (own_reply n w (host_at r.at hosts) time (form_of (host_at r.at hosts).admin r word) (caller_in (host_at r.at hosts).admin r.key)
       (form_caller (host_at r.at hosts).admin r word) own has)
+  own_deed n w time word (deeds.Group line) own has = absurd cc
 
   -- its own lines are told the same
   own_line : (n : ℕ) (w : World) (act : Act) → is_of o hosts act ≡ true → HasKnown o keep w

@@ -16,33 +16,34 @@ use Rattle.misp_script.specs.Step.{RequestData}
 use Rattle.misp_core.specs.Standing.{Standing}
 use Rattle.misp_elem.specs.Row.{AreRows}
 use Rattle.misp_core.specs.Permission.{is_permitted}
+use Rattle.misp_core.specs.Sharing.{groups_of}
 use Rattle.misp_core.specs.Answers.{site, site_at, writes_over}
 use Rattle.misp_core.specs.Outcome.{Went, ByKeeper, outcome_of, asked_of, reply_to, held_after, refusal_by, forbidden, IsAnswered}
 use Rattle.misp_core.specs.declared.reply.Reply.{Reply}
 use Rattle.misp_core.specs.declared.reply.Reply.TheVariants as replies
 use Rattle.serde_json.specs.Data.{Data}
 use Rattle.misp_net.specs.declared.route.Route.{Route}
-use Rattle.misp_net.specs.declared.route.Route.TheVariants.{AddEvent, ViewEvent}
+use Rattle.misp_net.specs.declared.route.Route.TheVariants.{AddEvent, ViewEvent, Groups}
 use Rattle.misp_net.specs.declared.request.AskFault.{AskFault}
 use Rattle.misp_net.specs.declared.request.AskFault.TheVariants as stops
 use Rattle.misp_net.specs.Route.{path_of, path_route, method_of, by_method, route_of}
 use Rattle.misp_net.specs.Hosts.{Host, host_of}
-use Rattle.misp_net.specs.Request.{Reading, Gives, bare, json_in, json_or_refusal, added, added_by, asked, ask_of}
+use Rattle.misp_net.specs.Request.{Reading, Gives, bare, json_in, json_or_refusal, added, added_by, formed, asked, ask_of}
 use Rattle.misp_net.proofs.Forms.{allowed}
 use Rattle.misp_net.specs.Answering.{Asked, caller_in, by_body, by_route, read_of, permitted, form_of, fault_reply, reply_by, IsReplied}
 
 -- what an instance answers to an ask is what is replied to its form, by whether the role permits the ask
 answer_replies : (n : ℕ) (host : Host) (now : ℕ) (asked : Asked) (may : Bool) (held : Held) (reply : Reply) (new : Option Held)
-    → reply ≡ (if may then reply_to (outcome_of reply) n (site host.name host.admin asked.0 now) asked.1 held else refusal_by (outcome_of reply) (forbidden asked.1))
-    → new ≡ Some (if may then held_after (outcome_of reply) n (site host.name host.admin asked.0 now) asked.1 held else held)
-    → (outcome_of reply ≡ Went → AreRows (if may then writes_over n (site host.name host.admin asked.0 now) asked.1 (asked_of asked.1 held) else []))
+    → reply ≡ (if may then reply_to (outcome_of reply) n (site host.name host.admin (groups_of held) asked.0 now) asked.1 held else refusal_by (outcome_of reply) (forbidden asked.1))
+    → new ≡ Some (if may then held_after (outcome_of reply) n (site host.name host.admin (groups_of held) asked.0 now) asked.1 held else held)
+    → (outcome_of reply ≡ Went → AreRows (if may then writes_over n (site host.name host.admin (groups_of held) asked.0 now) asked.1 (asked_of asked.1 held) else []))
     → IsReplied n host now (allowed may asked) held reply new
 answer_replies n host now asked true held reply new is left are = record { reply_is = is; left = left; are_rows = are }
 answer_replies n host now asked false held reply new is left are = record { reply_is = is; left = left; are_rows = are }
 
 -- an ask is answered by the instance
 pub by_step : (n : ℕ) (i : Standing) (now : ℕ) (request : RequestData) (word : ℕ) (asked : Asked) (reply : Reply) (old new : Option Held)
-    → read_of i.admin request word ≡ Ok asked → IfSome old (λ held. IsAnswered n (site_at i asked.0 now) asked.1 held reply new)
+    → read_of i.admin request word ≡ Ok asked → IfSome old (λ held. IsAnswered n (site_at i held asked.0 now) asked.1 held reply new)
     → IfSome old (λ held. IsReplied n (host_of i) now (form_of i.admin request word) held reply new)
 by_step n i now request word asked reply None new is answered = tt
 by_step n i now request word asked reply (Some held) new is answered =
@@ -50,31 +51,36 @@ by_step n i now request word asked reply (Some held) new is answered =
     (answer_replies n (host_of i) now asked (is_permitted asked.0 asked.1) held reply new answered.reply_is answered.left answered.are_rows)
 
 -- a refusal by the form of a request comes from no keeper, and from memory only where memory ran out
-abbrev IsFormal : Refusal → Type 0
+abbrev pub IsFormal : Refusal → Type 0
 IsFormal refusal = (outcome_of (replies.Refused refusal) ≡ Went) ⊎ (refusal ≡ bare rules.NoMemory)
 
-abbrev ByForm : {A : Type 0} → Reading A → Type 0
+abbrev pub ByForm : {A : Type 0} → Reading A → Type 0
 ByForm (Ok x) = Unit {0}
 ByForm (Err refusal) = IsFormal refusal
 
-value_by_form : (value : Option Data) → ByForm (json_or_refusal value)
+pub value_by_form : (value : Option Data) → ByForm (json_or_refusal value)
 value_by_form None = inl refl
 value_by_form (Some value) = tt
 
-asked_by_form : (read : Result Submission FormatFault) → ByForm (asked read)
-asked_by_form (Ok submission) = tt
-asked_by_form (Err (faults.BadField path need)) = inl refl
-asked_by_form (Err (faults.BinaryType path)) = inl refl
-asked_by_form (Err faults.NoMemory) = inr refl
+pub formed_by_form : {A : Type 0} (read : Result A FormatFault) → ByForm (formed read)
+formed_by_form (Ok x) = tt
+formed_by_form (Err (faults.BadField path need)) = inl refl
+formed_by_form (Err (faults.BinaryType path)) = inl refl
+formed_by_form (Err faults.NoMemory) = inr refl
+
+asked_by_form : (read : Reading Submission) → ByForm read → ByForm (asked read)
+asked_by_form (Ok submission) formed = tt
+asked_by_form (Err refusal) formed = formed
 
 added_by_form : (word : ℕ) (value : Reading Data) → ByForm value → ByForm (added_by word value)
-added_by_form word (Ok value) formed = asked_by_form (event_at word value)
+added_by_form word (Ok value) form = asked_by_form (formed (event_at word value)) (formed_by_form (event_at word value))
 added_by_form word (Err refusal) formed = formed
 
 ask_by_form : (route : Route) (body : List ℕ) (word : ℕ) → ByForm (ask_of route body word)
 unfolding added json_in
 ask_by_form AddEvent body word = added_by_form word _ (value_by_form _)
 ask_by_form (ViewEvent event owner) body word = tt
+ask_by_form Groups body word = tt
 
 body_by_form : (caller : Caller) (read : Reading Ask) → ByForm read → ByForm (by_body caller read)
 body_by_form caller (Ok ask) formed = tt
@@ -137,7 +143,7 @@ refused_by_form n i now request word fault None given = tt
 refused_by_form n i now request word fault (Some held) given =
     by_fault n (host_of i) now (read_of i.admin request word) fault held given (read_by_form i.admin request word)
 
-no_keeper_in : (refusal : Refusal) → IsFormal refusal → outcome_of (replies.Refused refusal) ≡ ByKeeper → ⊥
+pub no_keeper_in : (refusal : Refusal) → IsFormal refusal → outcome_of (replies.Refused refusal) ≡ ByKeeper → ⊥
 no_keeper_in refusal (inl went) is = absurd cc
 no_keeper_in refusal (inr out) is = absurd cc
 

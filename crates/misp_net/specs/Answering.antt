@@ -13,6 +13,7 @@ use Rattle.misp_requests.specs.declared.ask.Ask.{Ask}
 use Rattle.misp_script.specs.Step.{RequestData}
 use Rattle.misp_core.specs.Permission.{permission_of, is_permitted, no_permission}
 use Rattle.misp_core.specs.Answers.{site, writes_over}
+use Rattle.misp_core.specs.Sharing.{groups_of}
 use Rattle.misp_core.specs.Outcome.{Outcome, Went, outcome_of, asked_of, refusal_by, reply_to, held_after}
 use Rattle.misp_core.specs.declared.reply.Reply.{Reply}
 use Rattle.misp_core.specs.declared.reply.Reply.TheVariants as replies
@@ -69,19 +70,20 @@ fault_reply stops.NoMemory = replies.Refused (bare rules.NoMemory)
 
 abbrev pub reply_by : Outcome → ℕ → Host → ℕ → Reading Asked → Held → Reply
 reply_by outcome n host now (Ok asked) held =
-    reply_to outcome n (site host.name host.admin asked.0 now) asked.1 held
+    reply_to outcome n (site host.name host.admin (groups_of held) asked.0 now) asked.1 held
 reply_by outcome n host now (Err refusal) held = refusal_by outcome refusal
 
 -- what is held afterwards
 abbrev pub held_by : Outcome → ℕ → Host → ℕ → Reading Asked → Held → Held
 held_by outcome n host now (Ok asked) held =
-    held_after outcome n (site host.name host.admin asked.0 now) asked.1 held
+    held_after outcome n (site host.name host.admin (groups_of held) asked.0 now) asked.1 held
 held_by outcome n host now (Err refusal) held = held
 
 -- the rows that it writes where nothing stops it
 abbrev pub writes_by : ℕ → Host → ℕ → Reading Asked → Held → List Row
 writes_by n host now (Ok asked) held =
-    writes_over n (site host.name host.admin asked.0 now) asked.1 (asked_of asked.1 held)
+    writes_over n (site host.name host.admin (groups_of held) asked.0 now) asked.1
+    (asked_of asked.1 held)
 writes_by n host now (Err refusal) held = []
 
 -- the reply is the stated one, and so is what is held afterwards; what is written are rows

@@ -1,12 +1,11 @@
 -- What is known of the course of a script over instances, some of which may not tell what is held.
 use Rattle.std.specs.Prelude.{◌≡◌, ℕ, List, ◌++◌, map, length}
 use Rattle.misp_outside.specs.Causes.{RoseBy}
-use Rattle.misp_elem.specs.Row.{AreRows}
 use Rattle.misp_model.specs.Kept.{start}
 use Rattle.misp_core.specs.Outcome.{Outcome, Went}
 use Rattle.misp_net.specs.declared.line.Output.{Output}
 use Rattle.misp_net.specs.Hosts.{Host, Stock, Tables, Tell, count_at}
-use Rattle.misp_net.specs.Run.{Act, output_of, tables_after, outputs_of, tables_left, outcome_in, fault_at, faults_at, writes_of, IsAmong}
+use Rattle.misp_net.specs.Run.{Act, output_of, tables_after, outputs_of, tables_left, outcome_in, fault_at, faults_at, Fits, IsAmong}
 use Rattle.misp_net.specs.History.{world_left, told_outputs, AreDistinct, empty_tables, IsHistory}
 use Rattle.misp_net.specs.Text.{line_of, text_from}
 
@@ -21,8 +20,8 @@ pub record IsAct (n : ℕ) (hosts : List Host) (act : Act)
   pub tables_are : (tables : Tables) → Tell old tables
       → Tell new (tables_after (outcome_in output) n hosts act tables)
   pub among : IsAmong (length hosts) act
-  pub are_rows : (tables : Tables) → Tell old tables → outcome_in output ≡ Went
-      → AreRows (writes_of n hosts act tables)
+  pub fits : (tables : Tables) → Tell old tables → outcome_in output ≡ Went
+      → Fits n hosts act tables
 
 -- the same, and behind what was written before stands what it put out, as the line of this number
 pub record HasPut (n : ℕ) (hosts : List Host) (act : Act)

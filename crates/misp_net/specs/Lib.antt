@@ -2,8 +2,10 @@ pub mod Hosts
 pub mod Route
 pub mod Request
 pub mod Answering
+pub mod Administering
 pub mod Order
 pub mod Text
+pub mod Opening
 pub mod Run
 pub mod History
 pub mod Course

@@ -7,6 +7,7 @@ use Rattle.misp_elem.specs.Refusal.{rule_number}
 use Rattle.misp_outside.specs.Held.{Held}
 use Rattle.misp_script.specs.Step.{RequestData}
 use Rattle.misp_core.specs.Answers.{site}
+use Rattle.misp_core.specs.Sharing.{groups_of}
 use Rattle.misp_core.specs.Order.{Ground, grounds}
 use Rattle.misp_net.specs.declared.route.Route.{Route}
 use Rattle.misp_net.specs.Hosts.{Host}
@@ -37,7 +38,7 @@ body_breaks rule request word =
 -- the rules of what is asked, where it was read
 abbrev pub asked_grounds : ℕ → Host → ℕ → Reading Asked → Held → List Ground
 asked_grounds n host now (Ok asked) held =
-    grounds n (site host.name host.admin asked.0 now) asked.1 held
+    grounds n (site host.name host.admin (groups_of held) asked.0 now) asked.1 held
 asked_grounds n host now (Err refusal) held = []
 
 -- of the n-th request, at this moment and over what is held

@@ -17,7 +17,7 @@ use Rattle.misp_format.specs.declared.fault.FormatFault.{FormatFault}
 use Rattle.misp_format.specs.declared.fault.FormatFault.TheVariants as faults
 use Rattle.misp_format.specs.Tables.{event_at}
 use Rattle.misp_net.specs.declared.route.Route.{Route}
-use Rattle.misp_net.specs.declared.route.Route.TheVariants.{AddEvent, ViewEvent}
+use Rattle.misp_net.specs.declared.route.Route.TheVariants.{AddEvent, ViewEvent, Groups}
 use Rattle.misp_net.specs.declared.request.AskFault.{AskFault}
 use Rattle.misp_net.specs.declared.request.AskFault.TheVariants as stops
 
@@ -53,15 +53,30 @@ json_in body = json_or_refusal (if is_utf8 body then read body else None)
 abbrev pub field_place : List ℕ → Need → List ℕ
 field_place path need = path ++ 32 ∷ need_words need
 
-abbrev pub asked : Result Submission FormatFault → Reading Ask
+-- the refusal of a body that is not of its form
+abbrev pub refusal_of : FormatFault → Refusal
+refusal_of (faults.BadField path need) =
+    record { name = rules.BadField; place = field_place path need }
+refusal_of (faults.BinaryType path) = record { name = rules.BinaryType; place = path }
+refusal_of faults.NoMemory = bare rules.NoMemory
+
+-- what a body is, or the refusal
+abbrev pub formed : {A : Type 0} → Result A FormatFault → Reading A
+formed (Ok x) = Ok x
+formed (Err fault) = Err (refusal_of fault)
+
+-- the refusal is that of the fault, unless memory ran out
+abbrev pub Refuses : FormatFault → AskFault → Type 0
+Refuses faults.NoMemory (stops.Refused refusal) = ⊥
+Refuses fault (stops.Refused refusal) = refusal ≡ refusal_of fault
+Refuses fault stops.NoMemory = Unit {0}
+
+abbrev pub asked : Reading Submission → Reading Ask
 asked (Ok submission) = Ok (asks.Change (changes.AddEvent submission))
-asked (Err (faults.BadField path need)) =
-    Err (record { name = rules.BadField; place = field_place path need })
-asked (Err (faults.BinaryType path)) = Err (record { name = rules.BinaryType; place = path })
-asked (Err faults.NoMemory) = Err (bare rules.NoMemory)
+asked (Err refusal) = Err refusal
 
 abbrev pub added_by : ℕ → Reading Data → Reading Ask
-added_by word (Ok d) = asked (event_at word d)
+added_by word (Ok d) = asked (formed (event_at word d))
 added_by word (Err refusal) = Err refusal
 
 -- the event that a body adds
@@ -72,3 +87,4 @@ added body word = added_by word (json_in body)
 abbrev pub ask_of : Route → List ℕ → ℕ → Reading Ask
 ask_of AddEvent body word = added body word
 ask_of (ViewEvent event owner) body word = Ok (View event owner)
+ask_of Groups body word = Ok asks.Groups

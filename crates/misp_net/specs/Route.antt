@@ -7,7 +7,7 @@ use Rattle.misp_ids.specs.Uid.{read_uid}
 use Rattle.misp_elem.specs.declared.refusal.RuleName.{RuleName}
 use Rattle.misp_elem.specs.declared.refusal.RuleName.TheVariants.{NoRoute, NoMethod}
 use Rattle.misp_net.specs.declared.route.Route.{Route}
-use Rattle.misp_net.specs.declared.route.Route.TheVariants.{AddEvent, ViewEvent}
+use Rattle.misp_net.specs.declared.route.Route.TheVariants.{AddEvent, ViewEvent, Groups}
 
 -- ---- targets
 
@@ -49,7 +49,10 @@ view_in path =
 
 -- what a path is for
 unfoldable pub path_route : List ℕ → Option Route
-path_route path = if bytes_eq path (codes "/events/add") then Some AddEvent else view_in path
+path_route path =
+    if bytes_eq path (codes "/events/add") then Some AddEvent
+    else if bytes_eq path (codes "/sharing_groups/index") then Some Groups
+    else view_in path
 
 -- ---- routes
 
@@ -57,6 +60,7 @@ path_route path = if bytes_eq path (codes "/events/add") then Some AddEvent else
 abbrev pub method_of : Route → List ℕ
 method_of AddEvent = codes "POST"
 method_of (ViewEvent event owner) = codes "GET"
+method_of Groups = codes "GET"
 
 -- the path must be for something, and the method be its own
 abbrev pub by_method : List ℕ → Option Route → Result Route RuleName

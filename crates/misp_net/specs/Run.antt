@@ -1,25 +1,28 @@
 -- The run of a script, given what stopped each of its lines: what is put out, and what is held in
 -- the end.
 use Rattle.std.specs.Prelude.{ℕ, suc, ◌+◌, ◌==◌, List, [], ◌∷◌, map, slice_set, Ok, Err, if◌then◌else◌}
-use Rattle.misp_elem.specs.declared.row.RowFields.{RowFields as Row}
+use Rattle.misp_elem.specs.Row.{AreRows}
 use Rattle.misp_outside.specs.Held.{Held}
+use Rattle.misp_script.specs.Directory.{Site}
 use Rattle.misp_script.specs.Fields.{Reading}
 use Rattle.misp_script.specs.Lines.{lines_of}
 use Rattle.misp_script.specs.Step.{StepData, DeedData, RequestData, IsPlaced, step_of}
 use Rattle.misp_script.specs.Step as deeds
 use Rattle.misp_core.specs.Outcome.{Outcome, Went, ByKeeper, ByMemory, outcome_of}
+use Rattle.misp_core.specs.Sharing.{groups_of}
 use Rattle.misp_net.specs.declared.line.Output.{Output}
 use Rattle.misp_net.specs.declared.line.Output.TheVariants.{Bad, Nothing, Replied}
 use Rattle.misp_net.specs.Hosts.{Host, host_at, Tables, held_at}
 use Rattle.misp_net.specs.Answering.{form_of, reply_by, held_by, writes_by}
+use Rattle.misp_net.specs.Administering.{group_form, FormFits, group_reply, group_held}
 
 -- a line of a script: a step, or the place of its first faulty field
 abbrev pub Act : Type 0
 Act = Reading StepData
 
--- the lines of a script, among instances of these names
-abbrev pub acts_of : List (List ℕ) → List ℕ → List Act
-acts_of names script = map (step_of names) (lines_of script)
+-- the lines of a script, among these instances
+abbrev pub acts_of : List Site → List ℕ → List Act
+acts_of sites script = map (step_of sites) (lines_of script)
 
 -- ---- one line
 
@@ -40,6 +43,9 @@ abbrev pub deed_output : Outcome → ℕ → List Host → ℕ → ℕ → DeedD
 deed_output outcome n hosts time word deeds.Nothing tables = Nothing
 deed_output outcome n hosts time word (deeds.Request r) tables =
     request_reply outcome n hosts time word r tables
+deed_output outcome n hosts time word (deeds.Group line) tables =
+    Replied
+    (group_reply outcome line (group_form line.body) (groups_of (held_at line.at tables)))
 
 -- what the n-th line puts out
 abbrev pub output_of : Outcome → ℕ → List Host → Act → Tables → Output
@@ -51,6 +57,9 @@ abbrev pub deed_tables : Outcome → ℕ → List Host → ℕ → ℕ → DeedD
 deed_tables outcome n hosts time word deeds.Nothing tables = tables
 deed_tables outcome n hosts time word (deeds.Request r) tables =
     slice_set tables r.at (request_held outcome n hosts time word r tables)
+deed_tables outcome n hosts time word (deeds.Group line) tables =
+    slice_set tables line.at
+    (group_held outcome time line (group_form line.body) (held_at line.at tables))
 
 -- what it leaves
 abbrev pub tables_after : Outcome → ℕ → List Host → Act → Tables → Tables
@@ -58,16 +67,18 @@ tables_after outcome n hosts (Ok step) tables =
     deed_tables outcome n hosts step.time step.word step.deed tables
 tables_after outcome n hosts (Err bad) tables = tables
 
--- the rows that a line writes where nothing stops it
-abbrev pub deed_writes : ℕ → List Host → ℕ → ℕ → DeedData → Tables → List Row
-deed_writes n hosts time word deeds.Nothing tables = []
-deed_writes n hosts time word (deeds.Request r) tables =
-    writes_by n (host_at r.at hosts) time (form_of (host_at r.at hosts).admin r word)
-    (held_at r.at tables)
+-- what a line writes where nothing stops it fits: its rows are rows, and its group is one
+abbrev pub DeedFits : ℕ → List Host → ℕ → ℕ → DeedData → Tables → Type 0
+DeedFits n hosts time word deeds.Nothing tables = Unit {0}
+DeedFits n hosts time word (deeds.Request r) tables =
+    AreRows
+    (writes_by n (host_at r.at hosts) time (form_of (host_at r.at hosts).admin r word)
+    (held_at r.at tables))
+DeedFits n hosts time word (deeds.Group line) tables = FormFits time (group_form line.body)
 
-abbrev pub writes_of : ℕ → List Host → Act → Tables → List Row
-writes_of n hosts (Ok step) tables = deed_writes n hosts step.time step.word step.deed tables
-writes_of n hosts (Err bad) tables = []
+abbrev pub Fits : ℕ → List Host → Act → Tables → Type 0
+Fits n hosts (Ok step) tables = DeedFits n hosts step.time step.word step.deed tables
+Fits n hosts (Err bad) tables = Unit {0}
 
 -- the instance that is asked is one of so many
 abbrev pub IsAmong : ℕ → Act → Type 0
@@ -99,11 +110,16 @@ outcome_in (Bad place) = Went
 outcome_in Nothing = Went
 outcome_in (Replied reply) = outcome_of reply
 
+-- whether the keeper of this place stopped what was asked there
+abbrev pub fault_there : ℕ → ℕ → Outcome → ℕ
+fault_there place there Went = 0
+fault_there place there ByMemory = 0
+fault_there place there ByKeeper = if there == place then 1 else 0
+
 abbrev pub deed_fault : ℕ → DeedData → Outcome → ℕ
 deed_fault place deeds.Nothing outcome = 0
-deed_fault place (deeds.Request r) Went = 0
-deed_fault place (deeds.Request r) ByMemory = 0
-deed_fault place (deeds.Request r) ByKeeper = if r.at == place then 1 else 0
+deed_fault place (deeds.Request r) outcome = fault_there place r.at outcome
+deed_fault place (deeds.Group line) outcome = fault_there place line.at outcome
 
 -- whether the keeper of this place stopped the line
 abbrev pub fault_at : ℕ → Act → Outcome → ℕ

@@ -53,7 +53,8 @@ fn read<K: Keeper>(
     Ok((caller, ask))
 }
 
-fn refused(alloc: Global, fault: AskFault) -> Reply
+/// The reply to what was not read.
+pub(crate) fn refused(alloc: Global, fault: AskFault) -> Reply
     ensures { result ≡ fault_reply fault }
 {
     match fault {

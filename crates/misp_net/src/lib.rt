@@ -1,6 +1,7 @@
 //! Runs a script of requests over the instances of a description.
 #![tactic(auto)]
 
+mod administering;
 mod answering;
 mod line;
 mod net;
@@ -8,6 +9,7 @@ mod places;
 mod request;
 mod route;
 
+pub use administering::administer;
 pub use answering::answer;
 pub use line::{Output, write_line};
 pub use net::run_net;

@@ -4,7 +4,7 @@ ghost use Rattle.std.specs.Prelude.{◌≡◌, ◌++◌, OnOk, decimal, codes, s
 ghost use Rattle.misp_net.specs.Text.{answer_text, reply_text, output_text, line_of};
 
 use misp_core::{Answer, Reply};
-use misp_format::{put_event, write_refusal, write_saved};
+use misp_format::{put_event, put_groups, write_refusal, write_saved, write_taken};
 use misp_ids::NoMemory;
 use std::alloc::Global;
 use std::fmt::Write;
@@ -44,6 +44,8 @@ fn put_answer(lines: &mut Vec<u8>, alloc: Global, answer: &Answer) -> Result<(),
             stamp,
         } => Ok(lines.extend_from_slice(&write_saved(alloc, *elements, event, *stamp)?)?),
         Answer::Event(event) => put_event(lines, alloc, event),
+        Answer::Groups(groups) => put_groups(lines, alloc, groups.as_slice()),
+        Answer::Taken(count) => Ok(lines.extend_from_slice(&write_taken(alloc, *count)?)?),
     }
 }
 

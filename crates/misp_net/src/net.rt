@@ -1,40 +1,47 @@
 //! The run of a script.
 
-ghost use Rattle.std.specs.Prelude.{◌≡◌, ◌≤◌, ℕ, IfOk, OnOk, length, take, drop, vec_len};
-ghost use Rattle.misp_script.specs.Names.{names_of};
+ghost use Rattle.std.specs.Prelude.{◌≡◌, ◌≤◌, ℕ, true, Err, IfOk, IfErr, OnOk, length, take, drop, vec_len};
+ghost use Rattle.misp_script.specs.Directory.{directory_of};
 ghost use Rattle.misp_script.specs.Step.{step_of};
-ghost use Rattle.misp_net.specs.Hosts.{described_hosts, hosts_of, stocks_of, stocks};
+ghost use Rattle.misp_net.specs.Hosts.{described_hosts, hosts_of, stocks_of, stocks, told};
+ghost use Rattle.misp_net.specs.Opening.{may_be_sound, may_be_unsound, OneFailed, IsUnopened};
 ghost use Rattle.misp_net.specs.Run.{acts_of};
 ghost use Rattle.misp_net.specs.Course.{IsAct, HasPut, HasRun};
 ghost use Rattle.misp_net.specs.Promise.{IsPromised};
 
+use crate::administering::administer;
 use crate::answering::answer;
 use crate::line::{Output, write_line};
 use crate::places::{NetFault, close_all, open_all};
 use misp_core::Instance;
-use misp_ids::{InstId, NoMemory};
+use misp_format::a_group_is_read_from_its_text;
+use misp_ids::NoMemory;
 use misp_outside::Keeper;
-use misp_script::{Deed, Description, read_line, split_line};
+use misp_script::{Deed, Description, Directory, read_line, split_line};
 use std::alloc::Global;
 
 // Runs one line.
 fn run_line<K: Keeper>(
     alloc: Global,
-    names: &[InstId],
+    directory: &Directory,
     instances: &mut Vec<Instance<K>>,
     line: &[u8],
 ) -> Output
-    requires { length names.now ≡ vec_len instances.old }
-    ensures act { (n : ℕ) → IsAct n (hosts_of instances.old.items) (step_of names.now line.now)
+    requires { length directory.now ≡ vec_len instances.old }
+    ensures act { (n : ℕ) → IsAct n (hosts_of instances.old.items) (step_of directory.now line.now)
         (stocks_of instances.old.items) (stocks_of instances.new.items) result }
     ensures hosts { hosts_of instances.new.items ≡ hosts_of instances.old.items }
 {
-    match read_line(line, names) {
+    match read_line(line, directory) {
         Ok(step) => match step.deed {
             Deed::Nothing => Output::Nothing,
             Deed::Request(request) => {
                 let instance = &mut instances[request.at];
                 Output::Replied(answer(alloc, instance, step.time, step.word, &request))
+            }
+            Deed::Group(group) => {
+                let instance = &mut instances[group.at];
+                Output::Replied(administer(alloc, instance, step.time, &group))
             }
         },
         Err(bad) => Output::Bad(bad.place),
@@ -45,41 +52,43 @@ fn run_line<K: Keeper>(
 fn put_line<K: Keeper>(
     lines: &mut Vec<u8>,
     alloc: Global,
-    names: &[InstId],
+    directory: &Directory,
     instances: &mut Vec<Instance<K>>,
     number: usize,
     line: &[u8],
 ) -> Result<(), NoMemory>
-    requires { length names.now ≡ vec_len instances.old }
+    requires { length directory.now ≡ vec_len instances.old }
     ensures put { OnOk result ((n : ℕ) →
-        HasPut n (hosts_of instances.old.items) (step_of names.now line.now)
+        HasPut n (hosts_of instances.old.items) (step_of directory.now line.now)
         (stocks_of instances.old.items) (stocks_of instances.new.items)
         number lines.old.items lines.new.items) }
     ensures hosts { hosts_of instances.new.items ≡ hosts_of instances.old.items }
 {
-    let output = run_line(alloc, names, instances, line);
+    let output = run_line(alloc, directory, instances, line);
     write_line(lines, alloc, number, &output)
 }
 
 // Runs a script, one line after another.
 fn run_lines<K: Keeper>(
     alloc: Global,
-    names: &[InstId],
+    directory: &Directory,
     instances: &mut Vec<Instance<K>>,
     script: &[u8],
 ) -> Result<Vec<u8>, NoMemory>
-    requires { length names.now ≡ vec_len instances.old }
+    requires { length directory.now ≡ vec_len instances.old }
     ensures places { vec_len instances.new ≡ vec_len instances.old }
     ensures ran { IfOk result (λ lines.
-        HasRun (hosts_of instances.old.items) (acts_of names.now script.now)
+        HasRun (hosts_of instances.old.items) (acts_of directory.now script.now)
         (stocks_of instances.old.items) (stocks_of instances.new.items) lines.items) }
 {
+    // A group that is held is read again as it was.
+    a_group_is_read_from_its_text();
     let mut lines = Vec::new(alloc);
     let mut number = 1usize;
     let mut rest = script;
     while !rest.is_empty() {
         let (line, after) = split_line(rest);
-        put_line(&mut lines, alloc, names, instances, number, line)?;
+        put_line(&mut lines, alloc, directory, instances, number, line)?;
         rest = after;
         number += 1;
     }
@@ -99,18 +108,31 @@ pub fn run_net<K: Keeper>(
     // What was written and what is held follow from the script, and from what stopped each line;
     // and what an organisation was never granted changes none of its replies.
     ensures ran { IfOk result (λ lines.
-        IsPromised (described_hosts net) (acts_of (names_of net) script.now)
+        IsPromised (described_hosts net) (acts_of (directory_of net) script.now)
         (take (length net.instances) (stocks K.held K.faults keepers.old.items))
         (take (length net.instances) (stocks K.held K.faults keepers.new.items)) lines.items) }
+
+    // Lines are run only where every row of the administration that is told is a group; else it is
+    // told which fault was met, and no keeper holds anything else than before.
+    ensures sound { OnOk result (may_be_sound
+        (take (length net.instances) (stocks K.held K.faults keepers.old.items)) ≡ true) }
+    ensures bad_row { result ≡ Err NetFault.BadRow → may_be_unsound
+        (take (length net.instances) (stocks K.held K.faults keepers.old.items)) ≡ true }
+    ensures keeper { result ≡ Err NetFault.KeeperFault → OneFailed
+        (take (length net.instances) (stocks K.held K.faults keepers.old.items))
+        (take (length net.instances) (stocks K.held K.faults keepers.new.items)) }
+    ensures kept { IfErr result (λ fault. IsUnopened fault →
+        told (stocks K.held K.faults keepers.new.items)
+        ≡ told (stocks K.held K.faults keepers.old.items)) }
 
     // Each keeper is back in its place, and the others are as they were.
     ensures places { vec_len keepers.new ≡ vec_len keepers.old }
     ensures others { drop (length net.instances) (stocks K.held K.faults keepers.new.items)
         ≡ drop (length net.instances) (stocks K.held K.faults keepers.old.items) }
 {
-    let names = net.names(alloc)?;
+    let directory = net.directory(alloc)?;
     let mut instances = open_all(alloc, keepers, net.instances.into_vec())?;
-    let lines = run_lines(alloc, names.as_slice(), &mut instances, script);
+    let lines = run_lines(alloc, &directory, &mut instances, script);
     close_all(instances, keepers);
     Ok(lines?)
 }

@@ -1,9 +1,10 @@
 //! Takes keepers out of their places, and puts them back.
 
-ghost use Rattle.std.specs.Prelude.{◌≡◌, ◌+◌, ◌<◌, ◌≤◌, ◌∷◌, ◌++◌, IfOk, OnOk, OnErr, map, vec_len, vec_capacity};
-ghost use Rattle.misp_net.specs.Hosts.{described_host, hosts_of, stocks_of, stocks};
+ghost use Rattle.std.specs.Prelude.{◌≡◌, ◌+◌, ◌<◌, ◌≤◌, [], ◌∷◌, ◌++◌, true, Err, IfOk, OnOk, OnErr, map, take, drop, vec_len, vec_capacity};
+ghost use Rattle.misp_net.specs.Hosts.{described_host, host_of, hosts_of, stock_of, stocks_of, stocks};
+ghost use Rattle.misp_net.specs.Opening.{may_be_sound, may_be_unsound, AreKept, OneFailed, fault_of};
 
-use misp_core::Instance;
+use misp_core::{Instance, OpenFault};
 use misp_ids::NoMemory;
 use misp_outside::Keeper;
 use misp_script::Entry;
@@ -12,6 +13,10 @@ use std::alloc::{AllocError, Global};
 /// Why a run ends without its lines.
 #[derive(Clone, Copy, Debug, PartialEq, Eq)]
 pub enum NetFault {
+    /// A keeper failed while an instance was opened.
+    KeeperFault,
+    /// A row of the administration is no group.
+    BadRow,
     NoMemory,
 }
 
@@ -35,7 +40,54 @@ impl From<NoMemory> for NetFault {
     }
 }
 
-/// Opens the instances of a description over the first keepers, which leave the vector.
+// Why a network does not open, by why an instance does not.
+fn fault_of(fault: OpenFault) -> NetFault
+    ensures { result ≡ fault_of fault }
+{
+    match fault {
+        OpenFault::KeeperFault => NetFault::KeeperFault,
+        OpenFault::BadRow { .. } => NetFault::BadRow,
+        OpenFault::NoMemory => NetFault::NoMemory,
+    }
+}
+
+// Opens an instance over the first keeper, which leaves the vector unless there is a fault.
+fn open_first<K: Keeper>(
+    alloc: Global,
+    keepers: &mut Vec<K>,
+    entry: Entry,
+) -> Result<Instance<K>, NetFault>
+    requires { 0 < vec_len keepers.old }
+    ensures host { IfOk result (λ instance. host_of instance ≡ described_host entry) }
+    ensures opened { IfOk result (λ instance. AreKept
+        (take 1 (stocks K.held K.faults keepers.old.items)) (stock_of instance ∷ [])) }
+    ensures sound { IfOk result (λ instance. may_be_sound (stock_of instance ∷ []) ≡ true) }
+    ensures rest { OnOk result (stocks K.held K.faults keepers.new.items
+        ≡ drop 1 (stocks K.held K.faults keepers.old.items)) }
+    ensures fewer { OnOk result (1 + vec_len keepers.new ≡ vec_len keepers.old) }
+    ensures back { OnErr result (AreKept (take 1 (stocks K.held K.faults keepers.old.items))
+        (take 1 (stocks K.held K.faults keepers.new.items))) }
+    ensures others { OnErr result (drop 1 (stocks K.held K.faults keepers.new.items)
+        ≡ drop 1 (stocks K.held K.faults keepers.old.items)) }
+    ensures places { OnErr result (vec_len keepers.new ≡ vec_len keepers.old) }
+    ensures bad_row { result ≡ Err NetFault.BadRow →
+        may_be_unsound (take 1 (stocks K.held K.faults keepers.old.items)) ≡ true }
+    ensures keeper { result ≡ Err NetFault.KeeperFault →
+        OneFailed (take 1 (stocks K.held K.faults keepers.old.items))
+        (take 1 (stocks K.held K.faults keepers.new.items)) }
+    ensures room { vec_capacity keepers.new ≡ vec_capacity keepers.old }
+{
+    match Instance::open(alloc, entry.name, entry.admin, take_first(keepers)) {
+        Ok(instance) => Ok(instance),
+        Err((fault, keeper)) => {
+            put_first(keepers, keeper);
+            Err(fault_of(fault))
+        }
+    }
+}
+
+/// Opens the instances of a description over the first keepers, which leave the vector. After a
+/// fault each is back in its place.
 pub(crate) fn open_all<K: Keeper>(
     alloc: Global,
     keepers: &mut Vec<K>,
@@ -44,16 +96,38 @@ pub(crate) fn open_all<K: Keeper>(
     requires { vec_len entries ≤ vec_len keepers.old }
     ensures hosts { IfOk result (λ instances.
         hosts_of instances.items ≡ map described_host entries.items) }
-    ensures opened { IfOk result (λ instances.
-        stocks_of instances.items ++ stocks K.held K.faults keepers.new.items
-        ≡ stocks K.held K.faults keepers.old.items) }
+    ensures opened { IfOk result (λ instances. AreKept
+        (take (vec_len entries) (stocks K.held K.faults keepers.old.items))
+        (stocks_of instances.items)) }
+    ensures rest { OnOk result (stocks K.held K.faults keepers.new.items
+        ≡ drop (vec_len entries) (stocks K.held K.faults keepers.old.items)) }
+    ensures sound { OnOk result (may_be_sound
+        (take (vec_len entries) (stocks K.held K.faults keepers.old.items)) ≡ true) }
+    ensures fewer { IfOk result (λ instances.
+        vec_len instances + vec_len keepers.new ≡ vec_len keepers.old) }
     ensures room { OnOk result (vec_len keepers.old ≤ vec_capacity keepers.new) }
-    ensures back { OnErr result (keepers.new ≡ keepers.old) }
+    ensures back { OnErr result (AreKept
+        (take (vec_len entries) (stocks K.held K.faults keepers.old.items))
+        (take (vec_len entries) (stocks K.held K.faults keepers.new.items))) }
+    ensures places { OnErr result (vec_len keepers.new ≡ vec_len keepers.old) }
+    ensures others { OnErr result
+        (drop (vec_len entries) (stocks K.held K.faults keepers.new.items)
+        ≡ drop (vec_len entries) (stocks K.held K.faults keepers.old.items)) }
+    ensures bad_row { result ≡ Err NetFault.BadRow →
+        may_be_unsound (take (vec_len entries) (stocks K.held K.faults keepers.old.items)) ≡ true }
+    ensures keeper { result ≡ Err NetFault.KeeperFault →
+        OneFailed (take (vec_len entries) (stocks K.held K.faults keepers.old.items))
+        (take (vec_len entries) (stocks K.held K.faults keepers.new.items)) }
 {
     let mut instances = Vec::with_capacity(alloc, entries.len())?;
     for entry in entries {
-        let instance = Instance::open(entry.name, entry.admin, take_first(keepers));
-        instances.push(instance).unwrap();
+        match open_first(alloc, keepers, entry) {
+            Ok(instance) => instances.push(instance).unwrap(),
+            Err(fault) => {
+                close_all(instances, keepers);
+                return Err(fault);
+            }
+        }
     }
     Ok(instances)
 }

@@ -4,10 +4,7 @@ ghost use Rattle.std.specs.Prelude.{◌≡◌, ◌++◌, IfOk, OnOk, Ok, Err, So
 ghost use Rattle.serde_json.specs.View.{view};
 ghost use Rattle.misp_elem.specs.declared.refusal.RuleName.TheVariants as rules;
 ghost use Rattle.misp_core.specs.Answers.{IsBuilt};
-ghost use Rattle.misp_elem.specs.Draft.{SubmissionFields as Submission};
-ghost use Rattle.misp_format.specs.Rows.{Reading, Fails};
-ghost use Rattle.misp_format.specs.Tables.{event_at};
-ghost use Rattle.misp_net.specs.Request.{Gives, Shows, bare, json_in, field_place, asked, added, ask_of};
+ghost use Rattle.misp_net.specs.Request.{Gives, Shows, Refuses, bare, json_in, field_place, added, ask_of};
 
 use crate::route::Route;
 use misp_elem::{Refusal, RuleName};
@@ -55,8 +52,8 @@ pub(crate) fn bare(alloc: Global, name: RuleName) -> Refusal
     }
 }
 
-// The value of a body.
-fn json(alloc: Global, body: &[u8]) -> Result<Value, AskFault>
+/// The value of a body.
+pub(crate) fn json(alloc: Global, body: &[u8]) -> Result<Value, AskFault>
     ensures { Shows view result (json_in body.now) }
 {
     match Value::from_slice(alloc, body) {
@@ -76,8 +73,9 @@ fn field_place(alloc: Global, path: &Text, need: Need) -> Result<Text, AllocErro
     Ok(Text::of(text))
 }
 
-fn fault(alloc: Global, fault: FormatFault) -> AskFault
-    ensures { (read : Reading Submission) → Fails fault read → Gives (Err result) (asked read) }
+/// Why a body that is not of its form is refused.
+pub(crate) fn fault(alloc: Global, fault: FormatFault) -> AskFault
+    ensures { Refuses fault result }
 {
     match fault {
         FormatFault::BadField { path, need } => match field_place(alloc, &path, need) {
@@ -116,5 +114,6 @@ pub fn read_ask(alloc: Global, route: Route, body: &[u8], word: u128) -> Result<
     match route {
         Route::AddEvent => added(alloc, body, word),
         Route::ViewEvent(event, owner) => Ok(Ask::View { event, owner }),
+        Route::Groups => Ok(Ask::Groups),
     }
 }

@@ -12,6 +12,8 @@ pub enum Route {
     AddEvent,
     /// An event: the chosen copy, or that of this owner.
     ViewEvent(EventId, Option<OrgId>),
+    /// The groups that concern who asks.
+    Groups,
 }
 
 /// What stands before the first `?`.
@@ -57,6 +59,8 @@ fn path_route(path: &str) -> Option<Route>
 {
     if path == "/events/add" {
         Some(Route::AddEvent)
+    } else if path == "/sharing_groups/index" {
+        Some(Route::Groups)
     } else {
         view_in(path)
     }
@@ -68,7 +72,7 @@ impl Route {
     {
         match self {
             Route::AddEvent => "POST",
-            Route::ViewEvent(_, _) => "GET",
+            Route::ViewEvent(_, _) | Route::Groups => "GET",
         }
     }
 

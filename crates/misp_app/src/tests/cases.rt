@@ -3,7 +3,7 @@
 use crate::Status;
 
 /// What the names in the texts of the table stand for, in the order in which they are put in.
-pub(super) const NAMES: [(&str, &str); 31] = [
+pub(super) const NAMES: [(&str, &str); 45] = [
     (
         "{net}",
         "[[org]]\nname = 'Alpha'\nuuid = '{oa}'\n[[org]]\nname = 'Beta'\nuuid = '{ob}'\n\
@@ -18,7 +18,40 @@ pub(super) const NAMES: [(&str, &str); 31] = [
     ("{B adds}", "{step} req a {kb} POST /events/add"),
     ("{B views}", "{step} req a {kb} GET /events/view/"),
     ("{reader adds}", "{step} req a {kr} POST /events/add"),
+    ("{A adds group}", "{step} group-add a {oa}"),
+    ("{B adds group}", "{step} group-add a {ob}"),
+    ("{A edits group}", "{step} group-edit a {oa}"),
+    ("{A lists}", "{step} req a {ka} GET /sharing_groups/index"),
+    ("{B lists}", "{step} req a {kb} GET /sharing_groups/index"),
     ("{step}", "1700000000 00000000000000000000000000000000"),
+    (
+        "{shared}",
+        "{'Event':{'uuid':'{e1}','info':'Wave','date':'2023-11-14','distribution':'4',\
+         'SharingGroup':{'organisation_uuid':'{oa}','uuid':'{g1}'},'Attribute':[]}}",
+    ),
+    (
+        "{shown shared}",
+        "200 {'Event':{'Attribute':[],'Object':[],'Org':{'name':'Alpha','uuid':'{oa}'},\
+         'Orgc':{'name':'Alpha','uuid':'{oa}'},'ShadowAttribute':[],\
+         'SharingGroup':{'name':'Ring','organisation_uuid':'{oa}','uuid':'{g1}'},'Tag':[],\
+         'analysis':'0','attribute_count':'0','date':'2023-11-14','distribution':'4',\
+         'extends_uuid':'','info':'Wave','publish_timestamp':'0','published':false,\
+         'threat_level_id':'4','timestamp':'1700000000','uuid':'{e1}'}}",
+    ),
+    (
+        "{not usable}",
+        "403 {'name':'GroupNotUsable','place':'{g1}','rule':15}",
+    ),
+    (
+        "{ring}",
+        "{'SharingGroup':{'uuid':'{g1}','organisation_uuid':'{oa}','name':'Ring',\
+         'SharingGroupOrg':[{'Organisation':{'uuid':'{ob}','name':'Beta'}},\
+         {'Organisation':{'uuid':'{oa}','name':'Alpha'}}]}}",
+    ),
+    (
+        "{nameless ring}",
+        "{'uuid':'{g1}','organisation_uuid':'{oa}'}",
+    ),
     (
         "{wave}",
         "{'Event':{'uuid':'{e1}','info':'Wave','date':'2023-11-14','distribution':'1',\
@@ -54,6 +87,14 @@ pub(super) const NAMES: [(&str, &str); 31] = [
          'info':'Wave','publish_timestamp':'0','published':false,'threat_level_id':'4',\
          'timestamp':'1700000000','uuid':'{e1}'}}",
     ),
+    ("{taken}", "200 {'taken':1}"),
+    (
+        "{rings}",
+        "200 [{'SharingGroupOrg':[{'Organisation':{'name':'Alpha','uuid':'{oa}'},\
+         'extend':false},{'Organisation':{'name':'Beta','uuid':'{ob}'},'extend':false}],'SharingGroupServer':[],'active':true,'description':'',\
+         'modified':'1700000001','name':'Ring','organisation_uuid':'{oa}',\
+         'releasability':'','roaming':false,'uuid':'{g1}'}]",
+    ),
     ("{hidden}", "404 {'name':'NotGranted','place':'','rule':9}"),
     ("{no key}", "403 {'name':'NoKey','place':'','rule':1}"),
     ("{no route}", "404 {'name':'NoRoute','place':'','rule':4}"),
@@ -66,12 +107,17 @@ pub(super) const NAMES: [(&str, &str); 31] = [
         "{no row}",
         "500 {'name':'BadRow','place':'6e616d65','rule':28}",
     ),
+    (
+        "{not creator}",
+        "403 {'name':'NotCreator','place':'','rule':31}",
+    ),
     ("{oa}", "aaaaaaaa-0000-4000-8000-000000000001"),
     ("{ob}", "bbbbbbbb-0000-4000-8000-000000000002"),
     ("{e1}", "e1000000-0000-4000-8000-000000000001"),
     ("{e2}", "e1000000-0000-4000-8000-000000000002"),
     ("{e9}", "e1000000-0000-4000-8000-000000000009"),
     ("{u1}", "a1000000-0000-4000-8000-000000000001"),
+    ("{g1}", "91000000-0000-4000-8000-000000000001"),
     ("{ka}", "AAAAAAAAAAAAAAAAAAAAAAAAAAAAAAAAAAAAAAAA"),
     ("{kb}", "BBBBBBBBBBBBBBBBBBBBBBBBBBBBBBBBBBBBBBBB"),
     ("{kr}", "RRRRRRRRRRRRRRRRRRRRRRRRRRRRRRRRRRRRRRRR"),
@@ -97,7 +143,7 @@ pub(super) struct Case<'a> {
 
 const NONE: [u64; 3] = [0, 0, 0];
 
-pub(super) const CASES: [Case<'static>; 22] = [
+pub(super) const CASES: [Case<'static>; 26] = [
     Case {
         words: "net",
         source: "{net}---\n{A adds} {wave}\n{B views}{e1}\n",
@@ -282,7 +328,7 @@ pub(super) const CASES: [Case<'static>; 22] = [
         words: "net",
         source: "{net}---\n{B views}{e1}\n{B views}{e1}\n",
         len: 0,
-        fails: [0, 0, 2],
+        fails: [0, 0, 3],
         status: Status::Done,
         written: "1 {no keeper}\n2 {hidden}\n",
         batches: 1,
@@ -291,10 +337,59 @@ pub(super) const CASES: [Case<'static>; 22] = [
         words: "net",
         source: "{net}---\n{A adds} {wave}\n{B views}{e1}\n{A adds} {wave}\n",
         len: 0,
-        fails: [0, 0, 3],
+        fails: [0, 0, 4],
         status: Status::Done,
         written: "1 {no keeper}\n2 {hidden}\n3 {saved}\n",
         batches: 2,
+    },
+    // A load of the administration that fails.
+    Case {
+        words: "net",
+        source: "{net}---\n{B views}{e1}\n",
+        len: 0,
+        fails: [0, 0, 2],
+        status: Status::KeeperFault,
+        written: "",
+        batches: 1,
+    },
+    // A group is added once, and edited where it is known, by its creator alone.
+    Case {
+        words: "net",
+        source: "{net}---\n{B lists}\n{A adds group} {ring}\n{A adds group} {ring}\n\
+                 {A edits group} {ring}\n{B adds group} {ring}\n{B lists}\n\
+                 {step} req b {ko} GET /sharing_groups/index\n",
+        len: 0,
+        fails: NONE,
+        status: Status::Done,
+        written: "1 200 []\n2 {taken}\n3 409 {'name':'GroupExists','place':'','rule':29}\n\
+                  4 {taken}\n5 {not creator}\n6 {rings}\n7 200 []\n",
+        batches: 3,
+    },
+    Case {
+        words: "net",
+        source: "{net}---\n{A edits group} {ring}\n{A adds group} {\n\
+                 {A adds group} {nameless ring}\n{A adds group}\n\
+                 {step} group-add a {e1} {ring}\n{A lists}\n",
+        len: 0,
+        fails: NONE,
+        status: Status::Done,
+        written: "1 404 {'name':'NoGroup','place':'','rule':30}\n2 {no json}\n\
+                  3 400 {'name':'BadField','place':'SharingGroup.name present','rule':7}\n\
+                  4 bad 92\n5 bad 56\n6 200 []\n",
+        batches: 1,
+    },
+    // A label of a group is used where the group is known, and opens to its organisations.
+    Case {
+        words: "net",
+        source: "{net}---\n{A adds} {shared}\n{A adds group} {ring}\n{A adds} {shared}\n\
+                 {B views}{e1}\n{step} req b {ko} GET /events/view/{e1}\n",
+        len: 0,
+        fails: NONE,
+        status: Status::Done,
+        written: "1 {not usable}\n2 {taken}\n\
+                  3 200 {'elements':1,'event':'{e1}','timestamp':'1700000000'}\n\
+                  4 {shown shared}\n5 {hidden}\n",
+        batches: 3,
     },
     // The row that the keeper holds is none.
     Case {

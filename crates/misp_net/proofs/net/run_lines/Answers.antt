@@ -19,17 +19,17 @@ loop-rest-init g c = record {
 pub loop-rest-preserved : goal.loop-rest-preserved
 loop-rest-preserved g c =
     let so_far = c.loop-rest.invariant.run in
-    let act : Act = step_of c.args.names.now c.split_line.result.0.now in
+    let act : Act = step_of c.args.directory.now c.split_line.result.0.now in
     let put : HasPut (0 + length so_far.0) (hosts_of c.args.instances.now.items) act (stocks_of c.loop-rest.instances.items) (stocks_of c.put_line.new.instances.items) c.loop-rest.number c.loop-rest.lines.items c.put_line.new.lines.items =
     subst (λ hosts. HasPut (0 + length so_far.0) hosts act (stocks_of c.loop-rest.instances.items) (stocks_of c.put_line.new.instances.items) c.loop-rest.number c.loop-rest.lines.items c.put_line.new.lines.items)
     c.loop-rest.invariant.hosts (c.in_ok-put_line.ensures.put (0 + length so_far.0)) in
     record {
       run = (
         so_far.0 ++ act ∷ [],
-        append_assoc so_far.0 (act ∷ []) (acts_of c.args.names.now c.split_line.result.1.now)
-            ∙ ap (λ lines. so_far.0 ++ map (step_of c.args.names.now) lines) (sym c.split_line.ensures.lines) ∙ so_far.1,
+        append_assoc so_far.0 (act ∷ []) (acts_of c.args.directory.now c.split_line.result.1.now)
+            ∙ ap (λ lines. so_far.0 ++ map (step_of c.args.directory.now) lines) (sym c.split_line.ensures.lines) ∙ so_far.1,
         omega (arith, so_far.2, length-append so_far.0 (act ∷ [])),
-        rw (put.text_is, so_far.2) (one_more _ _ _ _ _ _ _ _ so_far.3 put.ran),
+        rw (put.text_is, so_far.2) (one_more c.a_group_is_read_from_its_text.ensures _ _ _ _ _ _ _ _ so_far.3 put.ran),
       );
       hosts = c.put_line.ensures.hosts ∙ c.loop-rest.invariant.hosts;
       places = omega (arith, hosts_long _ _ c.put_line.ensures.hosts, c.loop-rest.invariant.places, c.put_line.new.instances.ok.0, c.loop-rest.instances.ok.0);

@@ -1,5 +1,6 @@
-use Rattle.std.proofs.Common.{◌≡◌, ◌+◌, ◌≤◌, ◌++◌, map, length, vec_len, vec_capacity}
+use Rattle.std.proofs.Common.{◌≡◌, ◌+◌, ◌≤◌, true, map, length, take, drop, vec_len, vec_capacity}
 use Rattle.misp_net.specs.Hosts.{described_host, hosts_of, stocks_of, stocks}
+use Rattle.misp_net.specs.Opening.{AreKept, may_be_sound}
 use Rattle.misp_net.proofs.places.open_all.Given as goal
 
 -- the first keepers have been taken, each into its instance
@@ -8,7 +9,9 @@ invariant-loop-entry g l =
     let seen = stocks g.K.Keeper.held g.K.Keeper.faults in
     record {
       hosts : hosts_of l.instances.items ≡ map described_host l.yielded;
-      opened : stocks_of l.instances.items ++ seen l.keepers.items ≡ seen l.fn.keepers.items;
+      opened : AreKept (take (length l.yielded) (seen l.fn.keepers.items)) (stocks_of l.instances.items);
+      rest : seen l.keepers.items ≡ drop (length l.yielded) (seen l.fn.keepers.items);
+      sound : may_be_sound (stocks_of l.instances.items) ≡ true;
       count : vec_len l.instances ≡ length l.yielded;
       room : vec_len l.fn.entries ≤ vec_capacity l.instances;
       others : vec_len l.instances + vec_len l.keepers ≡ vec_len l.fn.keepers;

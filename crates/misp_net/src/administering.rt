@@ -1,0 +1,59 @@
+//! Adds or edits a sharing group at an instance.
+
+ghost use Rattle.std.specs.Prelude.{◌≡◌, IfOk, IfSome};
+ghost use Rattle.misp_groups.specs.Group.{IsGroup};
+ghost use Rattle.misp_outside.specs.Causes.{HasCause};
+ghost use Rattle.misp_script.specs.Step.{group_data};
+ghost use Rattle.misp_core.specs.Outcome.{ByKeeper, outcome_of, IsRefused};
+ghost use Rattle.misp_net.specs.Administering.{group_form, IsDone};
+ghost use Rattle.misp_net.specs.Request.{Gives};
+
+use crate::answering::refused;
+use crate::request::{AskFault, fault, json};
+use misp_core::{Instance, Reply};
+use misp_format::read_group;
+use misp_groups::Group;
+use misp_ids::Stamp;
+use misp_outside::Keeper;
+use misp_script::GroupLine;
+use std::alloc::Global;
+
+// The group that a text is.
+#[tactic(auto, unfolding(crate::specs::Administering::group_form))]
+fn group(alloc: Global, text: &[u8]) -> Result<Group, AskFault>
+    ensures read { Gives result (group_form text.now) }
+    ensures fits { IfOk result IsGroup }
+{
+    let value = json(alloc, text)?;
+    match read_group(alloc, &value) {
+        Ok(group) => Ok(group),
+        Err(stopped) => Err(fault(alloc, stopped)),
+    }
+}
+
+/// Adds or edits a sharing group at this moment.
+pub fn administer<K: Keeper>(
+    alloc: Global,
+    instance: &mut Instance<K>,
+    now: Stamp,
+    line: &GroupLine<'_>,
+) -> Reply
+    // Reply and groups are the stated functions of the line and of what is held.
+    ensures replied { IfSome instance.old.held (λ held.
+        IsDone now (group_data line.now) (group_form line.now.body.now)
+        held result instance.new.held) }
+
+    // A refused line changes nothing.
+    ensures refused { IsRefused result → instance.new.held ≡ instance.old.held }
+    ensures cause { HasCause instance.old.faults instance.new.faults
+        (outcome_of result ≡ ByKeeper) }
+    ensures name { instance.new.name ≡ instance.old.name }
+    ensures admin { instance.new.admin ≡ instance.old.admin }
+{
+    // The moment of a stamp is within the years that a stamp has.
+    let _moment = now.get();
+    match group(alloc, line.body) {
+        Ok(group) => instance.admin_group(alloc, now, &line.org, group, line.add),
+        Err(fault) => refused(alloc, fault),
+    }
+}
