@@ -1,5 +1,5 @@
 -- The rows of an added event, by the fields of what is added.
-use Rattle.std.specs.Prelude.{ℕ, Bool, true, false, not, List, Option, Some, None, map, ◌++◌, option_map, option_to_list}
+use Rattle.std.specs.Prelude.{ℕ, true, false, not, List, Option, Some, None, map, ◌++◌, option_map, option_to_list}
 use Rattle.std.specs.List.{filter_map}
 use Rattle.misp_ids.specs.declared.uid.OrgId.{OrgId}
 use Rattle.misp_ids.specs.declared.uid.EventId.{EventId}

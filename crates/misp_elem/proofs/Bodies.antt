@@ -6,7 +6,7 @@ use Rattle.misp_ids.specs.declared.uid.Uid.{Uid}
 use Rattle.misp_ids.specs.declared.uid.OrgId.{OrgId}
 use Rattle.misp_types.specs.Values.{is_kept}
 use Rattle.misp_elem.specs.declared.content.Tag.{Tag}
-use Rattle.misp_elem.specs.Key.{IsUid}
+use Rattle.misp_ids.specs.Uid.{IsUid}
 use Rattle.misp_elem.specs.Row.{IsText, is_date, IsDate, IsValue, text_limit, IsStamp, IsBetween, IsOptionalUid, AreTags, IsEventBody, IsObjectBody, IsAttributeBody, IsReferenceBody, is_removal, IsRemoval, least_kind, IsProposed, IsProposalBody, IsSightingBody}
 use Rattle.misp_elem.specs.Spelling.{uid, text, flag, optional_uid, stamp, tags, event_body, object_body, attribute_body, reference_body, proposal_body, sighting_body}
 use Rattle.misp_elem.specs.Reading.{number_at, text_at, date_at, value_at}

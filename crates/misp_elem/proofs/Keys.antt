@@ -15,7 +15,8 @@ use Rattle.misp_elem.specs.declared.key.Place.TheVariants.{Event, Object, Attrib
 use Rattle.misp_elem.specs.declared.key.ProposalName.{ProposalName}
 use Rattle.misp_elem.specs.declared.key.KeyForm.{KeyForm}
 use Rattle.misp_elem.specs.declared.key.KeyForm.TheVariants.{Element, Reference, Proposal, Verdict, Sighting}
-use Rattle.misp_elem.specs.Key.{IsUid, IsPlace, IsPlaceBut, place_kind, IsInstName, IsProposalName, IsKey, of_reference, of_proposal, of_sighting}
+use Rattle.misp_ids.specs.Uid.{IsUid}
+use Rattle.misp_elem.specs.Key.{IsPlace, IsPlaceBut, place_kind, IsInstName, IsProposalName, IsKey, of_reference, of_proposal, of_sighting}
 use Rattle.misp_elem.specs.Spelling.{uid, inst_name, place, proposal_name, key}
 use Rattle.misp_elem.specs.Reading.{Reading, ◌>>=◌, byte_at, uid_at, elem_at, event_at, org_at, inst_of, inst_at}
 use Rattle.misp_elem.specs.KeyReading.{place_of, place_at, proposal_at, element_at, reference_at, proposed_at, verdict_at, sighting_at, key_of_kind, key_at, key_of}

@@ -6,7 +6,7 @@ use Rattle.misp_ids.specs.declared.uid.Uid.{Uid}
 use Rattle.misp_ids.specs.declared.uid.OrgId.{OrgId}
 use Rattle.misp_ids.specs.declared.label.Label.{Label}
 use Rattle.misp_ids.specs.declared.label.Label.TheVariants as labels
-use Rattle.misp_elem.specs.Key.{IsUid}
+use Rattle.misp_ids.specs.Uid.{IsUid}
 use Rattle.misp_elem.specs.Row.{label_kind, IsLabel, IsLabelBut}
 use Rattle.misp_elem.specs.Spelling.{uid, label, flags}
 use Rattle.misp_elem.specs.Reading.{Reading, ◌>>=◌, byte_at}

@@ -6,7 +6,8 @@ use Rattle.misp_ids.specs.declared.label.Label.{Label}
 use Rattle.misp_elem.specs.declared.key.KeyForm.{KeyForm}
 use Rattle.misp_elem.specs.declared.content.Content.{Content}
 use Rattle.misp_elem.specs.declared.row.RowFields.{RowFields}
-use Rattle.misp_elem.specs.Key.{IsUid, IsKey}
+use Rattle.misp_ids.specs.Uid.{IsUid}
+use Rattle.misp_elem.specs.Key.{IsKey}
 use Rattle.misp_elem.specs.Row.{IsStamp, IsBetween, label_kind, IsLabelBut, barred_labels, IsContentOf, IsRow}
 use Rattle.misp_elem.specs.Spelling.{uid, stamp, label, flags, content, key, row}
 use Rattle.misp_elem.specs.RowReading.{fields_at, row_at, row_of}

@@ -9,7 +9,8 @@ use Rattle.misp_elem.specs.declared.key.Place.TheVariants as places
 use Rattle.misp_elem.specs.declared.content.Tag.{Tag}
 use Rattle.misp_elem.specs.declared.content.Content.{Content}
 use Rattle.misp_elem.specs.declared.content.ReferenceBody.{ReferenceBody}
-use Rattle.misp_elem.specs.Key.{IsUid, IsPlaceBut, of_reference}
+use Rattle.misp_ids.specs.Uid.{IsUid}
+use Rattle.misp_elem.specs.Key.{IsPlaceBut, of_reference}
 use Rattle.misp_elem.specs.Row.{IsText, IsDate, IsBetween, IsOptionalUid, AreTags, IsLabel, IsLabelBut, IsContent, IsReferenceBody, content_kind, text_limit}
 
 pub record DraftFields : Type 0 where

@@ -23,7 +23,8 @@ use Rattle.misp_elem.specs.declared.content.Content.TheVariants as contents
 use Rattle.misp_elem.specs.declared.row.RowFields.{RowFields}
 use Rattle.misp_types.specs.Values.{is_kept}
 unfoldable pub use Rattle.misp_dates.specs.Dates.{is_date}
-use Rattle.misp_elem.specs.Key.{IsUid, IsKey, place_kind}
+use Rattle.misp_ids.specs.Uid.{IsUid}
+use Rattle.misp_elem.specs.Key.{IsKey, place_kind}
 
 -- ---- fields
 

@@ -1,5 +1,5 @@
 -- What is shown of an event, where it is whole: each row of it is a row, and stands at its place.
-use Rattle.std.specs.Prelude.{◌≡◌, ℕ, ◌==◌, Bool, false, List, Option, Some, None}
+use Rattle.std.specs.Prelude.{◌≡◌, Option, Some, None}
 use Rattle.std.specs.List.{AllByRecursion}
 use Rattle.misp_ids.specs.declared.uid.EventId.{EventId}
 use Rattle.misp_ids.specs.declared.uid.ElemId.{ElemId}
@@ -10,7 +10,7 @@ use Rattle.misp_elem.specs.declared.row.RowFields.{RowFields}
 use Rattle.misp_elem.specs.declared.visible.VisibleAttribute.{VisibleAttribute}
 use Rattle.misp_elem.specs.declared.visible.VisibleObject.{VisibleObject}
 use Rattle.misp_elem.specs.declared.visible.VisibleEvent.{VisibleEvent}
-use Rattle.misp_elem.specs.Row.{IsRow, content_kind, label_kind}
+use Rattle.misp_elem.specs.Row.{IsRow, content_kind}
 
 -- the place of an attribute of an object, or of one outside objects
 abbrev pub place_in : Option ElemId → ElemId → Place
@@ -48,17 +48,3 @@ pub record IsWhole (e : VisibleEvent) : Type 0 where
   pub content : content_kind e.row.content ≡ 0
   pub attributes : AllByRecursion (IsAttributeOf event None) e.attributes
   pub objects : AllByRecursion (IsObjectOf event) e.objects
-
--- its label is that of no group
-abbrev pub IsUngrouped : RowFields → Type 0
-IsUngrouped r = (label_kind r.label == 4) ≡ false
-
-abbrev pub IsUngroupedObject : VisibleObject → Type 0
-IsUngroupedObject o =
-    IsUngrouped o.row × AllByRecursion (λ (a : VisibleAttribute). IsUngrouped a.row) o.attributes
-
--- no label of it, and of its attributes and objects, is that of a group
-pub record HasNoGroups (e : VisibleEvent) : Type 0 where
-  pub row : IsUngrouped e.row
-  pub attributes : AllByRecursion (λ (a : VisibleAttribute). IsUngrouped a.row) e.attributes
-  pub objects : AllByRecursion IsUngroupedObject e.objects

@@ -1,13 +1,14 @@
 -- What is a sharing group.
-use Rattle.std.specs.Prelude.{◌≡◌, ℕ, ◌<◌, ◌≤◌, ◌^◌, true, false, List, [], ◌∷◌, length}
+use Rattle.std.specs.Prelude.{◌≡◌, ℕ, ◌≤◌, true, false, List, length}
 use Rattle.std.specs.declared.cmp.Ordering.{Ordering}
 use Rattle.std.specs.Ordering.{nat_cmp}
 use Rattle.std.specs.Cmp.Lexicographic.{slice_cmp}
+use Rattle.std.specs.List.{AllByRecursion}
 use Rattle.std.specs.List.Sorted.{IsStrictlySortedBy}
 use Rattle.std.specs.Str.{is_utf8}
-use Rattle.misp_ids.specs.declared.uid.Uid.{Uid}
 use Rattle.misp_ids.specs.declared.stamp.TheConstants.{LAST_SECOND}
 use Rattle.misp_ids.specs.Names.{is_inst_name}
+use Rattle.misp_ids.specs.Uid.{IsUid}
 use Rattle.misp_groups.specs.declared.group.GroupFields.{GroupFields}
 use Rattle.misp_groups.specs.declared.group.GroupOrg.{GroupOrg}
 use Rattle.misp_groups.specs.declared.group.GroupServer.{GroupServer}
@@ -22,25 +23,14 @@ by_server a b = slice_cmp nat_cmp a.name b.name
 
 -- ---- fields
 
-abbrev pub IsUid : Uid → Type 0
-IsUid u = u.0 < 2 ^ 128
-
 abbrev pub IsText : List ℕ → Type 0
 IsText text = is_utf8 text ≡ true
 
 abbrev pub IsOrg : GroupOrg → Type 0
 IsOrg o = IsUid o.org.0 × IsText o.name
 
-abbrev pub AreOrgs : List GroupOrg → Type 0
-AreOrgs [] = Unit {0}
-AreOrgs (o ∷ os) = IsOrg o × AreOrgs os
-
 abbrev pub IsServer : GroupServer → Type 0
 IsServer s = is_inst_name s.name ≡ true
-
-abbrev pub AreServers : List GroupServer → Type 0
-AreServers [] = Unit {0}
-AreServers (s ∷ ss) = IsServer s × AreServers ss
 
 -- ---- groups
 
@@ -52,16 +42,11 @@ pub record IsGroup (g : GroupFields) : Type 0 where
   pub name : IsText g.name
   pub description : IsText g.description
   pub releasability : IsText g.releasability
-  pub orgs : AreOrgs g.orgs
+  pub orgs : AllByRecursion IsOrg g.orgs
   pub orgs_ascend : IsStrictlySortedBy by_org g.orgs
-  pub servers : AreServers g.servers
+  pub servers : AllByRecursion IsServer g.servers
   pub servers_ascend : IsStrictlySortedBy by_server g.servers
   pub modified : g.modified ≤ LAST_SECOND
-
--- each of these is a group
-abbrev pub AreGroups : List GroupFields → Type 0
-AreGroups [] = Unit {0}
-AreGroups (g ∷ gs) = IsGroup g × AreGroups gs
 
 -- the group as one of this instance, with this stamp
 abbrev pub home : GroupFields → ℕ → GroupFields
