@@ -31,3 +31,8 @@ pub mod NameOrder
 pub mod ShownHere
 pub mod OneEvent
 pub mod Numbered
+pub mod Among
+pub mod OneRow
+pub mod OneNewest
+pub mod KnownRows
+pub mod KnownShown

@@ -17,7 +17,8 @@ use Rattle.misp_elem.specs.declared.key.ProposalName.{ProposalName}
 use Rattle.misp_elem.specs.declared.key.KeyForm.{KeyForm as Key}
 use Rattle.misp_elem.specs.declared.key.KeyForm.TheVariants.{Element, Reference, Proposal, Verdict, Sighting}
 use Rattle.misp_elem.specs.declared.row.RowFields.{RowFields as Row}
-use Rattle.misp_elem.specs.Key.{IsUid, IsPlace, IsProposalName, IsKey}
+use Rattle.misp_ids.specs.Uid.{IsUid}
+use Rattle.misp_elem.specs.Key.{IsPlace, IsProposalName, IsKey}
 use Rattle.misp_elem.specs.Row.{IsRow}
 use Rattle.misp_elem.specs.Spelling.{uid, inst_name, place, proposal_name, key}
 use Rattle.misp_model.specs.Names.{Inst, same_org, same_key, event_of}

@@ -11,7 +11,7 @@ use Rattle.std.proofs.lemmas.Bool.Decides.{nat_tests}
 use Rattle.std.proofs.lemmas.Nat.{row_fits, mod_below}
 use lib.Arith.{mod-mul}
 use Rattle.misp_ids.specs.declared.uid.Uid.{Uid}
-use Rattle.misp_elem.specs.Key.{IsUid}
+use Rattle.misp_ids.specs.Uid.{IsUid}
 use Rattle.misp_elem.specs.Spelling.{uid}
 
 abbrev pub in_bytes : List ℕ → List ℕ → Ordering

@@ -115,9 +115,13 @@ newer s vs =
     filter
     (λ v. not (list_any (λ row. is_row_of s.by v.key row && leb v.stamp row.stamp) s.rows)) vs
 
--- the groups that concern the organisation: those that it created, and those that allow it here
+-- a group concerns the organisation that created it, and those that it allows here
+abbrev pub concerns : OrgId → Inst → Group → Bool
+concerns o i g = same_org g.id.creator o || allows g o i
+
+-- the groups that concern the organisation
 unfoldable pub concerning : Scene → List Group
-concerning s = filter (λ g. same_org g.id.creator s.by || allows g s.by s.at) s.groups
+concerning s = filter (concerns s.by s.at) s.groups
 
 -- the answer where no rule refuses
 unfoldable pub ok_answer : Scene → Ask → Reply

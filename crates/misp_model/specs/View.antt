@@ -1,7 +1,7 @@
 -- What an organisation is granted at an instance, and the form in which it sees an event.
--- rows are all rows at one instance, one for each owner and key.
+-- rows are all rows at one instance, one for each owner and key (IsTable).
 use Rattle.std.specs.Prelude.{Bool, true, false, cond, not, ltb, eqb, ◌&&◌, ◌||◌, List, Option, filter}
-use Rattle.std.specs.List.{list_any, list_all, find}
+use Rattle.std.specs.List.{list_any, list_all, find, IsDistinct}
 use Rattle.misp_ids.specs.declared.uid.OrgId.{OrgId}
 use Rattle.misp_ids.specs.declared.uid.EventId.{EventId}
 use Rattle.misp_elem.specs.declared.key.KeyForm.{KeyForm as Key}
@@ -11,6 +11,14 @@ use Rattle.misp_elem.specs.declared.row.RowFields.{RowFields as Row}
 use Rattle.misp_groups.specs.declared.group.GroupFields.{GroupFields as Group}
 use Rattle.misp_model.specs.Names.{Inst, same_org, same_key, event_of, event_key, parents}
 use Rattle.misp_model.specs.Audience.{is_open}
+
+-- the two are of one owner and one key
+unfoldable pub in_one_cell : Row → Row → Bool
+in_one_cell a b = same_org a.owner b.owner && same_key a.key b.key
+
+-- no two of these rows are of one owner and one key
+abbrev pub IsTable : List Row → Type 0
+IsTable rows = IsDistinct in_one_cell rows
 
 -- the row is the owner's row of the key
 unfoldable pub is_row_of : OrgId → Key → Row → Bool
