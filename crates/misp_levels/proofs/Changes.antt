@@ -1,9 +1,7 @@
 -- When a change is refused, by what is known of the group's name.
-use Rattle.std.proofs.Common.{◌≡◌, ℕ, Bool, true, false, List, [], ◌∷◌, find, get_or, is_some, Option, Some, None, Result, Ok, Err, IfErr, refl, sym, ap, subst, ◌∙◌, inl, inr}
+use Rattle.std.proofs.Common.{◌≡◌, ℕ, true, false, List, get_or, is_some, Option, Some, None, Result, Ok, Err, IfErr, refl, sym, ap, subst, ◌∙◌}
 use Rattle.std.specs.Result.{IsErrAnd}
-use Rattle.std.specs.List.{list_any}
 use Rattle.std.specs.List.Sorted.{IsStrictlySortedBy}
-use Rattle.std.proofs.lemmas.Bool.{cases_Bool}
 use Rattle.misp_ids.specs.declared.uid.OrgId.{OrgId}
 use Rattle.misp_ids.specs.declared.uid.GroupId.{GroupId}
 use Rattle.misp_groups.specs.declared.group.GroupFields.{GroupFields as Group}
@@ -15,16 +13,10 @@ use Rattle.misp_model.specs.Acts.{put_group}
 use Rattle.misp_levels.specs.declared.fault.GroupFault.{GroupFault}
 use Rattle.misp_levels.specs.declared.fault.GroupFault.TheVariants.{NotCreator, GroupExists, NoGroup, NoMemory}
 use Rattle.misp_levels.specs.Groups.{by_name, IsPlaceOf, IsGapFor, why_not_added, Adds, NotAdded, why_kept, why_not_edited, Edits, NotEdited}
+use Rattle.misp_levels.proofs.Halving.{any_found}
 use Rattle.misp_levels.proofs.Ids.{same_group-refl}
 use Rattle.misp_levels.proofs.Places.{known_at, unknown_at}
 use Rattle.misp_levels.proofs.Putting.{known_put}
-
-any_found : {A : Type 0} (test : A → Bool) (xs : List A) → list_any test xs ≡ is_some (find test xs)
-any_found test [] = refl
-any_found test (x ∷ xs) = elim (cases_Bool (test x)) [
-  | inl hit ↦ rw hit refl
-  | inr miss ↦ rw miss (any_found test xs)
-]
 
 -- a name is known exactly where a group is known by it
 pub known_where : (groups : List Group) (id : GroupId) → is_known_group groups id ≡ is_some (known_group groups id)

@@ -1,15 +1,18 @@
--- Names of groups, their order, and the test whether two are the same.
+-- Names of groups, of organisations and of instances, their order, and the test whether two are the same.
 use Rattle.std.proofs.Common.{◌≡◌, ℕ, true, false, ltb, refl, sym, ap, ◌∙◌, arith}
 use Rattle.std.specs.Prelude.{◌&&◌, ◌||◌, ◌==◌}
 use Rattle.std.specs.declared.cmp.Ordering.{Ordering}
 use Rattle.std.specs.declared.cmp.Ordering.TheVariants.{Less, Equal, Greater}
 use Rattle.std.specs.Ordering.{is_eq, is_lt, nat_cmp, ordering_then, ordering_reverse}
 use Rattle.std.specs.Cmp.{IsTotalOrder}
+use Rattle.std.specs.Cmp.Lexicographic.{slice_cmp}
 use Rattle.std.proofs.lemmas.Cmp.{nat_cmp_total, on_total, then_total}
 use Rattle.std.proofs.lemmas.Bool.{and_parts, eqb-true}
 use Rattle.std.proofs.lemmas.Bool.Decides.{nat_tests}
+use Rattle.std.proofs.lemmas.Map.Text.{is_eq-slice_cmp}
+use Rattle.misp_ids.specs.declared.uid.OrgId.{OrgId}
 use Rattle.misp_ids.specs.declared.uid.GroupId.{GroupId}
-use Rattle.misp_model.specs.Names.{same_org, same_group, group_before}
+use Rattle.misp_model.specs.Names.{Inst, same_inst, same_org, same_group, group_before}
 use Rattle.misp_model.proofs.Same.{same_org-sound}
 use Rattle.misp_model.proofs.Members.{same_org-refl}
 use Rattle.misp_levels.specs.Groups.{by_id}
@@ -26,6 +29,14 @@ is_eq-then Equal p = refl
 is_eq-then Greater p = refl
 
 -- names are the same where their order tells no difference
+pub same_by_number : (a b : OrgId) → is_eq (nat_cmp a.0.0 b.0.0) ≡ same_org a b
+unfolding same_org
+same_by_number a b = numbers_equal a.0.0 b.0.0
+
+pub same_by_bytes : (a b : Inst) → is_eq (slice_cmp nat_cmp a b) ≡ same_inst a b
+unfolding same_inst
+same_by_bytes a b = is_eq-slice_cmp a b
+
 pub same_by_id : (a b : GroupId) → is_eq (by_id a b) ≡ same_group a b
 unfolding same_group same_org
 same_by_id a b =

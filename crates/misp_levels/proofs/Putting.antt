@@ -13,8 +13,8 @@ use Rattle.misp_model.specs.Audience.{known_group}
 use Rattle.misp_model.specs.Acts.{put_group}
 use Rattle.misp_model.proofs.Lists.{find_passes, find_cut, filter_within}
 use Rattle.misp_levels.specs.Groups.{by_id, by_name, IsPlaceOf, IsGapFor, put_groups}
+use Rattle.misp_levels.proofs.Halving.{all_at}
 use Rattle.misp_levels.proofs.Ids.{less_apart, greater_apart, same_group-refl, same_group-sound, less_before, greater_behind}
-use Rattle.misp_levels.proofs.Places.{all_at}
 
 -- those that have not this name
 abbrev pub others : GroupId → List Group → List Group

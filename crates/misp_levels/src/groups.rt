@@ -1,6 +1,6 @@
 //! The groups that are known at an instance.
 
-ghost use Rattle.std.specs.Prelude.{◌≡◌, ◌<◌, true, [], length, option_map, Some, None, IfSome, IfOk, IfErr, OnOk, OnErr};
+ghost use Rattle.std.specs.Prelude.{◌≡◌, ◌<◌, true, false, [], length, option_map, Some, None, IfSome, IfOk, IfErr, OnOk, OnErr};
 ghost use Rattle.std.specs.List.{remove};
 ghost use Rattle.std.specs.List.Sorted.{IsStrictlySortedBy};
 ghost use Rattle.misp_model.specs.Asking.{next_stamp};
@@ -113,6 +113,7 @@ impl Groups {
         ensures ok { OnOk result (self.new ≡ put_group group self.old) }
         ensures before { IfOk result (λ before. before ≡ known_group self.old group.id) }
         ensures err { OnErr result (self.new ≡ self.old) }
+        ensures full { OnErr result (is_known_group self.old group.id ≡ false) }
     {
         match place_of(self.groups.as_slice(), &group.id) {
             Ok(place) => Ok(Some(self.put_at(place, group))),

@@ -1,39 +1,48 @@
 //! Whom a group allows, and where it carries what it labels.
 
-ghost use Rattle.std.specs.Prelude.{◌≡◌, ◌&&◌};
-ghost use Rattle.std.specs.List.{list_any};
+ghost use Rattle.std.specs.Prelude.{◌≡◌, ◌&&◌, option_map};
+ghost use Rattle.std.specs.List.{list_any, find};
+ghost use Rattle.std.specs.List.Sorted.{IsStrictlySortedBy};
+ghost use Rattle.misp_groups.specs.Group.{by_org, by_server};
 ghost use Rattle.misp_model.specs.Names.{same_inst, same_org};
 ghost use Rattle.misp_model.specs.Audience.{allows, carries};
 
 use misp_groups::{Group, GroupOrg, GroupServer};
 use misp_ids::{InstId, OrgId};
 
-#[tactic(auto, unfolding(misp_model::specs::Names::same_org))]
 fn has_org(orgs: &[GroupOrg], org: &OrgId) -> bool
+    requires { IsStrictlySortedBy by_org orgs.now }
     ensures { result ≡ list_any (λ m. same_org m.org org.now) orgs.now }
 {
-    orgs.iter().any(|member| member.org == *org)
+    orgs.binary_search_by(|member| member.org.0.0.cmp(&org.0.0))
+        .is_ok()
 }
 
-#[tactic(auto, unfolding(misp_model::specs::Names::same_inst))]
-fn is_named(server: &GroupServer, name: &InstId) -> bool
-    ensures { result ≡ same_inst server.now.name name.now }
+fn server_of<'a>(servers: &'a [GroupServer], name: &InstId) -> Option<&'a GroupServer>
+    requires { IsStrictlySortedBy by_server servers.now }
+    ensures { option_map (λ s. s.now) result ≡ find (λ s. same_inst s.name name.now) servers.now }
 {
-    server.name.text() == name.text()
+    match servers.binary_search_by(|server| server.name.text().cmp(name.text())) {
+        Ok(place) => Some(&servers[place]),
+        Err(_) => None,
+    }
 }
 
 fn has_server(servers: &[GroupServer], name: &InstId) -> bool
+    requires { IsStrictlySortedBy by_server servers.now }
     ensures { result ≡ list_any (λ s. same_inst s.name name.now) servers.now }
 {
-    servers.iter().any(|server| is_named(server, name))
+    server_of(servers, name).is_some()
 }
 
 fn has_all_orgs(servers: &[GroupServer], name: &InstId) -> bool
+    requires { IsStrictlySortedBy by_server servers.now }
     ensures { result ≡ list_any (λ s. same_inst s.name name.now && s.all_orgs) servers.now }
 {
-    servers
-        .iter()
-        .any(|server| is_named(server, name) && server.all_orgs)
+    match server_of(servers, name) {
+        Some(server) => server.all_orgs,
+        None => false,
+    }
 }
 
 /// Whether the group is active and allows the organisation at the instance.

@@ -1,7 +1,10 @@
 //! Groups that are put, added, edited and copied, where memory is there; and the table of levels.
 
 ghost use Rattle.std.specs.Prelude.{◌≡◌, true, IfOk};
+ghost use Rattle.std.specs.List.{AllByRecursion};
+ghost use Rattle.std.specs.List.Sorted.{IsStrictlySortedBy};
 ghost use Rattle.std.specs.Str.{is_utf8};
+ghost use Rattle.misp_groups.specs.Group.{by_org, by_server, IsOrg, IsServer};
 
 use super::*;
 use misp_groups::{Group, GroupFields, GroupOrg, GroupServer};
@@ -11,7 +14,7 @@ use std::test::*;
 
 const CREATOR: OrgId = OrgId(Uid(0xa1));
 
-const MEMBER: OrgId = OrgId(Uid(0xa2));
+const MEMBER: OrgId = OrgId(Uid(0xa4));
 
 const OTHER: OrgId = OrgId(Uid(0xa3));
 
@@ -22,15 +25,55 @@ fn text(alloc: Global, text: &str) -> Result<Text, AllocError>
     Ok(Text::of(String::from_str(alloc, text)?))
 }
 
-// An active group of this number with one member and no instance.
-fn group(alloc: Global, number: u128) -> Result<Group, AllocError> {
-    let mut orgs = Vec::new(alloc);
-    orgs.push(GroupOrg {
-        org: MEMBER,
+fn member(alloc: Global, number: u128) -> Result<GroupOrg, AllocError>
+    ensures org { IfOk result (λ member. member.org.0.0 ≡ number) }
+    ensures name { IfOk result (λ member. is_utf8 member.name ≡ true) }
+{
+    Ok(GroupOrg {
+        org: OrgId(Uid(number)),
         name: text(alloc, "Member")?,
         extend: false,
+    })
+}
+
+// Three members, with `MEMBER` in the middle.
+fn members(alloc: Global) -> Result<Items<GroupOrg>, AllocError>
+    ensures orgs { IfOk result (λ orgs. AllByRecursion IsOrg orgs) }
+    ensures ascend { IfOk result (λ orgs. IsStrictlySortedBy by_org orgs) }
+{
+    let mut orgs = Vec::new(alloc);
+    orgs.push(member(alloc, 0xa2)?)?;
+    orgs.push(member(alloc, 0xa4)?)?;
+    orgs.push(member(alloc, 0xa6)?)?;
+    Ok(Items::of(orgs))
+}
+
+// Three instances; that in the middle is there with all its organisations.
+fn servers(alloc: Global) -> Result<Items<GroupServer>, AllocError>
+    ensures servers { IfOk result (λ servers. AllByRecursion IsServer servers) }
+    ensures ascend { IfOk result (λ servers. IsStrictlySortedBy by_server servers) }
+{
+    let east = InstId::read("east").unwrap();
+    let north = InstId::read("north").unwrap();
+    let south = InstId::read("south").unwrap();
+    let mut servers = Vec::new(alloc);
+    servers.push(GroupServer {
+        name: east,
+        all_orgs: false,
     })?;
-    let servers: Vec<GroupServer> = Vec::new(alloc);
+    servers.push(GroupServer {
+        name: north,
+        all_orgs: true,
+    })?;
+    servers.push(GroupServer {
+        name: south,
+        all_orgs: false,
+    })?;
+    Ok(Items::of(servers))
+}
+
+// An active group of this number.
+fn group(alloc: Global, number: u128) -> Result<Group, AllocError> {
     Ok(Group::of(GroupFields {
         id: GroupId {
             creator: CREATOR,
@@ -41,8 +84,8 @@ fn group(alloc: Global, number: u128) -> Result<Group, AllocError> {
         releasability: text(alloc, "")?,
         active: true,
         roaming: false,
-        orgs: Items::of(orgs),
-        servers: Items::of(servers),
+        orgs: members(alloc)?,
+        servers: servers(alloc)?,
         modified: Stamp::new(7).unwrap(),
         carried: true,
     }))
@@ -52,7 +95,8 @@ fn group(alloc: Global, number: u128) -> Result<Group, AllocError> {
 fn groups_are_added_and_edited(rt: HostRuntime) -> Result<(), Fail> {
     let alloc = rt.alloc();
     let now = Stamp::new(50).unwrap();
-    let here = InstId::read("east").unwrap();
+    let east = InstId::read("east").unwrap();
+    let north = InstId::read("north").unwrap();
     let mut groups = Groups::new(alloc);
     for number in [3, 1, 2] {
         let group = group(alloc, number)?;
@@ -66,9 +110,10 @@ fn groups_are_added_and_edited(rt: HostRuntime) -> Result<(), Fail> {
     assert_eq!(rt; was, Ok(50));
     let stamps = groups.as_slice().iter().map(|group| group.modified.get());
     assert_eq!(rt; stamps.eq([50, 51, 50]), true);
-    let seen = |org| groups.get(&name).map(|group| allows(group, org, &here));
-    assert_eq!(rt; seen(&MEMBER), Some(true));
-    assert_eq!(rt; seen(&OTHER), Some(false));
+    let seen = |org, here| groups.get(&name).map(|group| allows(group, org, here));
+    assert_eq!(rt; seen(&MEMBER, &east), Some(true));
+    assert_eq!(rt; seen(&OTHER, &east), Some(false));
+    assert_eq!(rt; seen(&OTHER, &north), Some(true));
     Ok(())
 }
 
