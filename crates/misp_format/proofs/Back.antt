@@ -20,12 +20,11 @@ use Rattle.misp_ids.specs.declared.uid.Uid.{Uid}
 use Rattle.misp_ids.specs.declared.uid.GroupId.{GroupId}
 use Rattle.misp_ids.specs.declared.label.Label.{Label}
 use Rattle.misp_ids.specs.declared.label.Label.TheVariants as labels
-use Rattle.misp_ids.specs.Uid.{text_of, read_uid}
+use Rattle.misp_ids.specs.Uid.{text_of, read_uid, IsUid}
 use Rattle.misp_ids.proofs.UidLemmas.{reads_back}
 use Rattle.misp_types.specs.Checked.{Checked}
 use Rattle.misp_types.specs.Kinds.{rule_of}
 use Rattle.misp_types.specs.Values.{kept_of, is_kept, keeps}
-use Rattle.misp_elem.specs.Key.{IsUid}
 use Rattle.misp_elem.specs.Row.{IsColour, IsOptionalUid, IsBetween, IsLabel, label_kind}
 use Rattle.misp_fields.specs.declared.need.Need.{Need}
 use Rattle.misp_fields.specs.Fields.{member_of, present, number_of, is_number_text, uuid_of, optional_uuid_in, optional_uuid_of, colour_of}

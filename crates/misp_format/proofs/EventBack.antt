@@ -13,7 +13,7 @@ use Rattle.misp_ids.specs.declared.uid.EventId.{EventId}
 use Rattle.misp_ids.specs.declared.uid.ElemId.{ElemId}
 use Rattle.misp_ids.specs.declared.label.Label.{Label}
 use Rattle.misp_ids.specs.declared.label.Label.TheVariants as labels
-use Rattle.misp_ids.specs.Uid.{made_uid}
+use Rattle.misp_ids.specs.Uid.{made_uid, IsUid}
 use Rattle.misp_types.specs.Values.{is_kept, kept_of}
 use Rattle.misp_elem.specs.declared.key.Place.{Place}
 use Rattle.misp_elem.specs.declared.key.Place.TheVariants as places
@@ -26,7 +26,7 @@ use Rattle.misp_elem.specs.declared.row.RowFields.{RowFields}
 use Rattle.misp_elem.specs.declared.visible.VisibleAttribute.{VisibleAttribute}
 use Rattle.misp_elem.specs.declared.visible.VisibleObject.{VisibleObject}
 use Rattle.misp_elem.specs.declared.visible.VisibleEvent.{VisibleEvent}
-use Rattle.misp_elem.specs.Key.{IsUid, IsPlace}
+use Rattle.misp_elem.specs.Key.{IsPlace}
 use Rattle.misp_elem.specs.Row.{IsAttributeBody, IsObjectBody, IsEventBody, IsRow, IsLabel, IsLabelBut, barred_labels, label_kind}
 use Rattle.misp_elem.specs.Visible.{place_in, IsAttributeOf, IsReferenceOf, IsObjectOf, IsWhole}
 use Rattle.misp_fields.specs.Fields.{member_of, present, text_of, flag_of, number_of, uuid_of, optional_uuid_of, list_of}

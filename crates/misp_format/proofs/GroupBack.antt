@@ -13,7 +13,7 @@ use Rattle.misp_ids.specs.declared.stamp.TheConstants.{LAST_SECOND}
 use Rattle.misp_groups.specs.declared.group.GroupFields.{GroupFields as Group}
 use Rattle.misp_groups.specs.declared.group.GroupOrg.{GroupOrg}
 use Rattle.misp_groups.specs.declared.group.GroupServer.{GroupServer}
-use Rattle.misp_groups.specs.Group.{by_org, by_server, IsOrg, AreOrgs, IsServer, AreServers, IsGroup}
+use Rattle.misp_groups.specs.Group.{by_org, by_server, IsOrg, IsServer, IsGroup}
 use Rattle.misp_fields.specs.Fields.{member_of, stamp_of, uuid_of, list_of}
 use Rattle.misp_format.specs.Body.{Body}
 use Rattle.misp_format.specs.Fields.{list_data, number_data, uuid_data}
@@ -30,10 +30,6 @@ some_bytes n h = grind (arith, nat_tests)
 
 -- ---- organisations
 
-pub all_orgs : (os : List GroupOrg) → AreOrgs os → AllByRecursion IsOrg os
-all_orgs [] h = tt
-all_orgs (o ∷ os) h = (h.0, all_orgs os h.1)
-
 abbrev org_key : GroupOrg → ℕ
 org_key o = o.org.0.0
 
@@ -48,7 +44,7 @@ org_back : (path : List ℕ) (n : ℕ) (so_far : OrgEntries) (o : GroupOrg) → 
 unfolding group_org_data org_at organisation_at
 org_back path n so_far o h = rw (uuid_back o.org.0 h.0) refl
 
-orgs_back : (path : List ℕ) (d : Data) (os : List GroupOrg) → AreOrgs os → IsStrictlySortedBy by_org os
+orgs_back : (path : List ℕ) (d : Data) (os : List GroupOrg) → AllByRecursion IsOrg os → IsStrictlySortedBy by_org os
     → member_of (codes "SharingGroupOrg") d ≡ Some (list_data group_org_data os)
     → orgs_at (record { path = path; value = d }) ≡ Ok os
 unfolding orgs_at
@@ -57,14 +53,10 @@ orgs_back path d os all up found =
     let at = member_path path (codes "SharingGroupOrg") in
     let items = row_back it (codes "SharingGroupOrg") list_of (Ok _) (list_data group_org_data os) (items_of (map group_org_data os)) found refl in
     ap (λ r. r >>= λ items. each (next_org at) 0 [] items >>= λ entries. Ok (map org_of entries)) items
-    ∙ ap (λ (r : Reading OrgEntries). r >>= λ entries. Ok (map org_of entries)) (each_in_order nat_cmp nat_cmp_total org_key org_value (next_org at) group_org_data (org_back at) 0 [] os (all_orgs os all) up)
+    ∙ ap (λ (r : Reading OrgEntries). r >>= λ entries. Ok (map org_of entries)) (each_in_order nat_cmp nat_cmp_total org_key org_value (next_org at) group_org_data (org_back at) 0 [] os all up)
     ∙ ap (λ os. Ok os) (orgs_again os)
 
 -- ---- instances
-
-pub all_servers : (ss : List GroupServer) → AreServers ss → AllByRecursion IsServer ss
-all_servers [] h = tt
-all_servers (s ∷ ss) h = (h.0, all_servers ss h.1)
 
 abbrev server_key : GroupServer → List ℕ
 server_key s = s.name
@@ -80,7 +72,7 @@ server_back : (path : List ℕ) (n : ℕ) (so_far : ServerEntries) (s : GroupSer
 unfolding group_server_data server_at server_name_at
 server_back path n so_far s h = rw h refl
 
-servers_back : (path : List ℕ) (d : Data) (ss : List GroupServer) → AreServers ss → IsStrictlySortedBy by_server ss
+servers_back : (path : List ℕ) (d : Data) (ss : List GroupServer) → AllByRecursion IsServer ss → IsStrictlySortedBy by_server ss
     → member_of (codes "SharingGroupServer") d ≡ Some (list_data group_server_data ss)
     → servers_at (record { path = path; value = d }) ≡ Ok ss
 unfolding servers_at
@@ -89,7 +81,7 @@ servers_back path d ss all up found =
     let at = member_path path (codes "SharingGroupServer") in
     let items = row_back it (codes "SharingGroupServer") list_of (Ok _) (list_data group_server_data ss) (items_of (map group_server_data ss)) found refl in
     ap (λ r. r >>= λ items. each (next_server at) 0 [] items >>= λ entries. Ok (map server_of entries)) items
-    ∙ ap (λ (r : Reading ServerEntries). r >>= λ entries. Ok (map server_of entries)) (each_in_order (slice_cmp nat_cmp) nat_list_cmp_total server_key server_value (next_server at) group_server_data (server_back at) 0 [] ss (all_servers ss all) up)
+    ∙ ap (λ (r : Reading ServerEntries). r >>= λ entries. Ok (map server_of entries)) (each_in_order (slice_cmp nat_cmp) nat_list_cmp_total server_key server_value (next_server at) group_server_data (server_back at) 0 [] ss all up)
     ∙ ap (λ ss. Ok ss) (servers_again ss)
 
 -- ---- groups

@@ -16,13 +16,12 @@ use Rattle.misp_groups.specs.declared.group.GroupFields.{GroupFields as Group}
 use Rattle.misp_groups.specs.declared.group.GroupOrg.{GroupOrg}
 use Rattle.misp_groups.specs.declared.group.GroupServer.{GroupServer}
 use Rattle.misp_groups.specs.Group.{IsOrg, IsServer, IsGroup}
-use Rattle.misp_format.specs.declared.fault.FormatFault.{FormatFault}
-use Rattle.misp_format.specs.declared.fault.FormatFault.TheVariants as faults
-use Rattle.misp_format.specs.declared.group_text.GroupTextFault.TheVariants.{Format}
-use Rattle.misp_format.specs.GroupText.{FailsAsText, json_or_none, json_in, of_value, group_of_json, group_in_text}
-use Rattle.misp_format.specs.Rows.{Reading, Fails}
+use Rattle.misp_format.specs.Groups.{group_body_at}
+use Rattle.misp_format.specs.GroupText.{group_in_text}
+use Rattle.misp_format.specs.Json.{json_or_fault, json_in}
+use Rattle.misp_format.specs.Rows.{◌>>=◌}
 use Rattle.misp_format.specs.WholeGroup.{group_org_data, server_url, group_server_data, whole_group_data, group_text, uncarried}
-use Rattle.misp_format.proofs.GroupBack.{all_orgs, all_servers, whole_back}
+use Rattle.misp_format.proofs.GroupBack.{whole_back}
 use Rattle.misp_format.proofs.Plain.{Plain, plain_items}
 use Rattle.misp_format.proofs.ReadBack.{Returns, returned, return_items}
 use Rattle.misp_format.proofs.Utf8.{IsText, text_utf8, are_texts}
@@ -90,11 +89,11 @@ whole_utf8 g h =
     text_utf8 (whole_group_data g) (
       refl,
       (
-        are_texts group_org_data org_utf8 g.orgs (all_orgs g.orgs h.orgs),
+        are_texts group_org_data org_utf8 g.orgs h.orgs,
         (
           refl,
           (
-            are_texts group_server_data server_utf8 g.servers (all_servers g.servers h.servers),
+            are_texts group_server_data server_utf8 g.servers h.servers,
             (
               refl,
               (
@@ -143,14 +142,6 @@ pub text_back : (g : Group) → IsGroup g → group_in_text (group_text g) ≡ O
 unfolding group_in_text json_in
 text_back g h =
     let utf8 : is_utf8 (group_text g) ≡ true = is_utf8-from_IsUtf8 (group_text g) (whole_utf8 g h) in
-    ap (λ b. group_of_json (json_or_none (if b then read (group_text g) else None))) utf8
-    ∙ ap (λ o. group_of_json (json_or_none o)) (whole_returned g)
-    ∙ ap of_value (whole_back g h)
-
--- ---- faults
-
--- the fault of a value is that of its text
-pub fails_as_text : (fault : FormatFault) (value : Reading Group) → Fails fault value → FailsAsText (Format fault) (of_value value)
-fails_as_text (faults.BadField path need) value h = ap of_value h
-fails_as_text (faults.BinaryType path) value h = ap of_value h
-fails_as_text faults.NoMemory value h = tt
+    ap (λ b. json_or_fault (if b then read (group_text g) else None) >>= group_body_at) utf8
+    ∙ ap (λ o. json_or_fault o >>= group_body_at) (whole_returned g)
+    ∙ whole_back g h

@@ -11,16 +11,16 @@ use Rattle.std.specs.Cmp.Lexicographic.{slice_cmp}
 use Rattle.std.proofs.lemmas.Map.Lookups.{exact_bytes}
 use Rattle.misp_groups.specs.declared.group.GroupOrg.{GroupOrg}
 use Rattle.misp_groups.specs.declared.group.GroupServer.{GroupServer}
-use Rattle.misp_groups.specs.Group.{by_org, by_server, IsOrg, AreOrgs, IsServer, AreServers}
+use Rattle.misp_groups.specs.Group.{by_org, by_server, IsOrg, IsServer}
 use Rattle.misp_format.specs.Groups.{OrgEntries, ServerEntries, IsSpelled, org_of, server_of}
 
 -- ---- one more
 
-pub orgs_and : (os : List GroupOrg) (o : GroupOrg) → AreOrgs os → IsOrg o → AreOrgs (os ++ o ∷ [])
+pub orgs_and : (os : List GroupOrg) (o : GroupOrg) → AllByRecursion IsOrg os → IsOrg o → AllByRecursion IsOrg (os ++ o ∷ [])
 orgs_and [] o all here = (here, tt)
 orgs_and (first ∷ os) o all here = (all.0, orgs_and os o all.1 here)
 
-pub servers_and : (ss : List GroupServer) (s : GroupServer) → AreServers ss → IsServer s → AreServers (ss ++ s ∷ [])
+pub servers_and : (ss : List GroupServer) (s : GroupServer) → AllByRecursion IsServer ss → IsServer s → AllByRecursion IsServer (ss ++ s ∷ [])
 servers_and [] s all here = (here, tt)
 servers_and (first ∷ ss) s all here = (all.0, servers_and ss s all.1 here)
 

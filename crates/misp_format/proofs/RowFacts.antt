@@ -16,7 +16,8 @@ use Rattle.misp_elem.specs.declared.content.ReferenceBody.{ReferenceBody}
 use Rattle.misp_elem.specs.declared.content.Content.{Content}
 use Rattle.misp_elem.specs.declared.content.Content.TheVariants as contents
 use Rattle.misp_elem.specs.declared.row.RowFields.{RowFields}
-use Rattle.misp_elem.specs.Key.{IsUid, IsKey, IsPlace}
+use Rattle.misp_ids.specs.Uid.{IsUid}
+use Rattle.misp_elem.specs.Key.{IsKey, IsPlace}
 use Rattle.misp_elem.specs.Row.{IsRow, IsText, IsContent, IsContentOf, IsEventBody, IsObjectBody, IsAttributeBody, IsReferenceBody, content_kind, label_kind, text_limit, text_size, tags_size}
 use Rattle.misp_elem.specs.Visible.{place_in}
 use Rattle.misp_format.proofs.TagsBack.{tags_room}

@@ -5,6 +5,7 @@ pub mod Fields
 pub mod Gathered
 pub mod GroupText
 pub mod Groups
+pub mod Json
 pub mod Kinds
 pub mod Labels
 pub mod Names

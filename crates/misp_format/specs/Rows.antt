@@ -23,6 +23,7 @@ abbrev pub ◌>>=◌ : {A B : Type 0} → Reading A → (A → Reading B) → Re
 
 -- the fault is the one that reading gives, unless memory ran out
 abbrev pub Fails : {A : Type 0} → FormatFault → Reading A → Type 0
+Fails faults.NoJson read = read ≡ Err faults.NoJson
 Fails faults.NoMemory read = Unit {0}
 Fails (faults.BadField path need) read = read ≡ Err (faults.BadField path need)
 Fails (faults.BinaryType path) read = read ≡ Err (faults.BinaryType path)

@@ -1,4 +1,4 @@
-//! Why a body was not read.
+//! Why a text or a body was not read.
 
 ghost use Rattle.std.specs.Prelude.{◌≡◌};
 ghost use Rattle.misp_format.specs.declared.fault.FormatFault.TheVariants.{NoMemory};
@@ -7,9 +7,11 @@ use misp_fields::Need;
 use misp_ids::Text;
 use std::alloc::{AllocError, AllocFailed};
 
-/// Why a body was not read.
+/// Why a text or a body was not read.
 #[derive(Debug, PartialEq, Eq, Drop)]
 pub enum FormatFault {
+    /// The text is no JSON.
+    NoJson,
     /// At the first faulty place something else was needed.
     BadField { path: Text, need: Need },
     /// At the first faulty place stands a file, or a type whose values are files.

@@ -7,7 +7,7 @@ ghost use Rattle.std.specs.List.Sorted.{IsStrictlySortedBy};
 ghost use Rattle.std.specs.Map.{keys_of};
 ghost use Rattle.std.specs.Ordering.{nat_cmp};
 ghost use Rattle.serde_json.specs.View.{view, items_of};
-ghost use Rattle.misp_groups.specs.Group.{by_org, by_server, IsOrg, AreOrgs, IsServer, AreServers};
+ghost use Rattle.misp_groups.specs.Group.{by_org, by_server, IsOrg, IsServer};
 ghost use Rattle.misp_fields.specs.Fields.{stamp_of};
 ghost use Rattle.misp_format.specs.Body.{body_of};
 ghost use Rattle.misp_format.specs.Groups.{organisation_at, named_organisation_at, org_at, next_org, org_of, orgs_at, inst_name_of, server_name_at, named_server_at, server_at, IsSpelled, next_server, server_of, servers_at, whole_group_at, group_body_at};
@@ -90,7 +90,7 @@ fn org_of(uuid: u128, name: Text, extend: bool) -> GroupOrg
 fn org_list(alloc: Global, entries: Orgs) -> Result<Vec<GroupOrg>, FormatFault>
     ensures gives { Shows (λ v. v.items) result (Ok (map org_of entries.entries)) }
     ensures ordered { IsStrictlySortedBy nat_cmp (keys_of entries.entries) }
-    ensures fit { IfOk result (λ v. AreOrgs v.items) }
+    ensures fit { IfOk result (λ v. AllByRecursion IsOrg v.items) }
 {
     let mut orgs = Vec::new(alloc);
     for (uuid, (name, extend)) in entries {
@@ -102,7 +102,7 @@ fn org_list(alloc: Global, entries: Orgs) -> Result<Vec<GroupOrg>, FormatFault>
 #[tactic(auto, unfolding(crate::specs::Groups::orgs_at))]
 fn orgs(it: &Members<'_>) -> Result<Items<GroupOrg>, FormatFault>
     ensures gives { Gives result (orgs_at (body_of it.now)) }
-    ensures fit { IfOk result AreOrgs }
+    ensures fit { IfOk result (AllByRecursion IsOrg) }
     ensures ascend { IfOk result (IsStrictlySortedBy by_org) }
 {
     let list = it.list("SharingGroupOrg")?;
@@ -179,7 +179,7 @@ fn server_of(name: InstId, all_orgs: bool) -> GroupServer
 fn server_list(alloc: Global, entries: Servers) -> Result<Vec<GroupServer>, FormatFault>
     ensures gives { Shows (λ v. v.items) result (Ok (map server_of entries.entries)) }
     ensures ordered { IsStrictlySortedBy (slice_cmp nat_cmp) (keys_of entries.entries) }
-    ensures fit { IfOk result (λ v. AreServers v.items) }
+    ensures fit { IfOk result (λ v. AllByRecursion IsServer v.items) }
 {
     let mut servers = Vec::new(alloc);
     for (_, (name, all_orgs)) in entries {
@@ -191,7 +191,7 @@ fn server_list(alloc: Global, entries: Servers) -> Result<Vec<GroupServer>, Form
 #[tactic(auto, unfolding(crate::specs::Groups::servers_at))]
 fn servers(it: &Members<'_>) -> Result<Items<GroupServer>, FormatFault>
     ensures gives { Gives result (servers_at (body_of it.now)) }
-    ensures fit { IfOk result AreServers }
+    ensures fit { IfOk result (AllByRecursion IsServer) }
     ensures ascend { IfOk result (IsStrictlySortedBy by_server) }
 {
     let list = it.list("SharingGroupServer")?;
@@ -231,9 +231,8 @@ fn whole_group(alloc: Global, path: &Path<'_>, value: &Value) -> Result<Group, F
     }))
 }
 
-/// A body that is a sharing group. Its organisations stand in the order of their identifiers, and
-/// its instances in that of their names.
-pub fn read_group(alloc: Global, value: &Value) -> Result<Group, FormatFault>
+/// A body that is a sharing group.
+pub(crate) fn read_group(alloc: Global, value: &Value) -> Result<Group, FormatFault>
     ensures { Gives result (group_body_at (view value.now)) }
 {
     whole_group(

@@ -2,7 +2,7 @@
 
 ghost use Rattle.std.specs.Prelude.{IfOk};
 ghost use Rattle.serde_json.specs.View.{view};
-ghost use Rattle.misp_elem.specs.Key.{IsUid};
+ghost use Rattle.misp_ids.specs.Uid.{IsUid};
 ghost use Rattle.misp_elem.specs.Row.{IsLabel};
 ghost use Rattle.misp_format.specs.Body.{body_of};
 ghost use Rattle.misp_format.specs.Labels.{group_at, named_group_at, label_at};

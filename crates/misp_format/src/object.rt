@@ -3,7 +3,7 @@
 ghost use Rattle.std.specs.Prelude.{◌≡◌, ◌<◌, ◌^◌, map, min};
 ghost use Rattle.serde_json.specs.View.{view, items_of};
 ghost use Rattle.misp_elem.specs.declared.content.Content.TheVariants as contents;
-ghost use Rattle.misp_elem.specs.Key.{IsUid};
+ghost use Rattle.misp_ids.specs.Uid.{IsUid};
 ghost use Rattle.misp_elem.specs.Row.{text_size};
 ghost use Rattle.misp_format.specs.Body.{body_of};
 ghost use Rattle.misp_format.specs.Elements.{object_at, object_and_others_at, next_object, objects_at};

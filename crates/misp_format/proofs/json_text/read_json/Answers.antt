@@ -2,8 +2,8 @@ use Rattle.std.proofs.Common.{refl, inl, inr}
 use Rattle.std.specs.Str.{is_utf8}
 use Rattle.std.proofs.lemmas.Bool.{cases_Bool}
 use Rattle.std.proofs.lemmas.Str.{IsUtf8-from_is_utf8, is_utf8-from_IsUtf8}
-use Rattle.misp_format.specs.GroupText.{json_in}
-use Rattle.misp_format.proofs.group_text.json.Goals as goal
+use Rattle.misp_format.specs.Json.{json_in}
+use Rattle.misp_format.proofs.json_text.read_json.Goals as goal
 
 pub returns-in-Ok : goal.returns-in-Ok
 unfolding json_in
