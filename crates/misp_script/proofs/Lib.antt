@@ -5,7 +5,8 @@ mod Documents
 mod Lookups
 mod Marks
 mod Parts
-mod Sites
+mod Places
 mod Steps
+mod Uuids
 mod Visible
 pub mod Nets

@@ -13,23 +13,23 @@ use Rattle.misp_script.specs.declared.description.Description.{Description}
 use Rattle.misp_script.specs.declared.description.Entry.{Entry}
 
 -- an instance, and the identifiers of the organisations known there, in ascending order
-pub record Site : Type 0 where
+pub record Roster : Type 0 where
   pub name : List ℕ
   pub orgs : List OrgId
 
 -- ---- of a description
 
-abbrev pub site_of : Entry → Site
-site_of entry = record { name = entry.name; orgs = map (λ org. org.uuid) entry.admin.orgs }
+abbrev pub roster_of : Entry → Roster
+roster_of entry = record { name = entry.name; orgs = map (λ org. org.uuid) entry.admin.orgs }
 
 -- in the order of the instances
-abbrev pub directory_of : Description → List Site
-directory_of d = map site_of d.instances
+abbrev pub directory_of : Description → List Roster
+directory_of d = map roster_of d.instances
 
 -- ---- looking up
 
-abbrev pub site_names : List Site → List (List ℕ)
-site_names sites = map (λ site. site.name) sites
+abbrev pub roster_names : List Roster → List (List ℕ)
+roster_names rosters = map (λ roster. roster.name) rosters
 
 -- the place of the instance of this name
 abbrev pub place_of : List (List ℕ) → List ℕ → Option ℕ
@@ -40,8 +40,8 @@ abbrev pub is_among : List OrgId → OrgId → Bool
 is_among orgs org = list_any (λ known. known.0.0 == org.0.0) orgs
 
 -- the organisation is known at the instance of this place
-abbrev pub knows : List Site → ℕ → OrgId → Bool
-knows sites at org = option_map_or (λ site. is_among site.orgs org) (slice_get sites at) false
+abbrev pub knows : List Roster → ℕ → OrgId → Bool
+knows rosters at org = option_map_or (λ roster. is_among roster.orgs org) (slice_get rosters at) false
 
 -- ---- how it is kept
 
@@ -50,13 +50,14 @@ abbrev pub by_number : OrgId → OrgId → Ordering
 by_number a b = nat_cmp a.0.0 b.0.0
 
 -- each organisation stands once, in ascending order
-abbrev pub IsSite : Site → Type 0
-IsSite site = IsStrictlySortedBy by_number site.orgs
+abbrev pub IsRoster : Roster → Type 0
+IsRoster roster = IsStrictlySortedBy by_number roster.orgs
 
 -- the place that the map has for a text
 abbrev pub place_in : BTreeMap (Vec ℕ Global) ℕ → List ℕ → Option ℕ
 place_in places text = get_by (λ name. slice_cmp nat_cmp text name.items) places
 
 -- the map has the places of the instances by name
-abbrev pub HasPlaces : List Site → BTreeMap (Vec ℕ Global) ℕ → Type 0
-HasPlaces sites places = (text : List ℕ) → place_in places text ≡ place_of (site_names sites) text
+abbrev pub HasPlaces : List Roster → BTreeMap (Vec ℕ Global) ℕ → Type 0
+HasPlaces rosters places =
+    (text : List ℕ) → place_in places text ≡ place_of (roster_names rosters) text

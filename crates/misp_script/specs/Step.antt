@@ -12,7 +12,7 @@ use Rattle.misp_script.specs.declared.step.Deed.{Deed}
 use Rattle.misp_script.specs.declared.step.Deed.TheVariants as deeds
 use Rattle.misp_script.specs.declared.step.RequestLine.{RequestLine}
 use Rattle.misp_script.specs.declared.step.GroupLine.{GroupLine}
-use Rattle.misp_script.specs.Directory.{Site, site_names, place_of, knows}
+use Rattle.misp_script.specs.Directory.{Roster, roster_names, place_of, knows}
 use Rattle.misp_script.specs.Fields.{Reading, ◌>>=◌, field_in, next_field, kept, no_field}
 use Rattle.misp_script.specs.Numbers.{time_of, word_of}
 
@@ -98,17 +98,14 @@ key_of text = if bytes_eq text (codes "-") then None else Some text
 abbrev pub body_of : Option (List ℕ) → List ℕ
 body_of left = unwrap_or left []
 
--- a uuid in the hyphenated form, whose bytes are visible
-abbrev pub uuid_of : List ℕ → Option Uid
-uuid_of text = option_and_then read_uid (visible_of text)
-
 -- the organisation of a uuid, if it is known at the instance of this place
-abbrev pub known_org : List Site → ℕ → Uid → Option OrgId
-known_org sites at uuid =
-    if knows sites at (record { 0 = uuid }) then Some (record { 0 = uuid }) else None
+abbrev pub known_org : List Roster → ℕ → Uid → Option OrgId
+known_org rosters at uuid =
+    if knows rosters at (record { 0 = uuid }) then Some (record { 0 = uuid }) else None
 
-abbrev pub org_of : List Site → ℕ → List ℕ → Option OrgId
-org_of sites at text = option_and_then (known_org sites at) (uuid_of text)
+-- the same of a uuid in the hyphenated form
+abbrev pub org_of : List Roster → ℕ → List ℕ → Option OrgId
+org_of rosters at text = option_and_then (known_org rosters at) (read_uid text)
 
 -- the rest of the line, which must be there, and may be empty
 abbrev pub rest_of : List ℕ → Option (List ℕ) → Reading (List ℕ)
@@ -116,10 +113,10 @@ rest_of line left = kept (length line) left
 
 -- ---- lines
 
-unfoldable pub request_of : List Site → List ℕ → Option (List ℕ) → Reading RequestData
-request_of sites line left = do
+unfoldable pub request_of : List Roster → List ℕ → Option (List ℕ) → Reading RequestData
+request_of rosters line left = do
   inst ← next_field line left
-  at ← kept inst.place (place_of (site_names sites) inst.text)
+  at ← kept inst.place (place_of (roster_names rosters) inst.text)
   key ← next_field line inst.rest
   key_text ← kept key.place (visible_of key.text)
   method ← next_field line key.rest
@@ -134,32 +131,32 @@ request_of sites line left = do
     body = body_of target.rest;
   })
 
-unfoldable pub group_of : List Site → List ℕ → Bool → Option (List ℕ) → Reading GroupData
-group_of sites line add left = do
+unfoldable pub group_of : List Roster → List ℕ → Bool → Option (List ℕ) → Reading GroupData
+group_of rosters line add left = do
   inst ← next_field line left
-  at ← kept inst.place (place_of (site_names sites) inst.text)
+  at ← kept inst.place (place_of (roster_names rosters) inst.text)
   org ← next_field line inst.rest
-  named ← kept org.place (org_of sites at org.text)
+  named ← kept org.place (org_of rosters at org.text)
   body ← rest_of line org.rest
   Ok (record { at = at; org = named; add = add; body = body })
 
-abbrev pub deed_of : List Site → List ℕ → Verb → Option (List ℕ) → Reading DeedData
-deed_of sites line verbs.Nothing left = no_field line left >>= λ done. Ok Nothing
-deed_of sites line verbs.Request left =
-    request_of sites line left >>= λ request. Ok (Request request)
-deed_of sites line verbs.AddGroup left =
-    group_of sites line true left >>= λ group. Ok (Group group)
-deed_of sites line verbs.EditGroup left =
-    group_of sites line false left >>= λ group. Ok (Group group)
+abbrev pub deed_of : List Roster → List ℕ → Verb → Option (List ℕ) → Reading DeedData
+deed_of rosters line verbs.Nothing left = no_field line left >>= λ done. Ok Nothing
+deed_of rosters line verbs.Request left =
+    request_of rosters line left >>= λ request. Ok (Request request)
+deed_of rosters line verbs.AddGroup left =
+    group_of rosters line true left >>= λ group. Ok (Group group)
+deed_of rosters line verbs.EditGroup left =
+    group_of rosters line false left >>= λ group. Ok (Group group)
 
 -- a time, a word, and a verb with its fields
-unfoldable pub step_of : List Site → List ℕ → Reading StepData
-step_of sites line = do
+unfoldable pub step_of : List Roster → List ℕ → Reading StepData
+step_of rosters line = do
   time ← Ok (field_in line line)
   moment ← kept time.place (time_of time.text)
   word ← next_field line time.rest
   number ← kept word.place (word_of word.text)
   verb ← next_field line word.rest
   named ← kept verb.place (verb_of verb.text)
-  deed ← deed_of sites line named verb.rest
+  deed ← deed_of rosters line named verb.rest
   Ok (record { time = moment; word = number; deed = deed })

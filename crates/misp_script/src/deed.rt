@@ -1,10 +1,10 @@
 //! The verbs of lines, and their fields.
 
-ghost use Rattle.std.specs.Prelude.{◌≡◌, ◌<◌, length, option_map, IfOk, IfSome};
+ghost use Rattle.std.specs.Prelude.{◌≡◌, ◌<◌, length, option_map, IfOk};
 ghost use Rattle.std.specs.List.{list_all};
+ghost use Rattle.misp_ids.specs.Uid.{read_uid};
 ghost use Rattle.misp_script.specs.Fields.{Shows, kept, field_of};
-ghost use Rattle.misp_script.specs.Step.{IsPlaced, verb_of, is_visible, visible_of, uuid_of, org_of, key_of, body_of, rest_of, request_data, request_of, group_data, group_of, deed_data, deed_of};
-ghost use Rattle.misp_script.specs.Directory.{site_names, place_of};
+ghost use Rattle.misp_script.specs.Step.{IsPlaced, verb_of, is_visible, visible_of, org_of, key_of, body_of, rest_of, request_data, request_of, group_data, group_of, deed_data, deed_of};
 
 use crate::directory::Directory;
 use crate::field::{BadLine, Field, kept, next_field, no_field};
@@ -69,11 +69,11 @@ fn key(text: &str) -> Option<&str>
 }
 
 fn uuid(text: &[u8]) -> Option<Uid>
-    ensures { result ≡ uuid_of text.now }
+    ensures { result ≡ read_uid text.now }
 {
-    match visible(text) {
-        Some(text) => Uid::read(text),
-        None => None,
+    match str::from_utf8(text) {
+        Ok(text) => Uid::read(text),
+        Err(_) => None,
     }
 }
 

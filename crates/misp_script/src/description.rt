@@ -3,7 +3,7 @@
 ghost use Rattle.std.specs.Prelude.{◌≡◌, IfOk};
 ghost use Rattle.misp_script.specs.Directory.{directory_of};
 
-use crate::directory::{Directory, Site};
+use crate::directory::{Directory, Roster};
 use misp_ids::{InstId, Items, NoMemory, Text};
 use misp_orgs::{Admin, KeyRecord, Link};
 use std::alloc::Global;
@@ -29,28 +29,28 @@ impl Description {
     {
         let mut directory = Directory::new(alloc);
         for entry in self.instances.as_slice() {
-            directory = directory.with(alloc, Site::of(alloc, entry)?)?;
+            directory = directory.with(alloc, Roster::of(alloc, entry)?)?;
         }
         Ok(directory)
     }
 }
 
 /// An instance that is listed.
-#[derive(Debug, Drop)]
+#[derive(Drop)]
 pub(crate) struct Host {
     pub(crate) name: InstId,
     pub(crate) address: Text,
 }
 
 /// A key, and the instance whose key it is.
-#[derive(Clone, Copy, Debug)]
+#[derive(Clone, Copy)]
 pub(crate) struct HostKey {
     pub(crate) at: InstId,
     pub(crate) key: KeyRecord,
 }
 
 /// A link, and the instance whose link it is.
-#[derive(Clone, Copy, Debug)]
+#[derive(Clone, Copy)]
 pub(crate) struct HostLink {
     pub(crate) at: InstId,
     pub(crate) link: Link,

@@ -2,7 +2,7 @@
 
 ghost use Rattle.std.specs.Prelude.{◌≡◌, ◌<◌, List, [], ◌∷◌, ◌++◌, map, length, IfOk, IfSome, OnOk};
 ghost use Rattle.std.specs.List.Sorted.{IsStrictlySortedBy};
-ghost use Rattle.misp_script.specs.Directory.{Site as SiteData, HasPlaces, by_number, is_among, knows, place_of, site_names, site_of};
+ghost use Rattle.misp_script.specs.Directory.{Roster as RosterData, HasPlaces, by_number, is_among, knows, place_of, roster_names, roster_of};
 
 use crate::description::Entry;
 use misp_ids::{InstId, NoMemory, OrgId};
@@ -15,20 +15,20 @@ use std::marker::Model;
 ///
 /// A contract sees its name and their identifiers.
 #[derive(Drop)]
-pub(crate) struct Site {
+pub(crate) struct Roster {
     name: InstId,
     /// In ascending order.
     orgs: Vec<OrgId>,
 }
 
-impl Model for Site {
-    ghost use Rattle.misp_script.specs.Directory.{Site, IsSite};
+impl Model for Roster {
+    ghost use Rattle.misp_script.specs.Directory.{Roster, IsRoster};
 
-    ghost Value = { Site };
+    ghost Value = { Roster };
 
     ghost view = { λ s. record { name = s.name; orgs = s.orgs.items } };
 
-    ghost invariant = { λ s. IsSite (record { name = s.name; orgs = s.orgs.items }) };
+    ghost invariant = { λ s. IsRoster (record { name = s.name; orgs = s.orgs.items }) };
 }
 
 fn is_among(orgs: &[OrgId], org: &OrgId) -> bool
@@ -50,12 +50,12 @@ fn orgs_of(alloc: Global, admin: &Admin) -> Result<Vec<OrgId>, NoMemory>
     Ok(orgs)
 }
 
-impl Site {
+impl Roster {
     /// What a directory has of an instance.
-    pub(crate) fn of(alloc: Global, entry: &Entry) -> Result<Site, NoMemory>
-        ensures { IfOk result (λ site. site ≡ site_of entry.now) }
+    pub(crate) fn of(alloc: Global, entry: &Entry) -> Result<Roster, NoMemory>
+        ensures { IfOk result (λ roster. roster ≡ roster_of entry.now) }
     {
-        Ok(Site {
+        Ok(Roster {
             name: entry.name,
             orgs: orgs_of(alloc, &entry.admin)?,
         })
@@ -73,19 +73,19 @@ impl Site {
 /// A contract sees the list of the instances, each with the organisations known there.
 #[derive(Drop)]
 pub struct Directory {
-    sites: Vec<Site>,
+    rosters: Vec<Roster>,
     places: BTreeMap<Vec<u8>, usize>,
 }
 
 impl Model for Directory {
     ghost use Rattle.std.specs.Prelude.{List};
-    ghost use Rattle.misp_script.specs.Directory.{Site, HasPlaces};
+    ghost use Rattle.misp_script.specs.Directory.{Roster, HasPlaces};
 
-    ghost Value = { List Site };
+    ghost Value = { List Roster };
 
-    ghost view = { λ d. d.sites.items };
+    ghost view = { λ d. d.rosters.items };
 
-    ghost invariant = { λ d. HasPlaces d.sites.items d.places };
+    ghost invariant = { λ d. HasPlaces d.rosters.items d.places };
 }
 
 // A name stands for the first that has it.
@@ -93,10 +93,10 @@ fn put_place(
     alloc: Global,
     places: &mut BTreeMap<Vec<u8>, usize>,
     at: usize,
-    next: &Site,
+    next: &Roster,
 ) -> Result<(), NoMemory>
-    ensures { OnOk result ((sites : List SiteData) → length sites ≡ at →
-        HasPlaces sites places.old → HasPlaces (sites ++ next.now ∷ []) places.new) }
+    ensures { OnOk result ((rosters : List RosterData) → length rosters ≡ at →
+        HasPlaces rosters places.old → HasPlaces (rosters ++ next.now ∷ []) places.new) }
 {
     let name = next.name.text().as_bytes();
     if places.contains_key(name) {
@@ -111,27 +111,27 @@ impl Directory {
         ensures { result ≡ [] }
     {
         Directory {
-            sites: Vec::new(alloc),
+            rosters: Vec::new(alloc),
             places: BTreeMap::new(alloc),
         }
     }
 
     // With another at the end.
-    pub(crate) fn with(self, alloc: Global, next: Site) -> Result<Directory, NoMemory>
+    pub(crate) fn with(self, alloc: Global, next: Roster) -> Result<Directory, NoMemory>
         ensures { IfOk result (λ directory. directory ≡ self ++ next ∷ []) }
     {
         let Directory {
-            mut sites,
+            mut rosters,
             mut places,
         } = self;
-        put_place(alloc, &mut places, sites.len(), &next)?;
-        sites.push(next)?;
-        Ok(Directory { sites, places })
+        put_place(alloc, &mut places, rosters.len(), &next)?;
+        rosters.push(next)?;
+        Ok(Directory { rosters, places })
     }
 
     /// The place of the first instance of a name, from 0.
     pub fn place_of(&self, text: &[u8]) -> Option<usize>
-        ensures place { result ≡ place_of (site_names self.now) text.now }
+        ensures place { result ≡ place_of (roster_names self.now) text.now }
         ensures inside { IfSome result (λ at. at < length self.now) }
     {
         self.places.get(text).copied()
@@ -141,8 +141,8 @@ impl Directory {
     pub fn knows(&self, at: usize, org: &OrgId) -> bool
         ensures { result ≡ knows self.now at org.now }
     {
-        match self.sites.get(at) {
-            Some(site) => site.knows(org),
+        match self.rosters.get(at) {
+            Some(roster) => roster.knows(org),
             None => false,
         }
     }

@@ -232,46 +232,48 @@ const WORDS: [(&str, &str); 5] = [
     ("{b}", "aaaaaaaa-0000-4000-8000-000000000002"),
 ];
 
+/// Lines of a script, and what each is read as.
+const LINES: [(&str, &str); 31] = [
+    ("x", "bad 0"),
+    ("", "bad 0"),
+    ("1700000000", "bad 10"),
+    ("1700000000 0 none", "bad 11"),
+    ("01 {word} none", "bad 0"),
+    ("0 {word} none", "0 none"),
+    ("253402300799 {word} none", "253402300799 none"),
+    ("253402300800 {word} none", "bad 0"),
+    ("1 {word}", "bad 34"),
+    ("1 {word} ", "bad 35"),
+    ("1 {WORD} none", "bad 2"),
+    ("1 {word} pull one", "bad 35"),
+    ("1 {word} none ", "bad 40"),
+    ("1 {word} none x", "bad 40"),
+    ("1 {word} req", "bad 38"),
+    ("1 {word} req two - GET /", "bad 39"),
+    ("1 {word} req one", "bad 42"),
+    ("1 {word} req one  GET /", "bad 43"),
+    ("1 {word} req one - GET", "bad 48"),
+    ("1 {word} req one - GET /\u{e9}", "bad 49"),
+    ("1 {word} req one - GET /", "1 0 none GET / []"),
+    ("1 {word} req one k POST /a  b c", "1 0 k POST /a [ b c]"),
+    ("1 {word} group-add", "bad 44"),
+    ("1 {word} group-add two {a} {}", "bad 45"),
+    ("1 {word} group-add one", "bad 48"),
+    ("1 {word} group-add one a {}", "bad 49"),
+    ("1 {word} group-add one {b} {}", "bad 49"),
+    ("1 {word} group-add one {a}", "bad 85"),
+    ("1 {word} group-add one {A} ", "1 0 {a} adds []"),
+    ("1 {word} group-edit one {a} {} b", "1 0 {a} edits [{} b]"),
+    ("1 {word} group-del one {a} {}", "bad 35"),
+];
+
 #[test]
 fn lines_are_steps_or_bad_at_a_place(rt: HostRuntime) -> Result<(), Fail> {
     let alloc = rt.alloc();
-    let rows = [
-        ("x", "bad 0"),
-        ("", "bad 0"),
-        ("1700000000", "bad 10"),
-        ("1700000000 0 none", "bad 11"),
-        ("01 {word} none", "bad 0"),
-        ("0 {word} none", "0 none"),
-        ("253402300799 {word} none", "253402300799 none"),
-        ("253402300800 {word} none", "bad 0"),
-        ("1 {word}", "bad 34"),
-        ("1 {word} ", "bad 35"),
-        ("1 {WORD} none", "bad 2"),
-        ("1 {word} pull one", "bad 35"),
-        ("1 {word} none ", "bad 40"),
-        ("1 {word} none x", "bad 40"),
-        ("1 {word} req", "bad 38"),
-        ("1 {word} req two - GET /", "bad 39"),
-        ("1 {word} req one", "bad 42"),
-        ("1 {word} req one  GET /", "bad 43"),
-        ("1 {word} req one - GET", "bad 48"),
-        ("1 {word} req one - GET /\u{e9}", "bad 49"),
-        ("1 {word} req one - GET /", "1 0 none GET / []"),
-        ("1 {word} req one k POST /a  b c", "1 0 k POST /a [ b c]"),
-        ("1 {word} group-add", "bad 44"),
-        ("1 {word} group-add two {a} {}", "bad 45"),
-        ("1 {word} group-add one", "bad 48"),
-        ("1 {word} group-add one a {}", "bad 49"),
-        ("1 {word} group-add one {b} {}", "bad 49"),
-        ("1 {word} group-add one {a}", "bad 85"),
-        ("1 {word} group-add one {A} ", "1 0 {a} adds []"),
-        ("1 {word} group-edit one {a} {} b", "1 0 {a} edits [{} b]"),
-        ("1 {word} group-del one {a} {}", "bad 35"),
-    ];
     let network = filled(alloc, TABLES.as_slice(), "{org}{host}")?;
     let described = read_description(alloc, network.as_str().as_bytes())?;
     let directory = described.directory(alloc)?;
-    for (line, told) in &rows {
+    for (line, told) in &LINES {
         let line = filled(alloc, WORDS.as_slice(), line)?;
         let told = filled(alloc, WORDS.as_slice(), told)?;
         let is = step_shown(alloc, line.as_str(), &directory)?;
@@ -280,16 +282,18 @@ fn lines_are_steps_or_bad_at_a_place(rt: HostRuntime) -> Result<(), Fail> {
     Ok(())
 }
 
+/// Sources, and the description and the script of each.
+const SOURCES: [(&str, &str, &str); 5] = [
+    ("a\n---\nb\nc", "a\n", "b\nc"),
+    ("---\n---\n", "", "---\n"),
+    ("a ---\n---b\n", "a ---\n---b\n", ""),
+    ("a\n---", "a\n", ""),
+    ("", "", ""),
+];
+
 #[test]
 fn a_source_is_cut_at_the_first_line_of_three_hyphens(rt: HostRuntime) -> Result<(), Fail> {
-    let rows = [
-        ("a\n---\nb\nc", "a\n", "b\nc"),
-        ("---\n---\n", "", "---\n"),
-        ("a ---\n---b\n", "a ---\n---b\n", ""),
-        ("a\n---", "a\n", ""),
-        ("", "", ""),
-    ];
-    for (source, description, script) in &rows {
+    for (source, description, script) in &SOURCES {
         let parts = split_source(source.as_bytes());
         assert!(rt; parts.0 == description.as_bytes());
         assert!(rt; parts.1 == script.as_bytes());

@@ -2,7 +2,7 @@ use Rattle.std.proofs.Common.{◌≡◌, ◌∙◌, ap, map}
 use Rattle.std.proofs.lemmas.List.{take_all}
 use Rattle.misp_orgs.specs.Org.{OrgFields}
 use Rattle.misp_script.specs.Directory.{by_number}
-use Rattle.misp_script.proofs.Sites.{ascend_map}
+use Rattle.misp_script.proofs.Places.{ascend_map}
 use Rattle.misp_script.proofs.directory.orgs_of.Goals as goal
 
 pub returns-clause-ascend : goal.returns-clause-ascend

@@ -18,7 +18,7 @@ use Rattle.std.proofs.lemmas.Bool.Decides.{nat_tests}
 use Rattle.std.proofs.lemmas.List.{map-append}
 use Rattle.std.proofs.lemmas.List.Quantifiers.{position-Some}
 use Rattle.std.proofs.lemmas.Map.Text.{is_eq-slice_cmp}
-use Rattle.misp_script.specs.Directory.{Site, place_of, site_names, place_in, HasPlaces}
+use Rattle.misp_script.specs.Directory.{Roster, place_of, roster_names, place_in, HasPlaces}
 use Rattle.misp_script.proofs.Lookups.{bytes_eq-true}
 use Rattle.misp_script.proofs.Parts.{bytes_eq-refl}
 
@@ -98,33 +98,33 @@ after_new (Some i) true n fresh = absurd (let e : true ≡ false = fresh refl in
 after_new (Some i) false n fresh = refl
 after_new None hit n fresh = refl
 
-length_names : (sites : List Site) → length (site_names sites) ≡ length sites
+length_names : (rosters : List Roster) → length (roster_names rosters) ≡ length rosters
 length_names [] = refl
-length_names (site ∷ sites) = ap suc (length_names sites)
+length_names (roster ∷ rosters) = ap suc (length_names rosters)
 
 -- the place of a name, with one more instance at the end
-place_more : (sites : List Site) (next : Site) (text : List ℕ) → place_of (site_names (sites ++ next ∷ [])) text ≡ after (place_of (site_names sites) text) (bytes_eq next.name text) (length sites)
-place_more sites next text =
-    ap (λ names. place_of names text) (map-append (λ (site : Site). site.name) sites (next ∷ []))
-    ∙ place_last (λ name. bytes_eq name text) (site_names sites) next.name
-    ∙ ap (after (place_of (site_names sites) text) (bytes_eq next.name text)) (length_names sites)
+place_more : (rosters : List Roster) (next : Roster) (text : List ℕ) → place_of (roster_names (rosters ++ next ∷ [])) text ≡ after (place_of (roster_names rosters) text) (bytes_eq next.name text) (length rosters)
+place_more rosters next text =
+    ap (λ names. place_of names text) (map-append (λ (roster : Roster). roster.name) rosters (next ∷ []))
+    ∙ place_last (λ name. bytes_eq name text) (roster_names rosters) next.name
+    ∙ ap (after (place_of (roster_names rosters) text) (bytes_eq next.name text)) (length_names rosters)
 
-module _ (sites : List Site) (next : Site) (places : BTreeMap (Vec ℕ Global) ℕ) (has : HasPlaces sites places) where
-  known_as : (text : List ℕ) (b : Bool) → is_some (place_in places next.name) ≡ b → bytes_eq next.name text ≡ true → is_some (place_of (site_names sites) text) ≡ b
+module _ (rosters : List Roster) (next : Roster) (places : BTreeMap (Vec ℕ Global) ℕ) (has : HasPlaces rosters places) where
+  known_as : (text : List ℕ) (b : Bool) → is_some (place_in places next.name) ≡ b → bytes_eq next.name text ≡ true → is_some (place_of (roster_names rosters) text) ≡ b
   known_as text b is hit =
       ap is_some (sym (has text)) ∙ ap (λ t. is_some (place_in places t)) (sym (bytes_eq-true next.name text hit)) ∙ is
 
   -- a name that is known keeps its place
-  pub places_old : is_some (place_in places next.name) ≡ true → HasPlaces (sites ++ next ∷ []) places
+  pub places_old : is_some (place_in places next.name) ≡ true → HasPlaces (rosters ++ next ∷ []) places
   places_old is text =
-      has text ∙ after_known (place_of (site_names sites) text) (bytes_eq next.name text) (length sites) (known_as text true is) ∙ sym (place_more sites next text)
+      has text ∙ after_known (place_of (roster_names rosters) text) (bytes_eq next.name text) (length rosters) (known_as text true is) ∙ sym (place_more rosters next text)
 
   -- a new one has the place at the end
   pub places_new : (got : BTreeMap (Vec ℕ Global) ℕ) → is_some (place_in places next.name) ≡ false
-      → ((text : List ℕ) → place_in got text ≡ cond (bytes_eq next.name text) (Some (length sites)) (place_in places text)) → HasPlaces (sites ++ next ∷ []) got
+      → ((text : List ℕ) → place_in got text ≡ cond (bytes_eq next.name text) (Some (length rosters)) (place_in places text)) → HasPlaces (rosters ++ next ∷ []) got
   places_new got is puts text =
-      puts text ∙ ap (cond (bytes_eq next.name text) (Some (length sites))) (has text)
-      ∙ after_new (place_of (site_names sites) text) (bytes_eq next.name text) (length sites) (known_as text false is) ∙ sym (place_more sites next text)
+      puts text ∙ ap (cond (bytes_eq next.name text) (Some (length rosters))) (has text)
+      ∙ after_new (place_of (roster_names rosters) text) (bytes_eq next.name text) (length rosters) (known_as text false is) ∙ sym (place_more rosters next text)
 
 -- ---- the map
 
@@ -154,7 +154,7 @@ place_put name places got at h text = elim (cases_Bool (bytes_eq name text)) [
 -- ---- what is found
 
 -- the place of a name is one of the instances
-pub placed_within : (sites : List Site) (text : List ℕ) (o : Option ℕ) → o ≡ place_of (site_names sites) text → IfSome o (λ at. at < length sites)
-placed_within sites text None is = tt
-placed_within sites text (Some at) is =
-    omega (arith, length_names sites, (position-Some (λ name. bytes_eq name text) (site_names sites) at [] (sym is)).0)
+pub placed_within : (rosters : List Roster) (text : List ℕ) (o : Option ℕ) → o ≡ place_of (roster_names rosters) text → IfSome o (λ at. at < length rosters)
+placed_within rosters text None is = tt
+placed_within rosters text (Some at) is =
+    omega (arith, length_names rosters, (position-Some (λ name. bytes_eq name text) (roster_names rosters) at [] (sym is)).0)
