@@ -2,11 +2,14 @@
 use Rattle.std.proofs.Common.{◌≡◌, ℕ, zero, suc, ◌+◌, ◌-◌, ◌<◌, ◌≤◌, Bool, true, false, refl, ap, sym, ◌∙◌, cond, List, [], ◌∷◌, length, get_or, take, drop, arith, eqb, ltb, leb, map, inl, inr, subst}
 use Rattle.std.specs.Prelude.{◌⊎◌}
 use Rattle.std.specs.List.{filter}
-use Rattle.std.specs.List.Sorted.{IsPartitionPoint, IsStableByKey, ties}
-use Rattle.std.specs.Ordering.{nat_cmp, is_lt}
+use Rattle.std.specs.List.Sorted.{IsPartitionPoint, IsPartitionedBy, IsNonDecreasingBy, IsStableBy, IsStableByKey, ties}
+use Rattle.std.specs.declared.cmp.Ordering.{Ordering}
+use Rattle.std.specs.declared.cmp.Ordering.TheVariants.{Less, Equal, Greater}
+use Rattle.std.specs.Ordering.{nat_cmp, ordering_index, is_lt, is_le, is_eq}
 use Rattle.std.proofs.lemmas.Bool.{eqb-true}
 use Rattle.std.proofs.lemmas.Bool.Decides.{nat_tests}
 use Rattle.std.proofs.lemmas.List.{get_or-drop, take_rest, length-drop}
+use Rattle.std.proofs.lemmas.List.Sorted.{IsPartitionedBy-ltb, IsPartitionedBy-leb}
 use Rattle.misp_model.proofs.Lists.{filter-map}
 
 module _ {X : Type 0} where
@@ -63,34 +66,79 @@ cut_map f key g h e xs low count a b p q =
     ∙ sym (filter-map f (λ y. eqb g (key y)) xs)
     ∙ ap (λ k. filter (λ y. eqb k (key y)) (map f xs)) e
 
-module _ {X : Type 0} (key : X → ℕ) where
-  -- an element with this number, or none
-  found : (g : ℕ) (xs : List X) → (filter (λ x. eqb g (key x)) xs ≡ []) ⊎ ((x : X) × (key x ≡ g))
-  found g [] = inl refl
-  found g (x ∷ xs) = one (eqb g (key x)) refl (found g xs)
-    where
-      one : (b : Bool) → eqb g (key x) ≡ b → (filter (λ y. eqb g (key y)) xs ≡ []) ⊎ ((y : X) × (key y ≡ g)) → (cond b (x ∷ filter (λ y. eqb g (key y)) xs) (filter (λ y. eqb g (key y)) xs) ≡ []) ⊎ ((y : X) × (key y ≡ g))
-      one true e r = inr (x, sym (eqb-true _ _ e))
-      one false e r = r
+-- the same where each stands to something as an answer says
+module _ {X Y : Type 0} (f : X → Y) (o : Y → Ordering) where
+  abbrev number : Y → ℕ
+  number y = ordering_index (o y)
 
-  tie_is : (x y : X) → ties (λ a b. is_lt (nat_cmp (key a) (key b))) x y ≡ eqb (key x) (key y)
-  tie_is x y = grind (arith, nat_tests)
+  below : (p : Ordering) → ltb (ordering_index p) 1 ≡ is_lt p
+  below Less = refl
+  below Equal = refl
+  below Greater = refl
+
+  upto : (p : Ordering) → leb (ordering_index p) 1 ≡ is_le p
+  upto Less = refl
+  upto Equal = refl
+  upto Greater = refl
+
+  at : (p : Ordering) → eqb 1 (ordering_index p) ≡ is_eq p
+  at Less = refl
+  at Equal = refl
+  at Greater = refl
+
+  pub rises_below : (xs : List X) → IsNonDecreasingBy (λ x. number (f x)) xs → IsPartitionedBy (λ x. is_lt (o (f x))) xs
+  rises_below xs h = subst (λ (t : Ordering → Bool). IsPartitionedBy (λ x. t (o (f x))) xs) (λ j p. below p j) (IsPartitionedBy-ltb (λ x. number (f x)) xs 1 h)
+
+  pub rises_upto : (xs : List X) → IsNonDecreasingBy (λ x. number (f x)) xs → IsPartitionedBy (λ x. is_le (o (f x))) xs
+  rises_upto xs h = subst (λ (t : Ordering → Bool). IsPartitionedBy (λ x. t (o (f x))) xs) (λ j p. upto p j) (IsPartitionedBy-leb (λ x. number (f x)) xs 1 h)
+
+  pub cut_level : (xs : List X) (low count : ℕ) → low ≤ length xs → count ≤ length (take (length xs - low) (drop low xs)) →
+      IsPartitionPoint (λ x. is_lt (o (f x)) ≡ true) (λ x. is_lt (o (f x)) ≡ false) xs low →
+      IsPartitionPoint (λ x. is_le (o (f x)) ≡ true) (λ x. is_le (o (f x)) ≡ false) (take (length xs - low) (drop low xs)) count →
+      map f (take count (take (length xs - low) (drop low xs))) ≡ filter (λ y. is_eq (o y)) (map f xs)
+  cut_level xs low count a b h k =
+      cut_map f number 1 1 refl xs low count a b
+      (subst (λ (t : Ordering → Bool). IsPartitionPoint (λ x. t (o (f x)) ≡ true) (λ x. t (o (f x)) ≡ false) xs low) (λ j p. sym (below p) j) h)
+      (subst (λ (t : Ordering → Bool). IsPartitionPoint (λ x. t (o (f x)) ≡ true) (λ x. t (o (f x)) ≡ false) (take (length xs - low) (drop low xs)) count) (λ j p. sym (upto p) j) k)
+      ∙ ap (λ (t : Ordering → Bool). filter (λ y. t (o y)) (map f xs)) (λ j p. at p j)
+
+-- ---- after a stable sort
+
+module _ {X : Type 0} where
+  -- one that passes, or none
+  found : (test : X → Bool) (xs : List X) → (filter test xs ≡ []) ⊎ ((x : X) × (test x ≡ true))
+  found test [] = inl refl
+  found test (x ∷ xs) = one (test x) refl (found test xs)
+    where
+      one : (b : Bool) → test x ≡ b → (filter test xs ≡ []) ⊎ ((y : X) × (test y ≡ true)) → (cond b (x ∷ filter test xs) (filter test xs) ≡ []) ⊎ ((y : X) × (test y ≡ true))
+      one true e r = inr (x, e)
+      one false e r = r
 
   filter_by : (p q : X → Bool) → ((x : X) → p x ≡ q x) → (xs : List X) → filter p xs ≡ filter q xs
   filter_by p q h [] = refl
   filter_by p q h (x ∷ xs) = rw (h x, filter_by p q h xs) refl
 
-  pub stable_parts : (xs ys : List X) → IsStableByKey key nat_cmp xs ys → (g : ℕ) → filter (λ x. eqb g (key x)) ys ≡ filter (λ x. eqb g (key x)) xs
-  stable_parts xs ys s g = one (found g ys) (found g xs)
+  -- those that pass keep their order, where they are those that tie with one of them
+  pub stable_test : (lt : X → X → Bool) (test : X → Bool) → ((x y : X) → test x ≡ true → ties lt x y ≡ test y) → (xs ys : List X) → IsStableBy lt xs ys →
+      filter test ys ≡ filter test xs
+  stable_test lt test tie xs ys s = one (found test ys) (found test xs)
     where
-      at : (x : X) → key x ≡ g → filter (λ y. eqb g (key y)) ys ≡ filter (λ y. eqb g (key y)) xs
-      at x e = subst (λ h. filter (λ y. eqb h (key y)) ys ≡ filter (λ y. eqb h (key y)) xs) e (sym (filter_by _ _ (tie_is x) ys) ∙ s x ∙ filter_by _ _ (tie_is x) xs)
+      with_one : (x : X) → test x ≡ true → filter test ys ≡ filter test xs
+      with_one x e = sym (filter_by _ _ (λ y. tie x y e) ys) ∙ s x ∙ filter_by _ _ (λ y. tie x y e) xs
 
-      one : (filter (λ x. eqb g (key x)) ys ≡ []) ⊎ ((x : X) × (key x ≡ g)) → (filter (λ x. eqb g (key x)) xs ≡ []) ⊎ ((x : X) × (key x ≡ g)) →
-          filter (λ x. eqb g (key x)) ys ≡ filter (λ x. eqb g (key x)) xs
-      one (inr m) r = at m.0 m.1
-      one (inl a) (inr m) = at m.0 m.1
+      one : (filter test ys ≡ []) ⊎ ((x : X) × (test x ≡ true)) → (filter test xs ≡ []) ⊎ ((x : X) × (test x ≡ true)) → filter test ys ≡ filter test xs
+      one (inr m) r = with_one m.0 m.1
+      one (inl a) (inr m) = with_one m.0 m.1
       one (inl a) (inl b) = a ∙ sym b
+
+  pub stable_parts : (key : X → ℕ) (xs ys : List X) → IsStableByKey key nat_cmp xs ys → (g : ℕ) → filter (λ x. eqb g (key x)) ys ≡ filter (λ x. eqb g (key x)) xs
+  stable_parts key xs ys s g = stable_test _ (λ x. eqb g (key x)) tie xs ys s
+    where
+      level : (x y : X) → ties (λ a b. is_lt (nat_cmp (key a) (key b))) x y ≡ eqb (key x) (key y)
+      level x y = grind (arith, nat_tests)
+
+      tie : (x y : X) → eqb g (key x) ≡ true → ties (λ a b. is_lt (nat_cmp (key a) (key b))) x y ≡ eqb g (key y)
+      tie x y e = level x y ∙ ap (λ h. eqb h (key y)) (sym (eqb-true _ _ e))
 
 -- the same where each is looked at through a map
 pub stable_parts_map : {X Y : Type 0} (f : X → Y) (key : Y → ℕ) (xs ys : List X) → IsStableByKey (λ x. key (f x)) nat_cmp xs ys → (g : ℕ) →

@@ -1,6 +1,6 @@
 -- The form of one copy, by the lists of what shows there.
-use Rattle.std.proofs.Common.{◌≡◌, ℕ, Bool, true, false, refl, ap, sym, ◌∙◌, arith, cond, List, [], ◌∷◌, map, eqb, ltb}
-use Rattle.std.specs.Prelude.{◌&&◌, ◌||◌, not, Option, Some, None, option_map}
+use Rattle.std.proofs.Common.{◌≡◌, ℕ, Bool, true, false, refl, ap, sym, ◌∙◌, arith, List, [], ◌∷◌, map, eqb, ltb}
+use Rattle.std.specs.Prelude.{◌&&◌, not, Option, Some, None, option_map}
 use Rattle.std.specs.List.{list_any, list_all, filter}
 use Rattle.std.specs.BTreeSet.{BTreeSet}
 use Rattle.std.proofs.lemmas.Bool.{and_parts, and_right, false≢true}
@@ -20,7 +20,7 @@ use Rattle.misp_model.specs.Order.{in_order}
 use Rattle.misp_model.specs.History.{is_statement}
 use Rattle.misp_model.specs.Asking.{Scene, uuid_at}
 use Rattle.misp_model.specs.View.{granted, is_least}
-use Rattle.misp_model.specs.Shown.{sorted, is_shown, shown_at, is_plain_attribute, is_attribute_of, is_object, is_reference_of, is_proposal_on, is_verdict_on, is_closed, proposals_on, sightings_on, shown_attribute, object_of, shown_object, creator, form_of, event_row, shown}
+use Rattle.misp_model.specs.Shown.{sorted, is_shown, shown_at, is_plain_attribute, is_attribute_of, is_object, is_reference_of, is_verdict_on, is_closed, proposals_on, sightings_on, shown_attribute, object_of, shown_object, creator, form_of, event_row, shown}
 use Rattle.misp_model.proofs.Lists.{all_of_kept}
 use Rattle.misp_view.specs.declared.sight.Sight.{Sight}
 use Rattle.misp_view.specs.declared.inside.Inside.{Inside}
@@ -32,23 +32,18 @@ use Rattle.misp_view.specs.Spots.{Numbers}
 use Rattle.misp_view.specs.Grants.{granted_in}
 use Rattle.misp_view.specs.Sight.{IsSight, IsSeen, is_inner}
 use Rattle.misp_view.specs.Parts.{around}
-use Rattle.misp_view.specs.Statements.{is_told, is_lesser, is_least_of, is_closed_by, is_open_proposal, is_least_sighting, is_proposal, is_sighting, is_about}
+use Rattle.misp_view.specs.Keys.{is_about}
+use Rattle.misp_view.specs.Subjects.{IsBySubject}
+use Rattle.misp_view.specs.Tellers.{is_lesser}
+use Rattle.misp_view.specs.Statements.{is_told, is_least_of, is_closed_by, is_open_proposal, is_least_sighting, is_proposal, is_sighting}
 use Rattle.misp_view.specs.Form.{attribute_in, beside, object_in}
 use Rattle.misp_view.specs.Inside.{in_list, IsInside}
 use Rattle.misp_view.proofs.Granted.{filter_where, of_these, all_of_these, granted_is}
-use Rattle.misp_view.proofs.StatementKeys.{lesser_told, proposal_told, sighting_told, verdict_told, proposal_class, sighting_class, on_is, of_is, only_on}
+use Rattle.misp_view.proofs.Searches.{any_of_kept}
+use Rattle.misp_view.proofs.StatementKeys.{lesser_told, proposal_told, sighting_told, verdict_told, proposal_class, sighting_class, on_is, of_is}
 use Rattle.misp_view.proofs.Showing.{of_class, sorted_class, sorted_cut, filter_twice, is_reference, list_is, all_sorted}
 
 module _ {X : Type 0} where
-  -- a search among those that pass a test
-  any_of_kept : (p q : X → Bool) (xs : List X) → list_any p (filter q xs) ≡ list_any (λ x. p x && q x) xs
-  any_of_kept p q [] = refl
-  any_of_kept p q (x ∷ xs) = one (q x) (p x) (any_of_kept p q xs)
-    where
-      one : (b c : Bool) → list_any p (filter q xs) ≡ list_any (λ y. p y && q y) xs → list_any p (cond b (x ∷ filter q xs) (filter q xs)) ≡ (p x && b || list_any (λ y. p y && q y) xs)
-      one true c ih = grind arith
-      one false c ih = grind arith
-
   -- tests that agree on all of these
   any_where : (p r q : X → Bool) → ((x : X) → q x ≡ true → p x ≡ r x) → (xs : List X) → list_all q xs ≡ true → list_any p xs ≡ list_any r xs
   any_where p r q h [] e = refl
@@ -160,110 +155,106 @@ module _ (groups : List Group) (i : Inst) (o : OrgId) (e : EventId) (w : OrgId) 
     S : List Row
     S = in_order goes_before (filter (is_least_sighting told) told)
 
-    proposals_are : (k : Key) → filter (λ (r : Row). is_about k r.key) P ≡ proposals_on (scene_of groups i o rows) orgc k
-    unfolding proposals_on P
-    proposals_are k =
-        proposals_cut orgc (is_about k)
-        ∙ ap (λ (f : Row → Bool). sorted (filter (λ (row : Row). f row && is_least rows groups i o row && not (is_closed (scene_of groups i o rows) orgc row.key)) rows)) (λ j row. sym (on_is k row.key) j)
+    -- each key has those that are about it, by what they are about
+    module _ (proposals sightings : List Row) (are_proposals : IsBySubject proposals P) (are_sightings : IsBySubject sightings S) where
+      proposals_are : (k : Key) → filter (λ (r : Row). is_about k r.key) proposals ≡ proposals_on (scene_of groups i o rows) orgc k
+      unfolding proposals_on P
+      proposals_are k =
+          are_proposals k ∙ proposals_cut orgc (is_about k)
+          ∙ ap (λ (f : Row → Bool). sorted (filter (λ (row : Row). f row && is_least rows groups i o row && not (is_closed (scene_of groups i o rows) orgc row.key)) rows)) (λ j row. sym (on_is k row.key) j)
 
-    event_proposals_are : (k : Key) → filter (λ (r : Row). is_proposal_on k r.key) P ≡ proposals_on (scene_of groups i o rows) orgc k
-    unfolding proposals_on P
-    event_proposals_are k =
-        proposals_cut orgc (is_proposal_on k)
-        ∙ ap (λ (f : Row → Bool). sorted (filter (λ (row : Row). f row && is_least rows groups i o row && not (is_closed (scene_of groups i o rows) orgc row.key)) rows)) (λ j row. sym (only_on k row.key) j)
+      sightings_are : (k : Key) → filter (λ (r : Row). is_about k r.key) sightings ≡ sightings_on (scene_of groups i o rows) k
+      unfolding sightings_on S
+      sightings_are k =
+          are_sightings k ∙ sightings_cut (is_about k)
+          ∙ ap (λ (f : Row → Bool). sorted (filter (λ (row : Row). f row && is_least rows groups i o row) rows)) (λ j row. sym (of_is k row.key) j)
 
-    sightings_are : (k : Key) → filter (λ (r : Row). is_about k r.key) S ≡ sightings_on (scene_of groups i o rows) k
-    unfolding sightings_on S
-    sightings_are k =
-        sightings_cut (is_about k)
-        ∙ ap (λ (f : Row → Bool). sorted (filter (λ (row : Row). f row && is_least rows groups i o row) rows)) (λ j row. sym (of_is k row.key) j)
+      attribute_is : (row : Row) → attribute_in proposals sightings row ≡ shown_attribute (scene_of groups i o rows) orgc row
+      unfolding attribute_in shown_attribute
+      attribute_is row = λ j. record { row = row; proposals = proposals_are row.key j; sightings = sightings_are row.key j }
 
-    attribute_is : (row : Row) → attribute_in P S row ≡ shown_attribute (scene_of groups i o rows) orgc row
-    unfolding attribute_in shown_attribute
-    attribute_is row = λ j. record { row = row; proposals = proposals_are row.key j; sightings = sightings_are row.key j }
+      all_attributes : (list : List Row) → map (attribute_in proposals sightings) list ≡ map (shown_attribute (scene_of groups i o rows) orgc) list
+      all_attributes list = ap {A = Row → VisibleAttribute} (λ f. map f list) (λ j row. attribute_is row j)
 
-    all_attributes : (list : List Row) → map (attribute_in P S) list ≡ map (shown_attribute (scene_of groups i o rows) orgc) list
-    all_attributes list = ap {A = Row → VisibleAttribute} (λ f. map f list) (λ j row. attribute_is row j)
+      -- ---- objects
 
-    -- ---- objects
+      module _ (seen : BTreeSet Numbers) (are_seen : IsSeen seen v (list_any (λ row. is_link row.key) rows) rows) where
+        turned : (a b : ℕ) → eqb a b ≡ eqb b a
+        turned a b = grind (arith, nat_tests)
 
-    module _ (seen : BTreeSet Numbers) (are_seen : IsSeen seen v (list_any (λ row. is_link row.key) rows) rows) where
-      turned : (a b : ℕ) → eqb a b ≡ eqb b a
-      turned a b = grind (arith, nat_tests)
+        inner_row : (r k : Key) → is_object e r ≡ true → (is_inner e k && eqb (around r) (around k)) ≡ is_attribute_of e (object_of r) k
+        unfolding is_object is_inner around is_attribute_of object_of uuid_at same_elem
+        inner_row (Element f (Object y)) (Element g (ObjectAttribute x a)) h = ap (λ b. same_event g e && b) (turned y.0.0 x.0.0)
+        inner_row (Element f (Object y)) (Element g Event) h = sym (and_right (same_event g e) false refl)
+        inner_row (Element f (Object y)) (Element g (Object x)) h = sym (and_right (same_event g e) false refl)
+        inner_row (Element f (Object y)) (Element g (Attribute a)) h = sym (and_right (same_event g e) false refl)
+        inner_row (Element f (Object y)) (Reference g x t u) h = refl
+        inner_row (Element f (Object y)) (Proposal g n) h = refl
+        inner_row (Element f (Object y)) (Verdict g n j z) h = refl
+        inner_row (Element f (Object y)) (Sighting g t j z u) h = refl
+        inner_row (Element f Event) k h = absurd (false≢true (and_parts _ _ h).1)
+        inner_row (Element f (Attribute a)) k h = absurd (false≢true (and_parts _ _ h).1)
+        inner_row (Element f (ObjectAttribute x a)) k h = absurd (false≢true (and_parts _ _ h).1)
+        inner_row (Reference f x t u) k h = absurd (false≢true h)
+        inner_row (Proposal f n) k h = absurd (false≢true h)
+        inner_row (Verdict f n j z) k h = absurd (false≢true h)
+        inner_row (Sighting f t j z u) k h = absurd (false≢true h)
 
-      inner_row : (r k : Key) → is_object e r ≡ true → (is_inner e k && eqb (around r) (around k)) ≡ is_attribute_of e (object_of r) k
-      unfolding is_object is_inner around is_attribute_of object_of uuid_at same_elem
-      inner_row (Element f (Object y)) (Element g (ObjectAttribute x a)) h = ap (λ b. same_event g e && b) (turned y.0.0 x.0.0)
-      inner_row (Element f (Object y)) (Element g Event) h = sym (and_right (same_event g e) false refl)
-      inner_row (Element f (Object y)) (Element g (Object x)) h = sym (and_right (same_event g e) false refl)
-      inner_row (Element f (Object y)) (Element g (Attribute a)) h = sym (and_right (same_event g e) false refl)
-      inner_row (Element f (Object y)) (Reference g x t u) h = refl
-      inner_row (Element f (Object y)) (Proposal g n) h = refl
-      inner_row (Element f (Object y)) (Verdict g n j z) h = refl
-      inner_row (Element f (Object y)) (Sighting g t j z u) h = refl
-      inner_row (Element f Event) k h = absurd (false≢true (and_parts _ _ h).1)
-      inner_row (Element f (Attribute a)) k h = absurd (false≢true (and_parts _ _ h).1)
-      inner_row (Element f (ObjectAttribute x a)) k h = absurd (false≢true (and_parts _ _ h).1)
-      inner_row (Reference f x t u) k h = absurd (false≢true h)
-      inner_row (Proposal f n) k h = absurd (false≢true h)
-      inner_row (Verdict f n j z) k h = absurd (false≢true h)
-      inner_row (Sighting f t j z u) k h = absurd (false≢true h)
+        reference_row : (r k : Key) → is_object e r ≡ true → (is_reference groups i o e w rows v s seen are_seen k && eqb (around r) (around k)) ≡ is_reference_of (scene_of groups i o rows) w e (object_of r) k
+        unfolding is_object around is_reference_of object_of uuid_at same_elem
+        reference_row (Element f (Object y)) (Reference g x t u) h = rw (turned y.0.0 x.0.0) (one (same_event g e) (list_any _ rows) (eqb x.0.0 y.0.0))
+          where
+            one : (a b c : Bool) → ((a && b) && c) ≡ ((a && c) && b)
+            one a b c = grind arith
+        reference_row (Element f (Object y)) (Element g p) h = refl
+        reference_row (Element f (Object y)) (Proposal g n) h = refl
+        reference_row (Element f (Object y)) (Verdict g n j z) h = refl
+        reference_row (Element f (Object y)) (Sighting g t j z u) h = refl
+        reference_row (Element f Event) k h = absurd (false≢true (and_parts _ _ h).1)
+        reference_row (Element f (Attribute a)) k h = absurd (false≢true (and_parts _ _ h).1)
+        reference_row (Element f (ObjectAttribute x a)) k h = absurd (false≢true (and_parts _ _ h).1)
+        reference_row (Reference f x t u) k h = absurd (false≢true h)
+        reference_row (Proposal f n) k h = absurd (false≢true h)
+        reference_row (Verdict f n j z) k h = absurd (false≢true h)
+        reference_row (Sighting f t j z u) k h = absurd (false≢true h)
 
-      reference_row : (r k : Key) → is_object e r ≡ true → (is_reference groups i o e w rows v s seen are_seen k && eqb (around r) (around k)) ≡ is_reference_of (scene_of groups i o rows) w e (object_of r) k
-      unfolding is_object around is_reference_of object_of uuid_at same_elem
-      reference_row (Element f (Object y)) (Reference g x t u) h = rw (turned y.0.0 x.0.0) (one (same_event g e) (list_any _ rows) (eqb x.0.0 y.0.0))
-        where
-          one : (a b c : Bool) → ((a && b) && c) ≡ ((a && c) && b)
-          one a b c = grind arith
-      reference_row (Element f (Object y)) (Element g p) h = refl
-      reference_row (Element f (Object y)) (Proposal g n) h = refl
-      reference_row (Element f (Object y)) (Verdict g n j z) h = refl
-      reference_row (Element f (Object y)) (Sighting g t j z u) h = refl
-      reference_row (Element f Event) k h = absurd (false≢true (and_parts _ _ h).1)
-      reference_row (Element f (Attribute a)) k h = absurd (false≢true (and_parts _ _ h).1)
-      reference_row (Element f (ObjectAttribute x a)) k h = absurd (false≢true (and_parts _ _ h).1)
-      reference_row (Reference f x t u) k h = absurd (false≢true h)
-      reference_row (Proposal f n) k h = absurd (false≢true h)
-      reference_row (Verdict f n j z) k h = absurd (false≢true h)
-      reference_row (Sighting f t j z u) k h = absurd (false≢true h)
+        -- those of a list that stand in the object
+        beside_is : (r : Row) (a b : Key → Bool) → ((k : Key) → (a k && eqb (around r.key) (around k)) ≡ b k) → beside r (shown_at (scene_of groups i o rows) w a) ≡ shown_at (scene_of groups i o rows) w b
+        unfolding shown_at
+        beside_is r a b h =
+            sorted_cut (λ (x : Row). eqb (around r.key) (around x.key)) (filter (λ (row : Row). is_shown (scene_of groups i o rows) w row && a row.key) rows)
+            ∙ ap sorted (filter_twice (λ (row : Row). is_shown (scene_of groups i o rows) w row && a row.key) (λ (x : Row). eqb (around r.key) (around x.key)) rows)
+            ∙ ap (λ (f : Row → Bool). sorted (filter f rows)) (λ j row. (one (is_shown (scene_of groups i o rows) w row) (a row.key) (eqb (around r.key) (around row.key)) ∙ ap (λ t. is_shown (scene_of groups i o rows) w row && t) (h row.key)) j)
+          where
+            one : (x y z : Bool) → ((x && y) && z) ≡ (x && (y && z))
+            one true y z = refl
+            one false y z = refl
 
-      -- those of a list that stand in the object
-      beside_is : (r : Row) (a b : Key → Bool) → ((k : Key) → (a k && eqb (around r.key) (around k)) ≡ b k) → beside r (shown_at (scene_of groups i o rows) w a) ≡ shown_at (scene_of groups i o rows) w b
-      unfolding shown_at
-      beside_is r a b h =
-          sorted_cut (λ (x : Row). eqb (around r.key) (around x.key)) (filter (λ (row : Row). is_shown (scene_of groups i o rows) w row && a row.key) rows)
-          ∙ ap sorted (filter_twice (λ (row : Row). is_shown (scene_of groups i o rows) w row && a row.key) (λ (x : Row). eqb (around r.key) (around x.key)) rows)
-          ∙ ap (λ (f : Row → Bool). sorted (filter f rows)) (λ j row. (one (is_shown (scene_of groups i o rows) w row) (a row.key) (eqb (around r.key) (around row.key)) ∙ ap (λ t. is_shown (scene_of groups i o rows) w row && t) (h row.key)) j)
-        where
-          one : (x y z : Bool) → ((x && y) && z) ≡ (x && (y && z))
-          one true y z = refl
-          one false y z = refl
+        object_is : (r : Row) → is_object e r.key ≡ true →
+            object_in (in_list kinds.Inner v seen rows) (in_list kinds.Reference v seen rows) proposals sightings r ≡ shown_object (scene_of groups i o rows) orgc w e r
+        unfolding object_in shown_object
+        object_is r h = λ j. record {
+          row = r;
+          attributes = (all_attributes (beside r (in_list kinds.Inner v seen rows))
+              ∙ ap (λ l. map (shown_attribute (scene_of groups i o rows) orgc) (beside r l)) (list_is groups i o e w rows v s seen are_seen kinds.Inner)
+              ∙ ap (map (shown_attribute (scene_of groups i o rows) orgc)) (beside_is r (is_inner e) (is_attribute_of e (object_of r.key)) (λ k. inner_row r.key k h))) j;
+          references = (ap (beside r) (list_is groups i o e w rows v s seen are_seen kinds.Reference)
+              ∙ beside_is r (is_reference groups i o e w rows v s seen are_seen) (is_reference_of (scene_of groups i o rows) w e (object_of r.key)) (λ k. reference_row r.key k h)) j;
+        }
 
-      object_is : (r : Row) → is_object e r.key ≡ true →
-          object_in (in_list kinds.Inner v seen rows) (in_list kinds.Reference v seen rows) P S r ≡ shown_object (scene_of groups i o rows) orgc w e r
-      unfolding object_in shown_object
-      object_is r h = λ j. record {
-        row = r;
-        attributes = (all_attributes (beside r (in_list kinds.Inner v seen rows))
-            ∙ ap (λ l. map (shown_attribute (scene_of groups i o rows) orgc) (beside r l)) (list_is groups i o e w rows v s seen are_seen kinds.Inner)
-            ∙ ap (map (shown_attribute (scene_of groups i o rows) orgc)) (beside_is r (is_inner e) (is_attribute_of e (object_of r.key)) (λ k. inner_row r.key k h))) j;
-        references = (ap (beside r) (list_is groups i o e w rows v s seen are_seen kinds.Reference)
-            ∙ beside_is r (is_reference groups i o e w rows v s seen are_seen) (is_reference_of (scene_of groups i o rows) w e (object_of r.key)) (λ k. reference_row r.key k h)) j;
-      }
+        all_of_sorted : (q : Row → Bool) (xs : List Row) → list_all q xs ≡ true → list_all q (sorted xs) ≡ true
+        all_of_sorted q xs h = all_sorted q xs h
 
-      all_of_sorted : (q : Row → Bool) (xs : List Row) → list_all q xs ≡ true → list_all q (sorted xs) ≡ true
-      all_of_sorted q xs h = all_sorted q xs h
+        objects_are : map (object_in (in_list kinds.Inner v seen rows) (in_list kinds.Reference v seen rows) proposals sightings) (in_list kinds.Object v seen rows)
+            ≡ map (shown_object (scene_of groups i o rows) orgc w e) (shown_at (scene_of groups i o rows) w (is_object e))
+        unfolding shown_at
+        objects_are =
+            ap (map (object_in (in_list kinds.Inner v seen rows) (in_list kinds.Reference v seen rows) proposals sightings)) (list_is groups i o e w rows v s seen are_seen kinds.Object)
+            ∙ map_where _ _ (λ (r : Row). is_object e r.key) object_is (sorted (filter (λ (row : Row). is_shown (scene_of groups i o rows) w row && is_object e row.key) rows))
+            (all_of_sorted _ _ (all_of_kept (λ (r : Row). is_object e r.key) _ (λ row h. (and_parts _ _ h).1) rows))
 
-      objects_are : map (object_in (in_list kinds.Inner v seen rows) (in_list kinds.Reference v seen rows) P S) (in_list kinds.Object v seen rows)
-          ≡ map (shown_object (scene_of groups i o rows) orgc w e) (shown_at (scene_of groups i o rows) w (is_object e))
-      unfolding shown_at
-      objects_are =
-          ap (map (object_in (in_list kinds.Inner v seen rows) (in_list kinds.Reference v seen rows) P S)) (list_is groups i o e w rows v s seen are_seen kinds.Object)
-          ∙ map_where _ _ (λ (r : Row). is_object e r.key) object_is (sorted (filter (λ (row : Row). is_shown (scene_of groups i o rows) w row && is_object e row.key) rows))
-          (all_of_sorted _ _ (all_of_kept (λ (r : Row). is_object e r.key) _ (λ row h. (and_parts _ _ h).1) rows))
-
-      attributes_are : map (attribute_in P S) (in_list kinds.Attribute v seen rows) ≡ map (shown_attribute (scene_of groups i o rows) orgc) (shown_at (scene_of groups i o rows) w (is_plain_attribute e))
-      attributes_are = all_attributes _ ∙ ap (map (shown_attribute (scene_of groups i o rows) orgc)) (list_is groups i o e w rows v s seen are_seen kinds.Attribute)
+        attributes_are : map (attribute_in proposals sightings) (in_list kinds.Attribute v seen rows) ≡ map (shown_attribute (scene_of groups i o rows) orgc) (shown_at (scene_of groups i o rows) w (is_plain_attribute e))
+        attributes_are = all_attributes _ ∙ ap (map (shown_attribute (scene_of groups i o rows) orgc)) (list_is groups i o e w rows v s seen are_seen kinds.Attribute)
 
 -- what shows of an event, by its row
 pub shown_some : (s : Scene) (e : EventId) (owner : Option OrgId) (row : Row) (form : VisibleEvent) → event_row s e owner ≡ Some row → form ≡ form_of s e row → Some form ≡ shown s e owner
@@ -277,18 +268,18 @@ shown_none s e owner h = sym (ap (option_map (form_of s e)) h)
 -- the form of one copy
 pub form_is : (groups : List Group) (i : Inst) (o : OrgId) (e : EventId) (row copy : Row) (rows : List Row) (v : Sight) (s : IsSight v groups i o e row.owner rows) (n : Inside) (proposals sightings on_event all : List Row)
     (orgc : OrgId) (name : List ℕ) (names : List (GroupId × List ℕ)) → copy ≡ row → orgc ≡ creator row → all ≡ filter (is_told v) rows →
-    proposals ≡ in_order goes_before (filter (is_open_proposal all orgc) all) → sightings ≡ in_order goes_before (filter (is_least_sighting all) all) →
-    IsInside n v proposals sightings rows → on_event ≡ filter (λ (r : Row). is_proposal_on (event_key e) r.key) proposals → name ≡ [] → names ≡ [] →
+    IsBySubject proposals (in_order goes_before (filter (is_open_proposal all orgc) all)) → IsBySubject sightings (in_order goes_before (filter (is_least_sighting all) all)) →
+    IsInside n v proposals sightings rows → on_event ≡ filter (λ (r : Row). is_about (event_key e) r.key) proposals → name ≡ [] → names ≡ [] →
     ◌≡◌ {A = VisibleEvent} (record { row = copy; org_name = name; attributes = n.attributes; objects = n.objects; proposals = on_event; group_names = names }) (form_of (scene_of groups i o rows) e row)
 unfolding form_of told P S
 form_is groups i o e row copy rows v s n proposals sightings on_event all orgc name names a b c d f g h k l =
-    let p : proposals ≡ P groups i o e row.owner rows v s (creator row) = d ∙ (λ j. in_order goes_before (filter (is_open_proposal (c j) (b j)) (c j))) in
-    let q : sightings ≡ S groups i o e row.owner rows v s (creator row) = f ∙ (λ j. in_order goes_before (filter (is_least_sighting (c j)) (c j))) in
+    let p : IsBySubject proposals (P groups i o e row.owner rows v s (creator row)) = λ q. d q ∙ (λ j. filter (λ (r : Row). is_about q r.key) (in_order goes_before (filter (is_open_proposal (c j) (b j)) (c j)))) in
+    let q : IsBySubject sightings (S groups i o e row.owner rows v s (creator row)) = λ q. f q ∙ (λ j. filter (λ (r : Row). is_about q r.key) (in_order goes_before (filter (is_least_sighting (c j)) (c j)))) in
     λ j. record {
       row = a j;
       org_name = k j;
-      attributes = (g.attributes ∙ (λ m. map (attribute_in (p m) (q m)) (in_list kinds.Attribute v g.seen rows)) ∙ attributes_are groups i o e row.owner rows v s (creator row) g.seen g.are_seen) j;
-      objects = (g.objects ∙ (λ m. map (object_in (in_list kinds.Inner v g.seen rows) (in_list kinds.Reference v g.seen rows) (p m) (q m)) (in_list kinds.Object v g.seen rows)) ∙ objects_are groups i o e row.owner rows v s (creator row) g.seen g.are_seen) j;
-      proposals = (h ∙ ap (filter (λ (r : Row). is_proposal_on (event_key e) r.key)) p ∙ event_proposals_are groups i o e row.owner rows v s (creator row) (event_key e)) j;
+      attributes = (g.attributes ∙ attributes_are groups i o e row.owner rows v s (creator row) proposals sightings p q g.seen g.are_seen) j;
+      objects = (g.objects ∙ objects_are groups i o e row.owner rows v s (creator row) proposals sightings p q g.seen g.are_seen) j;
+      proposals = (h ∙ proposals_are groups i o e row.owner rows v s (creator row) proposals sightings p q (event_key e)) j;
       group_names = l j;
     }

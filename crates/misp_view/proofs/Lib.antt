@@ -3,10 +3,14 @@ pub mod SpotSets
 pub mod Granted
 pub mod Origins
 pub mod Cuts
-pub mod Telling
+pub mod Searches
+pub mod KeyOrder
+pub mod LeastOwners
+pub mod BySubject
 pub mod Grouping
 pub mod Showing
 pub mod StatementKeys
+pub mod Telling
 pub mod Forming
 pub mod Wholeness
 pub mod Candidates

@@ -1,6 +1,6 @@
 -- Of which form a statement is, by its key.
 use Rattle.std.proofs.Common.{◌≡◌, Bool, true, false, refl, ap, ◌∙◌, eqb}
-use Rattle.std.specs.Prelude.{◌&&◌, ◌||◌}
+use Rattle.std.specs.Prelude.{◌&&◌}
 use Rattle.std.proofs.lemmas.Bool.{false≢true}
 use Rattle.misp_ids.specs.declared.uid.OrgId.{OrgId}
 use Rattle.misp_elem.specs.declared.key.KeyForm.{KeyForm as Key}
@@ -11,7 +11,13 @@ use Rattle.misp_model.specs.History.{is_statement}
 use Rattle.misp_model.specs.Shown.{is_proposal_on, is_sighting_on, is_verdict_on}
 use Rattle.misp_model.proofs.Same.{same_key-sound}
 use Rattle.misp_view.specs.Order.{class_of}
-use Rattle.misp_view.specs.Statements.{is_proposal, is_sighting, is_about}
+use Rattle.misp_view.specs.Keys.{subject_of, is_about}
+use Rattle.misp_view.specs.Statements.{is_proposal, is_sighting, is_verdict_of}
+
+-- nothing is both
+none : (b : Bool) → (b && false) ≡ false
+none true = refl
+none false = refl
 
 -- two statements of one key
 pub lesser_told : (a b : Row) → same_key b.key a.key ≡ true → is_statement a.key ≡ true → is_statement b.key ≡ true
@@ -57,31 +63,28 @@ sighting_class (Reference e x t u) h = absurd (false≢true h)
 sighting_class (Verdict e n i o) h = absurd (false≢true h)
 sighting_class (Proposal e n) h = absurd (false≢true h)
 
--- what is on a key is a proposal; what is of a key is a sighting
+-- what is on a key is a proposal about it, what is of a key a sighting, and a verdict is about a
+-- proposal
 pub on_is : (k j : Key) → is_proposal_on k j ≡ (is_proposal j && is_about k j)
-unfolding is_proposal is_about is_proposal_on is_sighting_on
-on_is k (Proposal e n) = two (same_key (Element e n.target) k)
-  where
-    two : (b : Bool) → b ≡ (b || false)
-    two true = refl
-    two false = refl
+unfolding is_proposal is_about subject_of is_proposal_on
+on_is k (Proposal e n) = refl
+on_is k (Sighting e t i o u) = refl
 on_is k (Element e p) = refl
 on_is k (Reference e x t u) = refl
 on_is k (Verdict e n i o) = refl
-on_is k (Sighting e t i o u) = refl
 
 pub of_is : (k j : Key) → is_sighting_on k j ≡ (is_sighting j && is_about k j)
-unfolding is_sighting is_about is_proposal_on is_sighting_on
+unfolding is_sighting is_about subject_of is_sighting_on
 of_is k (Sighting e t i o u) = refl
 of_is k (Proposal e n) = refl
 of_is k (Element e p) = refl
 of_is k (Reference e x t u) = refl
 of_is k (Verdict e n i o) = refl
 
-pub only_on : (k j : Key) → is_proposal_on k j ≡ (is_proposal j && is_proposal_on k j)
-unfolding is_proposal is_proposal_on
-only_on k (Proposal e n) = refl
-only_on k (Element e p) = refl
-only_on k (Reference e x t u) = refl
-only_on k (Verdict e n i o) = refl
-only_on k (Sighting e t i o u) = refl
+pub by_is : (k j : Key) (w : OrgId) → (is_about k j && is_verdict_of w j) ≡ is_verdict_on k w j
+unfolding is_verdict_of is_about subject_of is_verdict_on
+by_is k (Verdict e n i o) w = refl
+by_is k (Element e p) w = none (same_key (Element e p) k)
+by_is k (Reference e x t u) w = none (same_key (Reference e x t u) k)
+by_is k (Proposal e n) w = none (same_key (Element e n.target) k)
+by_is k (Sighting e t i o u) w = none (same_key (Element e t) k)

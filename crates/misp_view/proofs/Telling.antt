@@ -1,58 +1,47 @@
 -- Which statements show, of those that are granted.
-use Rattle.std.proofs.Common.{◌≡◌, ℕ, Bool, true, false, refl, ap, sym, ◌∙◌, arith, List, [], ◌∷◌, map}
-use Rattle.std.specs.Prelude.{◌||◌}
-use Rattle.std.specs.List.{list_any}
-use Rattle.std.specs.Ordering.{nat_cmp, is_lt, is_eq}
-use Rattle.std.specs.Cmp.Lexicographic.{slice_cmp}
-use Rattle.std.proofs.lemmas.Bool.{false≢true}
-use Rattle.std.proofs.lemmas.Bool.Decides.{nat_tests}
-use Rattle.std.proofs.lemmas.Map.Text.{is_eq-slice_cmp}
-use Rattle.std.proofs.lemmas.Slice.Eq.{bytes_eq-Decides}
+use Rattle.std.proofs.Common.{◌≡◌, Bool, ap, sym, ◌∙◌, List}
+use Rattle.std.specs.Prelude.{not, ◌&&◌}
+use Rattle.std.specs.List.{list_any, filter}
+use Rattle.std.specs.List.Sorted.{IsPermutation}
+use Rattle.std.proofs.lemmas.List.Sorted.{list_any-IsPermutation}
+use Rattle.misp_ids.specs.declared.uid.OrgId.{OrgId}
 use Rattle.misp_elem.specs.declared.key.KeyForm.{KeyForm as Key}
-use Rattle.misp_elem.specs.Key.{IsKey}
-use Rattle.misp_elem.specs.Spelling as spelling
-use Rattle.misp_model.specs.Names.{same_key}
-use Rattle.misp_model.specs.Order.{is_less}
-use Rattle.misp_model.specs.History.{spell}
-use Rattle.misp_model.proofs.Same.{same_key-sound}
-use Rattle.misp_model.proofs.Members.{same_key-refl}
-use Rattle.misp_model.proofs.NameOrder.{keys_in_bytes}
-use Rattle.misp_model.proofs.Spelled.{spells}
-use Rattle.misp_view.proofs.Origins.{never}
+use Rattle.misp_elem.specs.declared.row.RowFields.{RowFields as Row}
+use Rattle.misp_model.specs.Order.{in_order}
+use Rattle.misp_view.specs.Order.{goes_before}
+use Rattle.misp_view.specs.Keys.{is_about}
+use Rattle.misp_view.specs.Subjects.{IsBySubject}
+use Rattle.misp_view.specs.Tellers.{is_lesser}
+use Rattle.misp_view.specs.Statements.{is_proposal, is_sighting, is_verdict_of, is_least_of, is_closed_by, is_open_among, is_open_proposal, is_least_sighting}
+use Rattle.misp_view.proofs.Searches.{any_of_kept, any_alike}
+use Rattle.misp_view.proofs.StatementKeys.{by_is}
 
-pub any_map : {X Y : Type 0} (f : X → Y) (p : Y → Bool) (xs : List X) → list_any p (map f xs) ≡ list_any (λ x. p (f x)) xs
-any_map f p [] = refl
-any_map f p (x ∷ xs) = ap (λ b. p (f x) || b) (any_map f p xs)
+-- the verdicts of the judge by what they are about
+pub verdicts_are : (told list verdicts : List Row) (judge : OrgId) → list ≡ filter (λ (r : Row). is_verdict_of judge r.key) told → IsBySubject verdicts list →
+    (k : Key) → list_any (λ (r : Row). is_about k r.key) verdicts ≡ is_closed_by told judge k
+unfolding is_closed_by
+verdicts_are told list verdicts judge e h k =
+    any_alike (λ (r : Row). is_about k r.key) verdicts list (h k)
+    ∙ ap (list_any (λ (r : Row). is_about k r.key)) e
+    ∙ any_of_kept (λ (r : Row). is_about k r.key) (λ (r : Row). is_verdict_of judge r.key) told
+    ∙ ap (λ (test : Row → Bool). list_any test told) (λ j r. by_is k r.key judge j)
 
--- lists of which neither goes before the other
-level : (x y : List ℕ) → is_less x y ≡ false → is_less y x ≡ false → x ≡ y
-unfolding is_less
-level [] [] h k = refl
-level [] (b ∷ y) h k = absurd (false≢true (sym h))
-level (a ∷ x) [] h k = absurd (false≢true (sym k))
-level (a ∷ x) (b ∷ y) h k = grind (arith, nat_tests, level x y)
+module _ (told tellers : List Row) (same : IsPermutation told tellers) where
+  least_same : (row : Row) → is_least_of tellers row ≡ is_least_of told row
+  unfolding is_least_of
+  least_same row = ap not (sym (list_any-IsPermutation (is_lesser row) told tellers same))
 
-module _ (a b : Key) (h : IsKey a) (k : IsKey b) where
-  abbrev in_bytes : Bool
-  in_bytes = is_eq (slice_cmp nat_cmp (spelling.key a) (spelling.key b))
+  pub sightings_are : (list ordered sightings : List Row) → list ≡ filter (is_least_sighting tellers) told → ordered ≡ in_order goes_before list → IsBySubject sightings ordered →
+      IsBySubject sightings (in_order goes_before (filter (is_least_sighting told) told))
+  unfolding is_least_sighting
+  sightings_are list ordered sightings e f h k =
+      h k ∙ ap (filter (λ (r : Row). is_about k r.key))
+      (f ∙ ap (in_order goes_before) (e ∙ ap (λ (test : Row → Bool). filter test told) (λ j row. is_sighting row.key && least_same row j)))
 
-  one_spelling : in_bytes ≡ true → a ≡ b
-  one_spelling e =
-      let same : spelling.key a ≡ spelling.key b = (bytes_eq-Decides (spelling.key a) (spelling.key b)).0 (sym (is_eq-slice_cmp (spelling.key a) (spelling.key b)) ∙ e) in
-      spells a b (level (spell a) (spell b)
-      (keys_in_bytes a b h k ∙ ap (λ s. is_lt (slice_cmp nat_cmp s (spelling.key b))) same ∙ sym (keys_in_bytes b b k k) ∙ never (spell b))
-      (keys_in_bytes b a k h ∙ ap (λ s. is_lt (slice_cmp nat_cmp (spelling.key b) s)) same ∙ sym (keys_in_bytes b b k k) ∙ never (spell b)))
-
-  one_key : same_key a b ≡ true → in_bytes ≡ true
-  one_key e =
-      ap (λ q. is_eq (slice_cmp nat_cmp (spelling.key q) (spelling.key b))) (same_key-sound a b e)
-      ∙ is_eq-slice_cmp (spelling.key b) (spelling.key b) ∙ (bytes_eq-Decides (spelling.key b) (spelling.key b)).1 refl
-
-  pub same_keys : is_eq (slice_cmp nat_cmp (spelling.key a) (spelling.key b)) ≡ same_key a b
-  same_keys = one in_bytes (same_key a b) refl refl
-    where
-      one : (s t : Bool) → in_bytes ≡ s → same_key a b ≡ t → s ≡ t
-      one true true e f = refl
-      one false false e f = refl
-      one true false e f = sym (ap (λ q. same_key q b) (one_spelling e) ∙ same_key-refl b) ∙ f
-      one false true e f = sym e ∙ one_key f
+  pub proposals_are : (verdicts : List Row) (judge : OrgId) → ((k : Key) → list_any (λ (r : Row). is_about k r.key) verdicts ≡ is_closed_by told judge k) →
+      (list ordered proposals : List Row) → list ≡ filter (is_open_among tellers verdicts) told → ordered ≡ in_order goes_before list → IsBySubject proposals ordered →
+      IsBySubject proposals (in_order goes_before (filter (is_open_proposal told judge) told))
+  unfolding is_open_among is_open_proposal
+  proposals_are verdicts judge closed list ordered proposals e f h k =
+      h k ∙ ap (filter (λ (r : Row). is_about k r.key))
+      (f ∙ ap (in_order goes_before) (e ∙ ap (λ (test : Row → Bool). filter test told) (λ j row. is_proposal row.key && least_same row j && not (closed row.key j))))

@@ -18,15 +18,15 @@ use Rattle.misp_groups.specs.declared.group.GroupFields.{GroupFields as Group}
 use Rattle.misp_model.specs.Names.{Inst, same_event, same_elem, same_key, event_key}
 use Rattle.misp_model.specs.Order.{put, in_order}
 use Rattle.misp_model.specs.Asking.{Scene, uuid_at}
-use Rattle.misp_model.specs.View.{is_row_of, is_mark, has_copy, has_gone, granted, chosen, first_of_all}
+use Rattle.misp_model.specs.View.{IsTable, is_row_of, is_mark, has_copy, has_gone, granted, chosen, first_of_all}
 use Rattle.misp_model.specs.Shown.{sorted, is_shown, shown_at, is_plain_attribute, is_attribute_of, is_object, is_reference_of, object_of, shown_attribute, shown_object, creator, form_of, event_row}
 use Rattle.misp_model.proofs.Same.{same_event-sound, same_elem-sound, same_key-sound}
 use Rattle.misp_model.proofs.Members.{same_org-refl}
 use Rattle.misp_model.proofs.Lists.{find_passes}
 use Rattle.misp_view.specs.View.{scene_of}
 use Rattle.misp_elem.specs.Visible.{IsAttributeOf, IsReferenceOf, IsObjectOf, IsWhole}
-use Rattle.misp_view.specs.Whole.{IsUnmixed}
 use Rattle.misp_view.proofs.Candidates.{granted_at}
+use Rattle.misp_model.proofs.OneRow.{is_unmixed}
 
 module _ {X : Type 0} where
   -- each of a selection, of a list in order, of what is found
@@ -197,7 +197,7 @@ no_mark r e is k m = one r.content refl m (subst (λ q. fits q (label_kind r.lab
         two contents.Gone x y z = absurd (false≢true (sym x))
 
 -- the row of the event itself that is looked at
-module _ (groups : List Group) (i : Inst) (o : OrgId) (rows : List Row) (e : EventId) (are : AreRows rows) (unmixed : IsUnmixed e rows) where
+module _ (groups : List Group) (i : Inst) (o : OrgId) (rows : List Row) (e : EventId) (are : AreRows rows) (table : IsTable rows) where
   abbrev Known : Row → Type 0
   Known r = IsRow r × ((same_key r.key (event_key e) && is_mark r) ≡ true → has_gone rows r.owner e ≡ true)
 
@@ -214,7 +214,7 @@ module _ (groups : List Group) (i : Inst) (o : OrgId) (rows : List Row) (e : Eve
       copied = (and_parts _ _ (sym (granted_at rows groups i o r e m) ∙ g)).0
 
       one : (b : Bool) → is_mark r ≡ b → b ≡ false
-      one true h = absurd (false≢true (sym (unmixed r.owner copied) ∙ k.1 (and_from _ _ m h)))
+      one true h = absurd (false≢true (sym (is_unmixed rows r.owner e table copied) ∙ k.1 (and_from _ _ m h)))
       one false h = refl
 
   make : (r : Row) → Known r → same_key r.key (event_key e) ≡ true → granted rows groups i o r ≡ true → IsWhole (form_of (scene_of groups i o rows) e r)

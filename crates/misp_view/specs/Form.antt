@@ -9,7 +9,7 @@ use Rattle.misp_groups.specs.declared.group.GroupFields.{GroupFields as Group}
 use Rattle.misp_model.specs.Names.{Inst, event_key}
 use Rattle.misp_model.specs.View.{is_row_of, granted}
 use Rattle.misp_view.specs.Parts.{around}
-use Rattle.misp_view.specs.Statements.{is_about}
+use Rattle.misp_view.specs.Keys.{is_about}
 
 -- an attribute, with those of the proposals and sightings that are about it
 unfoldable pub attribute_in : List Row → List Row → Row → VisibleAttribute

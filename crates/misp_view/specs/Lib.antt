@@ -1,12 +1,14 @@
 pub mod View
 pub mod Kinds
+pub mod Keys
 pub mod Order
 pub mod Table
 pub mod Spots
 pub mod Grants
 pub mod Sight
 pub mod Parts
+pub mod Subjects
+pub mod Tellers
 pub mod Statements
 pub mod Form
 pub mod Inside
-pub mod Whole

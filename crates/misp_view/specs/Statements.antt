@@ -1,14 +1,16 @@
 -- The statements that show, of those that are granted.
-use Rattle.std.specs.Prelude.{Bool, true, false, not, ltb, ◌&&◌, ◌||◌, List}
+use Rattle.std.specs.Prelude.{Bool, true, false, not, ◌&&◌, List}
 use Rattle.std.specs.List.{list_any}
 use Rattle.misp_ids.specs.declared.uid.OrgId.{OrgId}
 use Rattle.misp_elem.specs.declared.key.KeyForm.{KeyForm as Key}
 use Rattle.misp_elem.specs.declared.key.KeyForm.TheVariants.{Element, Reference, Proposal, Verdict, Sighting}
 use Rattle.misp_elem.specs.declared.row.RowFields.{RowFields as Row}
-use Rattle.misp_model.specs.Names.{same_key}
+use Rattle.misp_model.specs.Names.{same_org}
 use Rattle.misp_model.specs.History.{is_statement}
-use Rattle.misp_model.specs.Shown.{is_proposal_on, is_sighting_on, is_verdict_on}
+use Rattle.misp_model.specs.Shown.{is_verdict_on}
 use Rattle.misp_view.specs.declared.sight.Sight.{Sight}
+use Rattle.misp_view.specs.Keys.{is_about}
+use Rattle.misp_view.specs.Tellers.{is_lesser}
 use Rattle.misp_view.specs.Grants.{granted_in}
 
 -- it is a statement, and granted
@@ -32,10 +34,6 @@ is_sighting (Reference e x t u) = false
 is_sighting (Proposal e n) = false
 is_sighting (Verdict e n i o) = false
 
--- the other row is of the row's key, and of a lesser owner
-abbrev pub is_lesser : Row → Row → Bool
-is_lesser row other = ltb other.owner.0.0 row.owner.0.0 && same_key other.key row.key
-
 -- of these none is of the row's key and of a lesser owner
 unfoldable pub is_least_of : List Row → Row → Bool
 is_least_of told row = not (list_any (is_lesser row) told)
@@ -43,6 +41,20 @@ is_least_of told row = not (list_any (is_lesser row) told)
 -- one of these is a verdict on the proposal by the judge
 unfoldable pub is_closed_by : List Row → OrgId → Key → Bool
 is_closed_by told judge k = list_any (λ row. is_verdict_on k judge row.key) told
+
+-- it is a verdict of the judge
+unfoldable pub is_verdict_of : OrgId → Key → Bool
+is_verdict_of judge (Verdict e n i o) = same_org o judge
+is_verdict_of judge (Element e p) = false
+is_verdict_of judge (Reference e x t u) = false
+is_verdict_of judge (Proposal e n) = false
+is_verdict_of judge (Sighting e t i o u) = false
+
+-- it is a proposal of the least of these owners, and none of these verdicts is about it
+unfoldable pub is_open_among : List Row → List Row → Row → Bool
+is_open_among tellers verdicts row =
+    is_proposal row.key && is_least_of tellers row
+    && not (list_any (λ r. is_about row.key r.key) verdicts)
 
 -- it is a proposal of the least owner, and not closed
 unfoldable pub is_open_proposal : List Row → OrgId → Row → Bool
@@ -52,7 +64,3 @@ is_open_proposal told judge row =
 -- it is a sighting of the least owner
 unfoldable pub is_least_sighting : List Row → Row → Bool
 is_least_sighting told row = is_sighting row.key && is_least_of told row
-
--- it is a proposal on the key or a sighting of it
-unfoldable pub is_about : Key → Key → Bool
-is_about k j = is_proposal_on k j || is_sighting_on k j

@@ -4,7 +4,7 @@ ghost use Rattle.std.specs.Prelude.{◌≡◌, map, IfOk};
 ghost use Rattle.misp_view.specs.Form.{attribute_in};
 
 use crate::rows::copy;
-use crate::statements::about;
+use crate::subjects::Subjects;
 use misp_elem::{Row, VisibleAttribute};
 use misp_ids::{Items, NoMemory};
 use std::alloc::Global;
@@ -14,14 +14,14 @@ use std::alloc::Global;
 fn attribute(
     alloc: Global,
     row: &Row,
-    proposals: &[&Row],
-    sightings: &[&Row],
+    proposals: &Subjects,
+    sightings: &Subjects,
 ) -> Result<VisibleAttribute, NoMemory>
     ensures { IfOk result (λ attribute. attribute
-        ≡ attribute_in (map (λ r. r.now) proposals.now) (map (λ r. r.now) sightings.now) row.now) }
+        ≡ attribute_in proposals.now sightings.now row.now) }
 {
-    let proposals = about(alloc, proposals, row)?;
-    let sightings = about(alloc, sightings, row)?;
+    let proposals = proposals.about(alloc, &row.key)?;
+    let sightings = sightings.about(alloc, &row.key)?;
     Ok(VisibleAttribute {
         row: copy(row)?,
         proposals,
@@ -33,12 +33,11 @@ fn attribute(
 pub(crate) fn attributes(
     alloc: Global,
     list: &[&Row],
-    proposals: &[&Row],
-    sightings: &[&Row],
+    proposals: &Subjects,
+    sightings: &Subjects,
 ) -> Result<Items<VisibleAttribute>, NoMemory>
     ensures { IfOk result (λ items. items
-        ≡ map (attribute_in (map (λ r. r.now) proposals.now) (map (λ r. r.now) sightings.now))
-        (map (λ r. r.now) list.now)) }
+        ≡ map (attribute_in proposals.now sightings.now) (map (λ r. r.now) list.now)) }
 {
     let mut items = Vec::with_capacity(alloc, list.len())?;
     for row in list {

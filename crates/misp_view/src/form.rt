@@ -3,7 +3,7 @@
 ghost use Rattle.std.specs.Prelude.{◌≡◌, IfOk, IfSome, OnOk};
 ghost use Rattle.misp_elem.specs.Row.{AreRows};
 ghost use Rattle.misp_elem.specs.Visible.{IsWhole};
-ghost use Rattle.misp_view.specs.Whole.{IsUnmixed};
+ghost use Rattle.misp_model.specs.View.{IsTable};
 ghost use Rattle.std.specs.List.{find};
 ghost use Rattle.std.specs.Option.{option_copied};
 ghost use Rattle.misp_model.specs.Shown.{creator, event_row, form_of, shown};
@@ -13,9 +13,10 @@ ghost use Rattle.misp_view.specs.Form.{is_granted_row_of};
 use crate::choice::chosen_row;
 use crate::granting::is_granted;
 use crate::inside::inside_of;
+use crate::keys::event_key;
 use crate::rows::{copy, is_event_row};
 use crate::sight::Sight;
-use crate::statements::{on_event, proposals, sightings, told};
+use crate::statements::{proposals, sightings, told};
 use crate::viewer::Viewer;
 use misp_elem::{Content, Row, VisibleEvent};
 use misp_ids::{EventId, InstId, Items, NoMemory, OrgId, Text};
@@ -87,14 +88,8 @@ fn form(
     let told = told(alloc, &sight, rows)?;
     let proposals = proposals(alloc, told.as_slice(), &creator(row))?;
     let sightings = sightings(alloc, told.as_slice())?;
-    let inside = inside_of(
-        alloc,
-        rows,
-        &sight,
-        proposals.as_slice(),
-        sightings.as_slice(),
-    )?;
-    let on_event = on_event(alloc, proposals.as_slice(), event)?;
+    let inside = inside_of(alloc, rows, &sight, &proposals, &sightings)?;
+    let on_event = proposals.about(alloc, &event_key(event))?;
     Ok(VisibleEvent {
         row: copy(row)?,
         org_name: Text::of(String::new(alloc)),
@@ -119,7 +114,7 @@ pub fn shown(
 ) -> Result<Option<VisibleEvent>, NoMemory>
     ensures seen { IfOk result (λ seen. seen
         ≡ shown (scene_of groups.now here.now org.now rows.now) event.now owner) }
-    ensures whole { IsUnmixed event.now rows.now → IfOk result (λ seen. IfSome seen IsWhole) }
+    ensures whole { IsTable rows.now → IfOk result (λ seen. IfSome seen IsWhole) }
 {
     let who = Viewer {
         groups,

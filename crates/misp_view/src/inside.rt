@@ -11,6 +11,7 @@ use crate::order::in_order;
 use crate::parts::by_object;
 use crate::sight::{Sight, seen};
 use crate::spots::Spots;
+use crate::subjects::Subjects;
 use misp_elem::{Row, VisibleAttribute, VisibleObject};
 use misp_ids::{Items, NoMemory};
 use std::alloc::Global;
@@ -57,11 +58,11 @@ pub(crate) fn inside_of(
     alloc: Global,
     rows: &[Row],
     sight: &Sight,
-    proposals: &[&Row],
-    sightings: &[&Row],
+    proposals: &Subjects,
+    sightings: &Subjects,
 ) -> Result<Inside, NoMemory>
-    ensures { IfOk result (λ inside. IsInside inside sight.now
-        (map (λ r. r.now) proposals.now) (map (λ r. r.now) sightings.now) rows.now) }
+    ensures { IfOk result (λ inside.
+        IsInside inside sight.now proposals.now sightings.now rows.now) }
 {
     let seen = seen(alloc, rows, sight, are_linked(rows))?;
     let plain = in_list(alloc, Kind::Attribute, sight, &seen, rows)?;

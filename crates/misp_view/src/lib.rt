@@ -8,6 +8,7 @@ mod form;
 mod granting;
 mod grants;
 mod inside;
+mod keys;
 mod kinds;
 mod knowing;
 mod objects;
@@ -18,7 +19,9 @@ mod sight;
 mod spots;
 mod standing;
 mod statements;
+mod subjects;
 mod table;
+mod tellers;
 mod viewer;
 
 pub use choice::chosen;

@@ -6,21 +6,11 @@ ghost use Rattle.misp_view.specs.Parts.{Rises};
 
 use crate::attributes::attributes;
 use crate::parts::part;
-use crate::rows::copy;
+use crate::rows::{copies, copy};
+use crate::subjects::Subjects;
 use misp_elem::{Row, VisibleObject};
 use misp_ids::{Items, NoMemory};
 use std::alloc::Global;
-
-// Copies of these.
-fn copies(alloc: Global, list: &[&Row]) -> Result<Items<Row>, NoMemory>
-    ensures { IfOk result (λ items. items ≡ map (λ r. r.now) list.now) }
-{
-    let mut items = Vec::with_capacity(alloc, list.len())?;
-    for row in list {
-        items.push(copy(row)?)?;
-    }
-    Ok(Items::of(items))
-}
 
 // An object, with what stands in it of the attributes and the references, which are by objects.
 fn object(
@@ -28,12 +18,12 @@ fn object(
     row: &Row,
     inner: &[&Row],
     references: &[&Row],
-    proposals: &[&Row],
-    sightings: &[&Row],
+    proposals: &Subjects,
+    sightings: &Subjects,
 ) -> Result<VisibleObject, NoMemory>
     ensures { Rises inner.now → Rises references.now → IfOk result (λ object. object
         ≡ object_in (map (λ r. r.now) inner.now) (map (λ r. r.now) references.now)
-        (map (λ r. r.now) proposals.now) (map (λ r. r.now) sightings.now) row.now) }
+        proposals.now sightings.now row.now) }
 {
     let attributes = attributes(alloc, part(inner, row), proposals, sightings)?;
     let references = copies(alloc, part(references, row))?;
@@ -51,13 +41,12 @@ pub(crate) fn objects(
     list: &[&Row],
     inner: &[&Row],
     references: &[&Row],
-    proposals: &[&Row],
-    sightings: &[&Row],
+    proposals: &Subjects,
+    sightings: &Subjects,
 ) -> Result<Items<VisibleObject>, NoMemory>
     ensures { Rises inner.now → Rises references.now → IfOk result (λ items. items
         ≡ map (object_in (map (λ r. r.now) inner.now) (map (λ r. r.now) references.now)
-        (map (λ r. r.now) proposals.now) (map (λ r. r.now) sightings.now))
-        (map (λ r. r.now) list.now)) }
+        proposals.now sightings.now) (map (λ r. r.now) list.now)) }
 {
     let mut items = Vec::with_capacity(alloc, list.len())?;
     for row in list {

@@ -1,6 +1,6 @@
 //! What one row says.
 
-ghost use Rattle.std.specs.Prelude.{◌≡◌, IfOk};
+ghost use Rattle.std.specs.Prelude.{◌≡◌, map, IfOk};
 ghost use Rattle.misp_elem.specs.declared.key.KeyForm.TheVariants.{Element};
 ghost use Rattle.misp_model.specs.Names.{event_key, event_of, same_key, same_org, same_place};
 ghost use Rattle.misp_model.specs.History.{is_statement};
@@ -10,9 +10,10 @@ ghost use Rattle.misp_view.specs.Table.{event_itself};
 ghost use Rattle.misp_model.specs.View.{is_row_of, is_mark, is_deleted, row_is_open};
 
 use crate::viewer::Viewer;
-use misp_elem::{Content, Key, KeyForm, Place, Row, compare_keys};
-use misp_ids::{EventId, Label, NoMemory, OrgId};
+use misp_elem::{Content, KeyForm, Place, Row};
+use misp_ids::{EventId, Items, Label, NoMemory, OrgId};
 use misp_levels::{allows, open};
+use std::alloc::Global;
 
 /// Whether it is the mark of a deleted event.
 #[tactic(auto, unfolding(misp_model::specs::View::is_mark))]
@@ -38,7 +39,7 @@ pub(crate) fn is_deleted(row: &Row) -> bool
 
 // Whether a label is that of a group that is known and allows the organisation.
 #[tactic(auto, unfolding(misp_model::specs::Audience::group_passes))]
-fn opens(label: &Label, who: &Viewer) -> bool
+fn group_allows(label: &Label, who: &Viewer) -> bool
     ensures { SaysOfGroup who.now.groups.now who.now.here who.now.org label.now result }
 {
     match label {
@@ -50,13 +51,19 @@ fn opens(label: &Label, who: &Viewer) -> bool
     }
 }
 
-/// Whether it is open to the organisation.
-#[tactic(auto, unfolding(misp_model::specs::View::row_is_open))]
+/// Whether it is open to the organisation. The group of its label is looked up where it is not the
+/// organisation's own.
+#[tactic(auto, unfolding(misp_model::specs::View::row_is_open, misp_model::specs::Audience::is_open, misp_model::specs::Names::same_org))]
 pub(crate) fn is_open(row: &Row, who: &Viewer) -> bool
     ensures { result ≡ row_is_open who.now.groups.now who.now.here who.now.org row.now }
 {
-    let group_allows = opens(&row.label, who);
-    open(&who.org, &row.owner, &row.label, group_allows)
+    who.org == row.owner
+        || open(
+            &who.org,
+            &row.owner,
+            &row.label,
+            group_allows(&row.label, who),
+        )
 }
 
 /// The event that it is of.
@@ -130,9 +137,9 @@ pub(crate) fn is_event_row(row: &Row, owner: &OrgId, event: &EventId) -> bool
     is_owned(row, owner) && is_itself(row, event)
 }
 
-/// Whether two places of an event are the same.
+// Whether two places of an event are the same.
 #[tactic(auto, unfolding(misp_model::specs::Names::same_place, misp_model::specs::Names::same_elem))]
-pub(crate) fn same_place(a: &Place, b: &Place) -> bool
+fn same_place(a: &Place, b: &Place) -> bool
     ensures { result ≡ same_place a.now b.now }
 {
     match a {
@@ -207,32 +214,20 @@ pub(crate) fn is_statement(row: &Row) -> bool
     )
 }
 
-/// Whether the two have the same key.
-pub(crate) fn have_same_key(a: &Key, b: &Key) -> bool
-    ensures { result ≡ same_key a.now b.now }
-{
-    let _first = a.form;
-    let _second = b.form;
-    compare_keys(a, b).is_eq()
-}
-
-/// Whether it is the row of the element at this place.
-#[tactic(auto, unfolding(misp_model::specs::Names::same_key, misp_model::specs::Names::same_event))]
-pub(crate) fn is_target(event: &EventId, place: &Place, row: &Row) -> bool
-    ensures { result ≡ same_key (Element event.now place.now) row.now.key }
-{
-    match &row.key.form {
-        KeyForm::Element {
-            event: of,
-            place: at,
-        } => event == of && same_place(place, at),
-        _ => false,
-    }
-}
-
 /// The same row once more.
 pub(crate) fn copy(row: &Row) -> Result<Row, NoMemory>
     ensures { IfOk result (λ copy. copy ≡ row.now) }
 {
     Ok(row.clone()?)
+}
+
+/// Copies of these rows.
+pub(crate) fn copies(alloc: Global, list: &[&Row]) -> Result<Items<Row>, NoMemory>
+    ensures { IfOk result (λ items. items ≡ map (λ r. r.now) list.now) }
+{
+    let mut items = Vec::with_capacity(alloc, list.len())?;
+    for row in list {
+        items.push(copy(row)?)?;
+    }
+    Ok(Items::of(items))
 }

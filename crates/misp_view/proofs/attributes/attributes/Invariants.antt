@@ -3,4 +3,4 @@ use Rattle.misp_view.specs.Form.{attribute_in}
 use Rattle.misp_view.proofs.attributes.attributes.Given as goal
 
 abbrev pub invariant-loop-row : goal.invariant-loop-row
-invariant-loop-row l = l.items.items ≡ map (attribute_in (map (λ r. r.now) l.proposals) (map (λ r. r.now) l.sightings)) (map (λ r. r.now) (take l.row-index l.list))
+invariant-loop-row l = l.items.items ≡ map (attribute_in l.proposals l.sightings) (map (λ r. r.now) (take l.row-index l.list))

@@ -1,9 +1,8 @@
 use Rattle.std.proofs.Common.{ap, sym, ◌∙◌, map, subst, List, Bor}
 use Rattle.std.specs.List.{filter}
 use Rattle.misp_elem.specs.declared.row.RowFields.{RowFields as Row}
-use Rattle.misp_model.specs.Names.{event_key}
 use Rattle.misp_model.specs.Order.{in_order}
-use Rattle.misp_model.specs.Shown.{is_proposal_on}
+use Rattle.misp_view.specs.Keys.{is_about}
 use Rattle.misp_view.specs.Order.{goes_before}
 use Rattle.misp_view.specs.Sight.{IsSight}
 use Rattle.misp_view.specs.Statements.{is_least_sighting}
@@ -18,12 +17,12 @@ pub returns-clause-form : goal.returns-clause-form
 returns-clause-form c =
     form_is c.args.who.now.groups.now c.args.who.now.here c.args.who.now.org c.args.event.now c.args.row.now c.in_ok-copy.field-0 c.args.rows.now c.in_ok-sight.sight
     (subst (λ (r : Row). IsSight c.in_ok-sight.sight c.args.who.now.groups.now c.args.who.now.here c.args.who.now.org c.args.event.now r.owner c.args.rows.now) c.row.view_is c.in_ok-sight.ensures.found)
-    c.in_ok-inside.inside (behind c.as_slice-3.result.now) (behind c.as_slice-4.result.now) c.in_ok-on_event.on_event (behind c.as_slice.result.now) c.creator.result c.of-2.result c.of-3.result
+    c.in_ok-inside.inside c.in_ok-proposals.proposals c.in_ok-sightings.sightings c.in_ok-on_event.on_event (behind c.as_slice.result.now) c.creator.result c.of-2.result c.of-3.result
     c.in_ok-copy.ensures c.creator.ensures
     (ap behind c.as_slice.ensures.value ∙ c.in_ok-told.ensures)
-    (ap behind c.as_slice-3.ensures.value ∙ c.in_ok-proposals.ensures)
-    (ap behind c.as_slice-4.ensures.value ∙ c.in_ok-sightings.ensures
-    ∙ ap (λ l. in_order goes_before (filter (is_least_sighting (behind l)) (behind l))) (c.as_slice-2.ensures.value ∙ sym c.as_slice.ensures.value))
+    c.in_ok-proposals.ensures
+    (λ k. c.in_ok-sightings.ensures k
+    ∙ ap (λ l. filter (λ (r : Row). is_about k r.key) (in_order goes_before (filter (is_least_sighting (behind l)) (behind l)))) (c.as_slice-2.ensures.value ∙ sym c.as_slice.ensures.value))
     c.in_ok-inside.ensures
-    (c.in_ok-on_event.ensures ∙ ap (λ l. filter (λ (r : Row). is_proposal_on (event_key c.args.event.now) r.key) (behind l)) (c.as_slice-5.ensures.value ∙ sym c.as_slice-3.ensures.value))
+    (c.in_ok-on_event.ensures ∙ ap (λ k. filter (λ (r : Row). is_about k r.key) c.in_ok-proposals.proposals) c.event_key.ensures)
     (c.of-2.ensures ∙ c.new.ensures.bytes) (c.of-3.ensures ∙ c.new-2.ensures.items)

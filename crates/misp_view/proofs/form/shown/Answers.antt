@@ -13,11 +13,11 @@ returns-in_ok-form-in-Some c =
     let found : event_row (scene_of c.args.groups.now c.args.here.now c.args.org.now c.args.rows.now) c.args.event.now c.args.owner ≡ Some c.in-Some.row.now = sym c.event_row.ensures ∙ ap option_copied c.in-Some.is in
     record {
       seen = shown_some (scene_of c.args.groups.now c.args.here.now c.args.org.now c.args.rows.now) c.args.event.now c.args.owner c.in-Some.row.now c.in_ok-form-in-Some.field-0 found c.in_ok-form-in-Some.ensures.form;
-      whole = λ unmixed. subst IsWhole (sym c.in_ok-form-in-Some.ensures.form) (whole_is c.args.groups.now c.args.here.now c.args.org.now c.args.rows.now c.args.event.now c.in_ok-form-in-Some.ensures.rows unmixed c.args.owner c.in-Some.row.now found);
+      whole = λ table. subst IsWhole (sym c.in_ok-form-in-Some.ensures.form) (whole_is c.args.groups.now c.args.here.now c.args.org.now c.args.rows.now c.args.event.now c.in_ok-form-in-Some.ensures.rows table c.args.owner c.in-Some.row.now found);
     }
 
 pub returns-in-None : goal.returns-in-None
 returns-in-None c = record {
   seen = shown_none (scene_of c.args.groups.now c.args.here.now c.args.org.now c.args.rows.now) c.args.event.now c.args.owner (sym c.event_row.ensures ∙ ap option_copied c.in-None.is);
-  whole = λ unmixed. tt;
+  whole = λ table. tt;
 }

@@ -7,6 +7,6 @@ unfolding object_in
 returns c = λ inner references j.
     record {
       row = c.in_ok-copy.ensures j;
-      attributes = (c.in_ok-attributes.ensures ∙ ap (map (attribute_in (map (λ r. r.now) c.args.proposals.now) (map (λ r. r.now) c.args.sightings.now))) (c.part.ensures inner)) j;
+      attributes = (c.in_ok-attributes.ensures ∙ ap (map (attribute_in c.args.proposals.now c.args.sightings.now)) (c.part.ensures inner)) j;
       references = (c.in_ok-references.ensures ∙ c.part-2.ensures references) j;
     }

@@ -1,7 +1,0 @@
-use Rattle.std.proofs.Common.{◌≡◌, take, map}
-use Rattle.std.specs.List.{filter}
-use Rattle.misp_view.specs.Statements.{is_open_proposal}
-use Rattle.misp_view.proofs.statements.proposals.Given as goal
-
-abbrev pub invariant-loop-row : goal.invariant-loop-row
-invariant-loop-row l = map (λ r. r.now) l.list.items ≡ filter (is_open_proposal (map (λ r. r.now) l.told) l.judge) (map (λ r. r.now) (take l.row-index l.told))

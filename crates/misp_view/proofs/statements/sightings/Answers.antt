@@ -1,0 +1,8 @@
+use Rattle.std.proofs.Common.{map}
+use Rattle.misp_view.proofs.Telling.{sightings_are}
+use Rattle.misp_view.proofs.statements.sightings.Goals as goal
+
+pub returns : goal.returns
+returns c =
+    sightings_are (map (λ r. r.now) c.args.told.now) c.in_ok-tellers.tellers c.in_ok-tellers.ensures
+    (map (λ r. r.now) c.in_ok-list.list.items) (map (λ r. r.now) c.in_ok-ordered.ordered.items) c.in_ok-sightings.sightings c.in_ok-list.ensures c.in_ok-ordered.ensures c.in_ok-sightings.ensures

@@ -1,0 +1,62 @@
+//! Keys: their order, and what they are about.
+
+ghost use Rattle.std.specs.Prelude.{◌≡◌};
+ghost use Rattle.misp_model.specs.Names.{event_key, same_key};
+ghost use Rattle.misp_view.specs.Keys.{key_cmp, subject_of};
+
+use misp_elem::{Key, KeyForm, Place, Row, compare_keys};
+use misp_ids::EventId;
+use std::cmp::Ordering;
+
+/// How the first stands to the second.
+pub(crate) fn compare(a: &Key, b: &Key) -> Ordering
+    ensures { result ≡ key_cmp a.now b.now }
+{
+    let _first = a.form;
+    let _second = b.form;
+    compare_keys(a, b)
+}
+
+/// Whether the two are the same.
+pub(crate) fn are_same(a: &Key, b: &Key) -> bool
+    ensures { result ≡ same_key a.now b.now }
+{
+    compare(a, b).is_eq()
+}
+
+/// The key of the event itself.
+#[tactic(auto, unfolding(misp_model::specs::Names::event_key))]
+pub(crate) fn event_key(event: &EventId) -> Key
+    ensures { result ≡ event_key event.now }
+{
+    let _number = event.0.0;
+    let form = KeyForm::Element {
+        event: *event,
+        place: Place::Event,
+    };
+    Key { form }
+}
+
+/// What the row is about: the proposal of a verdict, the target of a proposal or a sighting, and
+/// itself where it is none of these.
+#[tactic(auto, unfolding(crate::specs::Keys::subject_of))]
+pub(crate) fn subject(row: &Row) -> Key
+    ensures { result ≡ subject_of row.now.key }
+{
+    let form = match &row.key.form {
+        KeyForm::Proposal { event, name } => KeyForm::Element {
+            event: *event,
+            place: name.target,
+        },
+        KeyForm::Verdict { event, name, .. } => KeyForm::Proposal {
+            event: *event,
+            name: *name,
+        },
+        KeyForm::Sighting { event, target, .. } => KeyForm::Element {
+            event: *event,
+            place: *target,
+        },
+        KeyForm::Element { .. } | KeyForm::Reference { .. } => row.key.form,
+    };
+    Key { form }
+}
