@@ -19,8 +19,8 @@ use Rattle.misp_levels.proofs.Changes.{known_where}
 use Rattle.misp_levels.proofs.Putting.{known_put, known_named}
 use Rattle.misp_levels.proofs.Administered.{added_fails, edited_fails, added_is, edited_is}
 use Rattle.misp_core.specs.Sharing.{group_row, groups_in, groups_of, or_none, HoldsGroups}
-use Rattle.misp_core.specs.Outcome.{Outcome, Went, ByKeeper, ByMemory, outcome_by}
-use Rattle.misp_core.specs.Administering.{why_not, rule_by, rule_of_stop, refused_by, reply_by, administering_reply, with_group, held_by, administering_held, IsAdministered}
+use Rattle.misp_core.specs.Outcome.{Outcome, Went, ByKeeper, ByMemory, outcome_by, refused_by, rule_of_stop}
+use Rattle.misp_core.specs.Administering.{why_not, rule_by, reply_by, administering_reply, with_group, held_by, administering_held, IsAdministered}
 use Rattle.misp_core.specs.declared.reply.Answer.TheVariants as answers
 use Rattle.misp_core.specs.declared.reply.Reply.{Reply}
 use Rattle.misp_core.specs.declared.reply.Reply.TheVariants as replies

@@ -8,6 +8,7 @@ use Rattle.misp_elem.specs.declared.row.RowFields.{RowFields as Row}
 use Rattle.misp_elem.specs.declared.visible.VisibleEvent.{VisibleEvent}
 use Rattle.misp_elem.specs.declared.refusal.Refusal.{Refusal}
 use Rattle.misp_elem.specs.declared.refusal.RuleName.TheVariants as rules
+use Rattle.misp_elem.specs.Refusal.{bare}
 use Rattle.misp_elem.specs.Draft.{SubmissionFields as Submission}
 use Rattle.misp_elem.specs.Row.{AreRows}
 use Rattle.misp_groups.specs.declared.group.GroupFields.{GroupFields as Group}
@@ -19,12 +20,12 @@ use Rattle.misp_model.specs.History.{Version, fresh_row}
 use Rattle.misp_model.specs.Asking.{Scene, Rule, first_rule, event_written, change_rules, change_writes}
 use Rattle.misp_model.specs.Asking as asking
 use Rattle.misp_model.specs.Shown.{shown}
-use Rattle.misp_model.specs.Acts.{answer, ok_answer, ask_rules, brings, is_accepted, concerning, Refused, Seen, Saved}
+use Rattle.misp_model.specs.Acts.{answer, ok_answer, ask_rules, brings, is_accepted, concerns, concerning, Refused, Seen, Saved}
 use Rattle.misp_model.specs.Acts as model
 use Rattle.misp_edit.specs.Adding.{refusing, Refuses}
 use Rattle.misp_edit.specs.declared.fault.AddFault.{AddFault}
 use Rattle.misp_edit.specs.declared.fault.AddFault.TheVariants as faults
-use Rattle.misp_core.specs.Answers.{IsDecision, IsRefusal, reply_of, reply_in, writes_in, concerns, greatest, named, named_event, uuid_text, group_text, added_place, bare}
+use Rattle.misp_core.specs.Answers.{IsDecision, IsRefusal, reply_of, reply_in, writes_in, greatest, named, named_event, uuid_text, group_text, added_place}
 use Rattle.misp_core.specs.declared.reply.Answer.TheVariants as answers
 use Rattle.misp_core.specs.declared.reply.Reply.TheVariants as replies
 

@@ -17,7 +17,8 @@ use Rattle.std.proofs.lemmas.Map.Text.{is_eq-slice_cmp}
 use Rattle.misp_ids.specs.declared.uid.GroupId.{GroupId}
 use Rattle.misp_elem.specs.Spelling.{uid}
 use Rattle.misp_groups.specs.declared.group.GroupFields.{GroupFields as Group}
-use Rattle.misp_groups.specs.Group.{IsUid, IsGroup, AreGroups}
+use Rattle.misp_ids.specs.Uid.{IsUid}
+use Rattle.misp_groups.specs.Group.{IsGroup}
 use Rattle.misp_format.specs.WholeGroup.{group_text, uncarried}
 use Rattle.misp_format.specs.GroupText.{group_in_text}
 use Rattle.misp_outside.specs.declared.row.AdminRow.{AdminRow}
@@ -250,12 +251,12 @@ module _ (back : AreReadBack) where
   pub group_again : (g : Group) → IsGroup g → IsRead g
   group_again g is = read_when g (is.creator, is.uuid) (back g is)
 
-  groups_read : (gs : List Group) → AreGroups gs → AreRead gs
+  groups_read : (gs : List Group) → AllByRecursion IsGroup gs → AreRead gs
   groups_read [] are = tt
   groups_read (g ∷ gs) are = (group_again g are.0, groups_read gs are.1)
 
   -- what is held of groups is read as those groups
-  pub groups_again : (gs : List Group) → AreGroups gs → groups_in (map group_row gs) ≡ Ok gs
+  pub groups_again : (gs : List Group) → AllByRecursion IsGroup gs → groups_in (map group_row gs) ≡ Ok gs
   groups_again gs are = read_again gs (groups_read gs are)
 
 -- a row that is that of a group, by its parts

@@ -1,13 +1,13 @@
 -- A request to an instance whose keeper holds the tables is an act of the history.
 use Rattle.std.proofs.Common.{◌≡◌, ℕ, List, [], Bool, true, false, ltb, refl, sym, ap, subst, ◌∙◌, map, cond, Ok, inl, inr}
-use Rattle.std.specs.List.{list_all}
+use Rattle.std.specs.List.{list_all, AllByRecursion}
 use Rattle.std.specs.List.Sorted.{IsStrictlySortedBy}
 use Rattle.std.proofs.lemmas.Bool.{cases_Bool}
 use Rattle.misp_ids.specs.declared.uid.EventId.{EventId}
 use Rattle.misp_elem.specs.Draft.{SubmissionFields as Submission}
 use Rattle.misp_elem.specs.Row.{AreRows}
 use Rattle.misp_groups.specs.declared.group.GroupFields.{GroupFields as Group}
-use Rattle.misp_groups.specs.Group.{AreGroups}
+use Rattle.misp_groups.specs.Group.{IsGroup}
 use Rattle.misp_requests.specs.declared.ask.Ask.{Ask}
 use Rattle.misp_requests.specs.declared.ask.Ask.TheVariants.{View}
 use Rattle.misp_requests.specs.declared.ask.Ask.TheVariants as asks
@@ -68,7 +68,7 @@ module _ (here : Inst) (w : World) (held : Held) (keeps : Keeps here w held) whe
   asked_rows (asks.TakePart p) built = absurd built
 
 -- where the groups are those of the instance, the scene over the tables is that of the act
-scene_there : (n : ℕ) (w : World) (at : Surroundings) (ask : Ask) → at.groups ≡ w.groups at.here → scene_at n at (tables w.log at.here) ≡ scene n w (act_at at ask) (caller_at at)
+scene_there : (n : ℕ) (w : World) (at : Surroundings) (ask : Ask) → at.groups ≡ w.groups at.here → scene_at n at (tables w.log at.here) ≡ scene n w (act_at at ask) (caller_at at.admin at.caller)
 unfolding scene known_at
 scene_there n w at ask same = λ i. record {
   act = n;
@@ -84,7 +84,7 @@ scene_there n w at ask same = λ i. record {
 module _ (n : ℕ) (w : World) (at : Surroundings) (ask : Ask) (held : Held) where
   -- the reply is that of the history
   pub replied_there : IsBuilt ask → at.groups ≡ groups_of held → Keeps at.here w held →
-      reply_over n at ask (asked_of ask held) ≡ reply_in at.admin (scene n w (act_at at ask) (caller_at at)) ask
+      reply_over n at ask (asked_of ask held) ≡ reply_in at.admin (scene n w (act_at at ask) (caller_at at.admin at.caller)) ask
   replied_there built same keeps =
       ap (reply_over n at ask) (asked_rows at.here w held keeps ask built)
       ∙ (own_alike at.admin ask (tables w.log at.here) (scene_at n at []) built).replies
@@ -92,7 +92,7 @@ module _ (n : ℕ) (w : World) (at : Surroundings) (ask : Ask) (held : Held) whe
 
   -- what is written is what the history has as rows
   written_there : IsBuilt ask → at.groups ≡ groups_of held → Keeps at.here w held →
-      writes_over n at ask (asked_of ask held) ≡ writes_in (scene n w (act_at at ask) (caller_at at)) ask
+      writes_over n at ask (asked_of ask held) ≡ writes_in (scene n w (act_at at ask) (caller_at at.admin at.caller)) ask
   written_there built same keeps =
       ap (writes_over n at ask) (asked_rows at.here w held keeps ask built)
       ∙ (own_alike at.admin ask (tables w.log at.here) (scene_at n at []) built).writes
@@ -100,7 +100,7 @@ module _ (n : ℕ) (w : World) (at : Surroundings) (ask : Ask) (held : Held) whe
 
 module _ (net : Net) (n : ℕ) (w : World) (at : Surroundings) where
   abbrev there : Ask → Scene
-  there ask = scene n w (act_at at ask) (caller_at at)
+  there ask = scene n w (act_at at ask) (caller_at at.admin at.caller)
 
   -- an accepted addition writes its versions, and a refused one nothing
   written_where : (b : Submission) (is : Bool) → is_accepted (there (asks.Change (AddEvent b))) (asks.Change (AddEvent b)) ≡ is →
@@ -111,13 +111,13 @@ module _ (net : Net) (n : ℕ) (w : World) (at : Surroundings) where
   view_left : (e : _) (owner : _) → tables (step net n w (act_at at (View e owner))).log at.here ≡ put_all (writes_in (there (View e owner)) (View e owner)) (tables w.log at.here)
   unfolding put_all
   view_left e owner =
-      ap (λ (v : World). tables v.log at.here) (step_view net n w (act_at at (View e owner)) (caller_at at) e owner refl)
+      ap (λ (v : World). tables v.log at.here) (step_view net n w (act_at at (View e owner)) (caller_at at.admin at.caller) e owner refl)
       ∙ sym (ap (λ rows. put_all rows (tables w.log at.here)) (none_written (there (View e owner)) at.admin e owner))
 
   told_left : tables (step net n w (act_at at asks.Groups)).log at.here ≡ put_all (writes_in (there asks.Groups) asks.Groups) (tables w.log at.here)
   unfolding put_all
   told_left =
-      ap (λ (v : World). tables v.log at.here) (step_groups net n w (act_at at asks.Groups) (caller_at at) refl)
+      ap (λ (v : World). tables v.log at.here) (step_groups net n w (act_at at asks.Groups) (caller_at at.admin at.caller) refl)
       ∙ sym (ap (λ rows. put_all rows (tables w.log at.here)) (none_for_groups (there asks.Groups) at.admin))
 
   module _ (b : Submission) where
@@ -129,11 +129,11 @@ module _ (net : Net) (n : ℕ) (w : World) (at : Surroundings) where
     unfolding put_all scene known_at
     add_left older = elim (cases_Bool (is_accepted (there ask) ask)) [
       | inl yes_ ↦
-          ap (λ (v : World). tables v.log at.here) (step_changed net n w (act_at at ask) (caller_at at) (AddEvent b) refl yes_)
+          ap (λ (v : World). tables v.log at.here) (step_changed net n w (act_at at ask) (caller_at at.admin at.caller) (AddEvent b) refl yes_)
           ∙ added_tables (there ask) b yes_ w.log refl older
           ∙ sym (ap (λ rows. put_all rows (tables w.log at.here)) (written_where b true yes_))
       | inr no_ ↦
-          ap (λ (v : World). tables v.log at.here) (step_refused net n w (act_at at ask) (caller_at at) ask refl no_)
+          ap (λ (v : World). tables v.log at.here) (step_refused net n w (act_at at ask) (caller_at at.admin at.caller) ask refl no_)
           ∙ sym (ap (λ rows. put_all rows (tables w.log at.here)) (written_where b false no_))
     ]
 
@@ -141,9 +141,9 @@ module _ (net : Net) (n : ℕ) (w : World) (at : Surroundings) where
     unfolding scene known_at
     add_elsewhere j apart = elim (cases_Bool (is_accepted (there ask) ask)) [
       | inl yes_ ↦
-          ap (λ (v : World). tables v.log j) (step_changed net n w (act_at at ask) (caller_at at) (AddEvent b) refl yes_)
+          ap (λ (v : World). tables v.log j) (step_changed net n w (act_at at ask) (caller_at at.admin at.caller) (AddEvent b) refl yes_)
           ∙ added_elsewhere (there ask) b yes_ w.log j apart
-      | inr no_ ↦ ap (λ (v : World). tables v.log j) (step_refused net n w (act_at at ask) (caller_at at) ask refl no_)
+      | inr no_ ↦ ap (λ (v : World). tables v.log j) (step_refused net n w (act_at at ask) (caller_at at.admin at.caller) ask refl no_)
     ]
 
   -- the tables after the act are those before with what it writes
@@ -170,7 +170,7 @@ module _ (net : Net) (n : ℕ) (w : World) (at : Surroundings) where
 
   -- the act changes no tables elsewhere
   pub same_elsewhere : (a : Ask) → IsBuilt a → (j : Inst) → same_inst at.here j ≡ false → tables (step net n w (act_at at a)).log j ≡ tables w.log j
-  same_elsewhere (View e owner) built j apart = ap (λ (v : World). tables v.log j) (step_view net n w (act_at at (View e owner)) (caller_at at) e owner refl)
+  same_elsewhere (View e owner) built j apart = ap (λ (v : World). tables v.log j) (step_view net n w (act_at at (View e owner)) (caller_at at.admin at.caller) e owner refl)
   same_elsewhere (asks.Change (AddEvent b)) built j apart = add_elsewhere b j apart
   same_elsewhere (asks.Change (changes.AddParts e b)) built j apart = absurd built
   same_elsewhere (asks.Change (changes.EditEvent e edit)) built j apart = absurd built
@@ -186,7 +186,7 @@ module _ (net : Net) (n : ℕ) (w : World) (at : Surroundings) where
   same_elsewhere (asks.Judge e n accept) built j apart = absurd built
   same_elsewhere (asks.Sight e t d) built j apart = absurd built
   same_elsewhere asks.Index built j apart = absurd built
-  same_elsewhere asks.Groups built j apart = ap (λ (v : World). tables v.log j) (step_groups net n w (act_at at asks.Groups) (caller_at at) refl)
+  same_elsewhere asks.Groups built j apart = ap (λ (v : World). tables v.log j) (step_groups net n w (act_at at asks.Groups) (caller_at at.admin at.caller) refl)
   same_elsewhere (asks.TakePart p) built j apart = absurd built
 
   -- it changes no groups
@@ -208,6 +208,6 @@ module _ (net : Net) (n : ℕ) (w : World) (at : Surroundings) where
             ∙ sym (ap (map raw_row) left);
         are_rows = subst AreRows (sym left) (rows_put _ (tables w.log at.here) are keeps.are_rows);
         groups = keeps.groups ∙ ap (λ (groups : Inst → List Group). Ok (groups at.here)) (sym (same_groups a));
-        are_groups = subst (λ (groups : Inst → List Group). AreGroups (groups at.here)) (sym (same_groups a)) keeps.are_groups;
+        are_groups = subst (λ (groups : Inst → List Group). AllByRecursion IsGroup (groups at.here)) (sym (same_groups a)) keeps.are_groups;
         ascend = subst (λ (groups : Inst → List Group). IsStrictlySortedBy by_name (groups at.here)) (sym (same_groups a)) keeps.ascend;
       }

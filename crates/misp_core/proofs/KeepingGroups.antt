@@ -13,7 +13,7 @@ use Rattle.misp_ids.specs.declared.uid.OrgId.{OrgId}
 use Rattle.misp_ids.specs.declared.uid.GroupId.{GroupId}
 use Rattle.misp_ids.specs.declared.stamp.TheConstants.{LAST_SECOND}
 use Rattle.misp_groups.specs.declared.group.GroupFields.{GroupFields as Group}
-use Rattle.misp_groups.specs.Group.{IsGroup, AreGroups}
+use Rattle.misp_groups.specs.Group.{IsGroup}
 use Rattle.misp_outside.specs.Held.{Held}
 use Rattle.misp_model.specs.Names.{Inst, Stamp, same_inst, same_group, group_before}
 use Rattle.misp_model.specs.Order.{put}
@@ -100,33 +100,33 @@ module _ (g : Group) where
 
   -- ---- they stay groups
 
-  groups_chosen : (b : Bool) (gs hs : List Group) → AreGroups gs → AreGroups hs → AreGroups (cond b gs hs)
+  groups_chosen : (b : Bool) (gs hs : List Group) → AllByRecursion IsGroup gs → AllByRecursion IsGroup hs → AllByRecursion IsGroup (cond b gs hs)
   groups_chosen true gs hs are of_others = are
   groups_chosen false gs hs are of_others = of_others
 
-  groups_filtered : (q : Group → Bool) (gs : List Group) → AreGroups gs → AreGroups (filter q gs)
+  groups_filtered : (q : Group → Bool) (gs : List Group) → AllByRecursion IsGroup gs → AllByRecursion IsGroup (filter q gs)
   groups_filtered q [] are = tt
   groups_filtered q (h ∷ hs) are = groups_chosen (q h) (h ∷ filter q hs) (filter q hs) (are.0, groups_filtered q hs are.1) (groups_filtered q hs are.1)
 
-  groups_placed : (gs : List Group) → IsGroup g → AreGroups gs → AreGroups (put (λ a b. group_before a.id b.id) g gs)
+  groups_placed : (gs : List Group) → IsGroup g → AllByRecursion IsGroup gs → AllByRecursion IsGroup (put (λ a b. group_before a.id b.id) g gs)
   unfolding put
   groups_placed [] is are = (is, tt)
   groups_placed (h ∷ hs) is are = groups_chosen (group_before g.id h.id) (g ∷ h ∷ hs) (h ∷ put (λ a b. group_before a.id b.id) g hs) (is, are) (are.0, groups_placed hs is are.1)
 
-  pub groups_put : (gs : List Group) → IsGroup g → AreGroups gs → AreGroups (put_group g gs)
+  pub groups_put : (gs : List Group) → IsGroup g → AllByRecursion IsGroup gs → AllByRecursion IsGroup (put_group g gs)
   unfolding put_group
   groups_put gs is are = groups_placed _ is (groups_filtered _ gs are)
 
 -- ---- the group as it is now
 
-found_is : (q : Group → Bool) (gs : List Group) → AreGroups gs → IfSome (find q gs) IsGroup
+found_is : (q : Group → Bool) (gs : List Group) → AllByRecursion IsGroup gs → IfSome (find q gs) IsGroup
 found_is q [] are = tt
 found_is q (h ∷ hs) are = elim (cases_Bool (q h)) [
   | inl hit ↦ rw hit are.0
   | inr miss ↦ rw miss (found_is q hs are.1)
 ]
 
-known_is : (gs : List Group) (id : GroupId) → AreGroups gs → IfSome (known_group gs id) IsGroup
+known_is : (gs : List Group) (id : GroupId) → AllByRecursion IsGroup gs → IfSome (known_group gs id) IsGroup
 unfolding known_group
 known_is gs id are = found_is (λ g. same_group g.id id) gs are
 
@@ -147,7 +147,7 @@ stamp_fits true true false now (Some held) is fits of_known free = absurd cc
 stamp_fits false false known now (Some held) is fits of_known free = absurd cc
 stamp_fits false true known now (Some held) is fits of_known free = next_fits now held fits of_known.modified free
 
-now_is : (now : Stamp) (by : OrgId) (add : Bool) (g : Group) (gs : List Group) → IsGroup g → now ≤ LAST_SECOND → AreGroups gs → why_not add gs by g.id ≡ None → IsGroup (group_now now g gs)
+now_is : (now : Stamp) (by : OrgId) (add : Bool) (g : Group) (gs : List Group) → IsGroup g → now ≤ LAST_SECOND → AllByRecursion IsGroup gs → why_not add gs by g.id ≡ None → IsGroup (group_now now g gs)
 unfolding group_now
 now_is now by add g gs is fits are free = record {
   creator = is.creator;
@@ -196,13 +196,13 @@ module _ (here : Inst) (w : World) (by : OrgId) (add : Bool) (g : Group) (held :
   reply_fails = ap is_refused administered_reply ∙ refused_where (why_not add (w.groups here) by g.id) ∙ fails_where add by g (w.groups here) keeps.ascend
 
 -- the keeper holds these groups, and the tables as before
-keeps_groups : (here : Inst) (w v : World) (held : Held) (gs : List Group) → Keeps here w held → v.log ≡ w.log → v.groups here ≡ gs → AreGroups gs → IsStrictlySortedBy by_name gs
+keeps_groups : (here : Inst) (w v : World) (held : Held) (gs : List Group) → Keeps here w held → v.log ≡ w.log → v.groups here ≡ gs → AllByRecursion IsGroup gs → IsStrictlySortedBy by_name gs
     → (new : Held) → new.rows ≡ held.rows → groups_in new.admin ≡ Ok gs → Keeps here v new
 keeps_groups here w v held gs keeps log is are up new rows groups = record {
   rows = rows ∙ keeps.rows ∙ ap (λ l. map raw_row (tables l here)) (sym log);
   are_rows = subst (λ l. AreRows (tables l here)) (sym log) keeps.are_rows;
   groups = groups ∙ ap Ok (sym is);
-  are_groups = subst AreGroups (sym is) are;
+  are_groups = subst (AllByRecursion IsGroup) (sym is) are;
   ascend = subst (IsStrictlySortedBy by_name) (sym is) up;
 }
 

@@ -3,6 +3,7 @@ use Rattle.std.proofs.Common.{◌≡◌, ℕ, ◌<◌, List, [], ◌∷◌, leng
 use Rattle.std.specs.Prelude.{Bool, true, false, if◌then◌else◌, IfOk, IfSome, OnErr}
 use Rattle.misp_elem.specs.declared.row.RowFields.{RowFields as Row}
 use Rattle.misp_elem.specs.Row.{AreRows}
+use Rattle.misp_elem.specs.Refusal.{bare}
 use Rattle.misp_groups.specs.declared.group.GroupFields.{GroupFields as Group}
 use Rattle.misp_requests.specs.declared.ask.Ask.{Ask}
 use Rattle.misp_requests.specs.declared.ask.Ask.TheVariants.{View}
@@ -25,7 +26,7 @@ use Rattle.misp_core.specs.Permission.{is_permitted}
 use Rattle.misp_core.specs.Raw.{raw_row, rows_in}
 use Rattle.misp_core.specs.Sharing.{HoldsGroups, or_none, groups_of}
 use Rattle.misp_core.specs.Standing.{Standing}
-use Rattle.misp_core.specs.Answers.{Surroundings, site_at, IsBuilt, IsVerdict, reply_of, reply_in, writes_in, reply_over, writes_over, named, scene_at, bare}
+use Rattle.misp_core.specs.Answers.{Surroundings, site_at, IsBuilt, IsVerdict, reply_of, reply_in, writes_in, reply_over, writes_over, named, scene_at}
 use Rattle.misp_core.specs.Outcome.{Outcome, Went, ByKeeper, ByMemory, outcome_of, rows_asked, asked_of, reply_to, held_after, refusal_by, forbidden, step_reply, step_held, with_rows, IsServed, IsAnswered, IsRefused, replied_of}
 use Rattle.misp_core.specs.declared.decide.Verdict.{Verdict}
 use Rattle.misp_core.specs.declared.reply.Reply.{Reply}

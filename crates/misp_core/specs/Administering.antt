@@ -7,8 +7,6 @@ use Rattle.misp_ids.specs.declared.uid.GroupId.{GroupId}
 use Rattle.misp_elem.specs.declared.refusal.RuleName.{RuleName}
 use Rattle.misp_elem.specs.declared.refusal.RuleName.TheVariants as rules
 use Rattle.misp_groups.specs.declared.group.GroupFields.{GroupFields as Group}
-use Rattle.misp_outside.specs.declared.fault.KeeperFault.{KeeperFault}
-use Rattle.misp_outside.specs.declared.fault.KeeperFault.TheVariants as stops
 use Rattle.misp_outside.specs.Held.{Held, put_admin}
 use Rattle.misp_model.specs.Names.{Stamp}
 use Rattle.misp_model.specs.Acts.{group_now}
@@ -16,8 +14,7 @@ use Rattle.misp_levels.specs.Groups.{why_not_added, why_not_edited}
 use Rattle.misp_levels.specs.declared.fault.GroupFault.{GroupFault}
 use Rattle.misp_levels.specs.declared.fault.GroupFault.TheVariants as causes
 use Rattle.misp_core.specs.Sharing.{group_row, groups_of}
-use Rattle.misp_core.specs.Answers.{bare}
-use Rattle.misp_core.specs.Outcome.{Outcome, Went, ByKeeper, ByMemory, outcome_of}
+use Rattle.misp_core.specs.Outcome.{Outcome, Went, ByKeeper, ByMemory, outcome_of, refused_by}
 use Rattle.misp_core.specs.declared.reply.Answer.TheVariants as answers
 use Rattle.misp_core.specs.declared.reply.Reply.{Reply}
 use Rattle.misp_core.specs.declared.reply.Reply.TheVariants as replies
@@ -35,15 +32,6 @@ rule_by causes.NoGroup = rules.NoGroup
 rule_by causes.LockedGroup = rules.LockedGroup
 rule_by causes.TimeLimit = rules.TimeLimit
 rule_by causes.NoMemory = rules.NoMemory
-
--- the rule by which a keeper that stopped refuses
-abbrev pub rule_of_stop : KeeperFault → RuleName
-rule_of_stop stops.Failed = rules.KeeperFault
-rule_of_stop stops.NoMemory = rules.NoMemory
-
--- the refusal by a rule
-abbrev pub refused_by : RuleName → Reply
-refused_by rule = replies.Refused (bare rule)
 
 -- the reply where this is the first cause, if there is one: else one group was taken
 abbrev pub reply_by : Option GroupFault → Reply

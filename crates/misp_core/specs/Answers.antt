@@ -1,5 +1,5 @@
 -- What a request is answered where nothing stops it, and what it writes.
-use Rattle.std.specs.Prelude.{◌≡◌, ℕ, Bool, true, ◌||◌, cond, is_some, List, [], map, length, fold, max, unwrap_or, Result, Ok, Err}
+use Rattle.std.specs.Prelude.{◌≡◌, ℕ, true, cond, is_some, List, [], map, length, fold, max, unwrap_or, Result, Ok, Err}
 use Rattle.std.specs.declared.option.Option.{Option}
 use Rattle.std.specs.declared.option.Option.TheVariants.{None, Some}
 use Rattle.hex.specs.Hex.{encode_lower}
@@ -12,6 +12,7 @@ use Rattle.misp_elem.specs.declared.row.RowFields.{RowFields as Row}
 use Rattle.misp_elem.specs.declared.refusal.Refusal.{Refusal}
 use Rattle.misp_elem.specs.declared.refusal.RuleName.{RuleName}
 use Rattle.misp_elem.specs.declared.refusal.RuleName.TheVariants as rules
+use Rattle.misp_elem.specs.Refusal.{bare}
 use Rattle.misp_elem.specs.declared.visible.VisibleEvent.{VisibleEvent}
 use Rattle.misp_elem.specs.Draft.{SubmissionFields as Submission}
 use Rattle.misp_elem.specs.Row.{AreRows}
@@ -25,8 +26,6 @@ use Rattle.misp_orgs.specs.Keys.{CallerFields as Caller}
 use Rattle.misp_orgs.specs.Org.{name_of}
 use Rattle.misp_outside.specs.Held.{Held}
 use Rattle.misp_dates.specs.Dates.{date_of}
-use Rattle.misp_model.specs.Names.{same_org}
-use Rattle.misp_model.specs.Audience.{allows}
 use Rattle.misp_model.specs.View.{known}
 use Rattle.misp_model.specs.History.{Version, fresh_row}
 use Rattle.misp_model.specs.Asking.{Scene, Rule}
@@ -140,19 +139,11 @@ abbrev pub place_of : Scene → Ask → Rule → List ℕ
 place_of s (asks.Change (AddEvent b)) rule = added_place s b rule
 place_of s ask rule = []
 
--- the refusal by a rule that has no place
-abbrev pub bare : RuleName → Refusal
-bare name = record { name = name; place = [] }
-
 -- the refusal that names a row which does not decode
 abbrev pub bad_row : List ℕ → Refusal
 bad_row name = record { name = rules.BadRow; place = encode_lower name }
 
 -- ---- answers
-
--- the organisation created the group, or the group allows it here
-abbrev pub concerns : OrgId → List ℕ → Group → Bool
-concerns org here g = same_org g.id.creator org || allows g org here
 
 -- the greatest of the stamps, or 0 where there is none
 unfoldable pub greatest : List ℕ → ℕ

@@ -1,11 +1,14 @@
 -- An instance in a network: whose act a request is, and what its keeper holds of the history.
 use Rattle.std.specs.Prelude.{◌≡◌, map, Bool, Ok}
+use Rattle.std.specs.List.{AllByRecursion}
 use Rattle.std.specs.List.Sorted.{IsStrictlySortedBy}
 use Rattle.misp_ids.specs.declared.uid.OrgId.{OrgId}
 use Rattle.misp_elem.specs.Row.{AreRows}
 use Rattle.misp_groups.specs.declared.group.GroupFields.{GroupFields as Group}
-use Rattle.misp_groups.specs.Group.{AreGroups}
+use Rattle.misp_groups.specs.Group.{IsGroup}
 use Rattle.misp_requests.specs.declared.ask.Ask.{Ask}
+use Rattle.misp_orgs.specs.Admin.{AdminFields as Admin}
+use Rattle.misp_orgs.specs.Keys.{CallerFields as Caller}
 use Rattle.misp_outside.specs.Held.{Held}
 use Rattle.misp_model.specs.Names.{Inst, Stamp}
 use Rattle.misp_model.specs.History.{tables}
@@ -15,13 +18,13 @@ use Rattle.misp_core.specs.Raw.{raw_row}
 use Rattle.misp_core.specs.Sharing.{groups_in}
 use Rattle.misp_core.specs.Answers.{Surroundings, name_in}
 
--- who asks there, with the name by which the instance knows the organisation
-abbrev pub caller_at : Surroundings → model.Caller
-caller_at at = record { org = at.caller.org; name = name_in at.admin at.caller.org }
+-- who asks, with the name by which an instance of this administration knows the organisation
+abbrev pub caller_at : Admin → Caller → model.Caller
+caller_at admin caller = record { org = caller.org; name = name_in admin caller.org }
 
 -- a request there, as an act
 abbrev pub act_at : Surroundings → Ask → model.Act
-act_at at ask = record { at = at.here; now = at.now; deed = model.Asks (caller_at at) ask }
+act_at at ask = record { at = at.here; now = at.now; deed = model.Asks (caller_at at.admin at.caller) ask }
 
 -- an administration there, as an act
 abbrev pub act_of : Inst → Stamp → OrgId → Bool → Group → model.Act
@@ -33,5 +36,5 @@ pub record Keeps (here : Inst) (w : model.World) (held : Held) : Type 0 where
   pub rows : held.rows ≡ map raw_row (tables w.log here)
   pub are_rows : AreRows (tables w.log here)
   pub groups : groups_in held.admin ≡ Ok (w.groups here)
-  pub are_groups : AreGroups (w.groups here)
+  pub are_groups : AllByRecursion IsGroup (w.groups here)
   pub ascend : IsStrictlySortedBy by_name (w.groups here)

@@ -5,7 +5,7 @@ use Rattle.std.specs.declared.option.Option.TheVariants.{Some}
 use Rattle.misp_elem.specs.declared.refusal.Refusal.{Refusal}
 use Rattle.misp_elem.specs.declared.refusal.RuleName.{RuleName}
 use Rattle.misp_elem.specs.declared.refusal.RuleName.TheVariants as rules
-use Rattle.misp_elem.specs.Refusal.{rule_number}
+use Rattle.misp_elem.specs.Refusal.{rule_number, bare}
 use Rattle.misp_elem.specs.Row.{AreRows}
 use Rattle.misp_requests.specs.declared.ask.Ask.{Ask}
 use Rattle.misp_requests.specs.declared.ask.Ask.TheVariants as asks
@@ -16,7 +16,7 @@ use Rattle.misp_outside.specs.declared.row.RawRow.{RawRow}
 use Rattle.misp_outside.specs.Held.{Held, rows_of, put_rows}
 use Rattle.misp_core.specs.Raw.{raw_row, rows_in}
 use Rattle.misp_core.specs.Permission.{permission_of, is_permitted, no_permission}
-use Rattle.misp_core.specs.Answers.{Surroundings, event_asked, bare, reply_over, writes_over}
+use Rattle.misp_core.specs.Answers.{Surroundings, event_asked, reply_over, writes_over}
 use Rattle.misp_core.specs.declared.reply.Reply.{Reply}
 use Rattle.misp_core.specs.declared.reply.Reply.TheVariants as replies
 
@@ -36,6 +36,15 @@ abbrev pub outcome_of : Reply → Outcome
 outcome_of (replies.Ok answer) = Went
 outcome_of (replies.Refused refusal) = outcome_by refusal.name
 
+-- the refusal by a rule that has no place
+abbrev pub refused_by : RuleName → Reply
+refused_by rule = replies.Refused (bare rule)
+
+-- the rule by which what a keeper stopped is refused
+abbrev pub rule_of_stop : KeeperFault → RuleName
+rule_of_stop stops.Failed = rules.KeeperFault
+rule_of_stop stops.NoMemory = rules.NoMemory
+
 -- of what is held the rows of the event that is asked about; who asks for the groups asks about
 -- no event
 abbrev pub rows_asked : Ask → List RawRow → List RawRow
@@ -49,8 +58,8 @@ asked_of ask held = rows_in (rows_asked ask held.rows)
 -- the reply to the n-th request, where this is held, under this outcome
 abbrev pub reply_to : Outcome → ℕ → Surroundings → Ask → Held → Reply
 reply_to Went n at ask held = reply_over n at ask (asked_of ask held)
-reply_to ByKeeper n at ask held = replies.Refused (bare rules.KeeperFault)
-reply_to ByMemory n at ask held = replies.Refused (bare rules.NoMemory)
+reply_to ByKeeper n at ask held = refused_by rules.KeeperFault
+reply_to ByMemory n at ask held = refused_by rules.NoMemory
 
 -- what is held after these rows are put
 abbrev pub with_rows : List Row → Held → Held
@@ -67,8 +76,8 @@ held_after ByMemory n at ask held = held
 -- a refusal for which the keeper is not asked, unless something stopped the request
 abbrev pub refusal_by : Outcome → Refusal → Reply
 refusal_by Went refusal = replies.Refused refusal
-refusal_by ByKeeper refusal = replies.Refused (bare rules.KeeperFault)
-refusal_by ByMemory refusal = replies.Refused (bare rules.NoMemory)
+refusal_by ByKeeper refusal = refused_by rules.KeeperFault
+refusal_by ByMemory refusal = refused_by rules.NoMemory
 
 -- the refusal of an ask that is not permitted
 abbrev pub forbidden : Ask → Refusal
@@ -116,5 +125,4 @@ IsRefused (replies.Ok answer) = ⊥
 -- what was served, or what stopped it, as a reply
 abbrev pub replied_of : Result Reply KeeperFault → Reply
 replied_of (Ok reply) = reply
-replied_of (Err stops.Failed) = replies.Refused (bare rules.KeeperFault)
-replied_of (Err stops.NoMemory) = replies.Refused (bare rules.NoMemory)
+replied_of (Err stop) = refused_by (rule_of_stop stop)

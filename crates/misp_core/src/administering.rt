@@ -8,9 +8,8 @@ ghost use Rattle.misp_levels.specs.Groups.{restored};
 ghost use Rattle.misp_levels.specs.declared.fault.GroupFault.TheVariants as causes;
 ghost use Rattle.misp_core.specs.Sharing.{HoldsGroups, group_row, group_in};
 ghost use Rattle.misp_core.specs.Outcome.{ByKeeper, outcome_of, IsRefused};
-ghost use Rattle.misp_core.specs.Administering.{why_not, rule_by, rule_of_stop, refused_by, with_group, IsAdministered};
+ghost use Rattle.misp_core.specs.Administering.{why_not, rule_by, with_group, IsAdministered};
 
-use crate::decide::bare;
 use crate::reply::{Answer, Reply};
 use crate::sharing::group_row;
 use misp_elem::{NoMemory, RuleName};
@@ -34,16 +33,6 @@ fn rule_by(cause: GroupFault) -> RuleName
     }
 }
 
-// The rule by which a keeper that stopped refuses.
-fn rule_of_stop(stop: KeeperFault) -> RuleName
-    ensures { result ≡ rule_of_stop stop }
-{
-    match stop {
-        KeeperFault::Failed => RuleName::KeeperFault,
-        KeeperFault::NoMemory => RuleName::NoMemory,
-    }
-}
-
 // Adds the group at this moment, or edits the one of its name, and tells the one that was known.
 fn change(
     groups: &mut Groups,
@@ -64,6 +53,7 @@ fn change(
         groups.add(by, group, now)?;
         Ok(None)
     } else {
+        // The groups ascend by their names, so that the edit can be taken back.
         let _in_order = groups.as_slice();
         Ok(Some(groups.edit(by, group, now)?))
     }
@@ -121,13 +111,6 @@ fn keep_named<K: Keeper>(
     }
 }
 
-// The refusal by a rule.
-fn refused(alloc: Global, rule: RuleName) -> Reply
-    ensures { result ≡ refused_by rule }
-{
-    Reply::Refused(bare(alloc, rule))
-}
-
 /// Adds the group at this moment, or edits the one of its name, both among the groups and in the
 /// keeper, or neither.
 pub(crate) fn administer<K: Keeper>(
@@ -150,13 +133,13 @@ pub(crate) fn administer<K: Keeper>(
     let id = group.id;
     let before = match change(groups, now, by, group, add) {
         Ok(before) => before,
-        Err(cause) => return refused(alloc, rule_by(cause)),
+        Err(cause) => return Reply::refused_by(alloc, rule_by(cause)),
     };
     match keep_named(keeper, alloc, groups, &id) {
         Ok(()) => Reply::Ok(Answer::Taken(1)),
         Err(stop) => {
             groups.restore(&id, before);
-            refused(alloc, rule_of_stop(stop))
+            Reply::stopped_by(alloc, stop)
         }
     }
 }

@@ -2,13 +2,13 @@
 
 ghost use Rattle.std.specs.Prelude.{◌≡◌, ℕ, List, IfOk, IfSome, OnOk, OnErr, option_map};
 ghost use Rattle.misp_outside.specs.Causes.{HasCause};
-ghost use Rattle.misp_groups.specs.declared.group.GroupFields.{GroupFields as SomeGroup};
+ghost use Rattle.misp_groups.specs.declared.group.GroupFields.{GroupFields};
 ghost use Rattle.misp_core.specs.Answers.{site_of, IsBuilt};
 ghost use Rattle.misp_core.specs.Permission.{no_permission};
 ghost use Rattle.misp_core.specs.Sharing.{HoldsGroups};
 ghost use Rattle.misp_core.specs.Outcome.{Went, ByKeeper, outcome_of, refusal_by, IsServed, IsRefused, rows_asked, with_rows, replied_of};
 
-use crate::decide::{bare, judge};
+use crate::decide::judge;
 use crate::permission::no_permission;
 use crate::reply::Reply;
 use crate::site::Site;
@@ -26,7 +26,7 @@ pub(crate) fn forbidden(alloc: Global, perm: Perm) -> Reply
 {
     match no_permission(alloc, perm) {
         Ok(refusal) => Reply::Refused(refusal),
-        Err(NoMemory) => Reply::Refused(bare(alloc, RuleName::NoMemory)),
+        Err(NoMemory) => Reply::refused_by(alloc, RuleName::NoMemory),
     }
 }
 
@@ -36,8 +36,7 @@ pub(crate) fn replied(alloc: Global, served: Result<Reply, KeeperFault>) -> Repl
 {
     match served {
         Ok(reply) => reply,
-        Err(KeeperFault::Failed) => Reply::Refused(bare(alloc, RuleName::KeeperFault)),
-        Err(KeeperFault::NoMemory) => Reply::Refused(bare(alloc, RuleName::NoMemory)),
+        Err(stop) => Reply::stopped_by(alloc, stop),
     }
 }
 
@@ -90,7 +89,7 @@ pub(crate) fn serve<K: Keeper>(
     ensures refused { IfOk result
         (λ reply. IsRefused reply → K.held keeper.new ≡ K.held keeper.old) }
     ensures err { OnErr result (K.held keeper.new ≡ K.held keeper.old) }
-    ensures groups { (groups : List SomeGroup) →
+    ensures groups { (groups : List GroupFields) →
         HoldsGroups (K.held keeper.old) groups → HoldsGroups (K.held keeper.new) groups }
     ensures cause { HasCause (K.faults keeper.old) (K.faults keeper.new)
         (result ≡ Err KeeperFault.Failed) }

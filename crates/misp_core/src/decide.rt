@@ -1,14 +1,14 @@
 //! What a request comes to over the rows of its event.
 
 ghost use Rattle.std.specs.Prelude.{◌≡◌, ◌≤◌, ℕ, List, IfOk, Ok, map, length, []};
-ghost use Rattle.misp_elem.specs.declared.row.RowFields.{RowFields as SomeRow};
+ghost use Rattle.misp_elem.specs.declared.row.RowFields.{RowFields};
 ghost use Rattle.misp_requests.specs.declared.ask.Ask.TheVariants.{View};
 ghost use Rattle.misp_requests.specs.declared.ask.Ask.TheVariants as asks;
 ghost use Rattle.misp_requests.specs.declared.change.Change.TheVariants.{AddEvent};
 ghost use Rattle.misp_core.specs.declared.reply.Reply.TheVariants as replies;
 ghost use Rattle.misp_core.specs.declared.reply.Answer.TheVariants as answers;
 ghost use Rattle.misp_core.specs.Raw.{rows_in};
-ghost use Rattle.misp_core.specs.Answers.{site_of, scene_with, IsAdded, IsBuilt, IsDecision, IsVerdict, IsRefusal, named_event, name_in, bare, bad_row, greatest};
+ghost use Rattle.misp_core.specs.Answers.{site_of, scene_with, IsAdded, IsBuilt, IsDecision, IsVerdict, IsRefusal, named_event, name_in, bad_row, greatest};
 
 use crate::listing::concerning;
 use crate::naming::group_names;
@@ -30,16 +30,6 @@ use std::alloc::Global;
 pub(crate) struct Verdict {
     pub(crate) reply: Reply,
     pub(crate) writes: Items<Row>,
-}
-
-/// The refusal by a rule that has no place.
-pub(crate) fn bare(alloc: Global, name: RuleName) -> Refusal
-    ensures { result ≡ bare name }
-{
-    Refusal {
-        name,
-        place: Text::of(String::new(alloc)),
-    }
 }
 
 // A reply for which nothing is written.
@@ -80,8 +70,8 @@ fn refusal(alloc: Global, fault: AddFault) -> Result<Refusal, NoMemory>
     ensures { IfOk result (IsRefusal fault) }
 {
     match fault {
-        AddFault::EventExists => Ok(bare(alloc, RuleName::EventExists)),
-        AddFault::EventGone => Ok(bare(alloc, RuleName::EventGone)),
+        AddFault::EventExists => Ok(Refusal::bare(alloc, RuleName::EventExists)),
+        AddFault::EventGone => Ok(Refusal::bare(alloc, RuleName::EventGone)),
         AddFault::ElementExists(uuid) => Ok(Refusal {
             name: RuleName::ElementExists,
             place: uuid.to_text(alloc)?,
@@ -198,7 +188,7 @@ fn view(
             Ok(unwritten(alloc, Reply::Ok(Answer::Event(seen))))
         }
         None => {
-            let refusal = bare(alloc, RuleName::NotGranted);
+            let refusal = Refusal::bare(alloc, RuleName::NotGranted);
             Ok(unwritten(alloc, Reply::Refused(refusal)))
         }
     }
@@ -206,7 +196,7 @@ fn view(
 
 // Tells the groups that concern the caller.
 fn list(alloc: Global, site: &Site<'_>) -> Result<Verdict, NoMemory>
-    ensures { (n : ℕ) (rows : List SomeRow) → IfOk result (IsDecision
+    ensures { (n : ℕ) (rows : List RowFields) → IfOk result (IsDecision
         (scene_with n (site_of site.now) rows) site.now.admin.now asks.Groups) }
 {
     let org = asker(site.caller);

@@ -1,12 +1,12 @@
 //! Laws of what an instance holds and answers.
 
 ghost use Rattle.std.specs.Prelude.{◌≡◌, ◌≤◌, ℕ, Bool, List, [], map, Result, Ok, true, false, ltb};
-ghost use Rattle.std.specs.List.{list_all};
+ghost use Rattle.std.specs.List.{list_all, AllByRecursion};
 ghost use Rattle.misp_ids.specs.declared.uid.EventId.{EventId};
 ghost use Rattle.misp_ids.specs.declared.uid.OrgId.{OrgId};
 ghost use Rattle.misp_ids.specs.declared.stamp.TheConstants.{LAST_SECOND};
 ghost use Rattle.misp_groups.specs.declared.group.GroupFields.{GroupFields as Group};
-ghost use Rattle.misp_groups.specs.Group.{IsGroup, AreGroups};
+ghost use Rattle.misp_groups.specs.Group.{IsGroup};
 ghost use Rattle.misp_outside.specs.declared.row.AdminRow.{AdminRow};
 ghost use Rattle.misp_elem.specs.declared.row.RowFields.{RowFields as Row};
 ghost use Rattle.misp_elem.specs.Row.{AreRows};
@@ -39,7 +39,7 @@ pub fn rows_are_held_as_their_bytes()
 /// What a keeper holds of groups is read as those groups, and nothing else is. The row of a group
 /// is put where the group is.
 pub fn groups_are_held_as_their_rows()
-    ensures read { (groups : List Group) → AreGroups groups →
+    ensures read { (groups : List Group) → AllByRecursion IsGroup groups →
         groups_in (map group_row groups) ≡ Ok groups }
     ensures only { (rows : List AdminRow) (groups : List Group) →
         groups_in rows ≡ Ok groups → rows ≡ map group_row groups }
@@ -63,7 +63,7 @@ pub fn an_instance_answers_by_the_history()
     ensures reply { (n : ℕ) (w : World) (at : Surroundings) (ask : Ask) (held : Held) →
         IsBuilt ask → at.groups ≡ groups_of held → Keeps at.here w held →
         reply_over n at ask (asked_of ask held)
-        ≡ reply_in at.admin (scene n w (act_at at ask) (caller_at at)) ask }
+        ≡ reply_in at.admin (scene n w (act_at at ask) (caller_at at.admin at.caller)) ask }
     ensures left { (net : Net) (n : ℕ) (w : World) (at : Surroundings) (ask : Ask) (held : Held) →
         IsBuilt ask → list_all (λ v. ltb v.act n) w.log ≡ true →
         at.groups ≡ groups_of held → Keeps at.here w held →

@@ -1,9 +1,9 @@
 //! The groups that concern an organisation.
 
 ghost use Rattle.std.specs.Prelude.{◌≡◌, ◌||◌, filter, IfOk};
+ghost use Rattle.misp_model.specs.Acts.{concerns};
 ghost use Rattle.misp_model.specs.Audience.{allows};
 ghost use Rattle.misp_model.specs.Names.{same_org};
-ghost use Rattle.misp_core.specs.Answers.{concerns};
 
 use misp_groups::Group;
 use misp_ids::{InstId, NoMemory, OrgId};

@@ -1,8 +1,13 @@
 //! What a request is answered.
 
-use misp_elem::{Refusal, VisibleEvent};
+ghost use Rattle.std.specs.Prelude.{◌≡◌};
+ghost use Rattle.misp_core.specs.Outcome.{refused_by, rule_of_stop};
+
+use misp_elem::{Refusal, RuleName, VisibleEvent};
 use misp_groups::Group;
 use misp_ids::{EventId, Items, Stamp};
+use misp_outside::KeeperFault;
+use std::alloc::Global;
 
 /// What an accepted request is answered.
 #[derive(Debug, Drop)]
@@ -24,4 +29,24 @@ pub enum Answer {
 pub enum Reply {
     Ok(Answer),
     Refused(Refusal),
+}
+
+impl Reply {
+    /// The refusal by a rule that has no place.
+    pub(crate) fn refused_by(alloc: Global, rule: RuleName) -> Reply
+        ensures { result ≡ refused_by rule }
+    {
+        Reply::Refused(Refusal::bare(alloc, rule))
+    }
+
+    /// The refusal of what a keeper stopped.
+    pub(crate) fn stopped_by(alloc: Global, stop: KeeperFault) -> Reply
+        ensures { result ≡ refused_by (rule_of_stop stop) }
+    {
+        let rule = match stop {
+            KeeperFault::Failed => RuleName::KeeperFault,
+            KeeperFault::NoMemory => RuleName::NoMemory,
+        };
+        Reply::refused_by(alloc, rule)
+    }
 }

@@ -6,7 +6,7 @@ ghost use Rattle.misp_outside.specs.Held.{same_admin};
 ghost use Rattle.misp_core.specs.Sharing.{group_name, group_row, group_told, is_row_of, group_in, groups_in, put_onto, IsNoGroup, NamesBadGroup};
 
 use crate::store::RowFault;
-use misp_format::{FormatFault, GroupTextFault, read_group_text, write_group};
+use misp_format::{FormatFault, read_group_text, write_group};
 use misp_groups::Group;
 use misp_ids::{GroupId, Items, NoMemory};
 use misp_levels::Groups;
@@ -59,7 +59,7 @@ fn group_told(alloc: Global, bytes: &[u8]) -> Result<Option<Group>, NoMemory>
             group.carried = *flag == 1;
             Ok(Some(group))
         }
-        Err(GroupTextFault::Format(FormatFault::NoMemory)) => Err(NoMemory),
+        Err(FormatFault::NoMemory) => Err(NoMemory),
         Err(_) => Ok(None),
     }
 }

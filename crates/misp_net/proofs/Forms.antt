@@ -5,18 +5,16 @@ use Rattle.misp_elem.specs.declared.refusal.RuleName.{RuleName}
 use Rattle.misp_elem.specs.Draft.{SubmissionFields as Submission}
 use Rattle.misp_format.specs.declared.fault.FormatFault.{FormatFault}
 use Rattle.misp_format.specs.declared.fault.FormatFault.TheVariants as faults
-use Rattle.misp_format.specs.Tables.{event_at}
 use Rattle.misp_orgs.specs.Admin.{AdminFields as Admin}
 use Rattle.misp_orgs.specs.Keys.{CallerFields as Caller}
 use Rattle.misp_requests.specs.declared.ask.Ask.{Ask}
 use Rattle.misp_script.specs.Step.{RequestData}
 use Rattle.misp_core.specs.Permission.{permission_of, is_permitted, no_permission}
 use Rattle.misp_core.specs.Answers.{IsAdded, IsBuilt}
-use Rattle.serde_json.specs.Data.{Data}
 use Rattle.misp_net.specs.declared.route.Route.{Route}
 use Rattle.misp_net.specs.declared.route.Route.TheVariants.{AddEvent, ViewEvent, Groups}
 use Rattle.misp_net.specs.Route.{route_of}
-use Rattle.misp_net.specs.Request.{Reading, json_in, added, added_by, formed, asked, ask_of}
+use Rattle.misp_net.specs.Request.{Reading, event_in, added, formed, asked, ask_of}
 use Rattle.misp_net.specs.Answering.{Asked, caller_in, by_body, by_route, read_of, permitted, form_of}
 use Rattle.misp_net.proofs.Built.{event_built}
 
@@ -32,17 +30,14 @@ BuiltForm (Err refusal) = Unit {0}
 
 asked_built : (read : Result Submission FormatFault) → ((s : Submission) → read ≡ Ok s → IsAdded s) → BuiltAsk (asked (formed read))
 asked_built (Ok s) built = built s refl
+asked_built (Err faults.NoJson) built = tt
 asked_built (Err (faults.BadField path need)) built = tt
 asked_built (Err (faults.BinaryType path)) built = tt
 asked_built (Err faults.NoMemory) built = tt
 
-added_built : (word : ℕ) (value : Reading Data) → BuiltAsk (added_by word value)
-added_built word (Ok value) = asked_built (event_at word value) (λ s is. event_built word value s is)
-added_built word (Err refusal) = tt
-
 ask_built : (route : Route) (body : List ℕ) (word : ℕ) → BuiltAsk (ask_of route body word)
 unfolding added
-ask_built AddEvent body word = added_built word (json_in body)
+ask_built AddEvent body word = asked_built (event_in body word) (event_built body word)
 ask_built (ViewEvent event owner) body word = tt
 ask_built Groups body word = tt
 

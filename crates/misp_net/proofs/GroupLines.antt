@@ -1,14 +1,13 @@
 -- The reply to a line of a group by what its text is.
 use Rattle.std.proofs.Common.{◌≡◌, ℕ, ◌≤◌, refl, sym, ap, subst, inl, inr, Option, Some, None, Ok, Err}
 use Rattle.std.specs.Prelude.{IfSome}
-use Rattle.serde_json.specs.Data.{Data}
 use Rattle.misp_elem.specs.declared.refusal.Refusal.{Refusal}
 use Rattle.misp_groups.specs.declared.group.GroupFields.{GroupFields as Group}
 use Rattle.misp_groups.specs.Group.{IsGroup}
 use Rattle.misp_ids.specs.declared.stamp.TheConstants.{LAST_SECOND}
 use Rattle.misp_outside.specs.Held.{Held}
 use Rattle.misp_script.specs.Step.{GroupData}
-use Rattle.misp_format.specs.Groups.{group_body_at}
+use Rattle.misp_format.specs.GroupText.{group_in_text}
 use Rattle.misp_core.specs.Sharing.{groups_of}
 use Rattle.misp_core.specs.Administering.{IsAdministered}
 use Rattle.misp_core.specs.Outcome.{ByKeeper, outcome_of}
@@ -16,10 +15,10 @@ use Rattle.misp_core.specs.declared.reply.Reply.{Reply}
 use Rattle.misp_core.specs.declared.reply.Reply.TheVariants as replies
 use Rattle.misp_net.specs.declared.request.AskFault.{AskFault}
 use Rattle.misp_net.specs.declared.request.AskFault.TheVariants as stops
-use Rattle.misp_net.specs.Request.{Reading, Gives, json_in}
+use Rattle.misp_net.specs.Request.{Reading, Gives}
 use Rattle.misp_net.specs.Answering.{fault_reply}
-use Rattle.misp_net.specs.Administering.{group_by, group_form, group_reply, IsDone}
-use Rattle.misp_net.proofs.Replying.{IsFormal, ByForm, value_by_form, formed_by_form, no_keeper_in}
+use Rattle.misp_net.specs.Administering.{group_form, group_reply, IsDone}
+use Rattle.misp_net.proofs.Replying.{IsFormal, ByForm, formed_by_form, no_keeper_in}
 
 -- a group is administered by the instance
 pub by_instance : (now : ℕ) (line : GroupData) (form : Reading Group) (g : Group) (reply : Reply) (old new : Option Held) → form ≡ Ok g → IsGroup g → now ≤ LAST_SECOND
@@ -28,13 +27,9 @@ by_instance now line form g reply None new is fits moment done = tt
 by_instance now line form g reply (Some held) new is fits moment done =
     subst (λ f. IsDone now line f held reply new) (sym is) (record { reply_is = done.reply_is; left = done.left; is_group = λ went. (fits, moment) })
 
-group_by_form : (value : Reading Data) → ByForm value → ByForm (group_by value)
-group_by_form (Ok d) form = formed_by_form (group_body_at d)
-group_by_form (Err refusal) form = form
-
 text_by_form : (text : _) → ByForm (group_form text)
-unfolding group_form json_in
-text_by_form text = group_by_form (json_in text) (value_by_form _)
+unfolding group_form
+text_by_form text = formed_by_form (group_in_text text)
 
 -- the refusal of a text that is no group is the stated one
 formal_line : (now : ℕ) (line : GroupData) (held : Held) (refusal : Refusal) → IsFormal refusal → IsDone now line (Err refusal) held (replies.Refused refusal) (Some held)

@@ -8,7 +8,6 @@ use Rattle.misp_elem.specs.Refusal.{rule_number}
 use Rattle.misp_elem.specs.declared.refusal.RuleName.TheVariants as rules
 use Rattle.misp_format.specs.declared.fault.FormatFault.{FormatFault}
 use Rattle.misp_format.specs.declared.fault.FormatFault.TheVariants as faults
-use Rattle.misp_format.specs.Tables.{event_at}
 use Rattle.misp_orgs.specs.Keys.{CallerFields as Caller}
 use Rattle.misp_outside.specs.Held.{Held}
 use Rattle.misp_requests.specs.declared.ask.Ask.{Ask}
@@ -20,14 +19,13 @@ use Rattle.misp_core.specs.Outcome.{Went, outcome_of}
 use Rattle.misp_core.specs.Order.{Ground, first_ground, IsInOrder, grounds}
 use Rattle.misp_core.specs.declared.reply.Reply.{Reply}
 use Rattle.misp_core.specs.declared.reply.Reply.TheVariants as replies
-use Rattle.serde_json.specs.Data.{Data}
 use Rattle.misp_net.specs.declared.route.Route.{Route}
 use Rattle.misp_net.specs.declared.route.Route.TheVariants.{AddEvent, ViewEvent, Groups}
 use Rattle.misp_net.specs.declared.request.AskFault.{AskFault}
 use Rattle.misp_net.specs.declared.request.AskFault.TheVariants as stops
 use Rattle.misp_net.specs.Route.{method_of, by_method, route_of}
 use Rattle.misp_net.specs.Hosts.{Host, host_of}
-use Rattle.misp_net.specs.Request.{Reading, Gives, json_in, json_or_refusal, added, added_by, formed, asked, ask_of}
+use Rattle.misp_net.specs.Request.{Reading, Gives, event_in, added, formed, asked, ask_of}
 use Rattle.misp_net.specs.Answering.{Asked, caller_in, by_body, by_key, by_route, read_of, fault_reply}
 use Rattle.misp_net.specs.Order.{route_asked, is_refused_by, asked_grounds, order}
 
@@ -43,25 +41,17 @@ abbrev IsNamed : {A : Type 0} → Reading A → Type 0
 IsNamed (Ok x) = Unit {0}
 IsNamed (Err refusal) = outcome_of (replies.Refused refusal) ≡ Went → Some refusal.name ≡ first_ground (by_name refusal.name)
 
-value_named : (value : Option Data) → IsNamed (json_or_refusal value)
-unfolding first_ground
-value_named None = λ went. refl
-value_named (Some value) = tt
-
 asked_named : (read : Result Submission FormatFault) → IsNamed (asked (formed read))
 unfolding first_ground
 asked_named (Ok submission) = tt
+asked_named (Err faults.NoJson) = λ went. refl
 asked_named (Err (faults.BadField path need)) = λ went. refl
 asked_named (Err (faults.BinaryType path)) = λ went. refl
 asked_named (Err faults.NoMemory) = λ went. absurd cc
 
-added_named : (word : ℕ) (value : Reading Data) → IsNamed value → IsNamed (added_by word value)
-added_named word (Ok value) named = asked_named (event_at word value)
-added_named word (Err refusal) named = named
-
 ask_named : (route : Route) (body : List ℕ) (word : ℕ) → IsNamed (ask_of route body word)
-unfolding added json_in
-ask_named AddEvent body word = added_named word _ (value_named _)
+unfolding added
+ask_named AddEvent body word = asked_named (event_in body word)
 ask_named (ViewEvent event owner) body word = tt
 ask_named Groups body word = tt
 

@@ -31,7 +31,7 @@ use Rattle.misp_net.specs.Request.{Reading}
 use Rattle.misp_net.specs.Answering.{Asked, caller_in, form_of}
 use Rattle.misp_net.specs.Run.{Act}
 use Rattle.misp_net.specs.Course.{HasRun}
-use Rattle.misp_net.specs.History.{site_of, act_in, acts_in, no_links, told_reply, told_deed, told_output, told_outputs, is_caller, deed_is_of, is_of}
+use Rattle.misp_net.specs.History.{surroundings_of, act_in, acts_in, no_links, told_reply, told_deed, told_output, told_outputs, is_caller, deed_is_of, is_of}
 use Rattle.misp_net.specs.Promise.{unstopped, outputs_over, replies_to, own_lines, IsPromised}
 use Rattle.misp_net.proofs.Forms.{AskedBy, form_caller}
 use Rattle.misp_net.proofs.Telling.{world_whole}
@@ -67,7 +67,7 @@ module _ (keep : Key → Bool) (closed : IsClosed keep) (o : OrgId) (hosts : Lis
       → told_reply Went n (cut_world keep w) host now form ≡ told_reply Went n w host now form
   own_reply n w host now (Ok asked) caller by own has =
       let same : same_org asked.0.org o ≡ true = subst (λ c. is_caller o c ≡ true) by own in
-      ap (λ s. reply_in host.admin s asked.1) (own_scene n w (act_at (site_of w host now asked.0) asked.1) (caller_at (site_of w host now asked.0)) same has)
+      ap (λ s. reply_in host.admin s asked.1) (own_scene n w (act_at (surroundings_of w host now asked.0) asked.1) (caller_at host.admin asked.0) same has)
   own_reply n w host now (Err refusal) caller by own has = refl
 
   own_deed : (n : ℕ) (w : World) (time word : ℕ) (deed : DeedData) → deed_is_of o hosts deed ≡ true → HasKnown o keep w

@@ -4,10 +4,10 @@ use Rattle.std.specs.Prelude.{IfSome, bytes_eq, if◌then◌else◌}
 use Rattle.misp_elem.specs.declared.refusal.Refusal.{Refusal}
 use Rattle.misp_elem.specs.declared.refusal.RuleName.{RuleName}
 use Rattle.misp_elem.specs.declared.refusal.RuleName.TheVariants as rules
+use Rattle.misp_elem.specs.Refusal.{bare}
 use Rattle.misp_elem.specs.Draft.{SubmissionFields as Submission}
 use Rattle.misp_format.specs.declared.fault.FormatFault.{FormatFault}
 use Rattle.misp_format.specs.declared.fault.FormatFault.TheVariants as faults
-use Rattle.misp_format.specs.Tables.{event_at}
 use Rattle.misp_orgs.specs.Admin.{AdminFields as Admin}
 use Rattle.misp_orgs.specs.Keys.{CallerFields as Caller}
 use Rattle.misp_outside.specs.Held.{Held}
@@ -21,14 +21,13 @@ use Rattle.misp_core.specs.Answers.{site, site_at, writes_over}
 use Rattle.misp_core.specs.Outcome.{Went, ByKeeper, outcome_of, asked_of, reply_to, held_after, refusal_by, forbidden, IsAnswered}
 use Rattle.misp_core.specs.declared.reply.Reply.{Reply}
 use Rattle.misp_core.specs.declared.reply.Reply.TheVariants as replies
-use Rattle.serde_json.specs.Data.{Data}
 use Rattle.misp_net.specs.declared.route.Route.{Route}
 use Rattle.misp_net.specs.declared.route.Route.TheVariants.{AddEvent, ViewEvent, Groups}
 use Rattle.misp_net.specs.declared.request.AskFault.{AskFault}
 use Rattle.misp_net.specs.declared.request.AskFault.TheVariants as stops
 use Rattle.misp_net.specs.Route.{path_of, path_route, method_of, by_method, route_of}
 use Rattle.misp_net.specs.Hosts.{Host, host_of}
-use Rattle.misp_net.specs.Request.{Reading, Gives, bare, json_in, json_or_refusal, added, added_by, formed, asked, ask_of}
+use Rattle.misp_net.specs.Request.{Reading, Gives, event_in, added, formed, asked, ask_of}
 use Rattle.misp_net.proofs.Forms.{allowed}
 use Rattle.misp_net.specs.Answering.{Asked, caller_in, by_body, by_route, read_of, permitted, form_of, fault_reply, reply_by, IsReplied}
 
@@ -58,12 +57,9 @@ abbrev pub ByForm : {A : Type 0} → Reading A → Type 0
 ByForm (Ok x) = Unit {0}
 ByForm (Err refusal) = IsFormal refusal
 
-pub value_by_form : (value : Option Data) → ByForm (json_or_refusal value)
-value_by_form None = inl refl
-value_by_form (Some value) = tt
-
 pub formed_by_form : {A : Type 0} (read : Result A FormatFault) → ByForm (formed read)
 formed_by_form (Ok x) = tt
+formed_by_form (Err faults.NoJson) = inl refl
 formed_by_form (Err (faults.BadField path need)) = inl refl
 formed_by_form (Err (faults.BinaryType path)) = inl refl
 formed_by_form (Err faults.NoMemory) = inr refl
@@ -72,13 +68,9 @@ asked_by_form : (read : Reading Submission) → ByForm read → ByForm (asked re
 asked_by_form (Ok submission) formed = tt
 asked_by_form (Err refusal) formed = formed
 
-added_by_form : (word : ℕ) (value : Reading Data) → ByForm value → ByForm (added_by word value)
-added_by_form word (Ok value) form = asked_by_form (formed (event_at word value)) (formed_by_form (event_at word value))
-added_by_form word (Err refusal) formed = formed
-
 ask_by_form : (route : Route) (body : List ℕ) (word : ℕ) → ByForm (ask_of route body word)
-unfolding added json_in
-ask_by_form AddEvent body word = added_by_form word _ (value_by_form _)
+unfolding added
+ask_by_form AddEvent body word = asked_by_form (formed (event_in body word)) (formed_by_form (event_in body word))
 ask_by_form (ViewEvent event owner) body word = tt
 ask_by_form Groups body word = tt
 

@@ -3,13 +3,13 @@ use Rattle.std.proofs.Common.{◌≡◌, ◌≢◌, ℕ, suc, ◌<◌, true, fal
 use Rattle.std.proofs.lemmas.Bool.{cases_eq, cases_Bool}
 use Rattle.std.proofs.lemmas.List.{get_or-set_same, get_or-set_other, set-get_or}
 use Rattle.std.specs.Prelude.{ltb, slice_set}
-use Rattle.std.specs.List.{list_all}
+use Rattle.std.specs.List.{list_all, AllByRecursion}
 use Rattle.std.specs.List.Sorted.{IsStrictlySortedBy}
 use Rattle.misp_elem.specs.Row.{AreRows}
 use Rattle.misp_orgs.specs.Keys.{CallerFields as Caller}
 use Rattle.misp_outside.specs.Held.{Held, nothing_held}
 use Rattle.misp_groups.specs.declared.group.GroupFields.{GroupFields as Group}
-use Rattle.misp_groups.specs.Group.{AreGroups}
+use Rattle.misp_groups.specs.Group.{IsGroup}
 use Rattle.misp_script.specs.Step.{DeedData, GroupData, IsPlaced}
 use Rattle.misp_script.specs.Step as deeds
 use Rattle.misp_model.specs.Names.{Inst, same_inst}
@@ -34,7 +34,7 @@ use Rattle.misp_net.specs.Request.{Reading}
 use Rattle.misp_net.specs.Answering.{Asked, caller_in, form_of, reply_by, held_by, writes_by}
 use Rattle.misp_net.specs.Run.{Act, deed_output, output_of, deed_tables, tables_after, DeedFits, Fits, IsAmong}
 use Rattle.misp_net.specs.Administering.{group_form, FormFits, group_reply, group_held}
-use Rattle.misp_net.specs.History.{site_of, form_deed, group_deed, no_act, deed_act, no_links, applied, world_after, told_reply, told_deed, told_output, AreDistinct, IsHistory}
+use Rattle.misp_net.specs.History.{surroundings_of, form_deed, group_deed, no_act, deed_act, no_links, applied, world_after, told_reply, told_deed, told_output, AreDistinct, IsHistory}
 use Rattle.misp_net.proofs.Forms.{BuiltForm, form_built}
 
 pub world_whole : (n : ℕ) (w : World) (act : model.Act) → step_partly no_links n w act Whole ≡ step no_links n w act
@@ -51,7 +51,7 @@ keeps_same j w next held rows groups keeps = record {
   rows = keeps.rows ∙ ap (map raw_row) (sym rows);
   are_rows = subst AreRows (sym rows) keeps.are_rows;
   groups = keeps.groups ∙ ap Ok (sym groups);
-  are_groups = subst AreGroups (sym groups) keeps.are_groups;
+  are_groups = subst (AllByRecursion IsGroup) (sym groups) keeps.are_groups;
   ascend = subst (IsStrictlySortedBy by_name) (sym groups) keeps.ascend;
 }
 
@@ -147,7 +147,7 @@ module _ (hosts : List Host) (distinct : AreDistinct hosts) (n : ℕ) (w : World
       → IsHistory hosts (suc n) (step_partly no_links n w (record { at = (host_at at hosts).name; now = now; deed = form_deed form (host_at at hosts) caller }) (applied outcome))
       (slice_set old at (held_by outcome n (host_at at hosts) now form (held_at at old)))
   request_left Went at now (Ok asked) caller built lt are =
-      subst (λ v. IsHistory hosts (suc n) v (slice_set old at (held_by Went n (host_at at hosts) now (Ok asked) (held_at at old)))) (sym (world_whole n w (act_at (site_of w (host_at at hosts) now asked.0) asked.1)))
+      subst (λ v. IsHistory hosts (suc n) v (slice_set old at (held_by Went n (host_at at hosts) now (Ok asked) (held_at at old)))) (sym (world_whole n w (act_at (surroundings_of w (host_at at hosts) now asked.0) asked.1)))
       (asked_left at now asked built lt (are refl))
   request_left Went at now (Err refusal) None built lt are = as_before _ _ (world_whole n w _ ∙ step_nothing no_links n w _ refl) (still at)
   request_left Went at now (Err refusal) (Some caller) built lt are = as_before _ _ (world_whole n w _ ∙ step_misfit no_links n w _ _ refl) (still at)

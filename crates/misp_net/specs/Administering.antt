@@ -2,26 +2,21 @@
 use Rattle.std.specs.Prelude.{◌≡◌, ℕ, ◌≤◌, List, Ok, Err}
 use Rattle.std.specs.declared.option.Option.{Option}
 use Rattle.std.specs.declared.option.Option.TheVariants.{Some}
-use Rattle.serde_json.specs.Data.{Data}
 use Rattle.misp_ids.specs.declared.stamp.TheConstants.{LAST_SECOND}
 use Rattle.misp_groups.specs.declared.group.GroupFields.{GroupFields as Group}
 use Rattle.misp_groups.specs.Group.{IsGroup}
 use Rattle.misp_outside.specs.Held.{Held}
 use Rattle.misp_script.specs.Step.{GroupData}
-use Rattle.misp_format.specs.Groups.{group_body_at}
+use Rattle.misp_format.specs.GroupText.{group_in_text}
 use Rattle.misp_core.specs.Sharing.{groups_of}
 use Rattle.misp_core.specs.Administering.{administering_reply, administering_held}
 use Rattle.misp_core.specs.Outcome.{Outcome, Went, outcome_of, refusal_by}
 use Rattle.misp_core.specs.declared.reply.Reply.{Reply}
-use Rattle.misp_net.specs.Request.{Reading, json_in, formed}
-
-abbrev pub group_by : Reading Data → Reading Group
-group_by (Ok d) = formed (group_body_at d)
-group_by (Err refusal) = Err refusal
+use Rattle.misp_net.specs.Request.{Reading, formed}
 
 -- the group that a line brings, or the rule that its text breaks
 unfoldable pub group_form : List ℕ → Reading Group
-group_form text = group_by (json_in text)
+group_form text = formed (group_in_text text)
 
 -- a group that is read is one, and the moment has a stamp
 abbrev pub FormFits : ℕ → Reading Group → Type 0

@@ -3,6 +3,7 @@ use Rattle.std.specs.Prelude.{◌≡◌, ℕ, List, [], Option, Some, None, Resu
 use Rattle.misp_ids.specs.Names.{is_api_key}
 use Rattle.misp_elem.specs.declared.refusal.RuleName.{RuleName}
 use Rattle.misp_elem.specs.declared.refusal.RuleName.TheVariants as rules
+use Rattle.misp_elem.specs.Refusal.{bare}
 use Rattle.misp_elem.specs.declared.row.RowFields.{RowFields as Row}
 use Rattle.misp_elem.specs.Row.{AreRows}
 use Rattle.misp_orgs.specs.Admin.{AdminFields as Admin}
@@ -14,7 +15,7 @@ use Rattle.misp_script.specs.Step.{RequestData}
 use Rattle.misp_core.specs.Permission.{permission_of, is_permitted, no_permission}
 use Rattle.misp_core.specs.Answers.{site, writes_over}
 use Rattle.misp_core.specs.Sharing.{groups_of}
-use Rattle.misp_core.specs.Outcome.{Outcome, Went, outcome_of, asked_of, refusal_by, reply_to, held_after}
+use Rattle.misp_core.specs.Outcome.{Outcome, Went, outcome_of, asked_of, refused_by, refusal_by, reply_to, held_after}
 use Rattle.misp_core.specs.declared.reply.Reply.{Reply}
 use Rattle.misp_core.specs.declared.reply.Reply.TheVariants as replies
 use Rattle.misp_net.specs.declared.route.Route.{Route}
@@ -22,7 +23,7 @@ use Rattle.misp_net.specs.declared.request.AskFault.{AskFault}
 use Rattle.misp_net.specs.declared.request.AskFault.TheVariants as stops
 use Rattle.misp_net.specs.Hosts.{Host}
 use Rattle.misp_net.specs.Route.{route_of}
-use Rattle.misp_net.specs.Request.{Reading, bare, ask_of}
+use Rattle.misp_net.specs.Request.{Reading, ask_of}
 
 -- who asks with a text as key, which may be none that a key could be
 abbrev pub caller_in : Admin → Option (List ℕ) → Option Caller
@@ -64,7 +65,7 @@ form_of admin request word = permitted (read_of admin request word)
 -- the reply to a request that was not read
 abbrev pub fault_reply : AskFault → Reply
 fault_reply (stops.Refused refusal) = replies.Refused refusal
-fault_reply stops.NoMemory = replies.Refused (bare rules.NoMemory)
+fault_reply stops.NoMemory = refused_by rules.NoMemory
 
 -- ---- the reply to the n-th request of a script, of this form
 

@@ -13,30 +13,25 @@ use Rattle.misp_model.specs.Acts.{World, Net}
 use Rattle.misp_model.specs.Acts as model
 use Rattle.misp_model.specs.Outcomes.{Whole, Failed, step_partly, run_partly}
 use Rattle.misp_model.specs.Outcomes as model_outcomes
-use Rattle.misp_core.specs.Answers.{Surroundings, site, name_in, reply_in}
+use Rattle.misp_core.specs.Answers.{Surroundings, site, reply_in}
 use Rattle.misp_core.specs.Keeping.{Keeps, act_at, caller_at}
-use Rattle.misp_core.specs.Outcome.{Outcome, Went, ByKeeper, ByMemory, refusal_by}
+use Rattle.misp_core.specs.Outcome.{Outcome, Went, ByKeeper, ByMemory, refused_by, refusal_by}
 use Rattle.misp_core.specs.declared.reply.Reply.{Reply}
-use Rattle.misp_core.specs.declared.reply.Reply.TheVariants as replies
 use Rattle.misp_net.specs.declared.line.Output.{Output}
 use Rattle.misp_net.specs.declared.line.Output.TheVariants.{Bad, Nothing, Replied}
 use Rattle.misp_net.specs.Hosts.{Host, host_at, Tables, held_at}
-use Rattle.misp_net.specs.Request.{Reading, bare}
+use Rattle.misp_net.specs.Request.{Reading}
 use Rattle.misp_net.specs.Answering.{Asked, caller_in, form_of}
 use Rattle.misp_net.specs.Administering.{group_form, group_reply}
 use Rattle.misp_net.specs.Run.{Act}
 
 -- ---- lines as acts
 
--- who asks there, with the name by which the instance knows the organisation
-abbrev pub asker : Host → Caller → model.Caller
-asker host caller = record { org = caller.org; name = name_in host.admin caller.org }
-
 -- what is asked, or that somebody asked what is no request
 abbrev pub form_deed : Reading Asked → Host → Option Caller → model.Deed
-form_deed (Ok asked) host caller = model.Asks (asker host asked.0) asked.1
+form_deed (Ok asked) host caller = model.Asks (caller_at host.admin asked.0) asked.1
 form_deed (Err refusal) host None = model.Nothing
-form_deed (Err refusal) host (Some caller) = model.Misfits (asker host caller)
+form_deed (Err refusal) host (Some caller) = model.Misfits (caller_at host.admin caller)
 
 abbrev pub request_act : Host → ℕ → ℕ → RequestData → model.Act
 request_act host time word r =
@@ -95,17 +90,17 @@ world_left n hosts w (act ∷ acts) (outcome ∷ outcomes) =
 -- ---- what the history says of a line
 
 -- where and when a caller asks, among the groups that the instance has
-abbrev pub site_of : World → Host → ℕ → Caller → Surroundings
-site_of w host now caller = site host.name host.admin (w.groups host.name) caller now
+abbrev pub surroundings_of : World → Host → ℕ → Caller → Surroundings
+surroundings_of w host now caller = site host.name host.admin (w.groups host.name) caller now
 
 -- the reply to the n-th request, of this form: the stated function of what is asked, and of what
 -- its caller knows
 abbrev pub told_reply : Outcome → ℕ → World → Host → ℕ → Reading Asked → Reply
 told_reply Went n w host now (Ok asked) =
-    let there : Surroundings = site_of w host now asked.0 in
-    reply_in host.admin (model.scene n w (act_at there asked.1) (caller_at there)) asked.1
-told_reply ByKeeper n w host now (Ok asked) = replies.Refused (bare rules.KeeperFault)
-told_reply ByMemory n w host now (Ok asked) = replies.Refused (bare rules.NoMemory)
+    let there : Surroundings = surroundings_of w host now asked.0 in
+    reply_in host.admin (model.scene n w (act_at there asked.1) (caller_at host.admin asked.0)) asked.1
+told_reply ByKeeper n w host now (Ok asked) = refused_by rules.KeeperFault
+told_reply ByMemory n w host now (Ok asked) = refused_by rules.NoMemory
 told_reply outcome n w host now (Err refusal) = refusal_by outcome refusal
 
 abbrev pub told_deed : Outcome → ℕ → List Host → World → ℕ → ℕ → DeedData → Output

@@ -1,20 +1,20 @@
 -- What a request asks, or the rule that its form breaks.
-use Rattle.std.specs.Prelude.{◌≡◌, ℕ, List, [], ◌∷◌, ◌++◌, Option, Some, None, Result, Ok, Err, if◌then◌else◌}
-use Rattle.std.specs.Str.{is_utf8}
-use Rattle.serde_json.specs.Data.{Data}
-use Rattle.serde_json.specs.Read.{read}
+use Rattle.std.specs.Prelude.{◌≡◌, ℕ, List, ◌∷◌, ◌++◌, Result, Ok, Err}
 use Rattle.misp_fields.specs.declared.need.Need.{Need}
 use Rattle.misp_fields.specs.Needs.{need_words}
 use Rattle.misp_elem.specs.Draft.{SubmissionFields as Submission}
 use Rattle.misp_elem.specs.declared.refusal.Refusal.{Refusal}
-use Rattle.misp_elem.specs.declared.refusal.RuleName.{RuleName}
 use Rattle.misp_elem.specs.declared.refusal.RuleName.TheVariants as rules
+use Rattle.misp_elem.specs.Refusal.{bare}
 use Rattle.misp_requests.specs.declared.ask.Ask.{Ask}
 use Rattle.misp_requests.specs.declared.ask.Ask.TheVariants.{View}
 use Rattle.misp_requests.specs.declared.ask.Ask.TheVariants as asks
 use Rattle.misp_requests.specs.declared.change.Change.TheVariants as changes
 use Rattle.misp_format.specs.declared.fault.FormatFault.{FormatFault}
 use Rattle.misp_format.specs.declared.fault.FormatFault.TheVariants as faults
+use Rattle.misp_format.specs.Rows.{◌>>=◌}
+use Rattle.misp_format.specs.Rows as rows
+use Rattle.misp_format.specs.Json.{json_in}
 use Rattle.misp_format.specs.Tables.{event_at}
 use Rattle.misp_net.specs.declared.route.Route.{Route}
 use Rattle.misp_net.specs.declared.route.Route.TheVariants.{AddEvent, ViewEvent, Groups}
@@ -31,30 +31,13 @@ Gives (Ok x) read = read ≡ Ok x
 Gives (Err (stops.Refused refusal)) read = read ≡ Err refusal
 Gives (Err stops.NoMemory) read = Unit {0}
 
--- the same of what it returned as view shows it
-abbrev pub Shows : {X A : Type 0} → (X → A) → Result X AskFault → Reading A → Type 0
-Shows view (Ok x) read = read ≡ Ok (view x)
-Shows view (Err (stops.Refused refusal)) read = read ≡ Err refusal
-Shows view (Err stops.NoMemory) read = Unit {0}
-
--- the refusal by a rule that has no place
-abbrev pub bare : RuleName → Refusal
-bare name = record { name = name; place = [] }
-
-abbrev pub json_or_refusal : Option Data → Reading Data
-json_or_refusal None = Err (bare rules.BadJson)
-json_or_refusal (Some d) = Ok d
-
--- the JSON value of a body, which is UTF-8
-unfoldable pub json_in : List ℕ → Reading Data
-json_in body = json_or_refusal (if is_utf8 body then read body else None)
-
 -- the path of a faulty member, a space, and what was needed there
 abbrev pub field_place : List ℕ → Need → List ℕ
 field_place path need = path ++ 32 ∷ need_words need
 
 -- the refusal of a body that is not of its form
 abbrev pub refusal_of : FormatFault → Refusal
+refusal_of faults.NoJson = bare rules.BadJson
 refusal_of (faults.BadField path need) =
     record { name = rules.BadField; place = field_place path need }
 refusal_of (faults.BinaryType path) = record { name = rules.BinaryType; place = path }
@@ -71,17 +54,17 @@ Refuses faults.NoMemory (stops.Refused refusal) = ⊥
 Refuses fault (stops.Refused refusal) = refusal ≡ refusal_of fault
 Refuses fault stops.NoMemory = Unit {0}
 
+-- the event that a body is, or what is wrong with it
+abbrev pub event_in : List ℕ → ℕ → rows.Reading Submission
+event_in body word = json_in body >>= event_at word
+
 abbrev pub asked : Reading Submission → Reading Ask
 asked (Ok submission) = Ok (asks.Change (changes.AddEvent submission))
 asked (Err refusal) = Err refusal
 
-abbrev pub added_by : ℕ → Reading Data → Reading Ask
-added_by word (Ok d) = asked (formed (event_at word d))
-added_by word (Err refusal) = Err refusal
-
 -- the event that a body adds
 unfoldable pub added : List ℕ → ℕ → Reading Ask
-added body word = added_by word (json_in body)
+added body word = asked (formed (event_in body word))
 
 -- what a request of this route asks
 abbrev pub ask_of : Route → List ℕ → ℕ → Reading Ask

@@ -3,7 +3,7 @@
 use Rattle.std.specs.Prelude.{ℕ, suc, ◌+◌, ◌==◌, List, [], ◌∷◌, map, slice_set, Ok, Err, if◌then◌else◌}
 use Rattle.misp_elem.specs.Row.{AreRows}
 use Rattle.misp_outside.specs.Held.{Held}
-use Rattle.misp_script.specs.Directory.{Site}
+use Rattle.misp_script.specs.Directory.{Roster}
 use Rattle.misp_script.specs.Fields.{Reading}
 use Rattle.misp_script.specs.Lines.{lines_of}
 use Rattle.misp_script.specs.Step.{StepData, DeedData, RequestData, IsPlaced, step_of}
@@ -21,8 +21,8 @@ abbrev pub Act : Type 0
 Act = Reading StepData
 
 -- the lines of a script, among these instances
-abbrev pub acts_of : List Site → List ℕ → List Act
-acts_of sites script = map (step_of sites) (lines_of script)
+abbrev pub acts_of : List Roster → List ℕ → List Act
+acts_of rosters script = map (step_of rosters) (lines_of script)
 
 -- ---- one line
 

@@ -9,9 +9,9 @@ ghost use Rattle.misp_net.specs.Administering.{group_form, IsDone};
 ghost use Rattle.misp_net.specs.Request.{Gives};
 
 use crate::answering::refused;
-use crate::request::{AskFault, fault, json};
+use crate::request::{AskFault, fault};
 use misp_core::{Instance, Reply};
-use misp_format::read_group;
+use misp_format::read_group_text;
 use misp_groups::Group;
 use misp_ids::Stamp;
 use misp_outside::Keeper;
@@ -24,8 +24,7 @@ fn group(alloc: Global, text: &[u8]) -> Result<Group, AskFault>
     ensures read { Gives result (group_form text.now) }
     ensures fits { IfOk result IsGroup }
 {
-    let value = json(alloc, text)?;
-    match read_group(alloc, &value) {
+    match read_group_text(alloc, text) {
         Ok(group) => Ok(group),
         Err(stopped) => Err(fault(alloc, stopped)),
     }

@@ -11,10 +11,10 @@ ghost use Rattle.misp_net.specs.Order.{order};
 ghost use Rattle.misp_net.specs.Hosts.{host_of};
 ghost use Rattle.misp_net.specs.Request.{Gives};
 
-use crate::request::{AskFault, bare, read_ask};
+use crate::request::{AskFault, read_ask};
 use crate::route::Route;
 use misp_core::{Instance, Reply};
-use misp_elem::RuleName;
+use misp_elem::{Refusal, RuleName};
 use misp_ids::{ApiKey, Stamp};
 use misp_orgs::Caller;
 use misp_outside::Keeper;
@@ -44,10 +44,10 @@ fn read<K: Keeper>(
 {
     let route = match Route::of(request.method, request.target) {
         Ok(route) => route,
-        Err(rule) => return Err(AskFault::Refused(bare(alloc, rule))),
+        Err(rule) => return Err(AskFault::Refused(Refusal::bare(alloc, rule))),
     };
     let Some(caller) = caller(instance, &request.key) else {
-        return Err(AskFault::Refused(bare(alloc, RuleName::NoKey)));
+        return Err(AskFault::Refused(Refusal::bare(alloc, RuleName::NoKey)));
     };
     let ask = read_ask(alloc, route, request.body, word)?;
     Ok((caller, ask))
@@ -59,7 +59,7 @@ pub(crate) fn refused(alloc: Global, fault: AskFault) -> Reply
 {
     match fault {
         AskFault::Refused(refusal) => Reply::Refused(refusal),
-        AskFault::NoMemory => Reply::Refused(bare(alloc, RuleName::NoMemory)),
+        AskFault::NoMemory => Reply::Refused(Refusal::bare(alloc, RuleName::NoMemory)),
     }
 }
 

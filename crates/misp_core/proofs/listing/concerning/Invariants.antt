@@ -1,6 +1,6 @@
 use Rattle.std.proofs.Common.{◌≡◌, take}
 use Rattle.std.specs.List.{filter}
-use Rattle.misp_core.specs.Answers.{concerns}
+use Rattle.misp_model.specs.Acts.{concerns}
 use Rattle.misp_core.proofs.listing.concerning.Given as goal
 
 abbrev pub invariant-loop-group : goal.invariant-loop-group

@@ -1,9 +1,8 @@
-use Rattle.serde_json.specs.View.{view}
-use Rattle.misp_format.specs.Groups.{group_body_at}
+use Rattle.misp_format.specs.GroupText.{group_in_text}
 use Rattle.misp_net.specs.Administering.{group_form}
 use Rattle.misp_net.proofs.Formed.{refused_form}
 use Rattle.misp_net.proofs.administering.group.Goals as goal
 
-pub returns-clause-read : goal.returns-clause-read
+pub returns-in-Err-clause-read : goal.returns-in-Err-clause-read
 unfolding group_form
-returns-clause-read c = rw c.in_ok-value.ensures (refused_form c.in-Err.stopped c.fault.result (group_body_at (view c.in_ok-value.value)) c.in-Err.ensures c.fault.ensures)
+returns-in-Err-clause-read c = refused_form c.in-Err.stopped c.fault.result (group_in_text c.args.text.now) c.in-Err.ensures c.fault.ensures

@@ -1,6 +1,6 @@
 use Rattle.std.proofs.Common.{◌≡◌, length, map, vec_len, ◌∙◌, ap, arith, length-append}
 use Rattle.std.proofs.lemmas.List.{length-map}
-use Rattle.misp_script.specs.Directory.{site_of}
+use Rattle.misp_script.specs.Directory.{roster_of}
 use Rattle.misp_net.specs.Hosts.{stock_of, described_host, hosts_of, stocks_of, stocks}
 use Rattle.misp_net.proofs.Openings.{stocks_long, told_back, if_err}
 use Rattle.misp_net.proofs.Privacy.{promised}
@@ -53,7 +53,7 @@ run_lines-lines-requires g c =
     let entries = c.args.net.instances in
     let opened = c.in_ok-instances.instances.items in
     let hosts : hosts_of opened ≡ map described_host entries = c.in_ok-instances.ensures.hosts ∙ ap (map described_host) c.into_vec.ensures in
-    omega (arith, ap length c.in_ok-directory.ensures, length-map entries site_of, opened_long opened entries hosts, length-map opened stock_of, c.in_ok-instances.instances.ok.0)
+    omega (arith, ap length c.in_ok-directory.ensures, length-map entries roster_of, opened_long opened entries hosts, length-map opened stock_of, c.in_ok-instances.instances.ok.0)
 
 pub close_all-requires : goal.close_all-requires
 close_all-requires g c = omega (arith, c.in_ok-instances.ensures.fewer, c.in_ok-instances.ensures.room, c.run_lines-lines.ensures.places)
