@@ -24,7 +24,8 @@ caller_at admin caller = record { org = caller.org; name = name_in admin caller.
 
 -- a request there, as an act
 abbrev pub act_at : Surroundings → Ask → model.Act
-act_at at ask = record { at = at.here; now = at.now; deed = model.Asks (caller_at at.admin at.caller) ask }
+act_at at ask =
+    record { at = at.here; now = at.now; deed = model.Asks (caller_at at.admin at.caller) ask }
 
 -- an administration there, as an act
 abbrev pub act_of : Inst → Stamp → OrgId → Bool → Group → model.Act

@@ -56,8 +56,8 @@ pub fn a_change_is_taken_back()
 {}
 
 /// The name of a group that is put in its place has this group, and every other name the group that
-/// it had. Groups that ascend come of putting one after another in its place, and they ascend in the
-/// order of the history.
+/// it had. Groups that ascend come of putting one after another in its place, and they ascend in
+/// the order of the history.
 pub fn groups_are_put_in_order()
     ensures known { (g : Group) (groups : List Group) (id : GroupId) →
         known_group (put_group g groups) id

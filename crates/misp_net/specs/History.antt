@@ -98,7 +98,8 @@ surroundings_of w host now caller = site host.name host.admin (w.groups host.nam
 abbrev pub told_reply : Outcome → ℕ → World → Host → ℕ → Reading Asked → Reply
 told_reply Went n w host now (Ok asked) =
     let there : Surroundings = surroundings_of w host now asked.0 in
-    reply_in host.admin (model.scene n w (act_at there asked.1) (caller_at host.admin asked.0)) asked.1
+    reply_in host.admin
+    (model.scene n w (act_at there asked.1) (caller_at host.admin asked.0)) asked.1
 told_reply ByKeeper n w host now (Ok asked) = refused_by rules.KeeperFault
 told_reply ByMemory n w host now (Ok asked) = refused_by rules.NoMemory
 told_reply outcome n w host now (Err refusal) = refusal_by outcome refusal

@@ -41,7 +41,8 @@ is_among orgs org = list_any (λ known. known.0.0 == org.0.0) orgs
 
 -- the organisation is known at the instance of this place
 abbrev pub knows : List Roster → ℕ → OrgId → Bool
-knows rosters at org = option_map_or (λ roster. is_among roster.orgs org) (slice_get rosters at) false
+knows rosters at org =
+    option_map_or (λ roster. is_among roster.orgs org) (slice_get rosters at) false
 
 -- ---- how it is kept
 
