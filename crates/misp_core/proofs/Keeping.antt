@@ -18,18 +18,19 @@ use Rattle.misp_dates.specs.Dates.{date_of}
 use Rattle.misp_model.specs.Names.{Inst, same_inst}
 use Rattle.misp_model.specs.View.{known}
 use Rattle.misp_model.specs.History.{tables, fresh_row}
-use Rattle.misp_model.specs.Machine.{put_all, event_rows}
+use Rattle.misp_model.specs.Machine.{put_all, event_rows, hands_in}
 use Rattle.misp_model.specs.Asking.{Scene, change_writes}
 use Rattle.misp_model.specs.Acts.{World, Net, scene, known_at, step, asked, brings, is_accepted}
-use Rattle.misp_model.proofs.Steps.{step_view, step_groups, step_refused, step_changed}
-use Rattle.misp_model.proofs.Submitted.{added_tables, added_elsewhere}
+use Rattle.misp_model.proofs.Steps.{step_accepted, step_refused}
+use Rattle.misp_model.proofs.Elsewhere.{tables_elsewhere}
+use Rattle.misp_model.proofs.Owners.{brings_here}
+use Rattle.misp_model.proofs.Puts.{put_ask}
 use Rattle.misp_levels.specs.Groups.{by_name}
 use Rattle.misp_core.specs.Raw.{raw_row, rows_in}
 use Rattle.misp_core.specs.Sharing.{or_none, groups_of}
 use Rattle.misp_core.specs.Answers.{Surroundings, IsBuilt, scene_at, name_in, reply_in, writes_in, reply_over, writes_over}
 use Rattle.misp_core.specs.Outcome.{asked_of, with_rows}
 use Rattle.misp_core.specs.Keeping.{caller_at, act_at, Keeps}
-use Rattle.misp_core.proofs.Decisions.{none_written, none_for_groups}
 use Rattle.misp_core.proofs.HeldRows.{rows_again, rows_of_event, rows_kept, rows_put, rows_put_held}
 use Rattle.misp_core.proofs.OwnRows.{own_rows, own_alike}
 
@@ -98,96 +99,50 @@ module _ (n : ℕ) (w : World) (at : Surroundings) (ask : Ask) (held : Held) whe
       ∙ (own_alike at.admin ask (tables w.log at.here) (scene_at n at []) built).writes
       ∙ ap (λ s. writes_in s ask) (scene_there n w at ask (same ∙ groups_there at.here w held keeps))
 
+-- no request that is built hands in a package
+built_alone : (a : Ask) → IsBuilt a → hands_in a ≡ false
+unfolding hands_in
+built_alone (View e owner) built = refl
+built_alone (asks.Change c) built = refl
+built_alone (asks.Propose d) built = refl
+built_alone (asks.Judge e n accept) built = refl
+built_alone (asks.Sight e t d) built = refl
+built_alone asks.Index built = refl
+built_alone asks.Groups built = refl
+built_alone (asks.TakePart p) built = absurd built
+
 module _ (net : Net) (n : ℕ) (w : World) (at : Surroundings) where
   abbrev there : Ask → Scene
   there ask = scene n w (act_at at ask) (caller_at at.admin at.caller)
 
-  -- an accepted addition writes its versions, and a refused one nothing
-  written_where : (b : Submission) (is : Bool) → is_accepted (there (asks.Change (AddEvent b))) (asks.Change (AddEvent b)) ≡ is →
-      writes_in (there (asks.Change (AddEvent b))) (asks.Change (AddEvent b)) ≡ cond is (map fresh_row (change_writes (there (asks.Change (AddEvent b))) (AddEvent b))) []
-  unfolding writes_in brings
-  written_where b is e = ap (λ t. cond t (map fresh_row (change_writes (there (asks.Change (AddEvent b))) (AddEvent b))) []) e
-
-  view_left : (e : _) (owner : _) → tables (step net n w (act_at at (View e owner))).log at.here ≡ put_all (writes_in (there (View e owner)) (View e owner)) (tables w.log at.here)
-  unfolding put_all
-  view_left e owner =
-      ap (λ (v : World). tables v.log at.here) (step_view net n w (act_at at (View e owner)) (caller_at at.admin at.caller) e owner refl)
-      ∙ sym (ap (λ rows. put_all rows (tables w.log at.here)) (none_written (there (View e owner)) at.admin e owner))
-
-  told_left : tables (step net n w (act_at at asks.Groups)).log at.here ≡ put_all (writes_in (there asks.Groups) asks.Groups) (tables w.log at.here)
-  unfolding put_all
-  told_left =
-      ap (λ (v : World). tables v.log at.here) (step_groups net n w (act_at at asks.Groups) (caller_at at.admin at.caller) refl)
-      ∙ sym (ap (λ rows. put_all rows (tables w.log at.here)) (none_for_groups (there asks.Groups) at.admin))
-
-  module _ (b : Submission) where
-    abbrev ask : Ask
-    ask = asks.Change (AddEvent b)
-
-    add_left : list_all (λ v. ltb v.act n) w.log ≡ true →
-        tables (step net n w (act_at at ask)).log at.here ≡ put_all (writes_in (there ask) ask) (tables w.log at.here)
-    unfolding put_all scene known_at
-    add_left older = elim (cases_Bool (is_accepted (there ask) ask)) [
-      | inl yes_ ↦
-          ap (λ (v : World). tables v.log at.here) (step_changed net n w (act_at at ask) (caller_at at.admin at.caller) (AddEvent b) refl yes_)
-          ∙ added_tables (there ask) b yes_ w.log refl older
-          ∙ sym (ap (λ rows. put_all rows (tables w.log at.here)) (written_where b true yes_))
-      | inr no_ ↦
-          ap (λ (v : World). tables v.log at.here) (step_refused net n w (act_at at ask) (caller_at at.admin at.caller) ask refl no_)
-          ∙ sym (ap (λ rows. put_all rows (tables w.log at.here)) (written_where b false no_))
-    ]
-
-    add_elsewhere : (j : Inst) → same_inst at.here j ≡ false → tables (step net n w (act_at at ask)).log j ≡ tables w.log j
-    unfolding scene known_at
-    add_elsewhere j apart = elim (cases_Bool (is_accepted (there ask) ask)) [
-      | inl yes_ ↦
-          ap (λ (v : World). tables v.log j) (step_changed net n w (act_at at ask) (caller_at at.admin at.caller) (AddEvent b) refl yes_)
-          ∙ added_elsewhere (there ask) b yes_ w.log j apart
-      | inr no_ ↦ ap (λ (v : World). tables v.log j) (step_refused net n w (act_at at ask) (caller_at at.admin at.caller) ask refl no_)
-    ]
+  -- an accepted request writes what it brings, and a refused one nothing
+  written_where : (a : Ask) (is : Bool) → is_accepted (there a) a ≡ is → writes_in (there a) a ≡ cond is (map fresh_row (brings (there a) a)) []
+  unfolding writes_in
+  written_where a is e = ap (λ t. cond t (map fresh_row (brings (there a) a)) []) e
 
   -- the tables after the act are those before with what it writes
-  tables_left : (a : Ask) → IsBuilt a → list_all (λ v. ltb v.act n) w.log ≡ true →
+  tables_left : (a : Ask) → hands_in a ≡ false → list_all (λ v. ltb v.act n) w.log ≡ true →
       tables (step net n w (act_at at a)).log at.here ≡ put_all (writes_in (there a) a) (tables w.log at.here)
-  tables_left (View e owner) built older = view_left e owner
-  tables_left (asks.Change (AddEvent b)) built older = add_left b older
-  tables_left (asks.Change (changes.AddParts e b)) built older = absurd built
-  tables_left (asks.Change (changes.EditEvent e edit)) built older = absurd built
-  tables_left (asks.Change (changes.EditAttribute e p edit)) built older = absurd built
-  tables_left (asks.Change (changes.EditObject e x edit)) built older = absurd built
-  tables_left (asks.Change (changes.Delete e p)) built older = absurd built
-  tables_left (asks.Change (changes.DeleteReference e x u)) built older = absurd built
-  tables_left (asks.Change (changes.Tag e p t)) built older = absurd built
-  tables_left (asks.Change (changes.Untag e p t)) built older = absurd built
-  tables_left (asks.Change (changes.DeleteEvent e)) built older = absurd built
-  tables_left (asks.Change (changes.Publish e)) built older = absurd built
-  tables_left (asks.Propose d) built older = absurd built
-  tables_left (asks.Judge e n accept) built older = absurd built
-  tables_left (asks.Sight e t d) built older = absurd built
-  tables_left asks.Index built older = absurd built
-  tables_left asks.Groups built older = told_left
-  tables_left (asks.TakePart p) built older = absurd built
+  unfolding put_all scene known_at
+  tables_left a alone older = elim (cases_Bool (is_accepted (there a) a)) [
+    | inl yes_ ↦
+        ap (λ (v : World). tables v.log at.here) (step_accepted net n w (act_at at a) (caller_at at.admin at.caller) a refl yes_)
+        ∙ put_ask (there a) w.log refl older a alone yes_
+        ∙ sym (ap (λ rows. put_all rows (tables w.log at.here)) (written_where a true yes_))
+    | inr no_ ↦
+        ap (λ (v : World). tables v.log at.here) (step_refused net n w (act_at at a) (caller_at at.admin at.caller) a refl no_)
+        ∙ sym (ap (λ rows. put_all rows (tables w.log at.here)) (written_where a false no_))
+  ]
 
   -- the act changes no tables elsewhere
-  pub same_elsewhere : (a : Ask) → IsBuilt a → (j : Inst) → same_inst at.here j ≡ false → tables (step net n w (act_at at a)).log j ≡ tables w.log j
-  same_elsewhere (View e owner) built j apart = ap (λ (v : World). tables v.log j) (step_view net n w (act_at at (View e owner)) (caller_at at.admin at.caller) e owner refl)
-  same_elsewhere (asks.Change (AddEvent b)) built j apart = add_elsewhere b j apart
-  same_elsewhere (asks.Change (changes.AddParts e b)) built j apart = absurd built
-  same_elsewhere (asks.Change (changes.EditEvent e edit)) built j apart = absurd built
-  same_elsewhere (asks.Change (changes.EditAttribute e p edit)) built j apart = absurd built
-  same_elsewhere (asks.Change (changes.EditObject e x edit)) built j apart = absurd built
-  same_elsewhere (asks.Change (changes.Delete e p)) built j apart = absurd built
-  same_elsewhere (asks.Change (changes.DeleteReference e x u)) built j apart = absurd built
-  same_elsewhere (asks.Change (changes.Tag e p t)) built j apart = absurd built
-  same_elsewhere (asks.Change (changes.Untag e p t)) built j apart = absurd built
-  same_elsewhere (asks.Change (changes.DeleteEvent e)) built j apart = absurd built
-  same_elsewhere (asks.Change (changes.Publish e)) built j apart = absurd built
-  same_elsewhere (asks.Propose d) built j apart = absurd built
-  same_elsewhere (asks.Judge e n accept) built j apart = absurd built
-  same_elsewhere (asks.Sight e t d) built j apart = absurd built
-  same_elsewhere asks.Index built j apart = absurd built
-  same_elsewhere asks.Groups built j apart = ap (λ (v : World). tables v.log j) (step_groups net n w (act_at at asks.Groups) (caller_at at.admin at.caller) refl)
-  same_elsewhere (asks.TakePart p) built j apart = absurd built
+  pub same_elsewhere : (a : Ask) → (j : Inst) → same_inst at.here j ≡ false → tables (step net n w (act_at at a)).log j ≡ tables w.log j
+  unfolding scene known_at
+  same_elsewhere a j apart = elim (cases_Bool (is_accepted (there a) a)) [
+    | inl yes_ ↦
+        ap (λ (v : World). tables v.log j) (step_accepted net n w (act_at at a) (caller_at at.admin at.caller) a refl yes_)
+        ∙ tables_elsewhere at.here j (brings (there a) a) w.log apart (brings_here (there a) a)
+    | inr no_ ↦ ap (λ (v : World). tables v.log j) (step_refused net n w (act_at at a) (caller_at at.admin at.caller) a refl no_)
+  ]
 
   -- it changes no groups
   pub same_groups : (a : Ask) → (step net n w (act_at at a)).groups ≡ w.groups
@@ -200,7 +155,7 @@ module _ (net : Net) (n : ℕ) (w : World) (at : Surroundings) where
   left_there a held built older same keeps are =
       let written : writes_over n at a (asked_of a held) ≡ writes_in (there a) a = written_there n w at a held built same keeps in
       let left : tables (step net n w (act_at at a)).log at.here ≡ put_all (writes_over n at a (asked_of a held)) (tables w.log at.here) =
-      tables_left a built older ∙ sym (ap (λ rows. put_all rows (tables w.log at.here)) written) in
+      tables_left a (built_alone a built) older ∙ sym (ap (λ rows. put_all rows (tables w.log at.here)) written) in
       record {
         rows =
             ap (put_rows (map raw_row (writes_over n at a (asked_of a held)))) keeps.rows

@@ -22,9 +22,11 @@ use Rattle.misp_model.specs.Order.{in_order}
 use Rattle.misp_model.specs.Asking as asking
 use Rattle.misp_model.specs.Acts.{ask_rules, answer, ok_answer, brings, is_accepted, concerning}
 use Rattle.misp_model.specs.Acts as model
-use Rattle.misp_model.specs.Machine.{event_rows, seeing}
+use Rattle.misp_model.specs.Machine.{event_rows, seeing, event_changed}
+use Rattle.misp_model.specs.Machine.{event_asked as event_about}
 use Rattle.misp_model.proofs.Lists.{any_cut}
-use Rattle.misp_model.proofs.OneEvent.{IsSame, known_here, has_target_of_event, view_of_event, add_of_event}
+use Rattle.misp_model.proofs.OneEvent.{IsSame, known_here, has_target_of_event}
+use Rattle.misp_model.proofs.OneEventChanges.{ask_of_event}
 use Rattle.misp_edit.specs.Adding.{numbered_uuids, is_read_before, read_uuids, with_those_before, is_clash, first_clash, labels_of, first_unusable}
 use Rattle.misp_core.specs.declared.reply.Answer.TheVariants as answers
 use Rattle.misp_core.specs.declared.reply.Reply.TheVariants as replies
@@ -124,8 +126,9 @@ groups_of_any s rows others = record { rules = refl; accepted = refl; answers = 
 
 -- what is asked of an event is replied and written over its own rows as over all
 pub own_alike : (admin : Admin) (ask : Ask) (rows : List Row) (s : Scene) → IsBuilt ask → IsAlike admin (seeing s (own_rows ask rows)) (seeing s rows) ask
-own_alike admin (View e owner) rows s built = alike admin _ _ (View e owner) refl (λ rule. refl) (view_of_event e rows s owner)
-own_alike admin (asks.Change (AddEvent b)) rows s built = alike admin _ _ (asks.Change (AddEvent b)) refl (added_place_own b rows s) (add_of_event b rows s)
+unfolding event_about event_changed
+own_alike admin (View e owner) rows s built = alike admin _ _ (View e owner) refl (λ rule. refl) (ask_of_event e rows s (View e owner) refl)
+own_alike admin (asks.Change (AddEvent b)) rows s built = alike admin _ _ (asks.Change (AddEvent b)) refl (added_place_own b rows s) (ask_of_event b.event rows s (asks.Change (AddEvent b)) refl)
 own_alike admin (asks.Change (changes.AddParts e b)) rows s built = absurd built
 own_alike admin (asks.Change (changes.EditEvent e edit)) rows s built = absurd built
 own_alike admin (asks.Change (changes.EditAttribute e p edit)) rows s built = absurd built

@@ -4,3 +4,9 @@ pub mod UuidLemmas
 pub mod TargetLemmas
 pub mod RuleLemmas
 pub mod RowLemmas
+pub mod ChangeLemmas
+pub mod RenewedRows
+pub mod EditedRows
+pub mod EditLaws
+pub mod MarkLemmas
+pub mod TaggedRows

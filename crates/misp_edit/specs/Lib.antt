@@ -3,3 +3,5 @@ pub mod Labels
 pub mod Uuids
 pub mod Targets
 pub mod Rows
+pub mod Changing
+pub mod Edits

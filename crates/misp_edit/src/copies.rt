@@ -8,7 +8,7 @@ use misp_elem::{Content, KeyForm, Place, Row};
 use misp_ids::{EventId, OrgId};
 
 #[tactic(auto, unfolding(misp_model::specs::View::is_mark))]
-fn is_mark(row: &Row) -> bool
+pub(crate) fn is_mark(row: &Row) -> bool
     ensures { result ≡ is_mark row.now }
 {
     matches!(row.content, Content::Gone)
@@ -16,7 +16,7 @@ fn is_mark(row: &Row) -> bool
 
 // Whether the row is the owner's row of the event itself.
 #[tactic(auto, unfolding(misp_model::specs::View::is_row_of, misp_model::specs::Names::event_key, misp_model::specs::Names::same_key, misp_model::specs::Names::same_place, misp_model::specs::Names::same_event, misp_model::specs::Names::same_org))]
-fn is_event_row(row: &Row, owner: OrgId, event: EventId) -> bool
+pub(crate) fn is_event_row(row: &Row, owner: OrgId, event: EventId) -> bool
     ensures { result ≡ is_row_of owner (event_key event) row.now }
 {
     match row.key.form {

@@ -23,7 +23,12 @@ fn passes(group: &GroupId, groups: &Groups, here: &InstId, org: &OrgId) -> bool
 
 // The group that a label names, if the organisation may not use it here.
 #[tactic(auto, unfolding(crate::specs::Labels::is_unusable))]
-fn unusable_group(label: Label, groups: &Groups, here: &InstId, org: &OrgId) -> Option<GroupId>
+pub(crate) fn unusable_group(
+    label: Label,
+    groups: &Groups,
+    here: &InstId,
+    org: &OrgId,
+) -> Option<GroupId>
     ensures { option_map labels.Group result
         ≡ find (is_unusable groups.now here.now org.now) (label ∷ []) }
 {

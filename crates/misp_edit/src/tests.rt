@@ -354,3 +354,61 @@ fn each_fault_stands_in_its_place(rt: HostRuntime) -> Result<(), Fail> {
     }
     Ok(())
 }
+
+// The rows of the event after the first object was deleted, and that deletion.
+fn after_deletion(
+    alloc: Global,
+    org: OrgId,
+    rows: &[Row],
+) -> Result<Result<Vec<Row>, ChangeFault>, Fail> {
+    let here = InstId::read("north").ok_or("the name is one")?;
+    let now = Stamp::new(1_700_000_000).ok_or("the moment is one")?;
+    let groups = Groups::new(alloc);
+    let place = Place::Object(ElemId(Uid(0xb1)));
+    Ok(delete(alloc, &EVENT, &place, &org, &groups, &here, now, rows))
+}
+
+fn marked(alloc: Global, org: OrgId, rows: &[Row]) -> Result<Result<Vec<Row>, ChangeFault>, Fail> {
+    let here = InstId::read("north").ok_or("the name is one")?;
+    let now = Stamp::new(1_700_000_000).ok_or("the moment is one")?;
+    let groups = Groups::new(alloc);
+    Ok(delete_event(alloc, &EVENT, &org, &groups, &here, now, rows))
+}
+
+#[test]
+fn an_element_is_deleted_once_and_by_its_owner(rt: HostRuntime) -> Result<(), Fail> {
+    let rows = added(rt.alloc(), CALLER, PLAIN, &[])?;
+    let mut rows = rows.ok().ok_or("nothing refuses")?;
+    let others = after_deletion(rt.alloc(), OTHER, rows.as_slice())?;
+    assert_eq!(rt; others.err(), Some(ChangeFault::NotOwner));
+    let made = after_deletion(rt.alloc(), CALLER, rows.as_slice())?;
+    let mut made = made.ok().ok_or("nothing refuses")?;
+    assert_eq!(rt; made.len(), 1);
+    assert_eq!(rt; made[0].stamp.get(), 1_700_000_001);
+    if let Some(row) = made.pop() {
+        if rows.len() > 1 {
+            rows[1] = row;
+        }
+    }
+    let again = after_deletion(rt.alloc(), CALLER, rows.as_slice())?;
+    assert_eq!(rt; again.err(), Some(ChangeFault::NotGranted));
+    Ok(())
+}
+
+#[test]
+fn a_deleted_event_leaves_a_mark(rt: HostRuntime) -> Result<(), Fail> {
+    let rows = added(rt.alloc(), CALLER, PLAIN, &[])?;
+    let mut rows = rows.ok().ok_or("nothing refuses")?;
+    let made = marked(rt.alloc(), CALLER, rows.as_slice())?;
+    let mut made = made.ok().ok_or("nothing refuses")?;
+    assert_eq!(rt; made.len(), 1);
+    assert!(rt; matches!(made[0].content, Content::Gone) && !made[0].held);
+    if let Some(row) = made.pop() {
+        if !rows.is_empty() {
+            rows[0] = row;
+        }
+    }
+    let again = marked(rt.alloc(), CALLER, rows.as_slice())?;
+    assert_eq!(rt; again.err(), Some(ChangeFault::NotGranted));
+    Ok(())
+}

@@ -32,7 +32,7 @@ added_fails old by g = elim (cases_Bool (same_org by g.id.creator)) [
 ]
 
 -- the test that the group of a name passes, where one is known
-abbrev passes : (Group → Bool) → Option Group → Bool
+abbrev pub passes : (Group → Bool) → Option Group → Bool
 passes test None = false
 passes test (Some h) = test h
 
@@ -41,7 +41,7 @@ none_after test id [] all = refl
 none_after test id (x ∷ xs) all = rw (greater_apart x.id id all.0) (none_after test id xs all.1)
 
 -- of an ascending list at most one group has the name
-any_known : (test : Group → Bool) (id : GroupId) (xs : List Group) → IsStrictlySortedBy by_name xs → list_any (λ h. same_group h.id id && test h) xs ≡ passes test (known_group xs id)
+pub any_known : (test : Group → Bool) (id : GroupId) (xs : List Group) → IsStrictlySortedBy by_name xs → list_any (λ h. same_group h.id id && test h) xs ≡ passes test (known_group xs id)
 unfolding IsStrictlySortedBy known_group
 any_known test id [] up = refl
 any_known test id (x ∷ xs) up = elim (cases_Bool (same_group x.id id)) [

@@ -6,3 +6,4 @@ pub mod Places
 pub mod Putting
 pub mod Servers
 pub mod Steps
+pub mod Taking

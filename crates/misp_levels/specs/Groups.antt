@@ -1,5 +1,5 @@
 -- The groups that are known at an instance, and how they change.
-use Rattle.std.specs.Prelude.{◌≡◌, ℕ, ◌<◌, ◌≤◌, ◌==◌, not, List, [], ◌∷◌, length, filter, take, drop, slice_index_or, Option, Some, None, IfSome, unwrap_or, if◌then◌else◌}
+use Rattle.std.specs.Prelude.{◌≡◌, ℕ, ◌<◌, ◌≤◌, ◌==◌, Bool, ltb, ◌&&◌, not, List, [], ◌∷◌, length, filter, take, drop, slice_index_or, Option, Some, None, IfSome, unwrap_or, if◌then◌else◌}
 use Rattle.std.specs.declared.cmp.Ordering.{Ordering}
 use Rattle.std.specs.declared.cmp.Ordering.TheVariants.{Less}
 use Rattle.std.specs.Ordering.{nat_cmp, ordering_then}
@@ -12,6 +12,8 @@ use Rattle.misp_model.specs.Names.{Stamp, same_org, same_group}
 use Rattle.misp_model.specs.Asking.{last_stamp, next_stamp}
 use Rattle.misp_model.specs.Audience.{known_group, is_known_group}
 use Rattle.misp_model.specs.Acts.{put_group}
+use Rattle.misp_levels.specs.declared.groups.Taken.{Taken}
+use Rattle.misp_levels.specs.declared.groups.Taken.TheVariants.{New, Newer, Held}
 use Rattle.misp_levels.specs.declared.fault.GroupFault.{GroupFault}
 use Rattle.misp_levels.specs.declared.fault.GroupFault.TheVariants.{NotCreator, GroupExists, NoGroup, LockedGroup, TimeLimit, NoMemory}
 
@@ -68,6 +70,17 @@ pub record NotAdded (old new : List Group) (by : OrgId) (id : GroupId)
     (fault : GroupFault) : Type 0 where
   pub cause : fault ≡ unwrap_or (why_not_added old by id) NoMemory
   pub same : new ≡ old
+
+-- ---- taking
+
+-- the group that is known came by a synchronisation, and is older than the other
+unfoldable pub is_older : Group → Group → Bool
+is_older held g = held.carried && ltb held.modified g.modified
+
+-- what becomes of a group that comes by a synchronisation, where this one is known, if one is
+unfoldable pub taken_by : Option Group → Group → Taken
+taken_by None g = New
+taken_by (Some held) g = if is_older held g then Newer else Held
 
 -- ---- editing
 

@@ -4,10 +4,10 @@ ghost use Rattle.std.specs.Prelude.{◌≡◌, ◌<◌, true, false, [], length,
 ghost use Rattle.std.specs.List.{remove};
 ghost use Rattle.std.specs.List.Sorted.{IsStrictlySortedBy};
 ghost use Rattle.misp_model.specs.Asking.{next_stamp};
-ghost use Rattle.misp_model.specs.Acts.{put_group};
+ghost use Rattle.misp_model.specs.Acts.{put_group, take_group};
 ghost use Rattle.misp_model.specs.Audience.{known_group, is_known_group};
 ghost use Rattle.misp_model.specs.Names.{same_org};
-ghost use Rattle.misp_levels.specs.Groups.{by_id, by_name, restored, why_kept, IsPlaceOf, IsGapFor, Adds, NotAdded, Edits, NotEdited};
+ghost use Rattle.misp_levels.specs.Groups.{by_id, by_name, is_older, taken_by, restored, why_kept, IsPlaceOf, IsGapFor, Adds, NotAdded, Edits, NotEdited};
 
 use crate::fault::GroupFault;
 use misp_groups::Group;
@@ -76,6 +76,33 @@ fn edit_stamp(held: &Group, now: Stamp) -> Result<Stamp, GroupFault>
         Some(stamp) => Ok(stamp),
         None => Err(GroupFault::TimeLimit),
     }
+}
+
+/// What became of a group that came by a synchronisation.
+#[derive(Clone, Copy, Debug, PartialEq, Eq)]
+pub enum Taken {
+    /// None of its name was known.
+    New,
+    /// It replaced an older one that had come so too.
+    Newer,
+    /// The one that was known stays.
+    Held,
+}
+
+// Whether the group that is known came by a synchronisation and is older than the other.
+#[tactic(auto, unfolding(crate::specs::Groups::is_older))]
+fn is_older(held: &Group, group: &Group) -> bool
+    ensures { result ≡ is_older held.now group.now }
+{
+    held.carried && held.modified.get() < group.modified.get()
+}
+
+// The group as one that came by a synchronisation.
+fn carried(mut group: Group) -> Group
+    ensures { result ≡ record group { carried = true } }
+{
+    group.carried = true;
+    group
 }
 
 impl Groups {
@@ -155,6 +182,29 @@ impl Groups {
                 Ok(self.put_at(place, group.home(stamp)))
             }
             Err(_) => Err(GroupFault::NoGroup),
+        }
+    }
+
+    /// Takes a group that comes by a synchronisation where none of its name is known, or an older one
+    /// that came so too. It takes memory only where none is known.
+    pub fn take(&mut self, group: Group) -> Result<Taken, NoMemory>
+        ensures ok { OnOk result (self.new ≡ take_group self.old group) }
+        ensures taken { IfOk result (λ taken. taken ≡ taken_by (known_group self.old group.id) group) }
+        ensures err { OnErr result (self.new ≡ self.old) }
+    {
+        let groups = self.groups.as_slice();
+        match place_of(groups, &group.id) {
+            Ok(place) => {
+                if !is_older(&groups[place], &group) {
+                    return Ok(Taken::Held);
+                }
+                drop(self.put_at(place, carried(group)));
+                Ok(Taken::Newer)
+            }
+            Err(gap) => {
+                self.put_into(gap, carried(group))?;
+                Ok(Taken::New)
+            }
         }
     }
 

@@ -67,7 +67,7 @@ module _ (v : Version) (i : Inst) (here : same_inst v.at i ≡ true) where
   unfolding newest newest_from
   newest_has log h = many_more log [] (λ k. k) h
 
-any_put : {X : Type 0} (before : X → X → Bool) (p : X → Bool) (x : X) (ys : List X) → list_any p (put before x ys) ≡ (p x || list_any p ys)
+pub any_put : {X : Type 0} (before : X → X → Bool) (p : X → Bool) (x : X) (ys : List X) → list_any p (put before x ys) ≡ (p x || list_any p ys)
 unfolding put
 any_put before p x [] = refl
 any_put before p x (y ∷ ys) = one (before x y) (any_put before p x ys)
@@ -82,12 +82,12 @@ any_put before p x (y ∷ ys) = one (before x y) (any_put before p x ys)
     one true ih = refl
     one false ih = ap (λ t. p y || t) ih ∙ swap (p y) (p x) (list_any p ys)
 
-any_in_order : {X : Type 0} (before : X → X → Bool) (p : X → Bool) (xs : List X) → list_any p (in_order before xs) ≡ list_any p xs
+pub any_in_order : {X : Type 0} (before : X → X → Bool) (p : X → Bool) (xs : List X) → list_any p (in_order before xs) ≡ list_any p xs
 unfolding in_order
 any_in_order before p [] = refl
 any_in_order before p (x ∷ xs) = any_put before p x (in_order before xs) ∙ ap (λ t. p x || t) (any_in_order before p xs)
 
-any_map : {X Y : Type 0} (f : X → Y) (p : Y → Bool) (xs : List X) → list_any p (map f xs) ≡ list_any (λ x. p (f x)) xs
+pub any_map : {X Y : Type 0} (f : X → Y) (p : Y → Bool) (xs : List X) → list_any p (map f xs) ≡ list_any (λ x. p (f x)) xs
 any_map f p [] = refl
 any_map f p (x ∷ xs) = ap (λ t. p (f x) || t) (any_map f p xs)
 

@@ -252,7 +252,7 @@ add_levels n l drafts =
 
 -- all that a run computes with
 everything : Unit {0}
-unfolding Rattle.misp_model.specs.Outcomes.is_event_version Rattle.misp_model.specs.Outcomes.others_of Rattle.misp_model.specs.Outcomes.parts_of Rattle.misp_model.specs.Outcomes.packages_before Rattle.misp_model.specs.Outcomes.package_of Rattle.misp_model.specs.Outcomes.is_newer Rattle.misp_model.specs.Outcomes.taken Rattle.misp_model.specs.Outcomes.is_first_taken Rattle.misp_model.specs.Outcomes.batches_before Rattle.misp_model.specs.Outcomes.first_batches Rattle.misp_model.specs.Outcomes.coming Rattle.misp_model.specs.Outcomes.synced_partly Rattle.misp_model.specs.Outcomes.step_partly Rattle.misp_model.specs.Outcomes.run_partly Rattle.misp_model.specs.Asking.brings_object Rattle.misp_model.specs.Asking.reference_fits Rattle.misp_model.specs.Acts.known_at Rattle.misp_model.specs.Acts.scene Rattle.misp_model.specs.Acts.ask_rules Rattle.misp_model.specs.Acts.taken_rows Rattle.misp_model.specs.Acts.brings Rattle.misp_model.specs.Acts.is_accepted Rattle.misp_model.specs.Acts.newer Rattle.misp_model.specs.Acts.ok_answer Rattle.misp_model.specs.Acts.answer Rattle.misp_model.specs.Acts.administration_fails Rattle.misp_model.specs.Acts.administered Rattle.misp_model.specs.Acts.put_group Rattle.misp_model.specs.Acts.takes_group Rattle.misp_model.specs.Acts.group_stamp Rattle.misp_model.specs.Acts.group_now Rattle.misp_model.specs.Acts.concerning Rattle.misp_model.specs.Names.group_before Rattle.misp_model.specs.Acts.take_group Rattle.misp_model.specs.Acts.take_groups Rattle.misp_model.specs.Acts.with_groups Rattle.misp_model.specs.Acts.synced_groups Rattle.misp_model.specs.Acts.synced Rattle.misp_model.specs.Acts.asked Rattle.misp_model.specs.Acts.step Rattle.misp_model.specs.Acts.run Rattle.misp_model.specs.Acts.reply_to Rattle.misp_model.specs.Acts.replies_to Rattle.misp_model.specs.Arrival.is_made_at Rattle.misp_model.specs.Arrival.is_welcome Rattle.misp_model.specs.Arrival.has_event Rattle.misp_model.specs.Arrival.counts Rattle.misp_model.specs.Arrival.counted Rattle.misp_model.specs.Arrival.moved Rattle.misp_model.specs.Arrival.handed_in Rattle.misp_model.specs.Asking.first_rule Rattle.misp_model.specs.Asking.holds_home Rattle.misp_model.specs.Asking.holds_copy Rattle.misp_model.specs.Asking.holds_mark Rattle.misp_model.specs.Asking.sees Rattle.misp_model.specs.Asking.sees_live Rattle.misp_model.specs.Asking.own_row Rattle.misp_model.specs.Asking.own_live Rattle.misp_model.specs.Asking.is_usable Rattle.misp_model.specs.Asking.last_stamp Rattle.misp_model.specs.Asking.next_stamp Rattle.misp_model.specs.Asking.written Rattle.misp_model.specs.Asking.changed Rattle.misp_model.specs.Asking.uuid_at Rattle.misp_model.specs.Asking.takes_uuid Rattle.misp_model.specs.Asking.is_taken Rattle.misp_model.specs.Asking.are_distinct Rattle.misp_model.specs.Asking.is_place_of Rattle.misp_model.specs.Asking.is_target_key Rattle.misp_model.specs.Asking.place_in Rattle.misp_model.specs.Asking.target_in_copy Rattle.misp_model.specs.Asking.target_of Rattle.misp_model.specs.Asking.part_version Rattle.misp_model.specs.Asking.reference_key Rattle.misp_model.specs.Asking.reference_version Rattle.misp_model.specs.Asking.parts_written Rattle.misp_model.specs.Asking.has_target Rattle.misp_model.specs.Asking.uuids_of Rattle.misp_model.specs.Asking.clashes Rattle.misp_model.specs.Asking.has_unusable Rattle.misp_model.specs.Asking.new_event Rattle.misp_model.specs.Asking.event_written Rattle.misp_model.specs.Asking.given Rattle.misp_model.specs.Asking.edited Rattle.misp_model.specs.Asking.at_attribute Rattle.misp_model.specs.Asking.edited_event Rattle.misp_model.specs.Asking.edited_object Rattle.misp_model.specs.Asking.at_event Rattle.misp_model.specs.Asking.at_object Rattle.misp_model.specs.Asking.as_deleted Rattle.misp_model.specs.Asking.at_tags Rattle.misp_model.specs.Asking.tags_in Rattle.misp_model.specs.Asking.untagged Rattle.misp_model.specs.Asking.tagged Rattle.misp_model.specs.Asking.has_tag Rattle.misp_model.specs.Asking.at_publishing Rattle.misp_elem.specs.Row.tags_size Rattle.misp_elem.specs.Row.text_size Rattle.misp_model.specs.Asking.is_too_long Rattle.misp_model.specs.Asking.own_row_is Rattle.misp_model.specs.Asking.is_at_limit Rattle.misp_model.specs.Asking.changed_row Rattle.misp_model.specs.Asking.wants_unusable Rattle.misp_model.specs.Asking.is_newer_than Rattle.misp_model.specs.Asking.bars Rattle.misp_model.specs.Asking.object_is_there Rattle.misp_model.specs.Asking.part_fits Rattle.misp_model.specs.Asking.fits_parts Rattle.misp_model.specs.Asking.is_reference_named Rattle.misp_model.specs.Asking.own_reference Rattle.misp_model.specs.Asking.row_passes Rattle.misp_model.specs.Asking.edit_rules Rattle.misp_model.specs.Asking.change_rules Rattle.misp_model.specs.Asking.is_held_in Rattle.misp_model.specs.Asking.let_out_row Rattle.misp_model.specs.Asking.let_out Rattle.misp_model.specs.Asking.as_published Rattle.misp_model.specs.Asking.change_writes Rattle.misp_model.specs.Asking.proposal_key Rattle.misp_model.specs.Asking.sees_target Rattle.misp_model.specs.Asking.propose_rules Rattle.misp_model.specs.Asking.propose_writes Rattle.misp_model.specs.Asking.sighting_key Rattle.misp_model.specs.Asking.sight_rules Rattle.misp_model.specs.Asking.sight_writes Rattle.misp_model.specs.Asking.judged_at Rattle.misp_model.specs.Asking.judged_place Rattle.misp_model.specs.Asking.is_for_new Rattle.misp_model.specs.Asking.proposal_row Rattle.misp_model.specs.Asking.proposal_body Rattle.misp_model.specs.Asking.accepted Rattle.misp_model.specs.Asking.made Rattle.misp_model.specs.Asking.body_seen Rattle.misp_model.specs.Asking.acceptance Rattle.misp_model.specs.Asking.judge_writes Rattle.misp_model.specs.Asking.can_judge Rattle.misp_model.specs.Asking.judge_rules Rattle.misp_model.specs.Audience.allows Rattle.misp_model.specs.Audience.carries Rattle.misp_model.specs.Audience.known_group Rattle.misp_model.specs.Audience.is_known_group Rattle.misp_model.specs.Audience.group_passes Rattle.misp_model.specs.Audience.label_opens Rattle.misp_model.specs.Audience.is_open Rattle.misp_model.specs.Audience.hop Rattle.misp_model.specs.Audience.down Rattle.misp_model.specs.Audience.label_lets_out Rattle.misp_model.specs.Audience.label_is_known Rattle.misp_model.specs.Erasure.cut_rows Rattle.misp_model.specs.Erasure.cut Rattle.misp_model.specs.Erasure.cut_world Rattle.misp_model.specs.Erasure.keeps_reference Rattle.misp_model.specs.Erasure.cut_body Rattle.misp_model.specs.Erasure.is_empty Rattle.misp_model.specs.Erasure.where_kept Rattle.misp_model.specs.Erasure.erased_ask Rattle.misp_model.specs.Erasure.erased_request Rattle.misp_model.specs.Erasure.erased_deed Rattle.misp_model.specs.Erasure.erased_act Rattle.misp_model.specs.Erasure.erase Rattle.misp_model.specs.History.has_path Rattle.misp_model.specs.History.is_published Rattle.misp_model.specs.History.is_handed_in Rattle.misp_model.specs.History.is_statement Rattle.misp_model.specs.History.is_gone Rattle.misp_model.specs.History.exportable Rattle.misp_model.specs.History.without_local_tags Rattle.misp_model.specs.History.label_now Rattle.misp_model.specs.History.content_now Rattle.misp_model.specs.History.same_cell Rattle.misp_model.specs.History.published_after Rattle.misp_model.specs.History.released Rattle.misp_model.specs.History.row_of Rattle.misp_model.specs.History.is_newest Rattle.misp_model.specs.History.newest_from Rattle.misp_model.specs.History.newest Rattle.misp_model.specs.History.tables Rattle.misp_model.specs.History.spell_place Rattle.misp_model.specs.History.spell_inst Rattle.misp_model.specs.History.spell_name Rattle.misp_model.specs.History.spell Rattle.misp_model.specs.History.stands_before Rattle.misp_model.specs.Kept.is_one_of Rattle.misp_model.specs.Kept.joined Rattle.misp_model.specs.Kept.keys_known Rattle.misp_model.specs.Kept.keys_ever_known Rattle.misp_model.specs.Kept.acceptance_in Rattle.misp_model.specs.Kept.acceptance_of Rattle.misp_model.specs.Kept.acceptances Rattle.misp_model.specs.Kept.judged_by Rattle.misp_model.specs.Kept.proposal_of Rattle.misp_model.specs.Kept.with_parents Rattle.misp_model.specs.Kept.with_made Rattle.misp_model.specs.Kept.with_acceptances Rattle.misp_model.specs.Kept.with_proposals Rattle.misp_model.specs.Kept.kept_keys Rattle.misp_model.specs.Kept.kept Rattle.misp_model.specs.Kept.start Rattle.misp_model.specs.Kept.erased Rattle.misp_model.specs.Kept.replies Rattle.misp_model.specs.Names.same_inst Rattle.misp_model.specs.Names.same_org Rattle.misp_model.specs.Names.same_event Rattle.misp_model.specs.Names.same_elem Rattle.misp_model.specs.Names.same_group Rattle.misp_model.specs.Names.same_place Rattle.misp_model.specs.Names.same_name Rattle.misp_model.specs.Names.same_key Rattle.misp_model.specs.Names.event_of Rattle.misp_model.specs.Names.event_key Rattle.misp_model.specs.Names.above Rattle.misp_model.specs.Names.up_to Rattle.misp_model.specs.Names.parents Rattle.misp_model.specs.Names.is_among Rattle.misp_model.specs.Order.put Rattle.misp_model.specs.Order.in_order Rattle.misp_model.specs.Order.is_less Rattle.misp_model.specs.Passing.lets_out Rattle.misp_model.specs.Passing.sent_copy Rattle.misp_model.specs.Passing.is_sent_owner Rattle.misp_model.specs.Passing.element_passes Rattle.misp_model.specs.Passing.passes_at Rattle.misp_model.specs.Passing.passes_by Rattle.misp_model.specs.Passing.passes Rattle.misp_model.specs.Passing.known_there Rattle.misp_model.specs.Passing.passing Rattle.misp_model.specs.Shown.order_of Rattle.misp_model.specs.Shown.sorted Rattle.misp_model.specs.Shown.is_shown Rattle.misp_model.specs.Shown.shown_at Rattle.misp_model.specs.Shown.is_plain_attribute Rattle.misp_model.specs.Shown.is_attribute_of Rattle.misp_model.specs.Shown.is_object Rattle.misp_model.specs.Shown.is_reference_of Rattle.misp_model.specs.Shown.is_proposal_on Rattle.misp_model.specs.Shown.is_sighting_on Rattle.misp_model.specs.Shown.is_verdict_on Rattle.misp_model.specs.Shown.is_closed Rattle.misp_model.specs.Shown.proposals_on Rattle.misp_model.specs.Shown.sightings_on Rattle.misp_model.specs.Shown.shown_attribute Rattle.misp_model.specs.Shown.object_of Rattle.misp_model.specs.Shown.shown_object Rattle.misp_model.specs.Shown.creator Rattle.misp_model.specs.Shown.form_of Rattle.misp_model.specs.Shown.event_row Rattle.misp_model.specs.Shown.shown Rattle.misp_model.specs.Shown.is_chosen Rattle.misp_model.specs.Shown.index Rattle.misp_model.specs.View.is_row_of Rattle.misp_model.specs.View.is_mark Rattle.misp_model.specs.View.is_deleted Rattle.misp_model.specs.View.has_copy Rattle.misp_model.specs.View.has_home Rattle.misp_model.specs.View.has_gone Rattle.misp_model.specs.View.row_is_open Rattle.misp_model.specs.View.has_open Rattle.misp_model.specs.View.element_granted Rattle.misp_model.specs.View.granted_somewhere Rattle.misp_model.specs.View.granted_by Rattle.misp_model.specs.View.granted Rattle.misp_model.specs.View.is_known Rattle.misp_model.specs.View.known Rattle.misp_model.specs.View.is_live Rattle.misp_model.specs.View.is_before Rattle.misp_model.specs.View.first_of_all Rattle.misp_model.specs.View.chosen Rattle.misp_model.specs.View.is_least count script asks no_links event_of_two elem_id event org attribute add_one a b c route links syncs asks_at rule_number level tell view publish stamps comment relabel propose accept first_references first_sightings inside group administers in_group add_levels
+unfolding Rattle.misp_model.specs.Outcomes.coming Rattle.misp_model.specs.Outcomes.arriving Rattle.misp_model.specs.Outcomes.takes Rattle.misp_model.specs.Outcomes.first_brought Rattle.misp_model.specs.Merging.count_bringing Rattle.misp_model.specs.Merging.bringing Rattle.misp_model.specs.Merging.arrived Rattle.misp_model.specs.Merging.passing_rows Rattle.misp_model.specs.Merging.arriving_rows Rattle.misp_model.specs.Merging.is_welcome_row Rattle.misp_model.specs.Merging.has_event_row Rattle.misp_model.specs.Merging.counts_row Rattle.misp_model.specs.Merging.is_newer_row Rattle.misp_model.specs.Merging.is_taken Rattle.misp_model.specs.Merging.brought Rattle.misp_model.specs.Merging.is_own Rattle.misp_model.specs.Merging.cut Rattle.misp_model.specs.Merging.others_with Rattle.misp_model.specs.Merging.packages Rattle.misp_model.specs.Outcomes.synced_partly Rattle.misp_model.specs.Outcomes.step_partly Rattle.misp_model.specs.Outcomes.run_partly Rattle.misp_model.specs.Asking.brings_object Rattle.misp_model.specs.Asking.reference_fits Rattle.misp_model.specs.Acts.known_at Rattle.misp_model.specs.Acts.scene Rattle.misp_model.specs.Acts.ask_rules Rattle.misp_model.specs.Acts.taken_rows Rattle.misp_model.specs.Acts.brings Rattle.misp_model.specs.Acts.is_accepted Rattle.misp_model.specs.Acts.newer Rattle.misp_model.specs.Acts.ok_answer Rattle.misp_model.specs.Acts.answer Rattle.misp_model.specs.Acts.administration_fails Rattle.misp_model.specs.Acts.administered Rattle.misp_model.specs.Acts.put_group Rattle.misp_model.specs.Acts.takes_group Rattle.misp_model.specs.Acts.group_stamp Rattle.misp_model.specs.Acts.group_now Rattle.misp_model.specs.Acts.concerning Rattle.misp_model.specs.Names.group_before Rattle.misp_model.specs.Acts.take_group Rattle.misp_model.specs.Acts.take_groups Rattle.misp_model.specs.Acts.with_groups Rattle.misp_model.specs.Acts.synced_groups Rattle.misp_model.specs.Acts.synced Rattle.misp_model.specs.Acts.asked Rattle.misp_model.specs.Acts.step Rattle.misp_model.specs.Acts.run Rattle.misp_model.specs.Acts.reply_to Rattle.misp_model.specs.Acts.replies_to Rattle.misp_model.specs.Arrival.is_made_at Rattle.misp_model.specs.Arrival.is_welcome Rattle.misp_model.specs.Arrival.has_event Rattle.misp_model.specs.Arrival.counts Rattle.misp_model.specs.Arrival.counted Rattle.misp_model.specs.Arrival.moved Rattle.misp_model.specs.Arrival.handed_in Rattle.misp_model.specs.Asking.first_rule Rattle.misp_model.specs.Asking.holds_home Rattle.misp_model.specs.Asking.holds_copy Rattle.misp_model.specs.Asking.holds_mark Rattle.misp_model.specs.Asking.sees Rattle.misp_model.specs.Asking.sees_live Rattle.misp_model.specs.Asking.own_row Rattle.misp_model.specs.Asking.own_live Rattle.misp_model.specs.Asking.is_usable Rattle.misp_model.specs.Asking.last_stamp Rattle.misp_model.specs.Asking.next_stamp Rattle.misp_model.specs.Asking.written Rattle.misp_model.specs.Asking.changed Rattle.misp_model.specs.Asking.uuid_at Rattle.misp_model.specs.Asking.takes_uuid Rattle.misp_model.specs.Asking.is_taken Rattle.misp_model.specs.Asking.are_distinct Rattle.misp_model.specs.Asking.is_place_of Rattle.misp_model.specs.Asking.is_target_key Rattle.misp_model.specs.Asking.place_in Rattle.misp_model.specs.Asking.target_in_copy Rattle.misp_model.specs.Asking.target_of Rattle.misp_model.specs.Asking.part_version Rattle.misp_model.specs.Asking.reference_key Rattle.misp_model.specs.Asking.reference_version Rattle.misp_model.specs.Asking.parts_written Rattle.misp_model.specs.Asking.has_target Rattle.misp_model.specs.Asking.uuids_of Rattle.misp_model.specs.Asking.clashes Rattle.misp_model.specs.Asking.has_unusable Rattle.misp_model.specs.Asking.new_event Rattle.misp_model.specs.Asking.event_written Rattle.misp_model.specs.Asking.given Rattle.misp_model.specs.Asking.edited Rattle.misp_model.specs.Asking.at_attribute Rattle.misp_model.specs.Asking.edited_event Rattle.misp_model.specs.Asking.edited_object Rattle.misp_model.specs.Asking.at_event Rattle.misp_model.specs.Asking.at_object Rattle.misp_model.specs.Asking.as_deleted Rattle.misp_model.specs.Asking.at_tags Rattle.misp_model.specs.Asking.tags_in Rattle.misp_model.specs.Asking.untagged Rattle.misp_model.specs.Asking.tagged Rattle.misp_model.specs.Asking.has_tag Rattle.misp_model.specs.Asking.at_publishing Rattle.misp_elem.specs.Row.tags_size Rattle.misp_elem.specs.Row.text_size Rattle.misp_model.specs.Asking.is_too_long Rattle.misp_model.specs.Asking.own_row_is Rattle.misp_model.specs.Asking.is_at_limit Rattle.misp_model.specs.Asking.changed_row Rattle.misp_model.specs.Asking.wants_unusable Rattle.misp_model.specs.Asking.is_newer_than Rattle.misp_model.specs.Asking.bars Rattle.misp_model.specs.Asking.object_is_there Rattle.misp_model.specs.Asking.part_fits Rattle.misp_model.specs.Asking.fits_parts Rattle.misp_model.specs.Asking.is_reference_named Rattle.misp_model.specs.Asking.own_reference Rattle.misp_model.specs.Asking.row_passes Rattle.misp_model.specs.Asking.edit_rules Rattle.misp_model.specs.Asking.change_rules Rattle.misp_model.specs.Asking.is_held_in Rattle.misp_model.specs.Asking.let_out_row Rattle.misp_model.specs.Asking.let_out Rattle.misp_model.specs.Asking.as_published Rattle.misp_model.specs.Asking.change_writes Rattle.misp_model.specs.Asking.proposal_key Rattle.misp_model.specs.Asking.sees_target Rattle.misp_model.specs.Asking.propose_rules Rattle.misp_model.specs.Asking.propose_writes Rattle.misp_model.specs.Asking.sighting_key Rattle.misp_model.specs.Asking.sight_rules Rattle.misp_model.specs.Asking.sight_writes Rattle.misp_model.specs.Asking.judged_at Rattle.misp_model.specs.Asking.judged_place Rattle.misp_model.specs.Asking.is_for_new Rattle.misp_model.specs.Asking.proposal_row Rattle.misp_model.specs.Asking.proposal_body Rattle.misp_model.specs.Asking.accepted Rattle.misp_model.specs.Asking.made Rattle.misp_model.specs.Asking.body_seen Rattle.misp_model.specs.Asking.acceptance Rattle.misp_model.specs.Asking.judge_writes Rattle.misp_model.specs.Asking.can_judge Rattle.misp_model.specs.Asking.judge_rules Rattle.misp_model.specs.Audience.allows Rattle.misp_model.specs.Audience.carries Rattle.misp_model.specs.Audience.known_group Rattle.misp_model.specs.Audience.is_known_group Rattle.misp_model.specs.Audience.group_passes Rattle.misp_model.specs.Audience.label_opens Rattle.misp_model.specs.Audience.is_open Rattle.misp_model.specs.Audience.hop Rattle.misp_model.specs.Audience.down Rattle.misp_model.specs.Audience.label_lets_out Rattle.misp_model.specs.Audience.label_is_known Rattle.misp_model.specs.Erasure.cut_rows Rattle.misp_model.specs.Erasure.cut Rattle.misp_model.specs.Erasure.cut_world Rattle.misp_model.specs.Erasure.keeps_reference Rattle.misp_model.specs.Erasure.cut_body Rattle.misp_model.specs.Erasure.is_empty Rattle.misp_model.specs.Erasure.where_kept Rattle.misp_model.specs.Erasure.erased_ask Rattle.misp_model.specs.Erasure.erased_request Rattle.misp_model.specs.Erasure.erased_deed Rattle.misp_model.specs.Erasure.erased_act Rattle.misp_model.specs.Erasure.erase Rattle.misp_model.specs.History.has_path Rattle.misp_model.specs.History.is_published Rattle.misp_model.specs.History.is_handed_in Rattle.misp_model.specs.History.is_statement Rattle.misp_model.specs.History.is_gone Rattle.misp_model.specs.History.exportable Rattle.misp_model.specs.History.without_local_tags Rattle.misp_model.specs.History.label_now Rattle.misp_model.specs.History.content_now Rattle.misp_model.specs.History.same_cell Rattle.misp_model.specs.History.published_after Rattle.misp_model.specs.History.released Rattle.misp_model.specs.History.row_of Rattle.misp_model.specs.History.is_newest Rattle.misp_model.specs.History.newest_from Rattle.misp_model.specs.History.newest Rattle.misp_model.specs.History.tables Rattle.misp_model.specs.History.spell_place Rattle.misp_model.specs.History.spell_inst Rattle.misp_model.specs.History.spell_name Rattle.misp_model.specs.History.spell Rattle.misp_model.specs.History.stands_before Rattle.misp_model.specs.Kept.is_one_of Rattle.misp_model.specs.Kept.joined Rattle.misp_model.specs.Kept.keys_known Rattle.misp_model.specs.Kept.keys_ever_known Rattle.misp_model.specs.Kept.acceptance_in Rattle.misp_model.specs.Kept.acceptance_of Rattle.misp_model.specs.Kept.acceptances Rattle.misp_model.specs.Kept.judged_by Rattle.misp_model.specs.Kept.proposal_of Rattle.misp_model.specs.Kept.with_parents Rattle.misp_model.specs.Kept.with_made Rattle.misp_model.specs.Kept.with_acceptances Rattle.misp_model.specs.Kept.with_proposals Rattle.misp_model.specs.Kept.kept_keys Rattle.misp_model.specs.Kept.kept Rattle.misp_model.specs.Kept.start Rattle.misp_model.specs.Kept.erased Rattle.misp_model.specs.Kept.replies Rattle.misp_model.specs.Names.same_inst Rattle.misp_model.specs.Names.same_org Rattle.misp_model.specs.Names.same_event Rattle.misp_model.specs.Names.same_elem Rattle.misp_model.specs.Names.same_group Rattle.misp_model.specs.Names.same_place Rattle.misp_model.specs.Names.same_name Rattle.misp_model.specs.Names.same_key Rattle.misp_model.specs.Names.event_of Rattle.misp_model.specs.Names.event_key Rattle.misp_model.specs.Names.above Rattle.misp_model.specs.Names.up_to Rattle.misp_model.specs.Names.parents Rattle.misp_model.specs.Names.is_among Rattle.misp_model.specs.Order.put Rattle.misp_model.specs.Order.in_order Rattle.misp_model.specs.Order.is_less Rattle.misp_model.specs.Passing.lets_out Rattle.misp_model.specs.Passing.sent_copy Rattle.misp_model.specs.Passing.is_sent_owner Rattle.misp_model.specs.Passing.element_passes Rattle.misp_model.specs.Passing.passes_at Rattle.misp_model.specs.Passing.passes_by Rattle.misp_model.specs.Passing.passes Rattle.misp_model.specs.Passing.known_there Rattle.misp_model.specs.Passing.passing Rattle.misp_model.specs.Shown.order_of Rattle.misp_model.specs.Shown.sorted Rattle.misp_model.specs.Shown.is_shown Rattle.misp_model.specs.Shown.shown_at Rattle.misp_model.specs.Shown.is_plain_attribute Rattle.misp_model.specs.Shown.is_attribute_of Rattle.misp_model.specs.Shown.is_object Rattle.misp_model.specs.Shown.is_reference_of Rattle.misp_model.specs.Shown.is_proposal_on Rattle.misp_model.specs.Shown.is_sighting_on Rattle.misp_model.specs.Shown.is_verdict_on Rattle.misp_model.specs.Shown.is_closed Rattle.misp_model.specs.Shown.proposals_on Rattle.misp_model.specs.Shown.sightings_on Rattle.misp_model.specs.Shown.shown_attribute Rattle.misp_model.specs.Shown.object_of Rattle.misp_model.specs.Shown.shown_object Rattle.misp_model.specs.Shown.creator Rattle.misp_model.specs.Shown.form_of Rattle.misp_model.specs.Shown.event_row Rattle.misp_model.specs.Shown.shown Rattle.misp_model.specs.Shown.is_chosen Rattle.misp_model.specs.Shown.index Rattle.misp_model.specs.View.is_row_of Rattle.misp_model.specs.View.is_mark Rattle.misp_model.specs.View.is_deleted Rattle.misp_model.specs.View.has_copy Rattle.misp_model.specs.View.has_home Rattle.misp_model.specs.View.has_gone Rattle.misp_model.specs.View.row_is_open Rattle.misp_model.specs.View.has_open Rattle.misp_model.specs.View.element_granted Rattle.misp_model.specs.View.granted_somewhere Rattle.misp_model.specs.View.granted_by Rattle.misp_model.specs.View.granted Rattle.misp_model.specs.View.is_known Rattle.misp_model.specs.View.known Rattle.misp_model.specs.View.is_live Rattle.misp_model.specs.View.is_before Rattle.misp_model.specs.View.first_of_all Rattle.misp_model.specs.View.chosen Rattle.misp_model.specs.View.is_least count script asks no_links event_of_two elem_id event org attribute add_one a b c route links syncs asks_at rule_number level tell view publish stamps comment relabel propose accept first_references first_sightings inside group administers in_group add_levels
 everything = tt
 
 -- Beta sees one attribute of the first event, Gamma and Alpha see what is theirs

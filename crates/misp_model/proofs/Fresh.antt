@@ -9,7 +9,7 @@ use Rattle.misp_ids.specs.declared.label.Label.TheVariants as label
 use Rattle.misp_model.specs.Audience.{down}
 use Rattle.misp_model.specs.History.{Version, Written, has_path, is_handed_in, is_published, is_statement, is_gone, label_now, content_now, without_local_tags, published_after, released, row_of, fresh_row}
 
-down_none : (l : Label) → down l 0 ≡ l
+pub down_none : (l : Label) → down l 0 ≡ l
 unfolding down
 down_none label.Own = refl
 down_none label.Community = refl
@@ -37,9 +37,13 @@ fresh_release false true p a h = refl
 fresh_release false false true a h = refl
 fresh_release false false false a h = h
 
-pub row_of_fresh : (log : List Version) (v : Version) → v.path ≡ [] → v.came ≡ Written → list_all (λ u. leb u.act v.act) log ≡ true → row_of log v ≡ fresh_row v
-unfolding row_of fresh_row released label_now content_now has_path is_handed_in
-row_of_fresh log v p c h = λ i. record {
+pub not_handed_in : (v : Version) → v.came ≡ Written → is_handed_in v.came ≡ false
+unfolding is_handed_in
+not_handed_in v h = ap is_handed_in h
+
+pub row_of_fresh : (log : List Version) (v : Version) → v.path ≡ [] → is_handed_in v.came ≡ false → list_all (λ u. leb u.act v.act) log ≡ true → row_of log v ≡ fresh_row v
+unfolding row_of fresh_row released label_now content_now has_path
+row_of_fresh log v p not_handed h = λ i. record {
   owner = v.owner;
   key = v.key;
   stamp = v.stamp;
@@ -51,9 +55,6 @@ row_of_fresh log v p c h = λ i. record {
   where
     no_path : has_path v ≡ false
     no_path = ap (λ ns. elim ns as (λ x. Bool) [ [] ↦ false | n ∷ ns ↦ true ]) p
-
-    not_handed : is_handed_in v.came ≡ false
-    not_handed = ap is_handed_in c
 
     not_carried : (is_handed_in v.came || has_path v) ≡ false
     not_carried i = not_handed i || no_path i

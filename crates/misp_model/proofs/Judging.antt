@@ -64,7 +64,7 @@ module _ (keep : Key → Bool) (c : IsClosed keep) (s : Scene) (e : EventId) (n 
   unfolding event_of
   verdict_event_kept h = event_kept keep c verdict h
 
-  can_judge_cut : keep verdict ≡ true → can_judge (cut_scene keep s) e n ≡ can_judge s e n
+  pub can_judge_cut : keep verdict ≡ true → can_judge (cut_scene keep s) e n ≡ can_judge s e n
   unfolding can_judge cut_scene cut_rows
   can_judge_cut h =
       rw (
@@ -83,7 +83,7 @@ module _ (keep : Key → Bool) (c : IsClosed keep) (s : Scene) (e : EventId) (n 
       (λ row g. ap (λ b. same_key row.key (Proposal e n) && b) (is_least_cut keep c s.rows s.groups s.at s.by row g))
       (λ row g. same_key-keeps keep row.key (Proposal e n) (and_parts _ _ g).0 (proposal_kept h)) s.rows
 
-  body_seen_cut : keep verdict ≡ true → body_seen (cut_scene keep s) e n ≡ body_seen s e n
+  pub body_seen_cut : keep verdict ≡ true → body_seen (cut_scene keep s) e n ≡ body_seen s e n
   unfolding body_seen
   body_seen_cut h = ap (λ (o : Option Row). elim o as (λ x. Option ProposalBody) [ None ↦ None | Some row ↦ proposal_body row.content ]) (proposal_row_cut h)
 
@@ -97,7 +97,7 @@ module _ (keep : Key → Bool) (c : IsClosed keep) (s : Scene) (e : EventId) (n 
       choice_kept (λ (v : Version). keep v.key) b (is_for_new n) _ _ (ap (λ t. cond t (written s judged s.now label.Inherit (content.Attribute (made p)) ∷ []) []) h) (changed_row_kept keep c s judged _ _ b h)
 
   -- the change that goes with the verdict
-  abbrev change : Scene → Option ProposalBody → List Version
+  abbrev pub change : Scene → Option ProposalBody → List Version
   change t o = elim o as (λ x. List Version) [ None ↦ [] | Some p ↦ acceptance t e n p ]
 
   change_kept : (o : Option ProposalBody) (b : Bool) → keep judged ≡ b → cut keep (change s o) ≡ cond b (change s o) []
@@ -106,15 +106,15 @@ module _ (keep : Key → Bool) (c : IsClosed keep) (s : Scene) (e : EventId) (n 
   change_kept None false h = refl
   change_kept (Some p) b h = acceptance_kept p b h
 
-  change_cut : (o : Option ProposalBody) → keep judged ≡ true → change (cut_scene keep s) o ≡ change s o
+  pub change_cut : (o : Option ProposalBody) → keep judged ≡ true → change (cut_scene keep s) o ≡ change s o
   change_cut None h = refl
   change_cut (Some p) h = acceptance_cut p h
 
   -- the texts that an acceptance makes too long
-  abbrev too_long : Scene → Option ProposalBody → Bool
+  abbrev pub too_long : Scene → Option ProposalBody → Bool
   too_long t o = elim o as (λ x. Bool) [ None ↦ false | Some p ↦ own_row_is t judged (λ row. is_too_long (at_attribute (accepted p) row.content)) ]
 
-  too_long_cut : (o : Option ProposalBody) → keep judged ≡ true → too_long (cut_scene keep s) o ≡ too_long s o
+  pub too_long_cut : (o : Option ProposalBody) → keep judged ≡ true → too_long (cut_scene keep s) o ≡ too_long s o
   too_long_cut None h = refl
   too_long_cut (Some p) h = own_row_is_cut keep c s judged _ h
 

@@ -18,7 +18,7 @@ use Rattle.misp_model.proofs.Steps.{step_by}
 abbrev is_below : ℕ → Version → Bool
 is_below n v = ltb v.act n
 
-newest_within : (p : Version → Bool) (i : Inst) (before after : List Version) → list_all p after ≡ true → list_all p (newest_from i before after) ≡ true
+pub newest_within : (p : Version → Bool) (i : Inst) (before after : List Version) → list_all p after ≡ true → list_all p (newest_from i before after) ≡ true
 unfolding newest_from
 newest_within p i before [] h = refl
 newest_within p i before (v ∷ after) h = one (same_inst v.at i && is_newest before v after) (newest_within p i (v ∷ before) after (and_parts _ _ h).1)

@@ -39,11 +39,11 @@ pub record IsSame (s t : Scene) (a : Ask) : Type 0 where
   pub answers : answer s a ≡ answer t a
   pub brought : brings s a ≡ brings t a
 
-from_rules : (s t : Scene) (a : Ask) → ask_rules s a ≡ ask_rules t a → ok_answer s a ≡ ok_answer t a → answer s a ≡ answer t a
+pub from_rules : (s t : Scene) (a : Ask) → ask_rules s a ≡ ask_rules t a → ok_answer s a ≡ ok_answer t a → answer s a ≡ answer t a
 unfolding answer
 from_rules s t a h k = λ i. elim (first_rule (h i)) as (λ x. Reply) [ None ↦ k i | Some r ↦ Refused r ]
 
-accepted_from : (s t : Scene) (a : Ask) → ask_rules s a ≡ ask_rules t a → is_accepted s a ≡ is_accepted t a
+pub accepted_from : (s t : Scene) (a : Ask) → ask_rules s a ≡ ask_rules t a → is_accepted s a ≡ is_accepted t a
 unfolding is_accepted
 accepted_from s t a h = λ i. elim (first_rule (h i)) as (λ x. Bool) [ None ↦ true | Some r ↦ false ]
 
@@ -85,7 +85,7 @@ module _ (b : Submission) (s : Scene) where
   unfolding target_of
   target_same u = λ i. elim (find (λ d. is_place_of u d.place) b.parts) as (λ x. Option Place) [ Some d ↦ Some d.place | None ↦ target_in_copy_same u i ]
 
-  has_target_same : (r : ReferenceDraft) → has_target alone b r ≡ has_target s b r
+  pub has_target_same : (r : ReferenceDraft) → has_target alone b r ≡ has_target s b r
   unfolding has_target
   has_target_same r = λ i. elim (target_same r.referenced i) as (λ x. Bool) [ Some t ↦ true | None ↦ false ]
 
@@ -93,11 +93,11 @@ module _ (b : Submission) (s : Scene) where
   unfolding uuids_of
   uuids_same = λ i. map (λ d. uuid_at b.event d.place) b.parts ++ map (λ r. r.uuid.0.0) (filter (λ r. has_target_same r i) b.references)
 
-  clashes_same : clashes alone b ≡ clashes s b
+  pub clashes_same : clashes alone b ≡ clashes s b
   unfolding clashes
   clashes_same = λ i. not (are_distinct (uuids_same i)) || list_any (λ u. is_taken_here event s u i) (uuids_same i)
 
-  unusable_same : has_unusable alone b ≡ has_unusable s b
+  pub unusable_same : has_unusable alone b ≡ has_unusable s b
   unfolding has_unusable
   unusable_same = λ i. not (usable b.label i) || list_any (λ d. not (usable d.label i)) b.parts
     where
@@ -111,7 +111,7 @@ module _ (b : Submission) (s : Scene) where
       ∷ (holds_mark_cut (of_event event) (event_is_closed event) s event (key_here event) i, EventGone)
       ∷ (clashes_same i, ElementExists) ∷ (unusable_same i, GroupNotUsable) ∷ []
 
-  reference_same : (r : ReferenceDraft) → reference_version alone event b.parts r ≡ reference_version s event b.parts r
+  pub reference_same : (r : ReferenceDraft) → reference_version alone event b.parts r ≡ reference_version s event b.parts r
   unfolding reference_version reference_key cut_scene written
   reference_same r = λ i.
       option_map (λ k. written s k s.now label.Inherit (content.Reference r.body)) (option_map (λ t. Reference event r.object t r.uuid) (target_same r.referenced i))
@@ -139,7 +139,7 @@ pub known_here : (e : EventId) (rows : List Row) (groups : List Group) (i : Inst
 unfolding of_event cut_rows
 known_here e rows groups i o = known_cut (of_event e) (event_is_closed e) rows groups i o
 
-same_from : (s t u : Scene) (a : Ask) → s ≡ t → IsSame t u a → IsSame s u a
+pub same_from : (s t u : Scene) (a : Ask) → s ≡ t → IsSame t u a → IsSame s u a
 same_from s t u a h k = record {
   rules = ap (λ x. ask_rules x a) h ∙ k.rules;
   accepted = ap (λ x. is_accepted x a) h ∙ k.accepted;
@@ -147,15 +147,9 @@ same_from s t u a h k = record {
   brought = ap (λ x. brings x a) h ∙ k.brought;
 }
 
-seeing_here : (e : EventId) (rows : List Row) (s : Scene) → seeing s (event_rows e rows) ≡ cut_scene (of_event e) (seeing s rows)
+pub seeing_here : (e : EventId) (rows : List Row) (s : Scene) → seeing s (event_rows e rows) ≡ cut_scene (of_event e) (seeing s rows)
 unfolding cut_scene cut_rows of_event
 seeing_here e rows s = λ i. record s { rows = known_here e rows s.groups s.at s.by i }
-
-pub view_of_event : (e : EventId) (rows : List Row) (s : Scene) (owner : Option OrgId) → IsSame (seeing s (event_rows e rows)) (seeing s rows) (View e owner)
-view_of_event e rows s owner = same_from _ (cut_scene (of_event e) (seeing s rows)) (seeing s rows) (View e owner) (seeing_here e rows s) (view_here e (seeing s rows) owner)
-
-pub add_of_event : (b : Submission) (rows : List Row) (s : Scene) → IsSame (seeing s (event_rows b.event rows)) (seeing s rows) (ask.Change (AddEvent b))
-add_of_event b rows s = same_from _ (cut_scene (of_event b.event) (seeing s rows)) (seeing s rows) (ask.Change (AddEvent b)) (seeing_here b.event rows s) (add_here b (seeing s rows))
 
 pub has_target_of_event : (b : Submission) (rows : List Row) (s : Scene) (r : ReferenceDraft) →
     has_target (seeing s (event_rows b.event rows)) b r ≡ has_target (seeing s rows) b r
@@ -163,11 +157,3 @@ has_target_of_event b rows s r = ap (λ t. has_target t b r) (seeing_here b.even
 
 pub shown_of_event : (e : EventId) (rows : List Row) (s : Scene) (owner : Option OrgId) → shown (seeing s (event_rows e rows)) e owner ≡ shown (seeing s rows) e owner
 shown_of_event e rows s owner = ap (λ t. shown t e owner) (seeing_here e rows s) ∙ shown_from_here e (seeing s rows) owner
-
-pub change_rules_of_event : (b : Submission) (rows : List Row) (s : Scene) →
-    change_rules (seeing s (event_rows b.event rows)) (AddEvent b) ≡ change_rules (seeing s rows) (AddEvent b)
-change_rules_of_event b rows s = ap (λ t. change_rules t (AddEvent b)) (seeing_here b.event rows s) ∙ rules_same b (seeing s rows)
-
-pub change_writes_of_event : (b : Submission) (rows : List Row) (s : Scene) →
-    change_writes (seeing s (event_rows b.event rows)) (AddEvent b) ≡ change_writes (seeing s rows) (AddEvent b)
-change_writes_of_event b rows s = ap (λ t. change_writes t (AddEvent b)) (seeing_here b.event rows s) ∙ writes_same b (seeing s rows)

@@ -46,7 +46,7 @@ module _ (log : List Version) (i : Inst) where
       one true e ih = (apart (and_parts _ _ e).0 (not-true _ (and_parts _ _ (and_parts _ _ e).1).0), ih)
       one false e ih = ih
 
-  newest_apart : (before after : List Version) → IsDistinct in_one_cell (map (row_of log) (newest_from i before after))
+  pub newest_apart : (before after : List Version) → IsDistinct in_one_cell (map (row_of log) (newest_from i before after))
   unfolding newest_from is_newest IsDistinct
   newest_apart before [] = tt
   newest_apart before (v ∷ after) = one (same_inst v.at i && is_newest before v after) refl (newest_apart (v ∷ before) after)

@@ -19,7 +19,7 @@ use Rattle.misp_model.proofs.Among.{any_has}
 -- ---- lists that are apart
 
 module _ {X : Type 0} (P : X → Type 0) where
-  all_part : (q : X → Bool) (xs : List X) → AllByRecursion P xs → AllByRecursion P (filter q xs)
+  pub all_part : (q : X → Bool) (xs : List X) → AllByRecursion P xs → AllByRecursion P (filter q xs)
   all_part q [] a = tt
   all_part q (x ∷ xs) a = one (q x) (all_part q xs a.1)
     where
@@ -28,7 +28,7 @@ module _ {X : Type 0} (P : X → Type 0) where
       one false ih = ih
 
   -- what a test gives holds of what it keeps
-  all_kept : (q : X → Bool) → ((x : X) → q x ≡ true → P x) → (xs : List X) → AllByRecursion P (filter q xs)
+  pub all_kept : (q : X → Bool) → ((x : X) → q x ≡ true → P x) → (xs : List X) → AllByRecursion P (filter q xs)
   all_kept q h [] = tt
   all_kept q h (x ∷ xs) = one (q x) refl (all_kept q h xs)
     where
@@ -36,7 +36,7 @@ module _ {X : Type 0} (P : X → Type 0) where
       one true e ih = (h x e, ih)
       one false e ih = ih
 
-  all_put : (before : X → X → Bool) (x : X) (ys : List X) → P x → AllByRecursion P ys → AllByRecursion P (put before x ys)
+  pub all_put : (before : X → X → Bool) (x : X) (ys : List X) → P x → AllByRecursion P ys → AllByRecursion P (put before x ys)
   unfolding put
   all_put before x [] p a = (p, tt)
   all_put before x (y ∷ ys) p a = one (before x y) (all_put before x ys p a.1)
@@ -45,13 +45,13 @@ module _ {X : Type 0} (P : X → Type 0) where
       one true ih = (p, a)
       one false ih = (a.0, ih)
 
-  all_in_order : (before : X → X → Bool) (xs : List X) → AllByRecursion P xs → AllByRecursion P (in_order before xs)
+  pub all_in_order : (before : X → X → Bool) (xs : List X) → AllByRecursion P xs → AllByRecursion P (in_order before xs)
   unfolding in_order
   all_in_order before [] a = tt
   all_in_order before (x ∷ xs) a = all_put before x (in_order before xs) a.0 (all_in_order before xs a.1)
 
 module _ {X : Type 0} (e : X → X → Bool) (back : (a b : X) → e a b ≡ false → e b a ≡ false) where
-  apart_part : (q : X → Bool) (xs : List X) → IsDistinct e xs → IsDistinct e (filter q xs)
+  pub apart_part : (q : X → Bool) (xs : List X) → IsDistinct e xs → IsDistinct e (filter q xs)
   unfolding IsDistinct
   apart_part q [] d = tt
   apart_part q (x ∷ xs) d = one (q x) (apart_part q xs d.1)

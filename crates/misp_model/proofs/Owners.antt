@@ -23,12 +23,12 @@ use Rattle.misp_requests.specs.declared.change.Change.TheVariants as change
 use Rattle.misp_requests.specs.declared.ask.Ask.{Ask}
 use Rattle.misp_requests.specs.declared.ask.Ask.TheVariants.{View, Propose, Judge, Sight, Index, Groups, TakePart}
 use Rattle.misp_requests.specs.declared.ask.Ask.TheVariants as ask
-use Rattle.misp_model.specs.Names.{Stamp, same_org, event_key}
+use Rattle.misp_model.specs.Names.{Stamp, same_inst, same_org, event_key}
 use Rattle.misp_model.specs.History.{Version}
 use Rattle.misp_model.specs.Arrival.{counted, handed_in}
 use Rattle.misp_model.specs.Asking.{Scene, written, changed, changed_row, own_row, part_version, reference_version, reference_key, parts_written, new_event, event_written, let_out, let_out_row, as_published, at_publishing, change_writes, propose_writes, judge_writes, judged_place, body_seen, acceptance, is_for_new, accepted, made, at_attribute, own_reference, own_row_is, as_deleted, has_tag, at_tags, untagged, sight_writes}
 use Rattle.misp_model.specs.Acts.{brings, taken_rows}
-use Rattle.misp_model.proofs.Members.{same_org-refl}
+use Rattle.misp_model.proofs.Members.{same_inst-refl, same_org-refl}
 
 module _ {X Y : Type 0} where
   pub all-map : (p : Y → Bool) (f : X → Y) → ((x : X) → p (f x) ≡ true) → (xs : List X) → list_all p (map f xs) ≡ true
@@ -128,3 +128,8 @@ brings_now s a = brings_each s (λ v. ltb v.act (suc s.act)) (λ k t l c. below 
   where
     below : (n : ℕ) → ltb n (suc n) ≡ true
     below n = grind (arith, nat_tests)
+
+-- and at its instance
+pub brings_here : (s : Scene) (a : Ask) → list_all (λ v. same_inst v.at s.at) (brings s a) ≡ true
+unfolding written as_published let_out_row handed_in
+brings_here s a = brings_each s (λ v. same_inst v.at s.at) (λ k t l c. same_inst-refl s.at) (λ v h. h) (λ row. same_inst-refl s.at) (λ row. same_inst-refl s.at) a

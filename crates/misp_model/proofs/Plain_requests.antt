@@ -81,7 +81,7 @@ module _ (keep : Key → Bool) (c : IsClosed keep) (s : Scene) where
   own_any_cut k h = any_cut (is_row_of s.by k) (λ row. keep row.key) (λ row e. same_key-keeps keep row.key k (and_parts _ _ e).1 h) s.rows
 
   -- the rules of an edit of a kept row
-  edit_rules_cut : (e : EventId) (k : Key) (fits here : Bool) (l : Option Label) (t : Option Stamp) (f : Content → Content) →
+  pub edit_rules_cut : (e : EventId) (k : Key) (fits here : Bool) (l : Option Label) (t : Option Stamp) (f : Content → Content) →
       keep k ≡ true → keep (event_key e) ≡ true → here ≡ fits → edit_rules (cut_scene keep s) e k here l t f ≡ edit_rules s e k fits l t f
   unfolding edit_rules
   edit_rules_cut e k fits here l t f h g fit =
@@ -168,7 +168,7 @@ module _ (keep : Key → Bool) (c : IsClosed keep) (s : Scene) where
       }
 
   -- a reference that is named by its object and uuid
-  reference_event : (e : EventId) (x u : ElemId) (k : Key) → is_reference_named e x u k ≡ true → same_event (event_of k) e ≡ true
+  pub reference_event : (e : EventId) (x u : ElemId) (k : Key) → is_reference_named e x u k ≡ true → same_event (event_of k) e ≡ true
   unfolding is_reference_named event_of
   reference_event e x u (Element f p) h = absurd (false≢true h)
   reference_event e x u (Reference f y t v) h = (and_parts _ _ (and_parts _ _ h).0).0

@@ -41,7 +41,7 @@ module _ {X : Type 0} (before : X → X → Bool)
     (on : (a b c : X) → before a b ≡ true → before b c ≡ true → before a c ≡ true)
     (one_way : (a b : X) → before a b ≡ true → before b a ≡ false) where
   -- of two that are apart it does not matter which is put first
-  put_swap : (x r : X) (zs : List X) → before x r ≡ true → put before x (put before r zs) ≡ put before r (put before x zs)
+  pub put_swap : (x r : X) (zs : List X) → before x r ≡ true → put before x (put before r zs) ≡ put before r (put before x zs)
   unfolding put
   put_swap x r [] h = rw (h, one_way x r h) refl
   put_swap x r (z ∷ zs) h = one (before r z) refl (before x z) refl (put_swap x r zs h)
@@ -54,7 +54,7 @@ module _ {X : Type 0} (before : X → X → Bool)
       one false e false f ih = rw (f, e) (ap (λ ys. z ∷ ys) ih)
 
   -- each of these is apart from r
-  abbrev Apart : X → List X → Type 0
+  abbrev pub Apart : X → List X → Type 0
   Apart r [] = Unit {0}
   Apart r (x ∷ xs) = ((before x r ≡ true) ⊎ (before r x ≡ true)) × Apart r xs
 
@@ -68,7 +68,7 @@ module _ {X : Type 0} (before : X → X → Bool)
       one (inl h) = put_swap x r (in_order before xs) h
       one (inr h) = sym (put_swap r x (in_order before xs) h)
 
-map_more : {X Y : Type 0} (f : X → Y) (xs : List X) (x : X) → map f (xs ++ x ∷ []) ≡ map f xs ++ f x ∷ []
+pub map_more : {X Y : Type 0} (f : X → Y) (xs : List X) (x : X) → map f (xs ++ x ∷ []) ≡ map f xs ++ f x ∷ []
 map_more f [] x = refl
 map_more f (y ∷ xs) x = ap (λ ys. f y ∷ ys) (map_more f xs x)
 
@@ -76,20 +76,33 @@ map_choice : {X Y : Type 0} (f : X → Y) (x : X) (xs : List X) (ys : List Y) (b
 map_choice f x xs ys true h = ap (λ zs. f x ∷ zs) h
 map_choice f x xs ys false h = h
 
-before_on : (a b d : Row) → stands_before a b ≡ true → stands_before b d ≡ true → stands_before a d ≡ true
+pub before_on : (a b d : Row) → stands_before a b ≡ true → stands_before b d ≡ true → stands_before a d ≡ true
 unfolding stands_before
 before_on a b d h k = less_on _ _ _ h k
 
-before_one_way : (a b : Row) → stands_before a b ≡ true → stands_before b a ≡ false
+pub before_one_way : (a b : Row) → stands_before a b ≡ true → stands_before b a ≡ false
 unfolding stands_before
 before_one_way a b h = less_one_way _ _ h
 
 -- the row is not of the version's owner and key
-abbrev is_other : Version → Row → Bool
+abbrev pub is_other : Version → Row → Bool
 is_other v row = not (same_org row.owner v.owner && same_key row.key v.key)
 
--- an arrival that is no publishing changes no other row
-row_of_more : (log : List Version) (v u : Version) → is_published v.came ≡ false → row_of (log ++ v ∷ []) u ≡ row_of log u
+-- p is a publishing that lets u out
+abbrev pub lets_out : Version → Version → Bool
+lets_out p u = same_inst p.at u.at && same_org p.owner u.owner && same_key p.key (event_key (event_of u.key)) && (is_published p.came && (not (has_path p) && ltb u.act p.act))
+
+later_not : (a b c : Bool) → (a && b) ≡ false → (a && (b && c)) ≡ false
+later_not true true c h = absurd (false≢true (sym h))
+later_not true false c h = refl
+later_not false b c h = refl
+
+-- what is no publishing of this instance lets nothing out
+no_publishing_here : (v u : Version) → (is_published v.came && not (has_path v)) ≡ false → lets_out v u ≡ false
+no_publishing_here v u h = and_right _ _ (later_not (is_published v.came) (not (has_path v)) (ltb u.act v.act) h)
+
+-- an arrival that does not let it out changes no other row
+pub row_of_more : (log : List Version) (v u : Version) → lets_out v u ≡ false → row_of (log ++ v ∷ []) u ≡ row_of log u
 unfolding row_of released published_after
 row_of_more log v u h = λ i. record {
   owner = u.owner;
@@ -101,21 +114,15 @@ row_of_more log v u h = λ i. record {
   content = content_now u;
 }
   where
-    test : Version → Bool
-    test p = same_inst p.at u.at && same_org p.owner u.owner && same_key p.key (event_key (event_of u.key)) && (is_published p.came && (not (has_path p) && ltb u.act p.act))
-
-    not_this : test v ≡ false
-    not_this = and_right _ _ (and_left _ _ h)
-
-    or_none : (b : Bool) → (b || (test v || false)) ≡ b
+    or_none : (b : Bool) → (b || (lets_out v u || false)) ≡ b
     or_none true = refl
-    or_none false = ap (λ t. t || false) not_this
+    or_none false = ap (λ t. t || false) h
 
-    after : list_any test (log ++ v ∷ []) ≡ list_any test log
-    after = list_any-append test log (v ∷ []) ∙ or_none (list_any test log)
+    after : list_any (λ p. lets_out p u) (log ++ v ∷ []) ≡ list_any (λ p. lets_out p u) log
+    after = list_any-append (λ p. lets_out p u) log (v ∷ []) ∙ or_none (list_any (λ p. lets_out p u) log)
 
 -- the newest at an instance are there
-newest_here : (i : Inst) (before after : List Version) → list_all (λ u. same_inst u.at i) (newest_from i before after) ≡ true
+pub newest_here : (i : Inst) (before after : List Version) → list_all (λ u. same_inst u.at i) (newest_from i before after) ≡ true
 unfolding newest_from
 newest_here i before [] = refl
 newest_here i before (u ∷ after) = one (same_inst u.at i) refl (is_newest before u after) (newest_here i (u ∷ before) after)
@@ -126,19 +133,19 @@ newest_here i before (u ∷ after) = one (same_inst u.at i) refl (is_newest befo
     one true e false ih = ih
     one false e n ih = ih
 
-here : (log : List Version) (i : Inst) → list_all (λ u. same_inst u.at i) (newest log i) ≡ true
+pub here : (log : List Version) (i : Inst) → list_all (λ u. same_inst u.at i) (newest log i) ≡ true
 unfolding newest
 here log i = newest_here i [] log
 
-owner_is : (log : List Version) (v : Version) → (row_of log v).owner ≡ v.owner
+pub owner_is : (log : List Version) (v : Version) → (row_of log v).owner ≡ v.owner
 unfolding row_of
 owner_is log v = refl
 
-key_is : (log : List Version) (v : Version) → (row_of log v).key ≡ v.key
+pub key_is : (log : List Version) (v : Version) → (row_of log v).key ≡ v.key
 unfolding row_of
 key_is log v = refl
 
-others_agree : (v : Version) (log : List Version) (i : Inst) → same_inst v.at i ≡ true → (us : List Version) → list_all (λ u. same_inst u.at i) us ≡ true →
+pub others_agree : (v : Version) (log : List Version) (i : Inst) → same_inst v.at i ≡ true → (us : List Version) → list_all (λ u. same_inst u.at i) us ≡ true →
     map (row_of log) (filter (λ u. not (same_cell u v)) us) ≡ filter (is_other v) (map (row_of log) us)
 unfolding same_cell row_of
 others_agree v log i h [] a = refl
@@ -156,7 +163,7 @@ others_agree v log i h (u ∷ us) a = one (same_org u.owner v.owner && same_key 
         ∙ map_choice (row_of log) u (filter (λ u. not (same_cell u v)) us) (filter (is_other v) (map (row_of log) us)) (not b) ih
 
 -- a row of another owner or key stands before or behind
-rows_apart : (v : Version) (r : Row) → r.owner ≡ v.owner → r.key ≡ v.key → (row : Row) → is_other v row ≡ true → (stands_before row r ≡ true) ⊎ (stands_before r row ≡ true)
+pub rows_apart : (v : Version) (r : Row) → r.owner ≡ v.owner → r.key ≡ v.key → (row : Row) → is_other v row ≡ true → (stands_before row r ≡ true) ⊎ (stands_before r row ≡ true)
 unfolding stands_before
 rows_apart v r o k row h = one (less_or ((event_of row.key).0.0 ∷ row.owner.0.0 ∷ spell row.key) ((event_of r.key).0.0 ∷ r.owner.0.0 ∷ spell r.key))
   where
@@ -168,7 +175,7 @@ rows_apart v r o k row h = one (less_or ((event_of row.key).0.0 ∷ row.owner.0.
         let owner : row.owner ≡ v.owner = (λ i. record { 0 = record { 0 = number i } }) ∙ o in
         absurd (false≢true (sym (ap (λ b. not b) (and_from (same_org row.owner v.owner) (same_key row.key v.key) (ap (λ x. same_org x v.owner) owner ∙ same_org-refl v.owner) (ap (λ x. same_key x v.key) key ∙ same_key-refl v.key))) ∙ h))
 
-apart_rows : (v : Version) (r : Row) → r.owner ≡ v.owner → r.key ≡ v.key → (rows : List Row) →
+pub apart_rows : (v : Version) (r : Row) → r.owner ≡ v.owner → r.key ≡ v.key → (rows : List Row) →
     Apart stands_before (λ a b d. before_on a b d) (λ a b. before_one_way a b) r (filter (is_other v) rows)
 apart_rows v r o k [] = tt
 apart_rows v r o k (row ∷ rows) = one (is_other v row) refl (apart_rows v r o k rows)
@@ -178,13 +185,13 @@ apart_rows v r o k (row ∷ rows) = one (is_other v row) refl (apart_rows v r o 
     one true e ih = (rows_apart v r o k row e, ih)
     one false e ih = ih
 
--- the tables with one arrival more that is no publishing: it is put in the place of its owner's row of that key where it is newer, and else nothing changes
-pub tables_more : (log : List Version) (v : Version) (i : Inst) → is_published v.came ≡ false →
+-- the tables with one arrival more that is no publishing of this instance: it is put in the place of its owner's row of that key where it is newer, and else nothing changes
+pub tables_more_by : (log : List Version) (v : Version) (i : Inst) → (is_published v.came && not (has_path v)) ≡ false →
     tables (log ++ v ∷ []) i
     ≡ cond (same_inst v.at i && not (list_any (λ a. same_cell a v && leb v.stamp a.stamp) log)) (put stands_before (row_of log v) (filter (is_other v) (tables log i))) (tables log i)
 unfolding tables
-tables_more log v i h =
-    (λ j. in_order stands_before (map (λ u. row_of_more log v u h j) (newest (log ++ v ∷ []) i)))
+tables_more_by log v i h =
+    (λ j. in_order stands_before (map (λ u. row_of_more log v u (no_publishing_here v u h) j) (newest (log ++ v ∷ []) i)))
     ∙ ap (λ us. in_order stands_before (map (row_of log) us)) (newest_more v log i)
     ∙ placed (same_inst v.at i && not (list_any (λ a. same_cell a v && leb v.stamp a.stamp) log)) refl
   where
@@ -201,3 +208,9 @@ tables_more log v i h =
         ∙ ap (λ rs. rs ++ row_of log v ∷ []) (others_agree v log i (and_parts (same_inst v.at i) (not (list_any (λ a. same_cell a v && leb v.stamp a.stamp) log)) e).0 (newest log i) (here log i)))
         ∙ in_order_more stands_before before_on before_one_way (filter (is_other v) rows) (row_of log v) (apart_rows v (row_of log v) (owner_is log v) (key_is log v) rows)
         ∙ ap (put stands_before (row_of log v)) (sym (in_order_rows (is_other v) rows))
+
+-- and where it was not written by a publishing at all
+pub tables_more : (log : List Version) (v : Version) (i : Inst) → is_published v.came ≡ false →
+    tables (log ++ v ∷ []) i
+    ≡ cond (same_inst v.at i && not (list_any (λ a. same_cell a v && leb v.stamp a.stamp) log)) (put stands_before (row_of log v) (filter (is_other v) (tables log i))) (tables log i)
+tables_more log v i h = tables_more_by log v i (and_left _ _ h)

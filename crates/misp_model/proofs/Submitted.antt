@@ -1,9 +1,8 @@
--- An accepted request that adds an event writes keys of which its caller had none, no two of them the same.
-use Rattle.std.proofs.Common.{◌≡◌, ℕ, suc, List, [], ◌∷◌, ◌++◌, Bool, true, false, refl, ap, sym, ◌∙◌, arith, subst, map, eqb, ltb}
+-- What adds an event, or parts of one, writes keys of which the caller had none, no two of them the same.
+use Rattle.std.proofs.Common.{◌≡◌, ℕ, List, [], ◌∷◌, ◌++◌, Bool, true, false, refl, ap, sym, ◌∙◌, arith, map, eqb, leb}
 use Rattle.std.specs.Prelude.{◌&&◌, ◌||◌, not, cond, Option, Some, None, option_map, option_to_list}
 use Rattle.std.specs.List.{list_any, list_all, filter, filter_map, cons_option}
-use Rattle.std.proofs.lemmas.Bool.{and_parts, and_from, or_parts, or_left, not-true, not-false, eqb-true, eq-eqb, false≢true, false_from_ne_true}
-use Rattle.std.proofs.lemmas.List.Folds.{list_all-append}
+use Rattle.std.proofs.lemmas.Bool.{and_parts, and_from, and_left, or_parts, or_left, not-true, not-false, eqb-true, eq-eqb, false≢true, false_from_ne_true}
 use Rattle.misp_ids.specs.declared.uid.OrgId.{OrgId}
 use Rattle.misp_ids.specs.declared.uid.EventId.{EventId}
 use Rattle.misp_ids.specs.declared.label.Label.TheVariants as labels
@@ -17,19 +16,19 @@ use Rattle.misp_elem.specs.Draft.{ReferenceDraftFields as ReferenceDraft}
 use Rattle.misp_elem.specs.Draft.{SubmissionFields as Submission}
 use Rattle.misp_requests.specs.declared.change.Change.TheVariants.{AddEvent}
 use Rattle.misp_requests.specs.declared.ask.Ask.TheVariants as ask
-use Rattle.misp_model.specs.Names.{Inst, same_inst, same_org, same_event, same_key, event_of, event_key}
+use Rattle.misp_model.specs.Names.{Inst, same_org, same_event, same_key, event_of, event_key}
 use Rattle.misp_model.specs.View.{is_row_of, is_mark, has_copy, has_gone, known}
-use Rattle.misp_model.specs.History.{Version, same_cell, fresh_row, tables}
+use Rattle.misp_model.specs.History.{Version, same_cell, tables}
 use Rattle.misp_model.specs.Asking.{Scene, holds_copy, holds_mark, written, uuid_at, takes_uuid, is_taken, are_distinct, part_version, target_of, reference_key, reference_version, parts_written, has_target, uuids_of, clashes, has_unusable, new_event, event_written, change_rules, change_writes}
 use Rattle.misp_model.specs.Acts.{is_accepted, ask_rules}
-use Rattle.misp_model.specs.Machine.{put_all}
 use Rattle.misp_model.proofs.Same.{same_key-sound}
 use Rattle.misp_model.proofs.Members.{same_event-refl}
 use Rattle.misp_model.proofs.Growing.{any_implies}
 use Rattle.misp_model.proofs.Plain_requests.{refuses}
 use Rattle.misp_model.proofs.Judging.{none_refuses}
 use Rattle.misp_model.proofs.Cells.{no_version}
-use Rattle.misp_model.proofs.Adding.{IsNew, AreNew, AreApart, are_free, tables_new, tables_elsewhere, not_above, acts_below}
+use Rattle.misp_model.proofs.Lists.{any_weaker}
+use Rattle.misp_model.proofs.Adding.{IsNew, AreNew, AreApart, AreWritten, are_free, free_newer}
 
 none_implies : {X : Type 0} (p q : X → Bool) → ((x : X) → q x ≡ true → p x ≡ true) → (xs : List X) → list_any p xs ≡ false → list_any q xs ≡ false
 none_implies p q h xs e = false_from_ne_true _ (λ k. false≢true (sym e ∙ any_implies q p h xs k))
@@ -51,15 +50,6 @@ one_uuid (Sighting e t i o w) u v h l = absurd (false≢true h)
 -- equal keys have equal uuids
 same_uuid : (j k : Key) (u v : ℕ) → takes_uuid u j ≡ true → takes_uuid v k ≡ true → same_key j k ≡ true → eqb u v ≡ true
 same_uuid j k u v h l e = one_uuid k u v (sym (ap (takes_uuid u) (same_key-sound j k e)) ∙ h) l
-
-module _ (n : ℕ) (i : Inst) where
-  new_both : (us vs : List Version) → AreNew n i us → AreNew n i vs → AreNew n i (us ++ vs)
-  new_both [] vs a b = b
-  new_both (u ∷ us) vs a b = (a.0, new_both us vs a.1 b)
-
-  new_each : {X : Type 0} (f : X → Version) → ((x : X) → IsNew n i (f x)) → (xs : List X) → AreNew n i (map f xs)
-  new_each f h [] = tt
-  new_each f h (x ∷ xs) = (h x, new_each f h xs)
 
 -- a version that the n-th act wrote there for this organisation, of an element or reference of this event and uuid
 record Takes (n : ℕ) (i : Inst) (o : OrgId) (e : EventId) (u : ℕ) (v : Version) : Type 0 where
@@ -107,7 +97,27 @@ module _ (n : ℕ) (i : Inst) (o : OrgId) (e : EventId) where
   take_apart (u ∷ us) [] a h = absurd a
   take_apart (u ∷ us) (v ∷ vs) a h = (one_apart u v a.0.uuid us vs a.1 (not-true _ (and_parts _ _ h).0), take_apart us vs a.1 (and_parts _ _ h).1)
 
-module _ (s : Scene) (b : Submission) (accepted : is_accepted s (ask.Change (AddEvent b)) ≡ true) where
+module _ (s : Scene) (e : EventId) where
+  -- a key whose uuid is free is none of the caller's rows
+  pub no_own_row : (u : ℕ) (k : Key) → same_event (event_of k) e ≡ true → takes_uuid u k ≡ true → is_taken s e u ≡ false →
+      list_any (is_row_of s.by k) s.rows ≡ false
+  unfolding is_taken is_row_of
+  no_own_row u k f t h =
+      none_implies (λ row. same_org row.owner s.by && (same_event (event_of row.key) e && takes_uuid u row.key)) (is_row_of s.by k)
+      (λ row l.
+      let key : row.key ≡ k = same_key-sound row.key k (and_parts _ _ l).1 in
+      and_from _ _ (and_parts _ _ l).0
+      (and_from _ _ (ap (λ x. same_event (event_of x) e) key ∙ f) (ap (takes_uuid u) key ∙ t)))
+      s.rows (or_parts _ _ h).1
+
+module _ (s : Scene) (log : List Version) (sees : s.rows ≡ known (tables log s.at) s.groups s.at s.by) where
+  -- of a key of which the caller has no row the log has no version
+  pub one_free : (v : Version) → v.at ≡ s.at → v.owner ≡ s.by → list_any (is_row_of s.by v.key) s.rows ≡ false → list_any (λ a. same_cell a v) log ≡ false
+  one_free v at owner h =
+      no_version log s.groups v
+      ((λ i. list_any (is_row_of (owner i) v.key) (known (tables log (at i)) s.groups (at i) (owner i))) ∙ sym (ap (list_any (is_row_of s.by v.key)) sees) ∙ h)
+
+module _ (s : Scene) (b : Submission) where
   abbrev event_version : EventDraft → Version
   event_version d = written s (event_key b.event) s.now b.label (content.Event (new_event s d))
 
@@ -141,102 +151,70 @@ module _ (s : Scene) (b : Submission) (accepted : is_accepted s (ask.Change (Add
       take_both s.act s.at s.by b.event _ (map (λ r. r.uuid.0.0) (filter (has_target s b) b.references)) (map (part_version s b.event) b.parts) _
       (parts_have b.parts) (references_have b.references)
 
-  -- what is written: the event's own version, and those of the parts and references
-  writes_are : change_writes s (AddEvent b) ≡ map event_version (option_to_list b.body) ++ parts_written s b
-  unfolding change_writes event_written
-  writes_are = refl
+  module _ (no_clash : clashes s b ≡ false) where
+    distinct : are_distinct (uuids_of s b) ≡ true
+    unfolding clashes
+    distinct = not-false _ (or_parts _ _ no_clash).0
 
-  -- no rule refuses
-  no_rule : (holds_copy s b.event || (holds_mark s b.event || (clashes s b || (has_unusable s b || false)))) ≡ false
-  unfolding is_accepted ask_rules change_rules refuses
-  no_rule = none_refuses _ accepted
+    not_taken : list_any (is_taken s b.event) (uuids_of s b) ≡ false
+    unfolding clashes
+    not_taken = (or_parts _ _ no_clash).1
 
-  no_clash : clashes s b ≡ false
-  no_clash = (or_parts _ _ (or_parts _ _ (or_parts _ _ no_rule).1).1).0
+    module _ (log : List Version) (sees : s.rows ≡ known (tables log s.at) s.groups s.at s.by) where
+      parts_free : (us : List ℕ) (vs : List Version) → have us vs → list_any (is_taken s b.event) us ≡ false → are_free log vs ≡ true
+      parts_free [] [] a h = refl
+      parts_free [] (v ∷ vs) a h = absurd a
+      parts_free (u ∷ us) [] a h = absurd a
+      parts_free (u ∷ us) (v ∷ vs) a h =
+          and_from _ _ (ap not (one_free s log sees v a.0.is_new.at a.0.owner (no_own_row s b.event u v.key a.0.event a.0.uuid (or_parts _ _ h).0)))
+          (parts_free us vs a.1 (or_parts _ _ h).1)
 
-  distinct : are_distinct (uuids_of s b) ≡ true
-  unfolding clashes
-  distinct = not-false _ (or_parts _ _ no_clash).0
+      -- the parts and references that a body brings
+      pub parts_new : AreWritten s.act s.at log (parts_written s b)
+      parts_new = record {
+        new = take_new s.act s.at s.by b.event (uuids_of s b) (parts_written s b) written_have;
+        apart = take_apart s.act s.at s.by b.event (uuids_of s b) (parts_written s b) written_have distinct;
+        newer = free_newer log (parts_written s b) (parts_free (uuids_of s b) (parts_written s b) written_have not_taken);
+      }
 
-  not_taken : list_any (is_taken s b.event) (uuids_of s b) ≡ false
-  unfolding clashes
-  not_taken = (or_parts _ _ no_clash).1
+  module _ (accepted : is_accepted s (ask.Change (AddEvent b)) ≡ true) where
+    -- no rule refuses
+    no_rule : (holds_copy s b.event || (holds_mark s b.event || (clashes s b || (has_unusable s b || false)))) ≡ false
+    unfolding is_accepted ask_rules change_rules refuses
+    no_rule = none_refuses _ accepted
 
-  -- the caller has no row of the event
-  no_event_row : list_any (is_row_of s.by (event_key b.event)) s.rows ≡ false
-  unfolding holds_copy has_copy holds_mark has_gone
-  no_event_row = none_either (is_row_of s.by (event_key b.event)) is_mark s.rows (or_parts _ _ no_rule).0 (or_parts _ _ (or_parts _ _ no_rule).1).0
+    unclashed : clashes s b ≡ false
+    unclashed = (or_parts _ _ (or_parts _ _ (or_parts _ _ no_rule).1).1).0
 
-  -- nor of a key whose uuid is free
-  no_own_row : (u : ℕ) (k : Key) → same_event (event_of k) b.event ≡ true → takes_uuid u k ≡ true → is_taken s b.event u ≡ false →
-      list_any (is_row_of s.by k) s.rows ≡ false
-  unfolding is_taken is_row_of
-  no_own_row u k e t h =
-      none_implies (λ row. same_org row.owner s.by && (same_event (event_of row.key) b.event && takes_uuid u row.key)) (is_row_of s.by k)
-      (λ row l.
-      let key : row.key ≡ k = same_key-sound row.key k (and_parts _ _ l).1 in
-      and_from _ _ (and_parts _ _ l).0
-      (and_from _ _ (ap (λ x. same_event (event_of x) b.event) key ∙ e) (ap (takes_uuid u) key ∙ t)))
-      s.rows (or_parts _ _ h).1
+    -- the caller has no row of the event
+    no_event_row : list_any (is_row_of s.by (event_key b.event)) s.rows ≡ false
+    unfolding holds_copy has_copy holds_mark has_gone
+    no_event_row = none_either (is_row_of s.by (event_key b.event)) is_mark s.rows (or_parts _ _ no_rule).0 (or_parts _ _ (or_parts _ _ no_rule).1).0
 
-  are_new : AreNew s.act s.at (change_writes s (AddEvent b))
-  unfolding written
-  are_new =
-      subst (AreNew s.act s.at) (sym writes_are)
-      (new_both s.act s.at (map event_version (option_to_list b.body)) (parts_written s b)
-      (new_each s.act s.at event_version (λ d. record { at = refl; path = refl; came = refl; act = refl }) (option_to_list b.body))
-      (take_new s.act s.at s.by b.event (uuids_of s b) (parts_written s b) written_have))
+    -- the event's own uuid is none that is free
+    not_the_event : (us : List ℕ) → list_any (is_taken s b.event) us ≡ false → list_any (eqb b.event.0.0) us ≡ false
+    unfolding is_taken
+    not_the_event us h = none_implies (is_taken s b.event) (eqb b.event.0.0) (λ u e. or_left _ _ e) us h
 
-  -- the event's own uuid is none that is free
-  not_the_event : (us : List ℕ) → list_any (is_taken s b.event) us ≡ false → list_any (eqb b.event.0.0) us ≡ false
-  unfolding is_taken
-  not_the_event us h = none_implies (is_taken s b.event) (eqb b.event.0.0) (λ u e. or_left _ _ e) us h
+    module _ (log : List Version) (sees : s.rows ≡ known (tables log s.at) s.groups s.at s.by) where
+      -- what is written: the event's own version, and those of the parts and references
+      both_new : (o : Option EventDraft) → AreWritten s.act s.at log (map event_version (option_to_list o) ++ parts_written s b)
+      unfolding written takes_uuid event_key uuid_at
+      both_new None = parts_new unclashed log sees
+      both_new (Some d) =
+          let parts : AreWritten s.act s.at log (parts_written s b) = parts_new unclashed log sees in
+          record {
+            new = (record { at = refl; path = refl; came = refl; act = refl }, parts.new);
+            apart = (
+              one_apart s.act s.at s.by b.event b.event.0.0 (event_version d) (eq-eqb _ _ refl) (uuids_of s b) (parts_written s b) written_have (not_the_event (uuids_of s b) (not_taken unclashed)),
+              parts.apart,
+            );
+            newer = and_from _ _ (ap not (none_as_new (event_version d) (one_free s log sees (event_version d) refl refl no_event_row))) parts.newer;
+          }
+        where
+          none_as_new : (v : Version) → list_any (λ a. same_cell a v) log ≡ false → list_any (λ a. same_cell a v && leb v.stamp a.stamp) log ≡ false
+          none_as_new v h = any_weaker (λ a. same_cell a v) (λ a. same_cell a v && leb v.stamp a.stamp) (λ a k. and_left _ _ k) log h
 
-  all_apart : (o : Option EventDraft) → AreApart (map event_version (option_to_list o) ++ parts_written s b)
-  unfolding written takes_uuid event_key uuid_at
-  all_apart None = take_apart s.act s.at s.by b.event (uuids_of s b) (parts_written s b) written_have distinct
-  all_apart (Some d) = (
-    one_apart s.act s.at s.by b.event b.event.0.0 (event_version d) (eq-eqb _ _ refl) (uuids_of s b) (parts_written s b) written_have (not_the_event (uuids_of s b) not_taken),
-    take_apart s.act s.at s.by b.event (uuids_of s b) (parts_written s b) written_have distinct,
-  )
-
-  are_apart : AreApart (change_writes s (AddEvent b))
-  are_apart = subst AreApart (sym writes_are) (all_apart b.body)
-
-  module _ (log : List Version) (sees : s.rows ≡ known (tables log s.at) s.groups s.at s.by) where
-    event_free : (o : Option EventDraft) → are_free log (map event_version (option_to_list o)) ≡ true
-    unfolding written
-    event_free None = refl
-    event_free (Some d) =
-        and_from _ _ (ap not (no_version log s.groups (event_version d) (sym (ap (list_any (is_row_of s.by (event_key b.event))) sees) ∙ no_event_row))) refl
-
-    one_free : (v : Version) → v.at ≡ s.at → v.owner ≡ s.by → list_any (is_row_of s.by v.key) s.rows ≡ false → list_any (λ a. same_cell a v) log ≡ false
-    one_free v at owner h =
-        no_version log s.groups v
-        ((λ i. list_any (is_row_of (owner i) v.key) (known (tables log (at i)) s.groups (at i) (owner i))) ∙ sym (ap (list_any (is_row_of s.by v.key)) sees) ∙ h)
-
-    parts_free : (us : List ℕ) (vs : List Version) → have us vs → list_any (is_taken s b.event) us ≡ false → are_free log vs ≡ true
-    parts_free [] [] a h = refl
-    parts_free [] (v ∷ vs) a h = absurd a
-    parts_free (u ∷ us) [] a h = absurd a
-    parts_free (u ∷ us) (v ∷ vs) a h =
-        and_from _ _ (ap not (one_free v a.0.is_new.at a.0.owner (no_own_row u v.key a.0.event a.0.uuid (or_parts _ _ h).0)))
-        (parts_free us vs a.1 (or_parts _ _ h).1)
-
-    all_free : are_free log (change_writes s (AddEvent b)) ≡ true
-    all_free =
-        ap (are_free log) writes_are
-        ∙ list_all-append (λ v. not (list_any (λ a. same_cell a v) log)) (map event_version (option_to_list b.body)) (parts_written s b)
-        ∙ and_from _ _ (event_free b.body) (parts_free (uuids_of s b) (parts_written s b) written_have not_taken)
-
-    -- each version that is written is put in its place
-    pub added_tables : list_all (λ v. ltb v.act s.act) log ≡ true →
-        tables (log ++ change_writes s (AddEvent b)) s.at ≡ put_all (map fresh_row (change_writes s (AddEvent b))) (tables log s.at)
-    added_tables older = tables_new s.act s.at (change_writes s (AddEvent b)) log are_new are_apart (not_above s.act log older) all_free
-
-  -- elsewhere nothing changes
-  pub added_elsewhere : (log : List Version) (j : Inst) → same_inst s.at j ≡ false → tables (log ++ change_writes s (AddEvent b)) j ≡ tables log j
-  added_elsewhere log j h = tables_elsewhere s.act s.at j (change_writes s (AddEvent b)) log h are_new
-
-  pub added_acts : (log : List Version) → list_all (λ v. ltb v.act s.act) log ≡ true → list_all (λ v. ltb v.act (suc s.act)) (log ++ change_writes s (AddEvent b)) ≡ true
-  added_acts log older = acts_below s.act s.at (change_writes s (AddEvent b)) log are_new older
+      pub event_new : AreWritten s.act s.at log (change_writes s (AddEvent b))
+      unfolding change_writes event_written
+      event_new = both_new b.body

@@ -3,6 +3,7 @@
 use Rattle.std.specs.Prelude.{ℕ, Bool, true, false, not, ltb, leb, ◌&&◌, ◌||◌, List, [], ◌∷◌, ◌++◌, map, length, filter, cond}
 use Rattle.std.specs.List.{list_any}
 use Rattle.misp_ids.specs.declared.uid.OrgId.{OrgId}
+use Rattle.misp_ids.specs.declared.uid.EventId.{EventId}
 use Rattle.misp_model.specs.Names.{Stamp}
 use Rattle.misp_ids.specs.declared.label.Label.{Label}
 use Rattle.misp_elem.specs.declared.key.KeyForm.{KeyForm as Key}
@@ -153,6 +154,14 @@ newest_from i before (v ∷ after) =
 
 unfoldable pub newest : List Version → Inst → List Version
 newest log i = newest_from i [] log
+
+-- the version is the owner's of the event itself
+unfoldable pub is_event_of : OrgId → EventId → Version → Bool
+is_event_of w e v = same_org v.owner w && same_key v.key (event_key e)
+
+-- the version was handed in or came by a synchronisation
+unfoldable pub has_come : Version → Bool
+has_come v = is_handed_in v.came || has_path v
 
 -- how a place is spelled, a key, and a row's name with its event in front: the order in which a
 -- keeper tells its rows

@@ -12,3 +12,4 @@ pub mod Erasure
 pub mod Kept
 pub mod Outcomes
 pub mod Machine
+pub mod Merging

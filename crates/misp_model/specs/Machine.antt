@@ -1,16 +1,23 @@
 -- The tables as a keeper changes them, each row in the place of its owner's row of that key, and
 -- the names by which it orders them.
-use Rattle.std.specs.Prelude.{ℕ, Bool, not, ltb, eqb, ◌&&◌, ◌||◌, List, [], ◌∷◌, ◌++◌, filter}
+use Rattle.std.specs.Prelude.{ℕ, Bool, true, false, not, ltb, eqb, ◌&&◌, ◌||◌, cond, List, [], ◌∷◌, ◌++◌, filter, Option, Some, None}
 use Rattle.std.specs.Ordering.{nat_cmp, is_lt}
 use Rattle.std.specs.Cmp.Lexicographic.{slice_cmp}
+use Rattle.misp_ids.specs.declared.uid.OrgId.{OrgId}
 use Rattle.misp_ids.specs.declared.uid.EventId.{EventId}
 use Rattle.misp_elem.specs.declared.row.RowFields.{RowFields as Row}
 use Rattle.misp_elem.specs.Spelling.{uid, key}
-use Rattle.misp_model.specs.Names.{same_org, same_event, same_key, event_of}
+use Rattle.misp_requests.specs.declared.change.Change.{Change}
+use Rattle.misp_requests.specs.declared.change.Change.TheVariants.{AddEvent, AddParts, EditEvent, EditAttribute, EditObject, Delete, DeleteReference, DeleteEvent, Publish}
+use Rattle.misp_requests.specs.declared.change.Change.TheVariants as change
+use Rattle.misp_requests.specs.declared.ask.Ask.{Ask}
+use Rattle.misp_requests.specs.declared.ask.Ask.TheVariants.{View, Propose, Judge, Sight, Index, Groups, TakePart}
+use Rattle.misp_requests.specs.declared.ask.Ask.TheVariants as ask
+use Rattle.misp_model.specs.Names.{Stamp, same_org, same_event, same_key, event_of}
 use Rattle.misp_model.specs.Order.{put}
 use Rattle.misp_model.specs.View.{known}
 use Rattle.misp_model.specs.History.{stands_before}
-use Rattle.misp_model.specs.Asking.{Scene}
+use Rattle.misp_model.specs.Asking.{Scene, next_stamp, at_publishing}
 
 -- the rows with one more, in the place of its owner's row of that key
 unfoldable pub put_row : Row → List Row → List Row
@@ -22,6 +29,28 @@ put_row row rows =
 unfoldable pub put_all : List Row → List Row → List Row
 put_all [] rows = rows
 put_all (r ∷ rs) rows = put_all rs (put_row r rows)
+
+-- the row with no hold
+abbrev pub unheld : Row → Row
+unheld row = record row { held = false }
+
+-- the row is one of the owner's copy of the event
+unfoldable pub is_of_copy : OrgId → EventId → Row → Bool
+is_of_copy o e row = same_org row.owner o && same_event (event_of row.key) e
+
+-- the row as it stands after its owner published the event
+unfoldable pub let_go : OrgId → EventId → Row → Row
+let_go o e row = cond (is_of_copy o e row) (unheld row) row
+
+-- the event's own row, as a publishing at this moment makes it
+unfoldable pub published_row : Stamp → Row → Row
+published_row now row =
+    record row {
+      stamp = next_stamp now row.stamp;
+      held = false;
+      carried = false;
+      content = at_publishing now row.content;
+    }
 
 -- the number of a row's event
 unfoldable pub event_number : Row → ℕ
@@ -42,3 +71,39 @@ event_rows e rows = filter (λ row. same_event (event_of row.key) e) rows
 -- the surroundings with what the caller knows of these rows
 abbrev pub seeing : Scene → List Row → Scene
 seeing s rows = record s { rows = known rows s.groups s.at s.by }
+
+-- the request hands in a package: what it brings is put only where it is newer
+unfoldable pub hands_in : Ask → Bool
+hands_in (TakePart p) = true
+hands_in (View e owner) = false
+hands_in (ask.Change c) = false
+hands_in (Propose d) = false
+hands_in (Judge e n accept) = false
+hands_in (Sight e t d) = false
+hands_in Index = false
+hands_in Groups = false
+
+-- the event that a change is about
+unfoldable pub event_changed : Change → EventId
+event_changed (AddEvent b) = b.event
+event_changed (AddParts e b) = b.event
+event_changed (EditEvent e edit) = e
+event_changed (EditAttribute e p edit) = e
+event_changed (EditObject e x edit) = e
+event_changed (Delete e p) = e
+event_changed (DeleteReference e x u) = e
+event_changed (change.Tag e p tag) = e
+event_changed (change.Untag e p name) = e
+event_changed (DeleteEvent e) = e
+event_changed (Publish e) = e
+
+-- the event that a request is about, where it is about one and hands in no package
+unfoldable pub event_asked : Ask → Option EventId
+event_asked (View e owner) = Some e
+event_asked (ask.Change c) = Some (event_changed c)
+event_asked (Propose d) = Some d.event
+event_asked (Judge e n accept) = Some e
+event_asked (Sight e t d) = Some e
+event_asked Index = None
+event_asked Groups = None
+event_asked (TakePart p) = None

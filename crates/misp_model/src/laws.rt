@@ -1,6 +1,6 @@
 //! Laws of the tables and of one act, on which the crates above stand.
 
-ghost use Rattle.std.specs.Prelude.{◌≡◌, ℕ, suc, List, [], ◌∷◌, ◌++◌, map, Bool, true, false, not, ◌&&◌, cond, eqb, ltb, leb, bytes_eq, Option, Some, None};
+ghost use Rattle.std.specs.Prelude.{◌≡◌, ℕ, suc, List, [], ◌∷◌, ◌++◌, map, Bool, true, false, not, ◌&&◌, cond, eqb, ltb, leb, bytes_eq, Option, Some, None, is_some};
 ghost use Rattle.std.specs.Ordering.{nat_cmp, ordering_then, is_lt};
 ghost use Rattle.std.specs.Cmp.Lexicographic.{slice_cmp};
 ghost use Rattle.std.specs.List.{filter, list_any, list_all};
@@ -8,21 +8,21 @@ ghost use Rattle.misp_ids.specs.declared.uid.OrgId.{OrgId};
 ghost use Rattle.misp_ids.specs.declared.uid.EventId.{EventId};
 ghost use Rattle.misp_elem.specs.declared.key.KeyForm.{KeyForm as Key};
 ghost use Rattle.misp_elem.specs.declared.row.RowFields.{RowFields as Row};
-ghost use Rattle.misp_elem.specs.Draft.{SubmissionFields as Submission};
 ghost use Rattle.misp_elem.specs.Key.{IsKey};
 ghost use Rattle.misp_elem.specs.Row.{IsRow};
 ghost use Rattle.misp_elem.specs.Spelling as spelling;
 ghost use Rattle.misp_groups.specs.declared.group.GroupFields.{GroupFields as Group};
 ghost use Rattle.misp_requests.specs.declared.change.Change.{Change};
-ghost use Rattle.misp_requests.specs.declared.change.Change.TheVariants.{AddEvent};
+ghost use Rattle.misp_requests.specs.declared.change.Change.TheVariants.{Publish};
 ghost use Rattle.misp_requests.specs.declared.ask.Ask.{Ask};
 ghost use Rattle.misp_requests.specs.declared.ask.Ask.TheVariants.{View, Index, Groups};
 ghost use Rattle.misp_requests.specs.declared.ask.Ask.TheVariants as ask;
-ghost use Rattle.misp_model.specs.Names.{Inst, same_inst, same_org, same_key};
+ghost use Rattle.misp_model.specs.Names.{Inst, same_inst, same_org, same_key, event_key};
 ghost use Rattle.misp_model.specs.Order.{put, is_less};
-ghost use Rattle.misp_model.specs.History.{Version, Written, is_published, same_cell, row_of, fresh_row, spell, stands_before, tables};
-ghost use Rattle.misp_model.specs.Machine.{put_all, event_number, name_bytes, raw_before};
-ghost use Rattle.misp_model.specs.Asking.{Scene, Rule, first_rule, change_writes};
+ghost use Rattle.misp_model.specs.View.{has_copy, has_home, has_gone};
+ghost use Rattle.misp_model.specs.History.{Version, Written, is_gone, is_published, is_event_of, has_come, same_cell, row_of, fresh_row, newest, spell, stands_before, tables};
+ghost use Rattle.misp_model.specs.Machine.{put_row, put_all, let_go, published_row, hands_in, event_number, name_bytes, raw_before};
+ghost use Rattle.misp_model.specs.Asking.{Scene, Rule, first_rule, own_row, change_writes};
 ghost use Rattle.misp_model.specs.Acts.{World, Act, Net, Caller, Asks, Misfits, Administers, Nothing, Refused, scene, ask_rules, brings, is_accepted, answer, ok_answer, with_groups, administered, step};
 
 /// No two keys have one spelling by numbers.
@@ -59,24 +59,46 @@ pub fn one_version_more()
         (tables log i) }
 {}
 
-/// An accepted request that adds an event puts each of its versions in its place as a row, at its
-/// instance alone.
-pub fn an_added_event_is_put_row_by_row()
-    ensures here { (n : ℕ) (w : World) (act : Act) (c : Caller) (b : Submission) →
-        is_accepted (scene n w act c) (ask.Change (AddEvent b)) ≡ true →
+/// An accepted request puts each version that it brings in its place as a row, at its instance
+/// alone. A package that is handed in is another matter: what it brings is put where it is newer.
+pub fn an_accepted_request_is_put_row_by_row()
+    ensures here { (n : ℕ) (w : World) (act : Act) (c : Caller) (a : Ask) →
+        hands_in a ≡ false → is_accepted (scene n w act c) a ≡ true →
         list_all (λ v. ltb v.act n) w.log ≡ true →
-        tables (w.log ++ change_writes (scene n w act c) (AddEvent b)) act.at
-        ≡ put_all (map fresh_row (change_writes (scene n w act c) (AddEvent b)))
-        (tables w.log act.at) }
-    ensures elsewhere { (n : ℕ) (w : World) (act : Act) (c : Caller) (b : Submission) (j : Inst) →
-        is_accepted (scene n w act c) (ask.Change (AddEvent b)) ≡ true →
+        tables (w.log ++ brings (scene n w act c) a) act.at
+        ≡ put_all (map fresh_row (brings (scene n w act c) a)) (tables w.log act.at) }
+    ensures elsewhere { (n : ℕ) (w : World) (act : Act) (c : Caller) (a : Ask) (j : Inst) →
         same_inst act.at j ≡ false →
-        tables (w.log ++ change_writes (scene n w act c) (AddEvent b)) j ≡ tables w.log j }
-    ensures acts { (n : ℕ) (w : World) (act : Act) (c : Caller) (b : Submission) →
-        is_accepted (scene n w act c) (ask.Change (AddEvent b)) ≡ true →
+        tables (w.log ++ brings (scene n w act c) a) j ≡ tables w.log j }
+{}
+
+/// A publishing puts the event's row, with a later stamp and no hold, in its place, and clears the
+/// hold of each other row of its caller's copy. Nothing else changes.
+pub fn a_publishing_clears_the_holds_of_its_copy()
+    ensures tables { (n : ℕ) (w : World) (act : Act) (c : Caller) (e : EventId) (row : Row) →
+        is_accepted (scene n w act c) (ask.Change (Publish e)) ≡ true →
         list_all (λ v. ltb v.act n) w.log ≡ true →
-        list_all (λ v. ltb v.act (suc n)) (w.log ++ change_writes (scene n w act c) (AddEvent b))
-        ≡ true }
+        own_row (scene n w act c) (event_key e) ≡ Some row →
+        tables (w.log ++ change_writes (scene n w act c) (Publish e)) act.at
+        ≡ put_row (published_row act.now row) (map (let_go c.org e) (tables w.log act.at)) }
+    ensures row { (n : ℕ) (w : World) (act : Act) (c : Caller) (e : EventId) →
+        is_accepted (scene n w act c) (ask.Change (Publish e)) ≡ true →
+        is_some (own_row (scene n w act c) (event_key e)) ≡ true }
+{}
+
+/// Whether a copy is there, was added at its instance or is gone is told by the newest version of
+/// its event: what it says, and how it came.
+pub fn a_copy_is_as_its_event_came()
+    ensures copy { (log : List Version) (i : Inst) (o : OrgId) (e : EventId) →
+        has_copy (tables log i) o e
+        ≡ list_any (λ v. is_event_of o e v && not (is_gone v.content)) (newest log i) }
+    ensures home { (log : List Version) (i : Inst) (o : OrgId) (e : EventId) →
+        has_home (tables log i) o e
+        ≡ list_any (λ v. is_event_of o e v && (not (is_gone v.content) && not (has_come v)))
+        (newest log i) }
+    ensures gone { (log : List Version) (i : Inst) (o : OrgId) (e : EventId) →
+        has_gone (tables log i) o e
+        ≡ list_any (λ v. is_event_of o e v && is_gone v.content) (newest log i) }
 {}
 
 /// The first rule that holds decides what a request is answered.

@@ -138,7 +138,7 @@ module _ (hosts : List Host) (distinct : AreDistinct hosts) (n : ℕ) (w : World
     asked_left : IsHistory hosts (suc n) (step no_links n w (act_at there asked.1)) (slice_set old at (held_by Went n (host_at at hosts) now (Ok asked) (held_at at old)))
     asked_left = one_left at lt (step no_links n w (act_at there asked.1)) (held_by Went n (host_at at hosts) now (Ok asked) (held_at at old))
         (left_there no_links n w there asked.1 (held_at at old) built told.earlier refl (told.each at lt) are)
-        (λ j other. (same_elsewhere no_links n w there asked.1 built j other, ap (λ groups. groups j) (same_groups no_links n w there asked.1)))
+        (λ j other. (same_elsewhere no_links n w there asked.1 j other, ap (λ groups. groups j) (same_groups no_links n w there asked.1)))
         (step_below no_links n w (act_at there asked.1) told.earlier)
 
   -- the state after a request

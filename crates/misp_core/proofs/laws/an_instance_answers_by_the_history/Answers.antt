@@ -6,6 +6,6 @@ pub returns : goal.returns
 returns c = record {
   reply = λ n w at ask held built same keeps. replied_there n w at ask held built same keeps;
   left = λ net n w at ask held built older same keeps are. left_there net n w at ask held built older same keeps are;
-  elsewhere = λ net n w at ask j built apart. same_elsewhere net n w at ask built j apart;
+  elsewhere = λ net n w at ask j built apart. same_elsewhere net n w at ask j apart;
   groups = λ net n w at ask. same_groups net n w at ask;
 }

@@ -1,5 +1,4 @@
-use Rattle.std.proofs.Common.{◌≡◌, false, Result, Ok, Err, OnErr, sym, ap, ◌∙◌}
-use Rattle.misp_model.specs.Audience.{is_known_group}
+use Rattle.std.proofs.Common.{Result, Ok, Err, OnErr, sym, ap, ◌∙◌}
 use Rattle.misp_levels.specs.Groups.{IsGapFor}
 use Rattle.misp_levels.proofs.Places.{unknown_at, gap_as}
 use Rattle.misp_levels.proofs.Changes.{not_known}

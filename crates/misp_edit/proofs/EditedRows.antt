@@ -1,0 +1,197 @@
+-- What an edit makes of an attribute's row is a row, where its texts are not too long.
+use Rattle.std.proofs.Common.{◌≡◌, ℕ, ◌+◌, ◌-◌, ◌≤◌, List, [], ◌∷◌, length, Bool, true, false, refl, ap, sym, subst, ◌∙◌, arith, eqb, min}
+use Rattle.std.specs.Prelude.{◌&&◌, ◌||◌, not, nat_le, ◌==◌, sum_by, Option, Some, None}
+use Rattle.std.specs.Str.{is_utf8}
+use Rattle.std.proofs.lemmas.Bool.Decides.{nat_tests}
+use Rattle.std.proofs.lemmas.List.Sums.{sum_by-cons}
+use Rattle.misp_types.specs.Values.{is_kept}
+use Rattle.std.proofs.lemmas.Bool.{and_parts, and_from, ltb-false, false≢true}
+use Rattle.misp_ids.specs.declared.uid.EventId.{EventId}
+use Rattle.misp_ids.specs.declared.label.Label.{Label}
+use Rattle.misp_elem.specs.declared.key.Place.{Place}
+use Rattle.misp_elem.specs.declared.key.Place.TheVariants as places
+use Rattle.misp_elem.specs.declared.key.KeyForm.{KeyForm as Key}
+use Rattle.misp_elem.specs.declared.key.KeyForm.TheVariants.{Element, Reference, Proposal, Verdict, Sighting}
+use Rattle.misp_elem.specs.declared.content.Tag.{Tag}
+use Rattle.misp_elem.specs.declared.content.Content.{Content}
+use Rattle.misp_elem.specs.declared.content.Content.TheVariants as contents
+use Rattle.misp_elem.specs.declared.content.AttributeBody.{AttributeBody}
+use Rattle.misp_elem.specs.declared.row.RowFields.{RowFields as Row}
+use Rattle.misp_elem.specs.Row.{is_text, is_after, IsTagName, IsText, IsValue, IsBetween, IsStamp, IsLabel, IsRow, IsContent, AreTags, AreTagsAfter, IsAttributeBody, tags_size, text_size, text_limit, fits, content_kind, may_remove, label_kind, barred_labels, IsLabelBut}
+use Rattle.misp_requests.specs.declared.edit.AttributeEdit.{AttributeEdit}
+use Rattle.misp_model.specs.History.{is_statement, is_gone}
+use Rattle.misp_model.specs.Asking.{given, edited, at_attribute, is_too_long, last_stamp}
+use Rattle.misp_edit.specs.Changing.{renewed}
+use Rattle.misp_edit.specs.Edits.{IsGiven, IsKindValue, IsAttributeEdit, is_attribute_place, is_attribute_key}
+use Rattle.misp_edit.proofs.RenewedRows.{later_stamp}
+
+-- a text fits where it has the room
+room_for : (most room n : ℕ) (least utf8 : Bool) → (least && nat_le n most && utf8) ≡ true → n ≤ room → (least && nat_le n room && utf8) ≡ true
+room_for most room n true true h k = grind (arith, nat_tests)
+room_for most room n true false h k = absurd (false≢true (sym (never (nat_le n most)) ∙ h))
+  where
+    never : (b : Bool) → (true && b && false) ≡ false
+    never true = refl
+    never false = refl
+room_for most room n false utf8 h k = absurd (false≢true h)
+
+pub fit_text : (least most room : ℕ) (text : List ℕ) → IsText least most text → length text ≤ room → IsText least room text
+fit_text least most room text h k = room_for most room (length text) (nat_le least (length text)) (is_utf8 text) h k
+
+pub fit_value : (most room : ℕ) (kind value : List ℕ) → IsValue most kind value → length value ≤ room → IsValue room kind value
+fit_value most room kind value h k = and_from (is_text 0 room value) (is_kept kind value) (fit_text 0 most room value (and_parts (is_text 0 most value) (is_kept kind value) h).0 k) (and_parts (is_text 0 most value) (is_kept kind value) h).1
+
+-- a name of at most 255 bytes has room where there is room
+pub fit_name : (old room : ℕ) (before name : List ℕ) → IsTagName old before name → length name ≤ room → IsTagName room before name
+fit_name old room before name h k =
+    let a : (is_text 1 (min 255 old) name ≡ true) × (is_after before name ≡ true) = and_parts (is_text 1 (min 255 old) name) (is_after before name) h in
+    and_from (is_text 1 (min 255 room) name) (is_after before name) (fit_text 1 (min 255 old) (min 255 room) name a.0 (short_enough (length name) old room (most_of a.0) k)) a.1
+  where
+    most_of : is_text 1 (min 255 old) name ≡ true → nat_le (length name) (min 255 old) ≡ true
+    most_of g = (and_parts (nat_le 1 (length name)) (nat_le (length name) (min 255 old)) (and_parts (nat_le 1 (length name) && nat_le (length name) (min 255 old)) (is_utf8 name) g).0).1
+
+    short_enough : (n old room : ℕ) → nat_le n (min 255 old) ≡ true → n ≤ room → n ≤ min 255 room
+    short_enough n old room g l = grind (arith, nat_tests)
+
+fit_after : (old room : ℕ) (before : List ℕ) (ts : List Tag) → AreTagsAfter old before ts → sum_by (λ (t : Tag). length t.name) ts ≤ room → AreTagsAfter room before ts
+fit_after old room before [] a k = tt
+fit_after old room before (t ∷ ts) a k =
+    let e : sum_by (λ (u : Tag). length u.name) (t ∷ ts) ≡ length t.name + sum_by (λ (u : Tag). length u.name) ts = sum_by-cons (λ (u : Tag). length u.name) t ts in
+    ((fit_name old room before t.name a.0.0 (omega arith), a.0.1), fit_after (old - length t.name) (room - length t.name) t.name ts a.1 (omega arith))
+
+fit_tags : (old room : ℕ) (ts : List Tag) → AreTags old ts → tags_size ts ≤ room → AreTags room ts
+unfolding tags_size
+fit_tags old room ts a k = (a.0, fit_after old room [] ts a.1 k)
+
+-- the parts of an attribute, where together they are not too long
+pub attribute_fits : (b : AttributeBody) (m n old : ℕ) → IsText 1 100 b.kind → IsBetween 0 15 b.category → IsText 0 m b.comment → IsValue n b.kind b.value → AreTags old b.tags →
+    is_too_long (contents.Attribute b) ≡ false → IsAttributeBody b
+unfolding is_too_long text_size
+attribute_fits b m n old kind category comment value tags h =
+    let size : length b.kind + length b.comment + length b.value + tags_size b.tags ≤ 16384 = ltb-false 16384 (length b.kind + length b.comment + length b.value + tags_size b.tags) h in (
+      kind,
+      (
+        category,
+        (
+          tt,
+          (
+            fit_text 0 m (text_limit - length b.kind) b.comment comment (omega arith),
+            (
+              tt,
+              (
+                fit_value n (text_limit - length b.kind - length b.comment) b.kind b.value value (omega arith),
+                fit_tags old (text_limit - length b.kind - length b.comment - length b.value) b.tags tags (omega arith),
+              ),
+            ),
+          ),
+        ),
+      ),
+    )
+
+-- the attribute after an edit
+given_holds : {A : Type 0} (P : A → Type 0) (o : Option A) (x : A) → IsGiven P o → P x → P (given o x)
+unfolding given
+given_holds P None x g h = h
+given_holds P (Some y) x g h = g
+
+module _ (e : AttributeEdit) (b : AttributeBody) (ok : IsAttributeEdit e) (is : IsAttributeBody b) where
+  -- the attribute with these
+  abbrev with_these : Option (List ℕ × List ℕ) → Option (List ℕ) → AttributeBody
+  with_these k c = record b {
+    category = given e.category b.category;
+    to_ids = given e.to_ids b.to_ids;
+    comment = given c b.comment;
+    kind = elim k [ None ↦ b.kind | Some p ↦ p.0 ];
+    value = elim k [ None ↦ b.value | Some p ↦ p.1 ];
+  }
+
+  category_is : IsBetween 0 15 (given e.category b.category)
+  category_is = given_holds (IsBetween 0 15) e.category b.category ok.1.0 is.1.0
+
+  these_fit : (k : Option (List ℕ × List ℕ)) (c : Option (List ℕ)) → IsGiven IsKindValue k → IsGiven (IsText 0 text_limit) c → is_too_long (contents.Attribute (with_these k c)) ≡ false → IsAttributeBody (with_these k c)
+  unfolding given
+  these_fit None None g d h = attribute_fits (with_these None None) _ _ _ is.0 category_is is.1.1.1.0 is.1.1.1.1.1.0 is.1.1.1.1.1.1 h
+  these_fit None (Some c) g d h = attribute_fits (with_these None (Some c)) _ _ _ is.0 category_is d is.1.1.1.1.1.0 is.1.1.1.1.1.1 h
+  these_fit (Some p) None g d h = attribute_fits (with_these (Some p) None) _ _ _ g.0 category_is is.1.1.1.0 g.1 is.1.1.1.1.1.1 h
+  these_fit (Some p) (Some c) g d h = attribute_fits (with_these (Some p) (Some c)) _ _ _ g.0 category_is d g.1 is.1.1.1.1.1.1 h
+
+  edited_fits : is_too_long (contents.Attribute (edited e b)) ≡ false → IsAttributeBody (edited e b)
+  unfolding edited
+  edited_fits h = these_fit e.kind_value e.comment ok.1.1.1 ok.1.1.0 h
+
+edited_content : (e : AttributeEdit) (may : Bool) (c : Content) → IsAttributeEdit e → IsContent may c → is_too_long (at_attribute (edited e) c) ≡ false → IsContent may (at_attribute (edited e) c)
+unfolding at_attribute
+edited_content e may (contents.Attribute b) ok is h = edited_fits e b ok is h
+edited_content e may (contents.Event b) ok is h = is
+edited_content e may (contents.Object b) ok is h = is
+edited_content e may (contents.Reference b) ok is h = is
+edited_content e may (contents.Proposal b) ok is h = is
+edited_content e may (contents.Verdict b) ok is h = is
+edited_content e may (contents.Sighting b) ok is h = is
+edited_content e may contents.Gone ok is h = is
+
+edited_kind : (e : AttributeEdit) (c : Content) → content_kind (at_attribute (edited e) c) ≡ content_kind c
+unfolding at_attribute
+edited_kind e (contents.Attribute b) = refl
+edited_kind e (contents.Event b) = refl
+edited_kind e (contents.Object b) = refl
+edited_kind e (contents.Reference b) = refl
+edited_kind e (contents.Proposal b) = refl
+edited_kind e (contents.Verdict b) = refl
+edited_kind e (contents.Sighting b) = refl
+edited_kind e contents.Gone = refl
+
+-- a row of an attribute may have any label
+attribute_row : (now : ℕ) (row : Row) (e : EventId) (p : Place) (l : Label) (c : Content) → row.key ≡ Element e p → is_attribute_place p ≡ true → IsStamp now → IsRow row → eqb row.stamp last_stamp ≡ false →
+    IsLabel l → content_kind c ≡ content_kind row.content → IsContent (may_remove row.key) c → IsRow (renewed now row l c)
+unfolding renewed is_attribute_place
+attribute_row now row e p l c k a s is t label kind content = (
+  is.0,
+  (
+    is.1.0,
+    (
+      later_stamp now row.stamp s is.1.1.0 t,
+      (
+        subst (λ key. IsLabelBut (barred_labels key) l) (sym k) (any_label p a),
+        (
+          tt,
+          (
+            subst (λ key. fits key (label_kind l) (not (is_statement row.key || is_gone c), false) (content_kind c) ≡ true) (sym k) (any_fits p a (subst (λ key. fits key (label_kind row.label) (row.held, row.carried) (content_kind row.content) ≡ true) k is.1.1.1.1.1.0)),
+            content,
+          ),
+        ),
+      ),
+    ),
+  ),
+)
+  where
+    any_label : (p : Place) → is_attribute_place p ≡ true → IsLabelBut (barred_labels (Element e p)) l
+    any_label places.Event a = absurd (false≢true a)
+    any_label (places.Object x) a = absurd (false≢true a)
+    any_label (places.Attribute x) a = (refl, label)
+    any_label (places.ObjectAttribute x y) a = (refl, label)
+
+    any_fits : (p : Place) → is_attribute_place p ≡ true → fits (Element e p) (label_kind row.label) (row.held, row.carried) (content_kind row.content) ≡ true →
+        fits (Element e p) (label_kind l) (not (is_statement row.key || is_gone c), false) (content_kind c) ≡ true
+    any_fits places.Event a g = absurd (false≢true a)
+    any_fits (places.Object x) a g = absurd (false≢true a)
+    any_fits (places.Attribute x) a g = ap (λ n. n == 2) kind ∙ g
+    any_fits (places.ObjectAttribute x y) a g = ap (λ n. n == 2) kind ∙ g
+
+pub edited_row : (now : ℕ) (row : Row) (e : EventId) (p : Place) (edit : AttributeEdit) → row.key ≡ Element e p → is_attribute_place p ≡ true → IsStamp now → IsRow row → eqb row.stamp last_stamp ≡ false →
+    IsAttributeEdit edit → is_too_long (at_attribute (edited edit) row.content) ≡ false → IsRow (renewed now row (given edit.label row.label) (at_attribute (edited edit) row.content))
+edited_row now row e p edit k a s is t ok h =
+    attribute_row now row e p (given edit.label row.label) (at_attribute (edited edit) row.content) k a s is t (given_holds IsLabel edit.label row.label ok.0 is.1.1.1.0.1)
+    (edited_kind edit row.content) (edited_content edit (may_remove row.key) row.content ok is.1.1.1.1.1.1 h)
+
+pub edited_by_key : (now : ℕ) (row : Row) (edit : AttributeEdit) → is_attribute_key row.key ≡ true → IsStamp now → IsRow row → eqb row.stamp last_stamp ≡ false →
+    IsAttributeEdit edit → is_too_long (at_attribute (edited edit) row.content) ≡ false → IsRow (renewed now row (given edit.label row.label) (at_attribute (edited edit) row.content))
+unfolding is_attribute_key
+edited_by_key now row edit a s is t ok h = by_key row.key refl a
+  where
+    by_key : (k : Key) → row.key ≡ k → is_attribute_key k ≡ true → IsRow (renewed now row (given edit.label row.label) (at_attribute (edited edit) row.content))
+    by_key (Element e p) k a = edited_row now row e p edit k a s is t ok h
+    by_key (Reference e x u v) k a = absurd (false≢true a)
+    by_key (Proposal e n) k a = absurd (false≢true a)
+    by_key (Verdict e n i o) k a = absurd (false≢true a)
+    by_key (Sighting e u i o v) k a = absurd (false≢true a)

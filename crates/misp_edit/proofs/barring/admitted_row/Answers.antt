@@ -1,0 +1,26 @@
+use Rattle.std.proofs.Common.{ap, ◌∙◌}
+use Rattle.std.specs.Prelude.{Option}
+use Rattle.misp_elem.specs.declared.row.RowFields.{RowFields as Row}
+use Rattle.misp_model.specs.Asking.{Rule, first_rule}
+use Rattle.misp_edit.specs.Changing.{ruling, late_rules}
+use Rattle.misp_edit.proofs.ChangeLemmas.{or_first, or_second}
+use Rattle.misp_edit.proofs.barring.admitted_row.Goals as goal
+
+pub returns-in-Err-clause-rule : goal.returns-in-Err-clause-rule
+unfolding ruling
+returns-in-Err-clause-rule c = or_first _ _ _ c.in-Err.ensures.err c.in-Err.ensures.rule
+
+pub returns-in-Err-clause-names : goal.returns-in-Err-clause-names
+returns-in-Err-clause-names c = c.in-Err.ensures.names c.args.label
+
+pub returns-in-Err-late_fault-clause-rule : goal.returns-in-Err-late_fault-clause-rule
+unfolding ruling
+returns-in-Err-late_fault-clause-rule c =
+    let late : Option Row → Option Rule = λ o. first_rule (late_rules c.args.who.now.groups.now c.args.who.now.here c.args.who.now.org o c.args.label c.args.stamp) in
+    or_second _ _ _ c.in-Ok.ensures.rule (c.in-Err-late_fault.ensures.rule ∙ ap late c.own_row-own.ensures)
+
+pub returns-in-Ok-late_fault-clause-rule : goal.returns-in-Ok-late_fault-clause-rule
+unfolding ruling
+returns-in-Ok-late_fault-clause-rule c =
+    let late : Option Row → Option Rule = λ o. first_rule (late_rules c.args.who.now.groups.now c.args.who.now.here c.args.who.now.org o c.args.label c.args.stamp) in
+    or_second _ _ _ c.in-Ok.ensures.rule (c.in-Ok-late_fault.ensures.rule ∙ ap late c.own_row-own.ensures)

@@ -1,0 +1,23 @@
+use Rattle.std.proofs.Common.{ap, ◌∙◌}
+use Rattle.std.specs.Prelude.{Option, None}
+use Rattle.misp_elem.specs.declared.row.RowFields.{RowFields as Row}
+use Rattle.misp_model.specs.Asking.{Rule, first_rule}
+use Rattle.misp_edit.specs.Changing.{marking, late_rules}
+use Rattle.misp_edit.proofs.ChangeLemmas.{or_first, or_second}
+use Rattle.misp_edit.proofs.marking.admitted_event.Goals as goal
+
+pub returns-in-Err-clause-rule : goal.returns-in-Err-clause-rule
+unfolding marking
+returns-in-Err-clause-rule c = or_first _ _ _ c.in-Err.ensures.err c.in-Err.ensures.rule
+
+pub returns-in-Err-late_fault-clause-rule : goal.returns-in-Err-late_fault-clause-rule
+unfolding marking
+returns-in-Err-late_fault-clause-rule c =
+    let late : Option Row → Option Rule = λ o. first_rule (late_rules c.args.who.now.groups.now c.args.who.now.here c.args.who.now.org o None None) in
+    or_second _ _ _ c.in-Ok.ensures.rule (c.in-Err-late_fault.ensures.rule ∙ ap late c.own_row-own.ensures)
+
+pub returns-in-Ok-late_fault-clause-rule : goal.returns-in-Ok-late_fault-clause-rule
+unfolding marking
+returns-in-Ok-late_fault-clause-rule c =
+    let late : Option Row → Option Rule = λ o. first_rule (late_rules c.args.who.now.groups.now c.args.who.now.here c.args.who.now.org o None None) in
+    or_second _ _ _ c.in-Ok.ensures.rule (c.in-Ok-late_fault.ensures.rule ∙ ap late c.own_row-own.ensures)

@@ -1,0 +1,74 @@
+//! Deleting an element, and an event.
+
+ghost use Rattle.std.specs.Prelude.{◌≡◌, ℕ, List, [], ◌∷◌, eqb, false, IfOk, IfErr};
+ghost use Rattle.misp_elem.specs.Row.{AreRows};
+ghost use Rattle.misp_requests.specs.declared.change.Change.TheVariants.{Delete};
+ghost use Rattle.misp_model.specs.Asking.{change_rules, as_deleted, is_too_long, last_stamp};
+ghost use Rattle.misp_edit.specs.Adding.{scene_of};
+ghost use Rattle.misp_edit.specs.Changing.{Refuses, Changes, IsFull, renewed};
+
+use crate::asker::Asker;
+use crate::barring::admitted_row;
+use crate::change_fault::ChangeFault;
+use crate::contents::deleted;
+use crate::own::has_live;
+use crate::renewing::{finished, label_of};
+use misp_elem::{Content, Place, Row};
+use misp_ids::{EventId, InstId, NoMemory, OrgId, Stamp};
+use misp_levels::Groups;
+use std::alloc::Global;
+
+fn deleted_of(row: &Row) -> Result<Content, NoMemory>
+    ensures { IfOk result (λ made. made ≡ as_deleted row.now.content) }
+{
+    deleted(&row.content)
+}
+
+// The row deleted, where it has not the last stamp.
+fn deleted_row(alloc: Global, row: &Row, now: Stamp) -> Result<Vec<Row>, ChangeFault>
+    requires { eqb row.now.stamp last_stamp ≡ false }
+    ensures err { IfErr result (IsFull (as_deleted row.now.content)) }
+    ensures ok { IfOk result (λ made.
+        (made.items ≡ renewed now row.now row.now.label (as_deleted row.now.content) ∷ [])
+        × (is_too_long (as_deleted row.now.content) ≡ false)) }
+    ensures are_rows { IfOk result (λ made. AreRows made.items) }
+{
+    let (_now, _held) = (now.get(), row.held);
+    match deleted_of(row) {
+        Ok(content) => finished(alloc, row, label_of(row), content, now),
+        Err(NoMemory) => Err(ChangeFault::NoMemory),
+    }
+}
+
+/// The row that deleting the element at this place writes. The groups are those of the instance
+/// `here`, and the rows those that the caller knows of the event.
+pub fn delete(
+    alloc: Global,
+    event: &EventId,
+    place: &Place,
+    org: &OrgId,
+    groups: &Groups,
+    here: &InstId,
+    now: Stamp,
+    rows: &[Row],
+) -> Result<Vec<Row>, ChangeFault>
+    ensures err { (act : ℕ) (name today : List ℕ) → IfErr result
+        (Refuses (change_rules (scene_of act here.now org.now name now today groups.now rows.now)
+        (Delete event.now place.now))) }
+    ensures ok { (act : ℕ) (name today : List ℕ) → IfOk result (λ made.
+        Changes (scene_of act here.now org.now name now today groups.now rows.now)
+        (Delete event.now place.now) made.items) }
+    ensures are_rows { IfOk result (λ made. AreRows made.items) }
+{
+    let who = Asker {
+        groups,
+        here: *here,
+        org: *org,
+    };
+    let fits = has_live(rows, org, event, place);
+    match admitted_row(rows, &who, event, place, fits, None, None) {
+        Err(fault) => Err(fault),
+        Ok(None) => Ok(Vec::new(alloc)),
+        Ok(Some(row)) => deleted_row(alloc, row, now),
+    }
+}

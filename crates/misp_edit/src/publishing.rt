@@ -1,0 +1,53 @@
+//! Publishing an event.
+
+ghost use Rattle.std.specs.Prelude.{◌≡◌, ℕ, List, IfOk, IfErr};
+ghost use Rattle.misp_elem.specs.Row.{AreRows};
+ghost use Rattle.misp_requests.specs.declared.change.Change.TheVariants.{Publish};
+ghost use Rattle.misp_model.specs.Asking.{change_rules};
+ghost use Rattle.misp_publish.specs.Copies.{AreOf};
+ghost use Rattle.misp_edit.specs.Adding.{scene_of};
+ghost use Rattle.misp_edit.specs.Changing.{Refuses, Changes};
+
+use crate::asker::Asker;
+use crate::barring::may_change;
+use crate::change_fault::ChangeFault;
+use misp_elem::Row;
+use misp_ids::{EventId, InstId, OrgId, Stamp};
+use misp_levels::Groups;
+use misp_publish::{PublishFault, release};
+use std::alloc::Global;
+
+/// The rows that publishing the event writes. The groups are those of the instance `here`, and the
+/// rows those that the caller knows of the event.
+pub fn publish(
+    alloc: Global,
+    event: &EventId,
+    org: &OrgId,
+    groups: &Groups,
+    here: &InstId,
+    now: Stamp,
+    rows: &[Row],
+) -> Result<Vec<Row>, ChangeFault>
+    requires { AreOf event.now rows.now }
+    ensures err { (act : ℕ) (name today : List ℕ) → IfErr result
+        (Refuses (change_rules (scene_of act here.now org.now name now today groups.now rows.now)
+        (Publish event.now))) }
+    ensures ok { (act : ℕ) (name today : List ℕ) → IfOk result (λ made.
+        Changes (scene_of act here.now org.now name now today groups.now rows.now)
+        (Publish event.now) made.items) }
+    ensures are_rows { IfOk result (λ made. AreRows made.items) }
+{
+    let who = Asker {
+        groups,
+        here: *here,
+        org: *org,
+    };
+    match may_change(rows, &who, event, true) {
+        Err(fault) => Err(fault),
+        Ok(()) => match release(alloc, rows, org, now) {
+            Ok(made) => Ok(made),
+            Err(PublishFault::TimeLimit) => Err(ChangeFault::TimeLimit),
+            Err(PublishFault::NoMemory) => Err(ChangeFault::NoMemory),
+        },
+    }
+}

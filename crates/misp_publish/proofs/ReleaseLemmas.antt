@@ -1,0 +1,229 @@
+-- What is released of the rows of one event is what a publishing of it writes.
+use Rattle.std.proofs.Common.{◌≡◌, ℕ, List, [], ◌∷◌, ◌++◌, Bool, true, false, refl, ap, sym, ◌∙◌, arith, subst, map, cond, eqb, ◌+◌, ◌<◌, length, take, get_or, append_assoc}
+use Rattle.std.specs.Prelude.{◌&&◌, ◌||◌, not, max, ◌==◌, if◌then◌else◌, is_some, Option, Some, None, option_to_list}
+use Rattle.std.specs.List.{filter, find, list_any, list_all}
+use Rattle.std.proofs.lemmas.Bool.{and_parts, false≢true}
+use Rattle.std.proofs.lemmas.Bool.Decides.{nat_tests}
+use Rattle.misp_ids.specs.declared.stamp.TheConstants.{LAST_SECOND}
+use Rattle.misp_ids.specs.Stamp.{next_stamp as next_of}
+use Rattle.std.proofs.lemmas.List.{append-nil, map-append}
+use Rattle.std.proofs.lemmas.List.Elements.{filter_more}
+use Rattle.misp_ids.specs.declared.uid.OrgId.{OrgId}
+use Rattle.misp_ids.specs.declared.uid.EventId.{EventId}
+use Rattle.misp_elem.specs.declared.key.Place.TheVariants as places
+use Rattle.misp_elem.specs.declared.key.KeyForm.{KeyForm as Key}
+use Rattle.misp_elem.specs.declared.key.KeyForm.TheVariants.{Element, Reference, Proposal, Verdict, Sighting}
+use Rattle.misp_elem.specs.declared.content.Content.{Content}
+use Rattle.misp_elem.specs.declared.content.Content.TheVariants as contents
+use Rattle.misp_elem.specs.declared.row.RowFields.{RowFields as Row}
+use Rattle.misp_elem.specs.Row.{IsStamp, IsRow, AreRows, IsContent, fits, content_kind, label_kind, may_remove}
+use Rattle.misp_requests.specs.declared.change.Change.TheVariants.{Publish}
+use Rattle.misp_model.specs.Names.{same_org, same_event, same_key, event_of, event_key}
+use Rattle.misp_model.specs.View.{is_row_of, is_mark}
+use Rattle.misp_model.specs.History.{Version, is_published, is_statement, is_gone, fresh_row}
+use Rattle.misp_model.specs.Asking.{Scene, own_row, own_row_is, is_at_limit, last_stamp, next_stamp, written, changed, changed_row, at_publishing, as_published, is_held_in, let_out_row, let_out, change_writes}
+use Rattle.misp_model.proofs.Same.{same_org-sound}
+use Rattle.misp_model.proofs.Lists.{find_passes}
+use Rattle.misp_publish.specs.Copies.{AreOf, is_event_row, state_by, state_of}
+use Rattle.misp_publish.specs.declared.copies.CopyState.{CopyState}
+use Rattle.misp_publish.specs.declared.copies.CopyState.TheVariants as states
+use Rattle.misp_publish.specs.Release.{at_stamp, cleared_row, is_released, Publishes}
+use Rattle.misp_publish.proofs.CopyLemmas.{row_is}
+
+free_of : (b : Bool) → not (b || true) ≡ false
+free_of true = refl
+free_of false = refl
+
+-- the owner's held rows but the event's
+same_test : (a b h k : Bool) → b ≡ true → (a && (h && not (a && k))) ≡ (a && (b && (h && not k)))
+same_test true b h k e = ap (λ x. x && (h && not k)) (sym e)
+same_test false b h k e = refl
+
+module _ (s : Scene) (e : EventId) where
+  held_is : (row : Row) → same_event (event_of row.key) e ≡ true → is_released s.by row ≡ is_held_in s e row
+  unfolding is_released is_held_in is_event_row is_row_of
+  held_is row h =
+      (λ i. same_org row.owner s.by && (row.held && not (sym (row_is s.by e row h) i)))
+      ∙ by_key
+    where
+      by_key : (same_org row.owner s.by && (row.held && not (is_row_of s.by (event_key e) row))) ≡ (same_org row.owner s.by && (same_event (event_of row.key) e && (row.held && not (same_key row.key (event_key e)))))
+      by_key = same_test (same_org row.owner s.by) (same_event (event_of row.key) e) row.held (same_key row.key (event_key e)) h
+
+  let_fresh : (row : Row) → is_held_in s e row ≡ true → fresh_row (let_out_row s row) ≡ cleared_row row
+  unfolding is_held_in fresh_row let_out_row is_published cleared_row
+  let_fresh row h = λ i. record {
+    owner = sym (same_org-sound row.owner s.by (and_parts _ _ h).0) i;
+    key = row.key;
+    stamp = row.stamp;
+    label = row.label;
+    held = free_of (is_statement row.key || is_gone row.content) i;
+    carried = false;
+    content = row.content;
+  }
+
+  lets_are : (rows : List Row) → AreOf e rows → map fresh_row (map (let_out_row s) (filter (is_held_in s e) rows)) ≡ map cleared_row (filter (is_released s.by) rows)
+  lets_are [] h = refl
+  lets_are (row ∷ rows) h = one (is_held_in s e row) refl (held_is row (and_parts (same_event (event_of row.key) e) (list_all (λ r. same_event (event_of r.key) e) rows) h).0) (lets_are rows (and_parts (same_event (event_of row.key) e) (list_all (λ r. same_event (event_of r.key) e) rows) h).1)
+    where
+      one : (t : Bool) → is_held_in s e row ≡ t → is_released s.by row ≡ is_held_in s e row → map fresh_row (map (let_out_row s) (filter (is_held_in s e) rows)) ≡ map cleared_row (filter (is_released s.by) rows) →
+          map fresh_row (map (let_out_row s) (cond t (row ∷ filter (is_held_in s e) rows) (filter (is_held_in s e) rows)))
+          ≡ map cleared_row (cond (is_released s.by row) (row ∷ filter (is_released s.by) rows) (filter (is_released s.by) rows))
+      one true g k ih = (λ i. let_fresh row g i ∷ ih i) ∙ sym (ap (λ t. map cleared_row (cond t (row ∷ filter (is_released s.by) rows) (filter (is_released s.by) rows))) (k ∙ g))
+      one false g k ih = ih ∙ sym (ap (λ t. map cleared_row (cond t (row ∷ filter (is_released s.by) rows) (filter (is_released s.by) rows))) (k ∙ g))
+
+  pub finds_are : (rows : List Row) → AreOf e rows → find (is_row_of s.by (event_key e)) rows ≡ find (is_event_row s.by) rows
+  finds_are [] h = refl
+  finds_are (row ∷ rows) h = λ i. cond (row_is s.by e row (and_parts (same_event (event_of row.key) e) (list_all (λ r. same_event (event_of r.key) e) rows) h).0 i) (Some row) (finds_are rows (and_parts (same_event (event_of row.key) e) (list_all (λ r. same_event (event_of r.key) e) rows) h).1 i)
+
+  module _ (are : AreOf e s.rows) (own : Row) (found : find (is_event_row s.by) s.rows ≡ Some own) where
+    own_is : own_row s (event_key e) ≡ Some own
+    unfolding own_row
+    own_is = finds_are s.rows are ∙ found
+
+    owned : own.owner ≡ s.by
+    unfolding is_event_row
+    owned = same_org-sound own.owner s.by (and_parts _ _ (find_passes (is_event_row s.by) s.rows own found)).0
+
+    pub limit_is : is_at_limit s (event_key e) ≡ eqb own.stamp last_stamp
+    unfolding is_at_limit own_row_is
+    limit_is = ap (λ (o : Option Row). elim o as (λ x. Bool) [ None ↦ false | Some row ↦ eqb row.stamp last_stamp ]) own_is
+
+    own_fresh : fresh_row (as_published (changed s own own.label (at_publishing s.now own.content))) ≡ at_stamp (max s.now (own.stamp + 1)) s.now own
+    unfolding fresh_row as_published changed written is_published at_stamp next_stamp
+    own_fresh = λ i. record {
+      owner = sym owned i;
+      key = own.key;
+      stamp = max s.now (own.stamp + 1);
+      label = own.label;
+      held = free_of (is_statement own.key || is_gone (at_publishing s.now own.content)) i;
+      carried = false;
+      content = at_publishing s.now own.content;
+    }
+
+    writes_are : map fresh_row (change_writes s (Publish e)) ≡ at_stamp (max s.now (own.stamp + 1)) s.now own ∷ map cleared_row (filter (is_released s.by) s.rows)
+    unfolding change_writes changed_row let_out
+    writes_are =
+        ap (λ o. map fresh_row (map as_published (map (λ row. changed s row row.label (at_publishing s.now row.content)) (option_to_list o)) ++ map (let_out_row s) (filter (is_held_in s e) s.rows))) own_is
+        ∙ (λ i. own_fresh i ∷ lets_are s.rows are i)
+
+    published_at : eqb own.stamp last_stamp ≡ false → Publishes s e (at_stamp (max s.now (own.stamp + 1)) s.now own ∷ map cleared_row (filter (is_released s.by) s.rows))
+    published_at h = (limit_is ∙ h, sym writes_are)
+
+module _ (s : Scene) (e : EventId) (rows : List Row) (o : OrgId) (of_event : AreOf e rows) (same_rows : s.rows ≡ rows) (same_by : s.by ≡ o) (own : Row) (found : find (is_event_row o) rows ≡ Some own) where
+  are : AreOf e s.rows
+  are = subst (AreOf e) (sym same_rows) of_event
+
+  found_there : find (is_event_row s.by) s.rows ≡ Some own
+  found_there = (λ i. find (is_event_row (same_by i)) (same_rows i)) ∙ found
+
+  pub publishes : (now : ℕ) → s.now ≡ now → eqb own.stamp last_stamp ≡ false → Publishes s e (at_stamp (max now (own.stamp + 1)) now own ∷ map cleared_row (filter (is_released o) rows))
+  publishes now same_now h =
+      subst (λ (x : (ℕ × OrgId) × List Row). Publishes s e (at_stamp (max x.0.0 (own.stamp + 1)) x.0.0 own ∷ map cleared_row (filter (is_released x.0.1) x.1)))
+      (λ i. ((same_now i, same_by i), same_rows i)) (published_at s e are own found_there h)
+
+  pub at_limit : eqb own.stamp last_stamp ≡ true → is_at_limit s (event_key e) ≡ true
+  at_limit h = limit_is s e are own found_there ∙ h
+
+-- ---- one row more
+
+module _ (f : Row → Row) (q : Row → Bool) (before : List Row) (rows : List Row) (i : ℕ) (row : Row) (lt : i < length rows) (is : row ≡ get_or rows i row) where
+  here : filter q (take (i + 1) rows) ≡ filter q (take i rows) ++ cond (q row) (row ∷ []) []
+  here = filter_more q rows i row lt ∙ ap (λ r. filter q (take i rows) ++ cond (q r) (r ∷ []) []) (sym is)
+
+  pub one_kept : (made : List Row) → q row ≡ true → made ≡ before ++ map f (filter q (take i rows)) → made ++ f row ∷ [] ≡ before ++ map f (filter q (take (i + 1) rows))
+  one_kept made k h =
+      ap (λ ys. ys ++ f row ∷ []) h ∙ append_assoc before (map f (filter q (take i rows))) (f row ∷ [])
+      ∙ ap (λ ys. before ++ ys) (sym (ap (map f) (here ∙ ap (λ b. filter q (take i rows) ++ cond b (row ∷ []) []) k) ∙ map-append f (filter q (take i rows)) (row ∷ [])))
+
+  pub one_left : (made : List Row) → q row ≡ false → made ≡ before ++ map f (filter q (take i rows)) → made ≡ before ++ map f (filter q (take (i + 1) rows))
+  one_left made k h = h ∙ ap (λ ys. before ++ map f ys) (sym (here ∙ ap (λ b. filter q (take i rows) ++ cond b (row ∷ []) []) k ∙ append-nil (filter q (take i rows))))
+
+pub are_rows_push : (rows : List Row) (row : Row) → AreRows rows → IsRow row → AreRows (rows ++ row ∷ [])
+are_rows_push [] row all is = (is, tt)
+are_rows_push (r ∷ rows) row all is = (all.0, are_rows_push rows row all.1 is)
+
+-- ---- rows
+
+published_kind : (now : ℕ) (c : Content) → content_kind (at_publishing now c) ≡ content_kind c
+unfolding at_publishing
+published_kind now (contents.Event b) = refl
+published_kind now (contents.Object b) = refl
+published_kind now (contents.Attribute b) = refl
+published_kind now (contents.Reference b) = refl
+published_kind now (contents.Proposal b) = refl
+published_kind now (contents.Verdict b) = refl
+published_kind now (contents.Sighting b) = refl
+published_kind now contents.Gone = refl
+
+published_content : (now : ℕ) (may : Bool) (c : Content) → IsStamp now → IsContent may c → IsContent may (at_publishing now c)
+unfolding at_publishing
+published_content now may (contents.Event b) s h = (h.0, (h.1.0, (h.1.1.0, (h.1.1.1.0, (s, h.1.1.1.1.1)))))
+published_content now may (contents.Object b) s h = h
+published_content now may (contents.Attribute b) s h = h
+published_content now may (contents.Reference b) s h = h
+published_content now may (contents.Proposal b) s h = h
+published_content now may (contents.Verdict b) s h = h
+published_content now may (contents.Sighting b) s h = h
+published_content now may contents.Gone s h = h
+
+-- a row that has no flag is a row
+no_flags : (k l : ℕ) (h a : Bool) → ((k == 0) || ((k == 7) && (l == 0) && not h && not a)) ≡ true → ((k == 0) || ((k == 7) && (l == 0) && not false && not false)) ≡ true
+no_flags k l h a g = grind (arith, g)
+
+free_fits : (key : Key) (l k : ℕ) (h a : Bool) → fits key l (h, a) k ≡ true → fits key l (false, false) k ≡ true
+free_fits (Element e places.Event) l k h a g = no_flags k l h a g
+free_fits (Element e (places.Object x)) l k h a g = g
+free_fits (Element e (places.Attribute x)) l k h a g = g
+free_fits (Element e (places.ObjectAttribute x y)) l k h a g = g
+free_fits (Reference e x t u) l k h a g = g
+free_fits (Proposal e n) l k h a g = g
+free_fits (Verdict e n i o) l k h a g = g
+free_fits (Sighting e t i o u) l k h a g = g
+
+pub published_is_row : (stamp now : ℕ) (row : Row) → IsStamp stamp → IsStamp now → IsRow row → IsRow (at_stamp stamp now row)
+unfolding at_stamp
+published_is_row stamp now row s n is = (
+  is.0,
+  (
+    is.1.0,
+    (
+      s,
+      (
+        is.1.1.1.0,
+        (
+          tt,
+          (
+            ap (fits row.key (label_kind row.label) (false, false)) (published_kind now row.content) ∙ free_fits row.key (label_kind row.label) (content_kind row.content) row.held row.carried is.1.1.1.1.1.0,
+            published_content now (may_remove row.key) row.content n is.1.1.1.1.1.1,
+          ),
+        ),
+      ),
+    ),
+  ),
+)
+
+pub cleared_is_row : (row : Row) → IsRow row → IsRow (cleared_row row)
+unfolding cleared_row
+cleared_is_row row is = (is.0, (is.1.0, (is.1.1.0, (is.1.1.1.0, (tt, (free_fits row.key (label_kind row.label) (content_kind row.content) row.held row.carried is.1.1.1.1.1.0, is.1.1.1.1.1.1))))))
+
+-- ---- the stamp
+
+abbrev some_of : ℕ → Option ℕ → ℕ
+some_of n None = n
+some_of n (Some m) = m
+
+pub next_is : (old now stamp : ℕ) → next_of old now ≡ Some stamp → (eqb old last_stamp ≡ false) × (stamp ≡ max now (old + 1))
+unfolding last_stamp
+next_is old now stamp h = one (old == LAST_SECOND) refl h
+  where
+    one : (b : Bool) → (old == LAST_SECOND) ≡ b → (if b then None else Some (max now (old + 1))) ≡ Some stamp → (eqb old 253402300799 ≡ false) × (stamp ≡ max now (old + 1))
+    one true e g = absurd (false≢true (ap is_some g))
+    one false e g = (grind (arith, nat_tests, e), sym (ap (some_of 0) g))
+
+pub next_none : (old now : ℕ) → next_of old now ≡ None → eqb old last_stamp ≡ true
+unfolding last_stamp
+next_none old now h = one (old == LAST_SECOND) refl h
+  where
+    one : (b : Bool) → (old == LAST_SECOND) ≡ b → (if b then None else Some (max now (old + 1))) ≡ None → eqb old 253402300799 ≡ true
+    one true e g = grind (arith, nat_tests, e)
+    one false e g = absurd (false≢true (sym (ap is_some g)))

@@ -1,0 +1,34 @@
+-- What a publishing writes, by the rows of one event.
+use Rattle.std.specs.Prelude.{◌≡◌, ℕ, Bool, false, not, ◌&&◌, List, ◌∷◌, map}
+use Rattle.std.specs.List.{filter}
+use Rattle.misp_ids.specs.declared.uid.OrgId.{OrgId}
+use Rattle.misp_ids.specs.declared.uid.EventId.{EventId}
+use Rattle.misp_elem.specs.declared.row.RowFields.{RowFields as Row}
+use Rattle.misp_requests.specs.declared.change.Change.TheVariants.{Publish}
+use Rattle.misp_model.specs.Names.{same_org, event_key}
+use Rattle.misp_model.specs.History.{fresh_row}
+use Rattle.misp_model.specs.Asking.{Scene, at_publishing, change_writes, is_at_limit}
+use Rattle.misp_publish.specs.Copies.{is_event_row}
+
+-- the row of an event, published at this moment under this stamp
+unfoldable pub at_stamp : ℕ → ℕ → Row → Row
+at_stamp stamp now row =
+    record row {
+      stamp = stamp;
+      held = false;
+      carried = false;
+      content = at_publishing now row.content;
+    }
+
+-- the row with no hold
+unfoldable pub cleared_row : Row → Row
+cleared_row row = record row { held = false; carried = false }
+
+-- it is a held row of the owner's, and not that of an event itself
+unfoldable pub is_released : OrgId → Row → Bool
+is_released o row = same_org row.owner o && (row.held && not (is_event_row o row))
+
+-- the event has not the last stamp, and these are the rows of what a publishing writes
+abbrev pub Publishes : Scene → EventId → List Row → Type 0
+Publishes s e rows =
+    (is_at_limit s (event_key e) ≡ false) × (rows ≡ map fresh_row (change_writes s (Publish e)))
