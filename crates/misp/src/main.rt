@@ -2,8 +2,9 @@
 #![tactic(auto)]
 
 ghost use Rattle.std.specs.Prelude.{◌≡◌, IfOk, vec_len};
+ghost use Rattle.misp_app.specs.Limits.{least_keepers};
 
-use misp_app::run;
+use misp_app::{KEEPERS, run};
 use misp_outside::{
     MemDial, MemDoor, StandardInput, StandardOutput, StepClock, SureCarry, SureKeeper,
 };
@@ -12,11 +13,8 @@ use std::env;
 use std::io::{self, BufReader};
 use std::process::ExitCode;
 
-/// How many keepers there are.
-const KEEPERS: usize = 16;
-
 fn keepers(alloc: Global) -> Result<Vec<SureKeeper>, AllocError>
-    ensures { IfOk result (λ keepers. vec_len keepers ≡ 16) }
+    ensures { IfOk result (λ keepers. vec_len keepers ≡ least_keepers) }
 {
     let mut keepers = Vec::new(alloc);
     while keepers.len() < KEEPERS {

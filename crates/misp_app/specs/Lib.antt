@@ -1,3 +1,4 @@
+pub mod Limits
 pub mod Status
 pub mod Streams
 pub mod Words

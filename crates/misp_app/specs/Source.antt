@@ -13,9 +13,9 @@ use Rattle.misp_net.specs.Opening.{may_be_sound, may_be_unsound}
 use Rattle.misp_net.specs.Run.{acts_of}
 use Rattle.misp_net.specs.History.{AreDistinct}
 use Rattle.misp_net.specs.Promise.{IsPromised}
-use Rattle.misp_app.specs.declared.TheConstants.{MAX_SOURCE}
 use Rattle.misp_app.specs.declared.status.Status.{Status}
 use Rattle.misp_app.specs.declared.status.Status.TheVariants.{Done, BadDescription, TooMuch}
+use Rattle.misp_app.specs.Limits.{source_limit}
 use Rattle.misp_app.specs.Streams.{AppendsSome, fault_line}
 
 -- what is described by the text before the script, or its first fault
@@ -29,7 +29,7 @@ described_status (Err fault) = BadDescription
 -- how a run of this source ends, unless a fault or the want of memory stops it
 abbrev pub status_of : List ℕ → Status
 status_of source =
-    if nat_lt MAX_SOURCE (length source) then TooMuch else described_status (described source)
+    if nat_lt source_limit (length source) then TooMuch else described_status (described source)
 
 -- it has a first fault, and the line of that fault was written
 abbrev pub IsTold : Reading Description → Option (List ℕ) → Option (List ℕ) → Type 0

@@ -5,6 +5,7 @@ ghost use Rattle.misp_outside.specs.Causes.{Rose};
 ghost use Rattle.std.specs.Io.KnownBytes.{Appends};
 ghost use Rattle.misp_net.specs.Hosts.{stocks, told};
 ghost use Rattle.misp_net.specs.Opening.{OneFailed};
+ghost use Rattle.misp_app.specs.Limits.{source_limit, least_keepers};
 ghost use Rattle.misp_app.specs.Source.{described, described_status, status_of, ok_line, IsTold, HasWritten, IsPartly, IsPartlyChecked, IsUnsound};
 ghost use Rattle.misp_app.specs.Words.{command_of};
 ghost use Rattle.misp_app.specs.Status.{IsStopped, IsSilent, IsStill, IsRunEnd, IsUnopened};
@@ -32,7 +33,7 @@ pub fn run<S: Source, W: Sink, K: Keeper, C: Carry, D: Door, L: Dial, T: Clock>(
     dial: &mut L,
     clock: &mut T,
 ) -> Status
-    requires { KEEPERS ≤ vec_len keepers.old }
+    requires { least_keepers ≤ vec_len keepers.old }
 
     // The words and the source decide how it ends, where no fault and no want of memory does.
     ensures usage { result ≡ Status.Usage ↔ command_of (map string_bytes words.now) ≡ None }
@@ -43,7 +44,7 @@ pub fn run<S: Source, W: Sink, K: Keeper, C: Carry, D: Door, L: Dial, T: Clock>(
     ensures read { result ≡ Status.ReadFault → Rose (S.faults source.old) (S.faults source.new) }
     ensures write { result ≡ Status.WriteFault → Rose (W.faults sink.old) (W.faults sink.new) }
     ensures too_much { result ≡ Status.TooMuch →
-        IfSome (S.left source.old) (λ left. MAX_SOURCE < length left) }
+        IfSome (S.left source.old) (λ left. source_limit < length left) }
     ensures silent { IsSilent result → W.written sink.new ≡ W.written sink.old }
 
     // Where the instances do not open, a keeper failed, or holds a row of the administration that
@@ -87,6 +88,9 @@ pub fn run<S: Source, W: Sink, K: Keeper, C: Carry, D: Door, L: Dial, T: Clock>(
     ensures still { IsStill result → keepers.new.items ≡ keepers.old.items }
     ensures untouched { (carry.new ≡ carry.old) × (door.new ≡ door.old)
         × (dial.new ≡ dial.old) × (clock.new ≡ clock.old) }
+
+    // The constants are the limits of the definitions.
+    ensures limits { (MAX_SOURCE ≡ source_limit) × (KEEPERS ≡ least_keepers) }
 {
     let Some(command) = command_of(words) else {
         return Status::Usage;
@@ -113,7 +117,7 @@ fn run_source<W: Sink, K: Keeper>(
     sink: &mut W,
     keepers: &mut Vec<K>,
 ) -> Result<(), Status>
-    requires { KEEPERS ≤ vec_len keepers.old }
+    requires { least_keepers ≤ vec_len keepers.old }
     ensures status { IfErr result (λ status.
         IsStopped status ⊎ (status ≡ described_status (described bytes.now))) }
     ensures described { OnOk result (described_status (described bytes.now) ≡ Status.Done) }

@@ -1,6 +1,7 @@
 //! Reads a source whole.
 
 ghost use Rattle.std.specs.Prelude.{◌≡◌, ◌<◌, ◌≤◌, length, IfOk, IfErr, IfSome, vec_len};
+ghost use Rattle.misp_app.specs.Limits.{source_limit};
 ghost use Rattle.misp_app.specs.Status.{IsReadEnd};
 ghost use Rattle.misp_outside.specs.Causes.{HasCause};
 
@@ -13,9 +14,9 @@ use std::alloc::Global;
 pub(crate) fn read_all<S: Source>(alloc: Global, source: &mut S) -> Result<Vec<u8>, Status>
     ensures bytes { IfOk result (λ bytes.
         IfSome (S.left source.old) (λ left. bytes.items ≡ left)) }
-    ensures bound { IfOk result (λ bytes. vec_len bytes ≤ MAX_SOURCE) }
+    ensures bound { IfOk result (λ bytes. vec_len bytes ≤ source_limit) }
     ensures too_much { result ≡ Err Status.TooMuch →
-        IfSome (S.left source.old) (λ left. MAX_SOURCE < length left) }
+        IfSome (S.left source.old) (λ left. source_limit < length left) }
     ensures cause { HasCause (S.faults source.old) (S.faults source.new)
         (result ≡ Err Status.ReadFault) }
     ensures others { IfErr result IsReadEnd }

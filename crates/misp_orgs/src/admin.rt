@@ -2,13 +2,13 @@
 
 ghost use Rattle.std.specs.Prelude.{◌≡◌, ◌≤◌, length, option_map, IfOk, IfSome, OnOk};
 ghost use Rattle.std.specs.List.Sorted.{IsStrictlySortedBy};
-ghost use Rattle.misp_orgs.specs.Org.{org_of, name_of};
+ghost use Rattle.misp_orgs.specs.Org.{name_limit, org_of, name_of};
 ghost use Rattle.misp_orgs.specs.Order.{in_order};
 ghost use Rattle.misp_orgs.specs.Admin.{by_uuid, by_key, by_name, AreDistinct, admin_of, record_of, who_of, link_of};
 
 use crate::key::{Caller, KeyRecord};
 use crate::link::Link;
-use crate::org::{NAME_LIMIT, Org};
+use crate::org::Org;
 use misp_ids::{ApiKey, InstId, Items, OrgId};
 use std::alloc::AllocError;
 use std::marker::Model;
@@ -128,7 +128,7 @@ impl Admin {
     /// The name of an organisation.
     pub fn name_of(&self, org: &OrgId) -> Option<&str>
         ensures name { option_map (λ name. name.now) result ≡ name_of self.now.orgs org.now }
-        ensures short { IfSome result (λ name. length name.now ≤ NAME_LIMIT) }
+        ensures short { IfSome result (λ name. length name.now ≤ name_limit) }
     {
         match org_of(self.orgs.as_slice(), org) {
             Some(org) => Some(org.name.as_str()),

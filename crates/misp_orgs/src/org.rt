@@ -1,11 +1,22 @@
 //! Organisations.
 
+ghost use Rattle.std.specs.Prelude.{◌≡◌, length, nat_le};
+ghost use Rattle.misp_orgs.specs.Org.{name_limit};
+
 use misp_ids::{OrgId, Text};
 use std::alloc::AllocError;
 use std::marker::Model;
 
 /// The most bytes that an organisation's name has.
 pub const NAME_LIMIT: usize = 64;
+
+/// A name is short enough for an organisation.
+pub fn is_short(name: &str) -> bool
+    ensures short { result ≡ nat_le (length name.now) name_limit }
+    ensures limit { NAME_LIMIT ≡ name_limit }
+{
+    name.len() <= NAME_LIMIT
+}
 
 /// An organisation and its name.
 ///

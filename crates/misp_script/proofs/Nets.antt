@@ -17,7 +17,7 @@ use Rattle.misp_script.specs.declared.description.Description.{Description}
 use Rattle.misp_script.specs.declared.description.Host.{Host}
 use Rattle.misp_script.specs.declared.description.HostKey.{HostKey}
 use Rattle.misp_script.specs.declared.description.HostLink.{HostLink}
-use Rattle.misp_script.specs.declared.document.TheConstants.{ORG_LIMIT, INSTANCE_LIMIT}
+use Rattle.misp_script.specs.Limits.{org_limit, instance_limit}
 use Rattle.misp_script.specs.Entries.{each}
 use Rattle.misp_script.specs.Tables.{next_org, next_host, next_key, next_link}
 use Rattle.misp_script.specs.Names.{names_of, is_to_another, links_to_others, IsNet}
@@ -28,12 +28,12 @@ use Rattle.misp_script.proofs.Distinct.{is_apart, hosts_distinct, hosts_counted,
 
 -- ---- limits
 
-hosts_few : (ms : Members) (x : ⊤) → within_limits ms ≡ Ok x → length (entries_at (codes "instance") ms) ≤ INSTANCE_LIMIT
+hosts_few : (ms : Members) (x : ⊤) → within_limits ms ≡ Ok x → length (entries_at (codes "instance") ms) ≤ instance_limit
 hosts_few ms x h =
-    let P : ⊤ → Type 0 = λ y. length (entries_at (codes "instance") ms) ≤ INSTANCE_LIMIT in
-    bind_keeps P (at_most ORG_LIMIT (codes "org") (entries_at (codes "org") ms)) _ (λ orgs is1.
-    bind_keeps P (at_most INSTANCE_LIMIT (codes "instance") (entries_at (codes "instance") ms)) _ (λ hosts is2 y rest.
-    let few : nat_lt INSTANCE_LIMIT (length (entries_at (codes "instance") ms)) ≡ false = not_bad _ _ _ hosts is2 in
+    let P : ⊤ → Type 0 = λ y. length (entries_at (codes "instance") ms) ≤ instance_limit in
+    bind_keeps P (at_most org_limit (codes "org") (entries_at (codes "org") ms)) _ (λ orgs is1.
+    bind_keeps P (at_most instance_limit (codes "instance") (entries_at (codes "instance") ms)) _ (λ hosts is2 y rest.
+    let few : nat_lt instance_limit (length (entries_at (codes "instance") ms)) ≡ false = not_bad _ _ _ hosts is2 in
     grind (arith, nat_tests))) x h
 
 -- ---- peers
@@ -58,7 +58,7 @@ peers_all names orgs keys links each_one (h ∷ hs) = and_from _ _ (each_one h.n
 
 -- ---- the whole
 
-net_of : (ms : Members) (orgs : List OrgFields) (hosts : List Host) (keys : List HostKey) (links : List HostLink) → length (entries_at (codes "instance") ms) ≤ INSTANCE_LIMIT
+net_of : (ms : Members) (orgs : List OrgFields) (hosts : List Host) (keys : List HostKey) (links : List HostLink) → length (entries_at (codes "instance") ms) ≤ instance_limit
     → each next_host 0 [] (entries_at (codes "instance") ms) ≡ Ok hosts → AllByRecursion (λ l. is_apart hosts l ≡ true) links
     → IsNet (record { instances = instances_of orgs keys links hosts })
 net_of ms orgs hosts keys links few of_hosts apart =

@@ -3,6 +3,7 @@ pub mod Entries
 pub mod Faults
 pub mod Fields
 pub mod Known
+pub mod Limits
 pub mod Lines
 pub mod Names
 pub mod Network

@@ -4,7 +4,7 @@ use Rattle.std.specs.List.{list_any, list_all, IsDistinct}
 use Rattle.misp_orgs.specs.declared.link.Link.{Link}
 use Rattle.misp_script.specs.declared.description.Description.{Description}
 use Rattle.misp_script.specs.declared.description.Entry.{Entry}
-use Rattle.misp_script.specs.declared.document.TheConstants.{INSTANCE_LIMIT}
+use Rattle.misp_script.specs.Limits.{instance_limit}
 
 -- in their order
 abbrev pub names_of : Description → List (List ℕ)
@@ -26,6 +26,6 @@ links_to_others names entry = list_all (is_to_another names entry.name) entry.ad
 -- what every description is: its instances are few, they have different names, and each link
 -- is to another of them
 pub record IsNet (d : Description) : Type 0 where
-  pub few : length d.instances ≤ INSTANCE_LIMIT
+  pub few : length d.instances ≤ instance_limit
   pub names : AreDistinct (names_of d)
   pub peers : list_all (links_to_others (names_of d)) d.instances ≡ true

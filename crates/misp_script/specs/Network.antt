@@ -13,9 +13,9 @@ use Rattle.misp_script.specs.declared.description.Entry.{Entry}
 use Rattle.misp_script.specs.declared.description.Host.{Host}
 use Rattle.misp_script.specs.declared.description.HostKey.{HostKey}
 use Rattle.misp_script.specs.declared.description.HostLink.{HostLink}
-use Rattle.misp_script.specs.declared.document.TheConstants.{ORG_LIMIT, INSTANCE_LIMIT, KEY_LIMIT, LINK_LIMIT}
 use Rattle.misp_script.specs.declared.fault.DescNeed.TheVariants as needs
 use Rattle.misp_script.specs.Faults.{Reading, ◌>>=◌, bad, or_bad, bad_if}
+use Rattle.misp_script.specs.Limits.{org_limit, instance_limit, key_limit, link_limit}
 use Rattle.misp_script.specs.Entries.{named_among, each}
 use Rattle.misp_script.specs.Tables.{next_org, next_host, next_key, next_link}
 
@@ -66,10 +66,10 @@ at_most limit name ds = bad_if (nat_lt limit (length ds)) name needs.Limit
 
 abbrev pub within_limits : Members → Reading ⊤
 within_limits ms = do
-  orgs ← at_most ORG_LIMIT (codes "org") (entries_at (codes "org") ms)
-  hosts ← at_most INSTANCE_LIMIT (codes "instance") (entries_at (codes "instance") ms)
-  keys ← at_most KEY_LIMIT (codes "key") (entries_at (codes "key") ms)
-  at_most LINK_LIMIT (codes "link") (entries_at (codes "link") ms)
+  orgs ← at_most org_limit (codes "org") (entries_at (codes "org") ms)
+  hosts ← at_most instance_limit (codes "instance") (entries_at (codes "instance") ms)
+  keys ← at_most key_limit (codes "key") (entries_at (codes "key") ms)
+  at_most link_limit (codes "link") (entries_at (codes "link") ms)
 
 -- ---- the whole
 

@@ -3,7 +3,6 @@ use Rattle.std.specs.Prelude.{ℕ, Bool, false, ◌&&◌, ◌||◌, ◌==◌, no
 use Rattle.std.specs.Char.{is_ascii_digit}
 use Rattle.std.specs.List.{list_all}
 use Rattle.std.specs.Str.Parse.{digits_value}
-use Rattle.misp_ids.specs.declared.stamp.TheConstants.{LAST_SECOND}
 
 -- digits, of which the first is a zero only where it is the only one
 abbrev pub is_numeral : List ℕ → Bool
@@ -11,9 +10,13 @@ is_numeral [] = false
 is_numeral (d ∷ []) = list_all is_ascii_digit (d ∷ [])
 is_numeral (d ∷ e ∷ ds) = not (d == 48) && list_all is_ascii_digit (d ∷ e ∷ ds)
 
+-- the last second of the year 9999
+abbrev pub last_second : ℕ
+last_second = 253402300799
+
 -- no later than the last second
 abbrev pub moment : ℕ → Option ℕ
-moment seconds = if nat_le seconds LAST_SECOND then Some seconds else None
+moment seconds = if nat_le seconds last_second then Some seconds else None
 
 -- a decimal number of at most twelve digits, that is a moment
 abbrev pub time_of : List ℕ → Option ℕ

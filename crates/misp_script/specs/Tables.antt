@@ -11,8 +11,7 @@ use Rattle.misp_ids.specs.Uid.{read_uid}
 use Rattle.misp_ids.specs.Names.{is_inst_name, is_api_key}
 use Rattle.misp_orgs.specs.declared.role.Role.{Role}
 use Rattle.misp_orgs.specs.declared.role.Role.TheVariants as roles
-use Rattle.misp_orgs.specs.declared.org.TheConstants.{NAME_LIMIT}
-use Rattle.misp_orgs.specs.Org.{OrgFields}
+use Rattle.misp_orgs.specs.Org.{name_limit, OrgFields}
 use Rattle.misp_script.specs.declared.description.Host.{Host}
 use Rattle.misp_script.specs.declared.description.HostKey.{HostKey}
 use Rattle.misp_script.specs.declared.description.HostLink.{HostLink}
@@ -25,7 +24,7 @@ use Rattle.misp_script.specs.Entries.{Body, entry_of, has, text_in, text_at, tex
 -- 1 to 64 bytes, and no control character
 abbrev pub is_org_name : List ℕ → Bool
 is_org_name text =
-    nat_lt 0 (length text) && nat_le (length text) NAME_LIMIT
+    nat_lt 0 (length text) && nat_le (length text) name_limit
     && not (list_any is_control (chars text))
 
 abbrev pub org_name_of : List ℕ → Option (List ℕ)

@@ -4,10 +4,13 @@ ghost use Rattle.std.specs.Prelude.{◌≡◌, IfOk, Ok};
 ghost use Rattle.toml.specs.View.{table_view};
 ghost use Rattle.misp_script.specs.Faults.{Gives, Shows};
 ghost use Rattle.misp_script.specs.Network.{keys_of, links_of, AreApart, instance_of, instances_of, network_at, description_at};
+ghost use Rattle.misp_script.specs.Limits.{org_limit, instance_limit, key_limit, link_limit};
 ghost use Rattle.misp_script.specs.Names.{IsNet};
 
 use crate::description::{Description, Entry, Host, HostKey, HostLink};
-use crate::document::{all_known, document, entries, within_limits};
+use crate::document::{
+    INSTANCE_LIMIT, KEY_LIMIT, LINK_LIMIT, ORG_LIMIT, all_known, document, entries, within_limits,
+};
 use crate::fault::DescFault;
 use crate::host_table::hosts;
 use crate::key_table::keys;
@@ -128,6 +131,8 @@ fn described(alloc: Global, bytes: &[u8]) -> Result<Description, DescFault>
 pub fn read_description(alloc: Global, bytes: &[u8]) -> Result<Description, DescFault>
     ensures description { Gives result (description_at bytes.now) }
     ensures net { IfOk result IsNet }
+    ensures limits { (ORG_LIMIT ≡ org_limit) × (INSTANCE_LIMIT ≡ instance_limit)
+        × (KEY_LIMIT ≡ key_limit) × (LINK_LIMIT ≡ link_limit) }
 {
     described(alloc, bytes)
 }

@@ -1,7 +1,7 @@
 //! The list `org`.
 
 ghost use Rattle.std.specs.Prelude.{◌≡◌, ◌≤◌, ◌&&◌, ◌==◌, [], ◌∷◌, ◌++◌, Ok, List, length, map, IfOk, IfErr, OnOk};
-ghost use Rattle.misp_orgs.specs.Org.{OrgFields};
+ghost use Rattle.misp_orgs.specs.Org.{name_limit, OrgFields};
 ghost use Rattle.misp_script.specs.declared.fault.DescFault.TheVariants.{NoMemory};
 ghost use Rattle.misp_script.specs.Known.{NamesOrgs};
 ghost use Rattle.std.specs.List.{list_any};
@@ -15,7 +15,7 @@ ghost use Rattle.misp_script.specs.Tables.{is_org_name, org_named, has_name, has
 use crate::fault::{DescFault, DescNeed};
 use crate::listed::Listed;
 use misp_ids::{OrgId, Text, Uid};
-use misp_orgs::{NAME_LIMIT, Org};
+use misp_orgs::{Org, is_short};
 use std::alloc::Global;
 use std::collections::{BTreeMap, BTreeSet};
 use std::marker::Model;
@@ -122,12 +122,12 @@ fn has_control(text: &str) -> bool
 fn is_org_name(text: &str) -> bool
     ensures { result ≡ is_org_name text.now }
 {
-    !text.is_empty() && text.len() <= NAME_LIMIT && !has_control(text)
+    !text.is_empty() && is_short(text) && !has_control(text)
 }
 
 fn org_name<'a>(it: &Listed<'a>) -> Result<&'a str, DescFault>
     ensures name { Shows (λ name. name.now) result (org_name_at (body_of it.now)) }
-    ensures short { IfOk result (λ name. length name.now ≤ NAME_LIMIT) }
+    ensures short { IfOk result (λ name. length name.now ≤ name_limit) }
 {
     let text = it.text("name")?;
     if is_org_name(text) {

@@ -1,6 +1,6 @@
 use Rattle.std.proofs.Common.{◌+◌, ◌-◌, ◌≤◌, vec_len}
 use Rattle.std.specs.Io.KnownBytes.{Consumes}
-use Rattle.misp_app.specs.declared.TheConstants.{MAX_SOURCE}
+use Rattle.misp_app.specs.Limits.{source_limit}
 use Rattle.misp_app.proofs.reading.read_all.Given as goal
 
 abbrev pub invariant-loop-buffer : goal.invariant-loop-buffer
@@ -10,4 +10,4 @@ invariant-loop-buffer g l = record {
 }
 
 abbrev pub decreases-loop-buffer : goal.decreases-loop-buffer
-decreases-loop-buffer g l = MAX_SOURCE + 1 - vec_len l.bytes
+decreases-loop-buffer g l = source_limit + 1 - vec_len l.bytes
