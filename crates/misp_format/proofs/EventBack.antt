@@ -30,13 +30,12 @@ use Rattle.misp_elem.specs.Key.{IsPlace}
 use Rattle.misp_elem.specs.Row.{IsAttributeBody, IsObjectBody, IsEventBody, IsRow, IsLabel, IsLabelBut, barred_labels, label_kind}
 use Rattle.misp_elem.specs.Visible.{place_in, IsAttributeOf, IsReferenceOf, IsObjectOf, IsWhole}
 use Rattle.misp_fields.specs.Fields.{member_of, present, text_of, flag_of, number_of, uuid_of, optional_uuid_of, list_of}
-use Rattle.misp_format.specs.declared.kinds.TheConstants.{OTHER}
 use Rattle.misp_format.specs.Body.{Body}
 use Rattle.misp_format.specs.Brought.{place_of, draft_of, reference_draft, owner_of, target_of, reference_body, and_attribute, and_reference, and_object, elements_of, event_draft, body_in, brought}
 use Rattle.misp_format.specs.Elements.{unless_file, kind_at, no_file_at, value_at, kept_at, tags_at, attribute_at, next_attribute, attributes_at, reference_at, next_reference, references_at, object_at, object_and_others_at, next_object, objects_at}
 use Rattle.misp_format.specs.Fields.{GroupNames, group_names, with_group, list_data, number_data, uuid_data, optional_uuid_data}
 use Rattle.misp_format.specs.Gathered.{Gathered, none_from, place, with_part, with_reference}
-use Rattle.misp_format.specs.Kinds.{is_file_type, category_of, category_name}
+use Rattle.misp_format.specs.Kinds.{other_category, category_of, category_name, is_file_type}
 use Rattle.misp_format.specs.Labels.{label_at}
 use Rattle.misp_format.specs.Path.{member_path, item_path}
 use Rattle.misp_format.specs.Readers.{number_within, is_long, text_within, is_file, some_text_of, some_date_of}
@@ -79,7 +78,7 @@ attribute_read path names owner word n a b wide labelled h =
     let uuid : row it (codes "uuid") uuid_of (Ok (made_uid word n)) ≡ Ok (key_uuid a.row.key) = row_beside path names a.row.label ms (codes "uuid") uuid_of (Ok (made_uid word n)) (key_uuid a.row.key) refl (row_back plain (codes "uuid") uuid_of (Ok (made_uid word n)) (uuid_data (key_uuid a.row.key)) (key_uuid a.row.key) refl (uuid_back (key_uuid a.row.key) wide)) in
     let type : row it (codes "type") (text_within 1 100) must_be ≡ Ok b.kind = row_beside path names a.row.label ms (codes "type") (text_within 1 100) must_be b.kind refl (rw long refl) in
     let kind : kind_at it ≡ Ok b.kind = rw (type, no_file) refl in
-    let category : row it (codes "category") category_of (Ok OTHER) ≡ Ok b.category = row_beside path names a.row.label ms (codes "category") category_of (Ok OTHER) b.category refl (row_back plain (codes "category") category_of (Ok OTHER) (string (category_name b.category)) b.category refl (category_back b.category (upto_15 b.category h.1.0))) in
+    let category : row it (codes "category") category_of (Ok other_category) ≡ Ok b.category = row_beside path names a.row.label ms (codes "category") category_of (Ok other_category) b.category refl (row_back plain (codes "category") category_of (Ok other_category) (string (category_name b.category)) b.category refl (category_back b.category (upto_15 b.category h.1.0))) in
     let to_ids : row it (codes "to_ids") flag_of (Ok false) ≡ Ok b.to_ids = row_beside path names a.row.label ms (codes "to_ids") flag_of (Ok false) b.to_ids refl refl in
     let label : label_at it 5 5 ≡ Ok a.row.label = label_back path names a.row.label ms 5 5 (at_most_5 a.row.label) labelled refl in
     let comment : row it (codes "comment") text_of (Ok []) ≡ Ok b.comment = row_beside path names a.row.label ms (codes "comment") text_of (Ok []) b.comment refl refl in

@@ -15,10 +15,9 @@ use Rattle.misp_elem.specs.Row.{IsAttributeBody, IsObjectBody, IsReferenceBody, 
 use Rattle.misp_elem.specs.Draft.{EventDraftFields, IsEventDraft, IsOptionalDate}
 use Rattle.misp_fields.specs.declared.need.Need.{Need}
 use Rattle.misp_fields.specs.declared.need.Need.TheVariants as needs
-use Rattle.misp_format.specs.declared.kinds.TheConstants.{OTHER}
 use Rattle.misp_format.specs.declared.fault.FormatFault.TheVariants as faults
 use Rattle.misp_format.specs.Body.{Body}
-use Rattle.misp_format.specs.Kinds.{category_of}
+use Rattle.misp_format.specs.Kinds.{other_category, category_of}
 use Rattle.misp_format.specs.Labels.{label_at}
 use Rattle.misp_format.specs.Readers.{number_within, is_long, some_date_of}
 use Rattle.misp_format.specs.Rows.{Reading, row}
@@ -52,8 +51,8 @@ optional_fits (Some u) h = h
 
 -- ---- attributes
 
-category_fits : (it : Body) (category : ℕ) → row it (codes "category") category_of (Ok OTHER) ≡ Ok category → IsBetween 0 15 category
-category_fits it category h = row_keeps (IsBetween 0 15) it (codes "category") category_of (Ok OTHER) category_ok (λ x is. cc) category h
+category_fits : (it : Body) (category : ℕ) → row it (codes "category") category_of (Ok other_category) ≡ Ok category → IsBetween 0 15 category
+category_fits it category h = row_keeps (IsBetween 0 15) it (codes "category") category_of (Ok other_category) category_ok (λ x is. cc) category h
 
 kept_is_kept : (kind value : List ℕ) → IsKept kind value → is_kept kind value ≡ true
 unfolding is_kept
@@ -63,7 +62,7 @@ kind_fits : (kind : List ℕ) → is_long 1 100 kind ≡ true → is_utf8 kind �
 kind_fits kind long utf8 = rw (long, utf8) refl
 
 pub attribute_fits : (it : Body) (b : AttributeBody) → is_long 1 100 b.kind ≡ true
-    → row it (codes "category") category_of (Ok OTHER) ≡ Ok b.category
+    → row it (codes "category") category_of (Ok other_category) ≡ Ok b.category
     → is_utf8 b.kind ≡ true → is_utf8 b.comment ≡ true → is_utf8 b.value ≡ true
     → IsKept b.kind b.value → FitTags b.tags → text_size (contents.Attribute b) ≤ text_limit → IsAttributeBody b
 unfolding text_size

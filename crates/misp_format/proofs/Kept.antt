@@ -15,9 +15,8 @@ use Rattle.misp_elem.specs.Row.{is_date, IsDate, label_kind}
 use Rattle.misp_fields.specs.declared.need.Need.{Need}
 use Rattle.misp_fields.specs.declared.need.Need.TheVariants as needs
 use Rattle.misp_fields.specs.Fields.{or_need, member_of, number_of, text_of, date_text_of}
-use Rattle.misp_format.specs.declared.kinds.TheConstants.{CATEGORIES}
 use Rattle.misp_format.specs.Body.{Body}
-use Rattle.misp_format.specs.Kinds.{category_in_text, category_of}
+use Rattle.misp_format.specs.Kinds.{category_texts, category_in_text, category_of}
 use Rattle.misp_format.specs.Labels.{named_group_at, numbered_at, label_at}
 use Rattle.misp_format.specs.Readers.{within, number_within, some_in, some_date_of}
 use Rattle.misp_format.specs.Rows.{Reading, ◌>>=◌, at, row}
@@ -135,7 +134,7 @@ named_below (Some i) x below h =
     subst (λ (n : ℕ). (nat_le 0 n && nat_le n 15) ≡ true) e (grind (arith, nat_tests))
 
 category_below : (r : Result (List ℕ) Need) (x : ℕ) → category_in_text r ≡ Ok x → (nat_le 0 x && nat_le x 15) ≡ true
-category_below (Ok text) x h = named_below (position (λ name. bytes_eq name.now text) CATEGORIES) x (λ i is. (position-Some (λ name. bytes_eq name.now text) CATEGORIES i (record { now = [] }) is).0) h
+category_below (Ok text) x h = named_below (position (λ name. bytes_eq name text) category_texts) x (λ i is. (position-Some (λ name. bytes_eq name text) category_texts i [] is).0) h
 category_below (Err need) x h = absurd cc
 
 pub category_ok : (d : Data) (x : ℕ) → category_of d ≡ Ok x → (nat_le 0 x && nat_le x 15) ≡ true

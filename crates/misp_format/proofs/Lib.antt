@@ -1,5 +1,6 @@
 mod Ascending
 mod Back
+mod Categories
 mod EventBack
 mod Fitting
 mod GroupBack

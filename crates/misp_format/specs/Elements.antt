@@ -1,6 +1,6 @@
 -- THE TABLES of elements: the members of each in the order in which they are read.
 --     MEMBER ← row it NAME READER WHERE-ABSENT
-use Rattle.std.specs.Prelude.{ℕ, ◌≤◌, Bool, true, false, nat_lt, List, [], map, codes, Option, Some, None, option_map, unwrap_or, Ok, Err, if◌then◌else◌, ⊤}
+use Rattle.std.specs.Prelude.{ℕ, ◌≤◌, Bool, true, false, nat_lt, List, [], ◌∷◌, map, codes, Option, Some, None, option_map, unwrap_or, Ok, Err, if◌then◌else◌, ⊤}
 use Rattle.std.specs.Ordering.{nat_cmp}
 use Rattle.std.specs.Cmp.Lexicographic.{slice_cmp}
 use Rattle.std.specs.BTreeMap.{insert_entry}
@@ -20,11 +20,9 @@ use Rattle.misp_elem.specs.Visible.{place_in}
 use Rattle.misp_fields.specs.declared.need.Need.TheVariants as needs
 use Rattle.misp_fields.specs.Fields.{member_of, text_of, number_of, flag_of, uuid_of, optional_uuid_of, colour_of, list_of}
 use Rattle.misp_format.specs.declared.fault.FormatFault.TheVariants as faults
-use Rattle.misp_format.specs.declared.kinds.TheConstants.{OTHER}
-use Rattle.misp_format.specs.declared.tag.TheConstants.{WHITE}
 use Rattle.misp_format.specs.Body.{Body}
 use Rattle.misp_format.specs.Gathered.{Gathered, place, with_part, with_reference}
-use Rattle.misp_format.specs.Kinds.{is_file_type, category_of}
+use Rattle.misp_format.specs.Kinds.{other_category, category_of, is_file_type}
 use Rattle.misp_format.specs.Labels.{label_at}
 use Rattle.misp_format.specs.Path.{member_path, item_path}
 use Rattle.misp_format.specs.Readers.{text_within, some_text_of, is_file}
@@ -44,12 +42,16 @@ unless_file it name is_file =
 
 -- ---- tags
 
+-- white, as red, green and blue: the colour of a tag that has none
+abbrev pub white : List ℕ
+white = 255 ∷ 255 ∷ 255 ∷ []
+
 -- TAG
 unfoldable pub tag_at : List ℕ → Data → Reading Tag
 tag_at path d = do
   it ← body_at path d
   name ← row it (codes "name") (text_within 1 255) must_be
-  colour ← row it (codes "colour") colour_of (Ok WHITE)
+  colour ← row it (codes "colour") colour_of (Ok white)
   exportable ← row it (codes "exportable") flag_of (Ok true)
   Ok (record { name = name; colour = colour; exportable = exportable })
 
@@ -124,7 +126,7 @@ attribute_at path object word n d = do
   it ← body_at path d
   uuid ← row it (codes "uuid") uuid_of (Ok (made_uid word n))
   kind ← kind_at it
-  category ← row it (codes "category") category_of (Ok OTHER)
+  category ← row it (codes "category") category_of (Ok other_category)
   to_ids ← row it (codes "to_ids") flag_of (Ok false)
   label ← label_at it 5 5
   comment ← row it (codes "comment") text_of (Ok [])

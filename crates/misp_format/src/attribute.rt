@@ -10,7 +10,7 @@ ghost use Rattle.misp_elem.specs.Row.{text_size};
 ghost use Rattle.misp_elem.specs.Visible.{place_in};
 ghost use Rattle.misp_format.specs.Body.{body_of};
 ghost use Rattle.misp_format.specs.Elements.{kind_at, no_file_at, value_refused, value_at, attribute_at, next_attribute, attributes_at};
-ghost use Rattle.misp_format.specs.Kinds.{category_of};
+ghost use Rattle.misp_format.specs.Kinds.{other_category, category_of};
 ghost use Rattle.misp_format.specs.Path.{path_text};
 ghost use Rattle.misp_format.specs.Readers.{is_long};
 ghost use Rattle.misp_format.specs.Rows.{Gives, Shows, row, each};
@@ -43,7 +43,7 @@ fn kind(it: &Members<'_>) -> Result<Text, FormatFault>
 }
 
 fn category_or_other(it: &Members<'_>) -> Result<u8, FormatFault>
-    ensures { Gives result (row (body_of it.now) (codes "category") category_of (Ok OTHER)) }
+    ensures { Gives result (row (body_of it.now) (codes "category") category_of (Ok other_category)) }
 {
     match member(it.value, "category") {
         Some(value) => it.kept("category", category(value)),

@@ -1,10 +1,9 @@
 //! The names of the categories of attributes.
 
-ghost use Rattle.std.specs.Prelude.{◌≡◌, position, slice_get, codes};
-ghost use Rattle.std.specs.Option.{option_map_or};
+ghost use Rattle.std.specs.Prelude.{◌≡◌, map, position, slice_get, unwrap_or, codes};
 ghost use Rattle.std.specs.Str.{bytes_eq};
 ghost use Rattle.serde_json.specs.View.{view};
-ghost use Rattle.misp_format.specs.Kinds.{category_in, category_of, category_name, is_file_type};
+ghost use Rattle.misp_format.specs.Kinds.{category_texts, category_in, category_of, category_name, is_file_type};
 
 use misp_fields::{self as fields, Need};
 use serde_json::Value;
@@ -39,10 +38,17 @@ fn place_in(names: &[&str], text: &str) -> Option<usize>
     names.iter().position(|name| *name == text)
 }
 
+/// The place of a name among those of the categories.
+fn place_of(text: &str) -> Option<usize>
+    ensures { result ≡ position (λ name. bytes_eq name text.now) category_texts }
+{
+    place_in(&CATEGORIES, text)
+}
+
 fn category_in(text: &str) -> Result<u8, Need>
     ensures { result ≡ category_in text.now }
 {
-    match place_in(&CATEGORIES, text) {
+    match place_of(text) {
         Some(number) => Ok(number as u8),
         None => Err(Need::Range),
     }
@@ -59,9 +65,10 @@ pub(crate) fn category(value: &Value) -> Result<u8, Need>
 }
 
 /// The name at a place of a list, or that of the last category.
+#[tactic(auto, using(crate::proofs::Categories::name_in_map))]
 fn name_at(names: &[&'static str], number: usize) -> &'static str
     ensures { result.now
-        ≡ option_map_or (λ name. name.now) (slice_get names.now number) (codes "Other") }
+        ≡ unwrap_or (slice_get (map (λ name. name.now) names.now) number) (codes "Other") }
 {
     match names.get(number) {
         Some(name) => name,

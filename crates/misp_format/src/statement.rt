@@ -2,12 +2,13 @@
 
 ghost use Rattle.std.specs.Prelude.{◌≡◌, IfOk, map};
 ghost use Rattle.serde_json.specs.View.{view};
+ghost use Rattle.misp_elem.specs.declared.content.Content.TheVariants as contents;
 ghost use Rattle.misp_format.specs.Written.{reference_with, reference_data, proposal_with, proposal_data, sighting_with, sighting_data};
 
 use crate::fields::Fields;
 use crate::keys::place_uuid;
 use crate::kinds::category_name;
-use misp_elem::{Content, KeyForm, ProposalName, Row};
+use misp_elem::{Content, KeyForm, ProposalBody, ProposalName, Row, SightingBody};
 use misp_ids::{ElemId, NoMemory, OrgId, Stamp, Uid};
 use serde_json::Value;
 use std::alloc::Global;
@@ -68,35 +69,33 @@ fn proposal_with(
     alloc: Global,
     stamp: Stamp,
     name: &ProposalName,
-    content: &Content,
+    body: &ProposalBody,
 ) -> Result<Value, NoMemory>
-    ensures { IfOk result (λ v. view v ≡ proposal_with stamp name.now content.now) }
+    ensures { IfOk result (λ v. view v
+        ≡ proposal_with stamp name.now (contents.Proposal body.now)) }
 {
-    match content {
-        Content::Proposal(body) => {
-            let mut it = Fields::new(alloc);
-            it.org("Org", &name.by, body.by_name.as_str())?;
-            it.text("category", category_name(body.category))?;
-            it.text("comment", body.comment.as_str())?;
-            it.text("origin", name.at.text())?;
-            it.flag("proposal_to_delete", body.remove)?;
-            it.number("timestamp", stamp.get())?;
-            it.flag("to_ids", body.to_ids)?;
-            it.text("type", body.kind.as_str())?;
-            it.uuid("uuid", &name.uuid.0)?;
-            it.text("value", body.value.as_str())?;
-            Ok(it.done())
-        }
-        _ => Ok(Value::Null),
-    }
+    let mut it = Fields::new(alloc);
+    it.org("Org", &name.by, body.by_name.as_str())?;
+    it.text("category", category_name(body.category))?;
+    it.text("comment", body.comment.as_str())?;
+    it.text("origin", name.at.text())?;
+    it.flag("proposal_to_delete", body.remove)?;
+    it.number("timestamp", stamp.get())?;
+    it.flag("to_ids", body.to_ids)?;
+    it.text("type", body.kind.as_str())?;
+    it.uuid("uuid", &name.uuid.0)?;
+    it.text("value", body.value.as_str())?;
+    Ok(it.done())
 }
 
 #[tactic(auto, unfolding(crate::specs::Written::proposal_data))]
 fn proposal_value(alloc: Global, row: &Row) -> Result<Value, NoMemory>
     ensures { IfOk result (λ v. view v ≡ proposal_data row.now) }
 {
-    match row.key.form {
-        KeyForm::Proposal { name, .. } => proposal_with(alloc, row.stamp, &name, &row.content),
+    match (row.key.form, &row.content) {
+        (KeyForm::Proposal { name, .. }, Content::Proposal(body)) => {
+            proposal_with(alloc, row.stamp, &name, body)
+        }
         _ => Ok(Value::Null),
     }
 }
@@ -115,30 +114,27 @@ fn sighting_with(
     alloc: Global,
     by: &OrgId,
     uuid: ElemId,
-    content: &Content,
+    body: &SightingBody,
 ) -> Result<Value, NoMemory>
-    ensures { IfOk result (λ v. view v ≡ sighting_with by.now uuid content.now) }
+    ensures { IfOk result (λ v. view v ≡ sighting_with by.now uuid (contents.Sighting body.now)) }
 {
-    match content {
-        Content::Sighting(body) => {
-            let mut it = Fields::new(alloc);
-            it.org("Organisation", by, body.by_name.as_str())?;
-            it.number("date_sighting", body.date.get())?;
-            it.text("source", body.source.as_str())?;
-            it.number("type", u64::from(body.kind))?;
-            it.uuid("uuid", &uuid.0)?;
-            Ok(it.done())
-        }
-        _ => Ok(Value::Null),
-    }
+    let mut it = Fields::new(alloc);
+    it.org("Organisation", by, body.by_name.as_str())?;
+    it.number("date_sighting", body.date.get())?;
+    it.text("source", body.source.as_str())?;
+    it.number("type", u64::from(body.kind))?;
+    it.uuid("uuid", &uuid.0)?;
+    Ok(it.done())
 }
 
 #[tactic(auto, unfolding(crate::specs::Written::sighting_data))]
 fn sighting_value(alloc: Global, row: &Row) -> Result<Value, NoMemory>
     ensures { IfOk result (λ v. view v ≡ sighting_data row.now) }
 {
-    match row.key.form {
-        KeyForm::Sighting { by, uuid, .. } => sighting_with(alloc, &by, uuid, &row.content),
+    match (row.key.form, &row.content) {
+        (KeyForm::Sighting { by, uuid, .. }, Content::Sighting(body)) => {
+            sighting_with(alloc, &by, uuid, body)
+        }
         _ => Ok(Value::Null),
     }
 }

@@ -10,7 +10,7 @@ ghost use Rattle.serde_json.specs.View.{view, items_of};
 ghost use Rattle.misp_fields.specs.Fields.{colour_of};
 ghost use Rattle.misp_elem.specs.Row.{IsTag, tags_size, text_limit};
 ghost use Rattle.misp_format.specs.Body.{body_of};
-ghost use Rattle.misp_format.specs.Elements.{FitTags, tag_at, next_tag, IsNamed, tag_of, tags_at};
+ghost use Rattle.misp_format.specs.Elements.{white, FitTags, tag_at, next_tag, IsNamed, tag_of, tags_at};
 ghost use Rattle.misp_format.specs.Path.{path_text};
 ghost use Rattle.misp_format.specs.Rows.{Gives, Shows, row, each};
 
@@ -28,7 +28,7 @@ use std::collections::BTreeMap;
 pub(crate) const WHITE: [u8; 3] = [255, 255, 255];
 
 fn colour(it: &Members<'_>) -> Result<[u8; 3], FormatFault>
-    ensures { Gives result (row (body_of it.now) (codes "colour") colour_of (Ok WHITE)) }
+    ensures { Gives result (row (body_of it.now) (codes "colour") colour_of (Ok white)) }
 {
     match member(it.value, "colour") {
         Some(value) => it.kept("colour", fields::colour(value)),
