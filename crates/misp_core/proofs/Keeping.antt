@@ -4,7 +4,6 @@ use Rattle.std.specs.List.{list_all, AllByRecursion}
 use Rattle.std.specs.List.Sorted.{IsStrictlySortedBy}
 use Rattle.std.proofs.lemmas.Bool.{cases_Bool}
 use Rattle.misp_ids.specs.declared.uid.EventId.{EventId}
-use Rattle.misp_elem.specs.Draft.{SubmissionFields as Submission}
 use Rattle.misp_elem.specs.Row.{AreRows}
 use Rattle.misp_groups.specs.declared.group.GroupFields.{GroupFields as Group}
 use Rattle.misp_groups.specs.Group.{IsGroup}
@@ -19,7 +18,7 @@ use Rattle.misp_model.specs.Names.{Inst, same_inst}
 use Rattle.misp_model.specs.View.{known}
 use Rattle.misp_model.specs.History.{tables, fresh_row}
 use Rattle.misp_model.specs.Machine.{put_all, event_rows, hands_in}
-use Rattle.misp_model.specs.Asking.{Scene, change_writes}
+use Rattle.misp_model.specs.Asking.{Scene}
 use Rattle.misp_model.specs.Acts.{World, Net, scene, known_at, step, asked, brings, is_accepted}
 use Rattle.misp_model.proofs.Steps.{step_accepted, step_refused}
 use Rattle.misp_model.proofs.Elsewhere.{tables_elsewhere}

@@ -7,3 +7,6 @@ pub mod Keeping
 pub mod Ordering
 pub mod Administered
 pub mod KeepingGroups
+pub mod TableRows
+pub mod RowNames
+pub mod NamedGroups

@@ -1,6 +1,6 @@
 -- How a verdict over a keeper comes to an answer.
 use Rattle.std.proofs.Common.{◌≡◌, ℕ, ◌<◌, List, [], ◌∷◌, length, arith, refl, ap, sym, subst, ◌∙◌, map, option_map, Option, Some, None, Result, Ok, Err}
-use Rattle.std.specs.Prelude.{Bool, true, false, if◌then◌else◌, IfOk, IfSome, OnErr}
+use Rattle.std.specs.Prelude.{Bool, true, false, if◌then◌else◌, IfOk, IfSome, IsTrue, OnErr}
 use Rattle.misp_elem.specs.declared.row.RowFields.{RowFields as Row}
 use Rattle.misp_elem.specs.Row.{AreRows}
 use Rattle.misp_elem.specs.Refusal.{bare}
@@ -15,7 +15,7 @@ use Rattle.misp_orgs.specs.Keys.{CallerFields as Caller}
 use Rattle.misp_outside.specs.declared.fault.KeeperFault.{KeeperFault}
 use Rattle.misp_outside.specs.declared.fault.KeeperFault.TheVariants as stops
 use Rattle.misp_outside.specs.declared.row.RawRow.{RawRow}
-use Rattle.misp_outside.specs.Held.{Held, put_rows, put_admins, with_batch}
+use Rattle.misp_outside.specs.Held.{Held, ascend, comes_before, put_rows, put_admins, with_batch}
 use Rattle.misp_model.specs.Asking.{Scene, Rule, first_rule}
 use Rattle.misp_model.specs.Asking as asking
 use Rattle.misp_model.specs.Acts.{answer}
@@ -26,8 +26,8 @@ use Rattle.misp_core.specs.Permission.{is_permitted}
 use Rattle.misp_core.specs.Raw.{raw_row, rows_in}
 use Rattle.misp_core.specs.Sharing.{HoldsGroups, or_none, groups_of}
 use Rattle.misp_core.specs.Standing.{Standing}
-use Rattle.misp_core.specs.Answers.{Surroundings, site_at, IsBuilt, IsVerdict, reply_of, reply_in, writes_in, reply_over, writes_over, named, scene_at}
-use Rattle.misp_core.specs.Outcome.{Outcome, Went, ByKeeper, ByMemory, outcome_of, rows_asked, asked_of, reply_to, held_after, refusal_by, forbidden, step_reply, step_held, with_rows, IsServed, IsAnswered, IsRefused, replied_of}
+use Rattle.misp_core.specs.Answers.{Surroundings, site_at, IsBuilt, IsDecision, IsVerdict, reply_of, reply_in, writes_in, reply_over, writes_over, named, scene_at}
+use Rattle.misp_core.specs.Outcome.{Outcome, Went, ByKeeper, ByMemory, outcome_of, rows_asked, asked_of, reply_to, held_after, refusal_by, forbidden, step_reply, step_held, with_rows, IsServed, IsAnswered, IsRefused, IsSettled, replied_of}
 use Rattle.misp_core.specs.declared.decide.Verdict.{Verdict}
 use Rattle.misp_core.specs.declared.reply.Reply.{Reply}
 use Rattle.misp_core.specs.declared.reply.Reply.TheVariants as replies
@@ -68,12 +68,6 @@ reply_went admin s ask (model.Listed vs) = refl
 reply_went admin s ask (model.Taken n) = refl
 reply_went admin s ask model.Other = refl
 
--- no verdict is a keeper's fault or want of memory
-pub verdict_went : (n : ℕ) (at : Surroundings) (ask : Ask) (rows : Result (List Row) (List ℕ)) (verdict : Verdict) → IsVerdict n at ask rows verdict → outcome_of verdict.reply ≡ Went
-unfolding reply_in
-verdict_went n at ask (Ok rows) verdict is = ap outcome_of is.reply ∙ reply_went at.admin (scene_at n at rows) ask (answer (scene_at n at rows) ask)
-verdict_went n at ask (Err name) verdict is = ap (λ (v : Verdict). outcome_of v.reply) is
-
 -- what refuses writes nothing
 refused_writes : (admin : Admin) (s : Scene) (ask : Ask) → IsBuilt ask → IsRefused (reply_in admin s ask) → writes_in s ask ≡ []
 unfolding reply_in
@@ -100,10 +94,13 @@ refused_writes admin s asks.Index built refused = absurd built
 refused_writes admin s asks.Groups built refused = none_for_groups s admin
 refused_writes admin s (asks.TakePart p) built refused = absurd built
 
-pub verdict_refused : (n : ℕ) (at : Surroundings) (ask : Ask) (rows : Result (List Row) (List ℕ)) (verdict : Verdict) → IsBuilt ask → IsVerdict n at ask rows verdict → IsRefused verdict.reply → verdict.writes ≡ []
-verdict_refused n at ask (Ok rows) verdict built is refused =
-    is.writes ∙ refused_writes at.admin (scene_at n at rows) ask built (subst IsRefused is.reply refused)
-verdict_refused n at ask (Err name) verdict built is refused = ap (λ (v : Verdict). v.writes) is
+-- no decision is a keeper's fault or want of memory
+pub settled : (s : Scene) (admin : Admin) (ask : Ask) (verdict : Verdict) → IsDecision s admin ask verdict → IsBuilt ask → IsSettled verdict
+unfolding reply_in
+settled s admin ask verdict is built = record {
+  went = ap outcome_of is.reply ∙ reply_went admin s ask (answer s ask);
+  refused = λ refused. is.writes ∙ refused_writes admin s ask built (subst IsRefused is.reply refused);
+}
 
 -- the same over what is held of the event
 pub refused_over : (n : ℕ) (at : Surroundings) (ask : Ask) (read : Result (List Row) (List ℕ)) → IsBuilt ask → IsRefused (reply_over n at ask read) → writes_over n at ask read ≡ []
@@ -181,11 +178,12 @@ empty_below (r ∷ rows) few = absurd (omega arith)
 
 -- the same over a keeper that may not tell
 pub served_told : (n : ℕ) (at : Surroundings) (ask : Ask) (old new : Option Held) (raws : List RawRow) (verdict : Verdict)
-    → IfSome old (λ told. raws ≡ rows_asked ask told.rows) → IsVerdict n at ask (rows_in raws) verdict
+    → IfSome old (λ told. raws ≡ rows_asked ask told.rows) → IfSome old (λ told. IsTrue (ascend comes_before raws))
+    → (IsTrue (ascend comes_before raws) → IsVerdict n at ask (rows_in raws) verdict)
     → new ≡ option_map (with_rows verdict.writes) old → IfSome old (λ held. IsServed n at ask held verdict.reply new)
-served_told n at ask None new raws verdict found is put = tt
-served_told n at ask (Some held) new raws verdict found is put =
-    served n at ask held new verdict (subst (λ rs. IsVerdict n at ask (rows_in rs) verdict) found is) put
+served_told n at ask None new raws verdict found order is put = tt
+served_told n at ask (Some held) new raws verdict found order is put =
+    served n at ask held new verdict (subst (λ rs. IsVerdict n at ask (rows_in rs) verdict) found (is order)) put
 
 -- rows of events that are put leave the groups
 pub groups_stay : (rows : List Row) (old new : Option Held) → new ≡ option_map (with_rows rows) old → (groups : List Group) → HoldsGroups old groups → HoldsGroups new groups

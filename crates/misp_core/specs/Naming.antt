@@ -1,7 +1,7 @@
 -- The names of the groups that the labels of a shown event name.
-use Rattle.std.specs.Prelude.{ℕ, List, [], ◌∷◌, ◌++◌, flat_map}
-use Rattle.std.specs.declared.option.Option.{Option}
-use Rattle.std.specs.declared.option.Option.TheVariants.{None, Some}
+use Rattle.std.specs.Prelude.{ℕ, Bool, false, ◌||◌, List, map}
+use Rattle.std.specs.List.{list_any, filter}
+use Rattle.std.specs.BTreeSet.{BTreeSet, contains}
 use Rattle.misp_ids.specs.declared.uid.GroupId.{GroupId}
 use Rattle.misp_ids.specs.declared.label.Label.{Label}
 use Rattle.misp_ids.specs.declared.label.Label.TheVariants as labels
@@ -9,37 +9,44 @@ use Rattle.misp_elem.specs.declared.visible.VisibleAttribute.{VisibleAttribute}
 use Rattle.misp_elem.specs.declared.visible.VisibleObject.{VisibleObject}
 use Rattle.misp_elem.specs.declared.visible.VisibleEvent.{VisibleEvent}
 use Rattle.misp_groups.specs.declared.group.GroupFields.{GroupFields as Group}
-use Rattle.misp_model.specs.Audience.{known_group}
+use Rattle.misp_model.specs.Names.{same_group}
+use Rattle.misp_view.specs.Table.{pair_cmp}
 
 -- groups with their names
 abbrev pub GroupNames : Type 0
 GroupNames = List (GroupId × List ℕ)
 
--- the group with its name, where it is known
-abbrev pub name_of : GroupId → Option Group → GroupNames
-name_of id None = []
-name_of id (Some g) = (id, g.name) ∷ []
+-- the label names the group
+unfoldable pub label_names : GroupId → Label → Bool
+label_names id (labels.Group g) = same_group g id
+label_names id labels.Own = false
+label_names id labels.Community = false
+label_names id labels.Connected = false
+label_names id labels.All = false
+label_names id labels.Inherit = false
 
--- the group that a label names
-unfoldable pub label_names : List Group → Label → GroupNames
-label_names groups (labels.Group id) = name_of id (known_group groups id)
-label_names groups labels.Own = []
-label_names groups labels.Community = []
-label_names groups labels.Connected = []
-label_names groups labels.All = []
-label_names groups labels.Inherit = []
+unfoldable pub attribute_names : GroupId → VisibleAttribute → Bool
+attribute_names id a = label_names id a.row.label
 
-unfoldable pub attribute_names : List Group → VisibleAttribute → GroupNames
-attribute_names groups a = label_names groups a.row.label
+-- the label of an object or of one of its attributes names it
+unfoldable pub object_names : GroupId → VisibleObject → Bool
+object_names id o = label_names id o.row.label || list_any (attribute_names id) o.attributes
 
--- those of the labels of an object and of its attributes
-unfoldable pub object_names : List Group → VisibleObject → GroupNames
-object_names groups o =
-    label_names groups o.row.label ++ flat_map (attribute_names groups) o.attributes
+-- a label of an event, of its attributes, or of its objects and their attributes names it
+unfoldable pub event_names : GroupId → VisibleEvent → Bool
+event_names id v =
+    label_names id v.row.label || list_any (attribute_names id) v.attributes
+    || list_any (object_names id) v.objects
 
--- the known groups that the labels of an event, of its attributes, and of its objects and their
--- attributes name, with their names, label by label
+abbrev pub with_name : Group → GroupId × List ℕ
+with_name g = (g.id, g.name)
+
+-- the known groups that a label of the event names, in their order, each once with its name
 unfoldable pub group_names : List Group → VisibleEvent → GroupNames
-group_names groups v =
-    label_names groups v.row.label
-    ++ flat_map (attribute_names groups) v.attributes ++ flat_map (object_names groups) v.objects
+group_names groups v = map with_name (filter (λ g. event_names g.id v) groups)
+
+-- ---- as they are found
+
+-- the group is among these, which are the numbers of creators and of their groups
+unfoldable pub has_group : BTreeSet (ℕ × ℕ) → GroupId → Bool
+has_group ids id = contains pair_cmp ids (id.creator.0.0, id.uuid.0)

@@ -17,6 +17,7 @@ use Rattle.misp_outside.specs.Held.{Held, rows_of, put_rows}
 use Rattle.misp_core.specs.Raw.{raw_row, rows_in}
 use Rattle.misp_core.specs.Permission.{permission_of, is_permitted, no_permission}
 use Rattle.misp_core.specs.Answers.{Surroundings, event_asked, reply_over, writes_over}
+use Rattle.misp_core.specs.declared.decide.Verdict.{Verdict}
 use Rattle.misp_core.specs.declared.reply.Reply.{Reply}
 use Rattle.misp_core.specs.declared.reply.Reply.TheVariants as replies
 
@@ -121,6 +122,11 @@ is_refused (replies.Ok answer) = false
 abbrev pub IsRefused : Reply → Type 0
 IsRefused (replies.Refused refusal) = Unit {0}
 IsRefused (replies.Ok answer) = ⊥
+
+-- a verdict that nothing stopped, which writes nothing where it refuses
+pub record IsSettled (verdict : Verdict) : Type 0 where
+  pub went : outcome_of verdict.reply ≡ Went
+  pub refused : IsRefused verdict.reply → verdict.writes ≡ []
 
 -- what was served, or what stopped it, as a reply
 abbrev pub replied_of : Result Reply KeeperFault → Reply

@@ -1,7 +1,8 @@
 //! How a request is answered over a keeper.
 
-ghost use Rattle.std.specs.Prelude.{◌≡◌, ℕ, List, IfOk, IfSome, OnOk, OnErr, option_map};
+ghost use Rattle.std.specs.Prelude.{◌≡◌, ℕ, List, IfOk, IfSome, IsTrue, OnOk, OnErr, option_map};
 ghost use Rattle.misp_outside.specs.Causes.{HasCause};
+ghost use Rattle.misp_outside.specs.Held.{ascend, comes_before};
 ghost use Rattle.misp_groups.specs.declared.group.GroupFields.{GroupFields};
 ghost use Rattle.misp_core.specs.Answers.{site_of, IsBuilt};
 ghost use Rattle.misp_core.specs.Permission.{no_permission};
@@ -59,10 +60,13 @@ fn put<K: Keeper>(keeper: &mut K, alloc: Global, rows: &[Row]) -> Result<(), Kee
 }
 
 // The rows that an ask is about. No keeper is asked where it is about none.
+#[tactic(auto, unfolding(misp_outside::specs::Held::ascend))]
 fn load<K: Keeper>(keeper: &mut K, alloc: Global, ask: &Ask) -> Result<Vec<RawRow>, KeeperFault>
     requires { IsBuilt ask.now }
     ensures found { IfOk result (λ found. IfSome (K.held keeper.old)
         (λ held. found.items ≡ rows_asked ask.now held.rows)) }
+    ensures order { IfOk result (λ found. IfSome (K.held keeper.old)
+        (λ _. IsTrue (ascend comes_before found.items))) }
     ensures held { K.held keeper.new ≡ K.held keeper.old }
     ensures cause { HasCause (K.faults keeper.old) (K.faults keeper.new)
         (result ≡ Err KeeperFault.Failed) }

@@ -1,14 +1,17 @@
 //! What a request comes to over the rows of its event.
 
-ghost use Rattle.std.specs.Prelude.{◌≡◌, ◌≤◌, ℕ, List, IfOk, Ok, map, length, []};
+ghost use Rattle.std.specs.Prelude.{◌≡◌, ◌≤◌, ℕ, List, IfOk, IsTrue, Ok, map, length, []};
 ghost use Rattle.misp_elem.specs.declared.row.RowFields.{RowFields};
+ghost use Rattle.misp_outside.specs.Held.{ascend, comes_before};
+ghost use Rattle.misp_model.specs.View.{IsTable};
 ghost use Rattle.misp_requests.specs.declared.ask.Ask.TheVariants.{View};
 ghost use Rattle.misp_requests.specs.declared.ask.Ask.TheVariants as asks;
 ghost use Rattle.misp_requests.specs.declared.change.Change.TheVariants.{AddEvent};
 ghost use Rattle.misp_core.specs.declared.reply.Reply.TheVariants as replies;
 ghost use Rattle.misp_core.specs.declared.reply.Answer.TheVariants as answers;
 ghost use Rattle.misp_core.specs.Raw.{rows_in};
-ghost use Rattle.misp_core.specs.Answers.{site_of, scene_with, IsAdded, IsBuilt, IsDecision, IsVerdict, IsRefusal, named_event, name_in, bad_row, greatest};
+ghost use Rattle.misp_core.specs.Answers.{site_of, scene_with, scene_at, IsAdded, IsBuilt, IsDecision, IsVerdict, IsRefusal, named_event, name_in, bad_row, greatest};
+ghost use Rattle.misp_core.specs.Outcome.{IsSettled};
 
 use crate::listing::concerning;
 use crate::naming::group_names;
@@ -170,7 +173,25 @@ fn named(
     Ok(event)
 }
 
-// Shows an event, over the rows that the caller knows of it.
+// Adds an event, over all rows of it here, of which the caller sees what it knows.
+fn add_known(
+    alloc: Global,
+    site: &Site<'_>,
+    submission: Submission,
+    rows: Vec<Row>,
+) -> Result<Verdict, NoMemory>
+    requires { IsAdded submission }
+    ensures decision { (n : ℕ) → IfOk result (IsDecision (scene_at n (site_of site.now) rows.items)
+        site.now.admin.now (asks.Change (AddEvent submission))) }
+    ensures settled { IfOk result IsSettled }
+{
+    let org = asker(site.caller);
+    let rows = known(alloc, rows, site.groups, site.here, &org)?;
+    add(alloc, site, submission, &rows)
+}
+
+// Shows an event, over all rows of it here. In a table of rows the caller sees of them what it sees
+// of those that it knows.
 fn view(
     alloc: Global,
     site: &Site<'_>,
@@ -178,7 +199,10 @@ fn view(
     owner: Option<OrgId>,
     rows: &[Row],
 ) -> Result<Verdict, NoMemory>
-    ensures { (n : ℕ) → IfOk result (IsDecision (scene_with n (site_of site.now) rows.now)
+    ensures all { (n : ℕ) → IfOk result (IsDecision (scene_with n (site_of site.now) rows.now)
+        site.now.admin.now (View event.now owner)) }
+    ensures known { (n : ℕ) → IsTable rows.now →
+        IfOk result (IsDecision (scene_at n (site_of site.now) rows.now)
         site.now.admin.now (View event.now owner)) }
 {
     let org = asker(site.caller);
@@ -205,28 +229,19 @@ fn list(alloc: Global, site: &Site<'_>) -> Result<Verdict, NoMemory>
     Ok(unwritten(alloc, Reply::Ok(answer)))
 }
 
-// What a request comes to, over the rows that the caller knows of its event.
-fn decide_known(alloc: Global, site: &Site<'_>, ask: Ask, rows: &[Row]) -> Result<Verdict, NoMemory>
-    requires { IsBuilt ask }
-    ensures { (n : ℕ) → IfOk result (IsDecision (scene_with n (site_of site.now) rows.now)
-        site.now.admin.now ask) }
-{
-    match ask {
-        Ask::View { event, owner } => view(alloc, site, &event, owner, rows),
-        Ask::Groups => list(alloc, site),
-        Ask::Change(Change::AddEvent(submission)) => add(alloc, site, submission, rows),
-        _ => unreachable!(),
-    }
-}
-
 // What a request comes to, over all rows of its event.
 fn decide(alloc: Global, site: &Site<'_>, ask: Ask, rows: Vec<Row>) -> Result<Verdict, NoMemory>
     requires { IsBuilt ask }
-    ensures { (n : ℕ) → IfOk result (IsVerdict n (site_of site.now) ask (Ok rows.items)) }
+    ensures verdict { (n : ℕ) → IsTable rows.items →
+        IfOk result (IsVerdict n (site_of site.now) ask (Ok rows.items)) }
+    ensures settled { IfOk result IsSettled }
 {
-    let org = asker(site.caller);
-    let rows = known(alloc, rows, site.groups, site.here, &org)?;
-    decide_known(alloc, site, ask, &rows)
+    match ask {
+        Ask::View { event, owner } => view(alloc, site, &event, owner, &rows),
+        Ask::Groups => list(alloc, site),
+        Ask::Change(Change::AddEvent(submission)) => add_known(alloc, site, submission, rows),
+        _ => unreachable!(),
+    }
 }
 
 /// What a request comes to, over what a keeper holds of its event.
@@ -237,8 +252,10 @@ pub(crate) fn judge(
     raws: Vec<RawRow>,
 ) -> Result<Verdict, NoMemory>
     requires { IsBuilt ask }
-    ensures { (n : ℕ) → IfOk result
-        (IsVerdict n (site_of site.now) ask (rows_in raws.items)) }
+    // Where they ascend by their names.
+    ensures verdict { (n : ℕ) → IsTrue (ascend comes_before raws.items) →
+        IfOk result (IsVerdict n (site_of site.now) ask (rows_in raws.items)) }
+    ensures settled { IfOk result IsSettled }
 {
     match take_rows(alloc, raws) {
         Ok(rows) => decide(alloc, site, ask, rows),

@@ -1,11 +1,16 @@
 //! Rows as a keeper holds them.
 
 ghost use Rattle.std.specs.Prelude.{◌≡◌, ◌&&◌, Some, None, Ok, map, [], IfOk, IfErr, IsErr, bytes_eq};
+ghost use Rattle.misp_elem.specs.Key.{IsKey};
+ghost use Rattle.misp_elem.specs.Row.{IsRow};
+ghost use Rattle.misp_elem.specs.Spelling as spelling;
 ghost use Rattle.misp_model.specs.Names.{same_event, event_of};
 ghost use Rattle.misp_core.specs.Raw.{IsNoRow, NamesBadRow, rows_in, row_in, raw_row, stands_under};
 
-use misp_elem::{DecodeFault, NoMemory, Row, decode, encode, encode_name};
-use misp_ids::{EventId, Items};
+use misp_elem::{
+    DecodeFault, Key, NoMemory, Row, compare_keys, decode, decode_key, encode, encode_name,
+};
+use misp_ids::{EventId, Items, OrgId};
 use misp_outside::{RawBatch, RawRow};
 use std::alloc::{AllocError, AllocFailed, Global};
 
@@ -61,21 +66,36 @@ fn is_at_event(raw: &RawRow, row: &Row) -> bool
     event_of(row).0.0 == raw.event.0.0
 }
 
-// Whether the row is held under this name, and under its own event.
-fn is_under(raw: &RawRow, row: &Row, name: &[u8]) -> bool
-    ensures { result ≡
-        (same_event (event_of row.now.key) raw.now.event && bytes_eq raw.now.name name.now) }
+// Whether the bytes spell the key.
+fn spells(bytes: &[u8], key: &Key) -> bool
+    requires { IsKey key.now }
+    ensures { result ≡ bytes_eq bytes.now (spelling.key key.now) }
 {
-    is_at_event(raw, row) && raw.name.as_slice() == name
+    match decode_key(bytes) {
+        Ok(found) => compare_keys(&found, key).is_eq(),
+        Err(_) => false,
+    }
+}
+
+// Whether this is the name of the owner and the key.
+fn is_name(name: &[u8], owner: &OrgId, key: &Key) -> bool
+    requires { IsKey key.now }
+    ensures { result ≡ bytes_eq name.now (spelling.name owner.now key.now) }
+{
+    if name.len() < 16 {
+        return false;
+    }
+    let (front, rest) = name.split_at(16);
+    front == owner.0.0.to_be_bytes().as_slice() && spells(rest, key)
 }
 
 // Whether the row is held under its own event and name.
 #[tactic(auto, unfolding(crate::specs::Raw::stands_under, misp_model::specs::Machine::name_bytes))]
-fn stands_under(alloc: Global, raw: &RawRow, row: &Row) -> Result<bool, NoMemory>
-    ensures { IfOk result (λ is. is ≡ stands_under raw.now row.now) }
+fn stands_under(raw: &RawRow, row: &Row) -> bool
+    requires { IsRow row.now }
+    ensures { result ≡ stands_under raw.now row.now }
 {
-    let name = encode_name(alloc, &row.owner, &row.key)?;
-    Ok(is_under(raw, row, &name))
+    is_at_event(raw, row) && is_name(raw.name.as_slice(), &row.owner, &row.key)
 }
 
 fn bad_row<T>(raw: &RawRow) -> Result<T, RowFault>
@@ -95,7 +115,7 @@ fn decode_row(alloc: Global, raw: &RawRow) -> Result<Row, RowFault>
 {
     match decode(alloc, raw.bytes.as_slice()) {
         Ok(row) => {
-            if stands_under(alloc, raw, &row)? {
+            if stands_under(raw, &row) {
                 Ok(row)
             } else {
                 bad_row(raw)

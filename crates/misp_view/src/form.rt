@@ -3,7 +3,7 @@
 ghost use Rattle.std.specs.Prelude.{◌≡◌, IfOk, IfSome, OnOk};
 ghost use Rattle.misp_elem.specs.Row.{AreRows};
 ghost use Rattle.misp_elem.specs.Visible.{IsWhole};
-ghost use Rattle.misp_model.specs.View.{IsTable};
+ghost use Rattle.misp_model.specs.View.{IsTable, known};
 ghost use Rattle.std.specs.List.{find};
 ghost use Rattle.std.specs.Option.{option_copied};
 ghost use Rattle.misp_model.specs.Shown.{creator, event_row, form_of, shown};
@@ -114,6 +114,10 @@ pub fn shown(
 ) -> Result<Option<VisibleEvent>, NoMemory>
     ensures seen { IfOk result (λ seen. seen
         ≡ shown (scene_of groups.now here.now org.now rows.now) event.now owner) }
+    // Where no two rows are of one owner and key, what it knows of them shows the same.
+    ensures known { IsTable rows.now → IfOk result (λ seen. seen
+        ≡ shown (scene_of groups.now here.now org.now
+        (known rows.now groups.now here.now org.now)) event.now owner) }
     ensures whole { IsTable rows.now → IfOk result (λ seen. IfSome seen IsWhole) }
 {
     let who = Viewer {

@@ -45,7 +45,7 @@ fn is_opening(row: &Row, who: &Viewer, linked: bool) -> bool
     ensures { result ≡ (row_is_open who.now.groups.now who.now.here who.now.org row.now
         && (linked || kinds.is_upper row.now.key)) }
 {
-    is_open(row, who) && (linked || is_upper(row))
+    (linked || is_upper(row)) && is_open(row, who)
 }
 
 // What is open to the organisation in each copy: events and objects, and where they are linked

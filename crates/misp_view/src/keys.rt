@@ -4,7 +4,7 @@ ghost use Rattle.std.specs.Prelude.{◌≡◌};
 ghost use Rattle.misp_model.specs.Names.{event_key, same_key};
 ghost use Rattle.misp_view.specs.Keys.{key_cmp, subject_of};
 
-use misp_elem::{Key, KeyForm, Place, Row, compare_keys};
+use misp_elem::{Key, KeyForm, Place, Row};
 use misp_ids::EventId;
 use std::cmp::Ordering;
 
@@ -12,9 +12,7 @@ use std::cmp::Ordering;
 pub(crate) fn compare(a: &Key, b: &Key) -> Ordering
     ensures { result ≡ key_cmp a.now b.now }
 {
-    let _first = a.form;
-    let _second = b.form;
-    compare_keys(a, b)
+    a.form.cmp(&b.form)
 }
 
 /// Whether the two are the same.
@@ -29,6 +27,7 @@ pub(crate) fn are_same(a: &Key, b: &Key) -> bool
 pub(crate) fn event_key(event: &EventId) -> Key
     ensures { result ≡ event_key event.now }
 {
+    // Its number has sixteen bytes, as in each key.
     let _number = event.0.0;
     let form = KeyForm::Element {
         event: *event,

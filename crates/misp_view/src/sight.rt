@@ -8,7 +8,7 @@ ghost use Rattle.misp_view.specs.Sight.{IsSight, IsSeen, shows_in};
 
 use crate::grants::Grants;
 use crate::rows::{event_of, is_deleted, is_owned};
-use crate::spots::{Spots, add_own, parents};
+use crate::spots::{Spots, add, add_own, parents};
 use crate::table::{Pairs, has, marks};
 use crate::viewer::Viewer;
 use misp_elem::Row;
@@ -29,14 +29,14 @@ pub(crate) struct Sight<'a> {
 }
 
 // What is deleted in each copy.
+#[tactic(auto, unfolding(misp_model::specs::View::is_row_of))]
 fn deletions(alloc: Global, rows: &[Row]) -> Result<Spots, NoMemory>
     ensures found { IfOk result (λ spots. IsSpots spots view.is_deleted rows.now) }
     ensures rows { OnOk result (AreRows rows.now) }
 {
     let mut spots = BTreeSet::new(alloc);
     for row in rows {
-        let _owner = row.owner;
-        add_own(&mut spots, row, is_deleted(row))?;
+        add(&mut spots, &row.owner, row, is_deleted(row))?;
     }
     Ok(spots)
 }

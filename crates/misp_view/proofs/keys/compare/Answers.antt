@@ -1,7 +1,9 @@
-use Rattle.std.proofs.Common.{◌∙◌, subst}
-use Rattle.misp_elem.specs.Key.{IsKey}
+use Rattle.std.proofs.Common.{◌∙◌}
+use Rattle.misp_elem.proofs.KeyOrder.{keys_by_bytes}
 use Rattle.misp_view.proofs.KeyOrder.{in_numbers}
 use Rattle.misp_view.proofs.keys.compare.Goals as goal
 
 pub returns : goal.returns
-returns c = c.compare_keys.ensures ∙ in_numbers c.args.a.now c.args.b.now (subst IsKey c.a.view_is c.a.invariant) (subst IsKey c.b.view_is c.b.invariant)
+returns c =
+    rw (← c.a.view_is, ← c.b.view_is)
+    (c.cmp.ensures ∙ keys_by_bytes c.a.inside.form c.b.inside.form c.a.invariant c.b.invariant ∙ in_numbers c.a.inside.form c.b.inside.form c.a.invariant c.b.invariant)
