@@ -1,0 +1,61 @@
+-- What is known of the course of commands over keepers, some of which may not tell what they hold.
+use Rattle.std.specs.Prelude.{◌≡◌, ℕ, List, map, length}
+use Rattle.std.specs.declared.option.Option.{Option}
+use Rattle.misp_outside.specs.Causes.{RoseBy}
+use Rattle.misp_outside.specs.Held.{Held}
+use Rattle.misp_effects.specs.declared.stop.Stop.{Stop}
+use Rattle.misp_effects.specs.Batches.{Spelling, AreReadable}
+use Rattle.misp_effects.specs.Effect.{Outcome, stop_of}
+use Rattle.misp_effects.specs.Stocks.{Stock, Tables, Tell, count_at}
+use Rattle.misp_effects.specs.Meanings.{Meaning}
+use Rattle.misp_effects.specs.Run.{effect_in, output_of, tables_after, outputs_of, tables_left}
+use Rattle.misp_effects.specs.Run.{AreFit, fault_at, faults_at}
+
+-- ---- one command
+
+-- over these tables it put this out and left this, under some outcome, which the output tells; and
+-- each batch that it put is readable
+pub record IsDone (S A : Type 0) (seen_in : Held → S) (spelled : Spelling)
+    (stop_in : A → Option Stop) (m : Meaning S A)
+    (tables : Tables) (output : A) (new : List Stock) : Type 0 where
+  pub outcome : Outcome
+  pub agree : stop_of outcome ≡ stop_in output
+  pub output_is : output ≡ output_of seen_in outcome m tables
+  pub tables_are : Tell new (tables_after seen_in spelled outcome m tables)
+  pub fits : AreReadable (effect_in seen_in outcome m tables).batches
+
+-- It took the keepers from old to new, and put this out. It names the fault of a keeper only where
+-- this keeper's count rose; and where all keepers tell what they hold, it was done over that.
+pub record IsAct (S A : Type 0) (seen_in : Held → S) (spelled : Spelling)
+    (stop_in : A → Option Stop) (m : Meaning S A)
+    (old new : List Stock) (output : A) : Type 0 where
+  pub places : length new ≡ length old
+  pub causes : (place : ℕ)
+      → RoseBy (fault_at stop_in place m output) (count_at place old) (count_at place new)
+  pub done : (tables : Tables) → Tell old tables
+      → IsDone S A seen_in spelled stop_in m tables output new
+
+-- ---- all commands, one after another
+
+-- over these tables they put this out and left this, each under some outcome
+pub record AreDone (S A : Type 0) (seen_in : Held → S) (spelled : Spelling)
+    (stop_in : A → Option Stop) (ms : List (Meaning S A))
+    (tables : Tables) (outputs : List A) (new : List Stock) : Type 0 where
+  pub outcomes : List Outcome
+  pub each : length outcomes ≡ length ms
+  pub agree : map stop_of outcomes ≡ map stop_in outputs
+  pub outputs_are : outputs ≡ outputs_of seen_in spelled ms outcomes tables
+  pub tables_are : Tell new (tables_left seen_in spelled ms outcomes tables)
+  pub fits : AreFit seen_in spelled ms outcomes tables
+
+-- They took the keepers from old to new, and put this out, one output for each. They name the fault
+-- of a keeper no more often than this keeper's count rose.
+pub record HasRun (S A : Type 0) (seen_in : Held → S) (spelled : Spelling)
+    (stop_in : A → Option Stop) (ms : List (Meaning S A))
+    (old new : List Stock) (outputs : List A) : Type 0 where
+  pub each : length outputs ≡ length ms
+  pub places : length new ≡ length old
+  pub causes : (place : ℕ)
+      → RoseBy (faults_at stop_in place ms outputs) (count_at place old) (count_at place new)
+  pub done : (tables : Tables) → Tell old tables
+      → AreDone S A seen_in spelled stop_in ms tables outputs new
