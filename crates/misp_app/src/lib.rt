@@ -18,6 +18,3 @@ pub const MAX_SOURCE: usize = 67_108_864;
 
 /// The fewest keepers over which a source may be run.
 pub const KEEPERS: usize = 16;
-
-#[cfg(test)]
-mod tests;

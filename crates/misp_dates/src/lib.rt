@@ -7,6 +7,3 @@ mod moment;
 
 pub use form::is_date;
 pub use moment::{date_of, the_date_of_a_moment_is_a_date};
-
-#[cfg(test)]
-mod tests;

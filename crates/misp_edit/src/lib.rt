@@ -29,6 +29,3 @@ pub use fault::AddFault;
 pub use laws::refusals_name_what_they_refuse;
 pub use marking::delete_event;
 pub use publishing::publish;
-
-#[cfg(test)]
-mod tests;

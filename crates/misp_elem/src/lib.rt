@@ -30,6 +30,3 @@ pub use refusal::{Refusal, RuleName};
 pub use row::{Row, RowFields};
 pub use visible::{VisibleAttribute, VisibleEvent, VisibleObject};
 pub use writing::{encode, encode_key, encode_name};
-
-#[cfg(test)]
-mod tests;

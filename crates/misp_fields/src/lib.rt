@@ -11,6 +11,3 @@ pub use forms::{colour, date};
 pub use need::{Need, write_need};
 pub use numbers::{number, stamp};
 pub use values::{flag, list, member, optional_uuid, text, uuid};
-
-#[cfg(test)]
-mod tests;

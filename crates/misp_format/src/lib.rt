@@ -36,6 +36,3 @@ pub use json_text::read_json;
 pub use parts::{PartForm, read_parts, read_tag};
 pub use replies::{write_refusal, write_saved, write_taken};
 pub use writing::{put_event, write_event};
-
-#[cfg(test)]
-mod tests;

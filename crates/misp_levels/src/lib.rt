@@ -15,6 +15,3 @@ pub use laws::{
 };
 pub use level::{down, hop, open};
 pub use sharing::{allows, carries};
-
-#[cfg(test)]
-mod tests;

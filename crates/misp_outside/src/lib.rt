@@ -13,8 +13,6 @@ mod memory;
 mod row;
 mod sink;
 mod source;
-#[cfg(test)]
-mod tests;
 
 pub use adapters::{StandardInput, StandardOutput};
 pub use carry::Carry;

@@ -11,6 +11,3 @@ pub use copies::{CopyState, state, takes};
 pub use fault::PublishFault;
 pub use laws::a_copy_takes_what_is_welcome;
 pub use publishing::release;
-
-#[cfg(test)]
-mod tests;

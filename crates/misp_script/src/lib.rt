@@ -30,6 +30,3 @@ pub use lines::split_line;
 pub use network::read_description;
 pub use source::split_source;
 pub use step::{Deed, GroupLine, RequestLine, Step};
-
-#[cfg(test)]
-mod tests;

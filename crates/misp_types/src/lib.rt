@@ -10,6 +10,3 @@ mod values;
 
 pub use fault::ValueFault;
 pub use values::check;
-
-#[cfg(test)]
-mod tests;

@@ -28,6 +28,3 @@ pub use choice::chosen;
 pub use form::shown;
 pub use granting::{live, row_granted};
 pub use knowing::known;
-
-#[cfg(test)]
-mod tests;
