@@ -22,26 +22,26 @@ use Rattle.misp_format.specs.Json.{json_or_fault, json_in}
 use Rattle.misp_format.specs.Rows.{◌>>=◌}
 use Rattle.misp_format.specs.WholeGroup.{group_org_data, server_url, group_server_data, whole_group_data, group_text, uncarried}
 use Rattle.misp_format.proofs.GroupBack.{whole_back}
-use Rattle.misp_format.proofs.Plain.{Plain, plain_items}
+use Rattle.misp_format.proofs.Depths.{Shallow, shallow_items}
 use Rattle.misp_format.proofs.ReadBack.{Returns, returned, return_items}
 use Rattle.misp_format.proofs.Utf8.{IsText, text_utf8, are_texts}
 
 -- ---- no float, and not deep
 
-plain_org : (o : GroupOrg) → Plain 2 (group_org_data o)
+shallow_org : (o : GroupOrg) → Shallow 2 (group_org_data o)
 unfolding group_org_data
-plain_org o = record { no_float = refl; levels = omega arith }
+shallow_org o = record { levels = omega arith }
 
-plain_server : (s : GroupServer) → Plain 2 (group_server_data s)
+shallow_server : (s : GroupServer) → Shallow 2 (group_server_data s)
 unfolding group_server_data
-plain_server s = record { no_float = refl; levels = omega arith }
+shallow_server s = record { levels = omega arith }
 
-pub plain_whole : (g : Group) → Plain 4 (whole_group_data g)
+pub shallow_whole : (g : Group) → Shallow 4 (whole_group_data g)
 unfolding whole_group_data
-plain_whole g =
-    let orgs = plain_items 2 group_org_data plain_org g.orgs in
-    let servers = plain_items 2 group_server_data plain_server g.servers in
-    record { no_float = rw (orgs.no_float, servers.no_float) refl; levels = omega arith }
+shallow_whole g =
+    let orgs = shallow_items 2 group_org_data shallow_org g.orgs in
+    let servers = shallow_items 2 group_server_data shallow_server g.servers in
+    record { levels = omega arith }
 
 -- ---- its text is read to the same data
 
@@ -58,7 +58,7 @@ unfolding whole_group_data
 whole_returned g =
     let orgs = return_items group_org_data return_org g.orgs in
     let servers = return_items group_server_data return_server g.servers in
-    returned (whole_group_data g) (record { no_number = rw (orgs.no_number, servers.no_number) refl; back = rw (orgs.back, servers.back) refl }) (omega (arith, (plain_whole g).levels))
+    returned (whole_group_data g) (record { no_number = rw (orgs.no_number, servers.no_number) refl; back = rw (orgs.back, servers.back) refl }) (omega (arith, (shallow_whole g).levels))
 
 -- ---- its text is UTF-8
 

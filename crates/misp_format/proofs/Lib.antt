@@ -1,6 +1,7 @@
 mod Ascending
 mod Back
 mod Categories
+mod Depths
 mod EventBack
 mod Fitting
 mod GroupBack
@@ -8,7 +9,6 @@ mod GroupNames
 mod GroupTexts
 mod Grouped
 mod Kept
-mod Plain
 mod ReadBack
 mod RowFacts
 mod StandardFacts

@@ -35,7 +35,7 @@ use Rattle.misp_elem.specs.declared.visible.VisibleObject.{VisibleObject}
 use Rattle.misp_elem.specs.declared.visible.VisibleEvent.{VisibleEvent}
 use Rattle.misp_format.specs.Fields.{GroupNames, optional_uuid_data, with_group, group_data, group_names}
 use Rattle.misp_format.specs.Written.{tag_data, reference_with, reference_of, reference_data, proposal_with, proposal_of, proposal_data, sighting_with, sighting_of, sighting_data, attribute_members, attribute_with, attribute_of, attribute_data, object_members, object_with, object_of, object_data, event_members, event_with, event_of, event_data, body_data}
-use Rattle.misp_format.proofs.Plain.{plain_body}
+use Rattle.misp_format.proofs.Depths.{shallow_body}
 
 -- ---- data without a number
 
@@ -109,11 +109,14 @@ record ReturnMembers (ms : Members) : Type 0 where
 abbrev whole : Option (json.Json × List Token) → Option Data
 whole o = option_and_then of_json (option_and_then (λ p. json.if_last p.0 p.1) o)
 
-pub returned : (d : Data) → Returns d → depth d ≤ max_depth → read (compact_text d) ≡ Some d
-returned d h shallow =
+pub read_again : (d : Data) → HasNumbers (outline d) → of_json (outline d) ≡ Some d → depth d ≤ max_depth → read (compact_text d) ≡ Some d
+read_again d numbers back shallow =
     let written : tokens (compact_text d) ≡ json_tokens (outline d) =
-    ap tokens (sym (print-outline d)) ∙ tokens-print (json_tokens (outline d)) (ArePrintable-json_tokens (outline d) (numbers_of d h.no_number)) in
-    ap whole (ap (json.value max_depth) (written ∙ sym (append-nil _)) ∙ value-json_tokens (outline d) max_depth [] (rw (outline_depth d) shallow)) ∙ h.back
+    ap tokens (sym (print-outline d)) ∙ tokens-print (json_tokens (outline d)) (ArePrintable-json_tokens (outline d) numbers) in
+    ap whole (ap (json.value max_depth) (written ∙ sym (append-nil _)) ∙ value-json_tokens (outline d) max_depth [] (rw (outline_depth d) shallow)) ∙ back
+
+pub returned : (d : Data) → Returns d → depth d ≤ max_depth → read (compact_text d) ≡ Some d
+returned d h shallow = read_again d (numbers_of d h.no_number) h.back shallow
 
 -- ---- lists, and the sharing group
 
@@ -289,4 +292,4 @@ return_event names e = return_event_of names e e.row.content
 pub body_returned : (e : VisibleEvent) → read (compact_text (body_data e)) ≡ Some (body_data e)
 body_returned e =
     let event = return_event (group_names e.group_names) e in
-    returned (body_data e) (record { no_number = rw event.no_number refl; back = rw event.back refl }) (omega (arith, (plain_body e).levels))
+    returned (body_data e) (record { no_number = rw event.no_number refl; back = rw event.back refl }) (omega (arith, (shallow_body e).levels))

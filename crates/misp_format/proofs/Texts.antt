@@ -1,43 +1,116 @@
--- Text that is written piece by piece is the text of the whole.
-use Rattle.std.proofs.Common.{◌≡◌, ℕ, false, List, ◌++◌, refl, append_assoc}
-use Rattle.std.specs.Prelude.{codes}
-use Rattle.json.specs.Print.{escape_byte}
-use Rattle.serde_json.specs.Data.{object}
-use Rattle.serde_json.specs.Written.{compact_text, members_text}
+-- What is put down member by member is put down whole.
+use Rattle.std.proofs.Common.{◌≡◌, ℕ, List, [], ◌∷◌, ◌++◌, refl, sym, ap, ◌∙◌, append_assoc, append-nil}
+use Rattle.json.specs.Print.{print}
+use Rattle.json.specs.Token.{Token}
+use Rattle.json.specs.Token as tokens
+use Rattle.json.specs.Tree.{json_tokens, items_tokens, members_tokens}
+use Rattle.serde_json.specs.Data.{Data, array, object, Items, no_items, item, Members, no_members, member}
+use Rattle.serde_json.specs.Written.{outline, items_outline, members_outline, compact_text}
+use Rattle.serde_json.proofs.Texts.{print-outline}
 use Rattle.misp_ids.specs.declared.label.Label.{Label}
 use Rattle.misp_ids.specs.declared.label.Label.TheVariants as labels
 use Rattle.misp_elem.specs.declared.content.EventBody.{EventBody}
+use Rattle.misp_elem.specs.declared.content.AttributeBody.{AttributeBody}
+use Rattle.misp_elem.specs.declared.content.ObjectBody.{ObjectBody}
+use Rattle.misp_elem.specs.declared.visible.VisibleAttribute.{VisibleAttribute}
+use Rattle.misp_elem.specs.declared.visible.VisibleObject.{VisibleObject}
 use Rattle.misp_elem.specs.declared.visible.VisibleEvent.{VisibleEvent}
-use Rattle.misp_format.specs.Fields.{GroupNames, list_data, with_group, group_names}
-use Rattle.misp_format.specs.Written.{attribute_data, object_data, event_members, event_others, others_with, event_with, event_data, body_data}
+use Rattle.misp_format.specs.Fields.{GroupNames, with_group}
+use Rattle.misp_format.specs.Tokens.{PutDown, behind, push, with, put_value, put_member, put_members, put_attribute_lists, put_object_lists, put_event_lists}
+use Rattle.misp_format.specs.Written.{attribute_texts, attribute_members, attribute_with, object_texts, object_members, object_with, event_texts, event_members, event_with}
 
-pub body_text : (e : VisibleEvent) → compact_text (body_data e) ≡ codes "{\"Event\":" ++ (compact_text (event_data (group_names e.group_names) e) ++ codes "}")
-unfolding escape_byte
-body_text e = refl
+-- one list of tokens after another
+with_both : (one two : List Token) (was : PutDown) → with (one ++ two) was ≡ with two (with one was)
+with_both [] two was = refl
+with_both (token ∷ one) two was = with_both one two (push token was)
 
--- its attributes, its objects and the text of what is left
-abbrev pieces : GroupNames → VisibleEvent → List ℕ → List ℕ
-pieces names e others =
-    codes "{\"Attribute\":" ++ (compact_text (list_data (attribute_data names) e.attributes)
-    ++ (codes ",\"Object\":" ++ (compact_text (list_data (object_data names) e.objects) ++ (codes "," ++ others))))
+-- ---- objects
 
--- a sharing group stands behind both
-grouped_text : (names : GroupNames) (e : VisibleEvent) (b : EventBody) (label : Label)
-    → compact_text (object (with_group names label (event_members names e b))) ≡ pieces names e (members_text false (with_group names label (event_others e b)))
-unfolding escape_byte
-grouped_text names e b labels.Own = refl
-grouped_text names e b labels.Community = refl
-grouped_text names e b labels.Connected = refl
-grouped_text names e b labels.All = refl
-grouped_text names e b (labels.Group group) = refl
-grouped_text names e b labels.Inherit = refl
+members_put : (ms : Members) (was : PutDown) → with (members_tokens (members_outline ms)) was ≡ push tokens.end_object (put_members ms was)
+unfolding put_member put_value
+members_put no_members was = refl
+members_put (member name d ms) was = with_both (json_tokens (outline d)) (members_tokens (members_outline ms)) (push (tokens.key name) was) ∙ members_put ms (put_member name d was)
 
-pub event_text : (names : GroupNames) (e : VisibleEvent) (b : EventBody) → compact_text (event_with names e b) ≡ pieces names e (members_text false (others_with names e b))
-unfolding event_with others_with
-event_text names e b = grouped_text names e b e.row.label
+pub object_put : (ms : Members) (was : PutDown) → put_value (object ms) was ≡ push tokens.end_object (put_members ms (push tokens.begin_object was))
+unfolding put_value
+object_put ms was = members_put ms (push tokens.begin_object was)
 
--- one piece after another, from the text as it was to the text before the last
-pub joined : (was a b c d e others : List ℕ) {one two three four five : List ℕ}
-    → one ≡ was ++ a → two ≡ one ++ b → three ≡ two ++ c → four ≡ three ++ d → five ≡ four ++ e
-    → five ++ others ≡ was ++ (a ++ (b ++ (c ++ (d ++ (e ++ others)))))
-joined was a b c d e others p q r s t = rw (t, s, r, q, p) (simp append_assoc)
+-- ---- lists
+
+-- the values one after another, and the bracket
+abbrev pub put_items : Items → PutDown → PutDown
+put_items no_items was = push tokens.end_array was
+put_items (item d ds) was = put_items ds (put_value d was)
+
+items_put : (ds : Items) (was : PutDown) → with (items_tokens (items_outline ds)) was ≡ put_items ds was
+unfolding put_value
+items_put no_items was = refl
+items_put (item d ds) was = with_both (json_tokens (outline d)) (items_tokens (items_outline ds)) was ∙ items_put ds (put_value d was)
+
+pub array_put : (ds : Items) (was : PutDown) → put_value (array ds) was ≡ put_items ds (push tokens.begin_array was)
+unfolding put_value
+array_put ds was = items_put ds (push tokens.begin_array was)
+
+-- ---- elements
+
+grouped_attribute : (names : GroupNames) (label : Label) (a : VisibleAttribute) (b : AttributeBody) (was : PutDown)
+    → put_members (with_group names label (attribute_members a b)) was ≡ put_members (attribute_texts a b) (put_attribute_lists names label a b was)
+grouped_attribute names labels.Own a b was = refl
+grouped_attribute names labels.Community a b was = refl
+grouped_attribute names labels.Connected a b was = refl
+grouped_attribute names labels.All a b was = refl
+grouped_attribute names (labels.Group group) a b was = refl
+grouped_attribute names labels.Inherit a b was = refl
+
+pub attribute_put : (names : GroupNames) (a : VisibleAttribute) (b : AttributeBody) (was : PutDown)
+    → put_value (attribute_with names a b) was ≡ push tokens.end_object (put_members (attribute_texts a b) (put_attribute_lists names a.row.label a b (push tokens.begin_object was)))
+unfolding attribute_with
+attribute_put names a b was =
+    object_put (with_group names a.row.label (attribute_members a b)) was ∙ ap (push tokens.end_object) (grouped_attribute names a.row.label a b (push tokens.begin_object was))
+
+grouped_object : (names : GroupNames) (label : Label) (o : VisibleObject) (b : ObjectBody) (was : PutDown)
+    → put_members (with_group names label (object_members names o b)) was ≡ put_members (object_texts o b) (put_object_lists names label o was)
+grouped_object names labels.Own o b was = refl
+grouped_object names labels.Community o b was = refl
+grouped_object names labels.Connected o b was = refl
+grouped_object names labels.All o b was = refl
+grouped_object names (labels.Group group) o b was = refl
+grouped_object names labels.Inherit o b was = refl
+
+pub visible_object_put : (names : GroupNames) (o : VisibleObject) (b : ObjectBody) (was : PutDown)
+    → put_value (object_with names o b) was ≡ push tokens.end_object (put_members (object_texts o b) (put_object_lists names o.row.label o (push tokens.begin_object was)))
+unfolding object_with
+visible_object_put names o b was =
+    object_put (with_group names o.row.label (object_members names o b)) was ∙ ap (push tokens.end_object) (grouped_object names o.row.label o b (push tokens.begin_object was))
+
+grouped_event : (names : GroupNames) (label : Label) (e : VisibleEvent) (b : EventBody) (was : PutDown)
+    → put_members (with_group names label (event_members names e b)) was ≡ put_members (event_texts e b) (put_event_lists names label e b was)
+grouped_event names labels.Own e b was = refl
+grouped_event names labels.Community e b was = refl
+grouped_event names labels.Connected e b was = refl
+grouped_event names labels.All e b was = refl
+grouped_event names (labels.Group group) e b was = refl
+grouped_event names labels.Inherit e b was = refl
+
+pub event_put : (names : GroupNames) (e : VisibleEvent) (b : EventBody) (was : PutDown)
+    → put_value (event_with names e b) was ≡ push tokens.end_object (put_members (event_texts e b) (put_event_lists names e.row.label e b (push tokens.begin_object was)))
+unfolding event_with
+event_put names e b was =
+    object_put (with_group names e.row.label (event_members names e b)) was ∙ ap (push tokens.end_object) (grouped_event names e.row.label e b (push tokens.begin_object was))
+
+-- ---- texts
+
+put_tokens : (tokens : List Token) (was : PutDown) → (with tokens was).tokens ≡ was.tokens ++ tokens
+unfolding push
+put_tokens [] was = sym (append-nil was.tokens)
+put_tokens (token ∷ tokens) was = put_tokens tokens (push token was) ∙ append_assoc was.tokens (token ∷ []) tokens
+
+put_before : (tokens : List Token) (was : PutDown) → (with tokens was).before ≡ was.before
+unfolding push
+put_before [] was = refl
+put_before (token ∷ tokens) was = put_before tokens (push token was)
+
+-- a value that is put down whole behind a text
+pub printed : (text : List ℕ) (d : Data) → (put_value d (behind text)).before ++ print (put_value d (behind text)).tokens ≡ text ++ compact_text d
+unfolding put_value
+printed text d = rw (put_before (json_tokens (outline d)) (behind text), put_tokens (json_tokens (outline d)) (behind text), print-outline d) refl

@@ -2,18 +2,13 @@
 use Rattle.std.specs.Prelude.{ℕ, Bool, ◌&&◌, ◌==◌, List, [], codes, decimal, map, Option, Some, None, unwrap_or}
 use Rattle.std.specs.Map.{lookup}
 use Rattle.serde_json.specs.Data.{Data, unsigned, number, string, array, object, Members, member, no_members, put}
-use Rattle.serde_json.specs.View.{items_of, members_view}
+use Rattle.serde_json.specs.View.{items_of}
 use Rattle.misp_ids.specs.declared.uid.Uid.{Uid}
 use Rattle.misp_ids.specs.declared.uid.OrgId.{OrgId}
 use Rattle.misp_ids.specs.declared.uid.GroupId.{GroupId}
 use Rattle.misp_ids.specs.declared.label.Label.{Label}
 use Rattle.misp_ids.specs.declared.label.Label.TheVariants as labels
 use Rattle.misp_ids.specs.Uid.{text_of}
-use Rattle.misp_format.specs.declared.fields.Fields.{Fields}
-
--- the members of an object that is being written
-abbrev pub members_of : Fields → Members
-members_of it = members_view it.members.entries
 
 -- numbers are written as texts
 abbrev pub number_data : ℕ → Data

@@ -14,5 +14,6 @@ pub mod Readers
 pub mod Replies
 pub mod Rows
 pub mod Tables
+pub mod Tokens
 pub mod WholeGroup
 pub mod Written

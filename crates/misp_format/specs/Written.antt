@@ -1,7 +1,7 @@
 -- What is written of an event: the members of each object, in ascending order of their names.
 use Rattle.std.specs.Prelude.{ℕ, ◌+◌, not, List, ◌++◌, length, codes, sum_by}
 use Rattle.hex.specs.Hex.{encode_lower}
-use Rattle.serde_json.specs.Data.{Data, null, boolean, string, object, Members, member, no_members, put}
+use Rattle.serde_json.specs.Data.{Data, null, boolean, string, object, Members, member, no_members}
 use Rattle.misp_ids.specs.declared.uid.Uid.{Uid}
 use Rattle.misp_ids.specs.declared.uid.OrgId.{OrgId}
 use Rattle.misp_ids.specs.declared.uid.EventId.{EventId}
@@ -41,13 +41,6 @@ key_uuid (keys.Reference event owner target uuid) = uuid.0
 key_uuid (keys.Proposal event name) = name.uuid.0
 key_uuid (keys.Verdict event name at judge) = name.uuid.0
 key_uuid (keys.Sighting event target at by uuid) = uuid.0
-
--- with the members that each element has, each at its place among the names
-abbrev pub with_row : RowFields → Members → Members
-with_row r ms =
-    put (codes "uuid") (uuid_data (key_uuid r.key)) (
-    put (codes "timestamp") (number_data r.stamp) (
-    put (codes "distribution") (number_data (label_kind r.label)) ms))
 
 -- ---- tags
 
@@ -124,12 +117,9 @@ sighting_data r = sighting_of r.key r.content
 
 -- ---- attributes
 
--- but for the sharing group
-abbrev pub attribute_members : VisibleAttribute → AttributeBody → Members
-attribute_members a b =
-    member (codes "ShadowAttribute") (list_data proposal_data a.proposals) (
-    member (codes "Sighting") (list_data sighting_data a.sightings) (
-    member (codes "Tag") (list_data tag_data b.tags) (
+-- but for its lists and the sharing group
+abbrev pub attribute_texts : VisibleAttribute → AttributeBody → Members
+attribute_texts a b =
     member (codes "category") (string (category_name b.category)) (
     member (codes "comment") (string b.comment) (
     member (codes "deleted") (boolean b.deleted) (
@@ -139,7 +129,15 @@ attribute_members a b =
     member (codes "type") (string b.kind) (
     member (codes "uuid") (uuid_data (key_uuid a.row.key)) (
     member (codes "value") (string b.value)
-    no_members)))))))))))
+    no_members))))))))
+
+-- but for the sharing group
+abbrev pub attribute_members : VisibleAttribute → AttributeBody → Members
+attribute_members a b =
+    member (codes "ShadowAttribute") (list_data proposal_data a.proposals) (
+    member (codes "Sighting") (list_data sighting_data a.sightings) (
+    member (codes "Tag") (list_data tag_data b.tags)
+    (attribute_texts a b)))
 
 unfoldable pub attribute_with : GroupNames → VisibleAttribute → AttributeBody → Data
 attribute_with names a b = object (with_group names a.row.label (attribute_members a b))
@@ -154,11 +152,9 @@ attribute_data names a = attribute_of names a a.row.content
 
 -- ---- objects
 
--- but for the sharing group
-abbrev pub object_members : GroupNames → VisibleObject → ObjectBody → Members
-object_members names o b =
-    member (codes "Attribute") (list_data (attribute_data names) o.attributes) (
-    member (codes "ObjectReference") (list_data reference_data o.references) (
+-- but for its lists and the sharing group
+abbrev pub object_texts : VisibleObject → ObjectBody → Members
+object_texts o b =
     member (codes "comment") (string b.comment) (
     member (codes "deleted") (boolean b.deleted) (
     member (codes "description") (string b.description) (
@@ -169,7 +165,14 @@ object_members names o b =
     member (codes "template_version") (number_data b.template_version) (
     member (codes "timestamp") (number_data o.row.stamp) (
     member (codes "uuid") (uuid_data (key_uuid o.row.key))
-    no_members)))))))))))
+    no_members)))))))))
+
+-- but for the sharing group
+abbrev pub object_members : GroupNames → VisibleObject → ObjectBody → Members
+object_members names o b =
+    member (codes "Attribute") (list_data (attribute_data names) o.attributes) (
+    member (codes "ObjectReference") (list_data reference_data o.references)
+    (object_texts o b))
 
 unfoldable pub object_with : GroupNames → VisibleObject → ObjectBody → Data
 object_with names o b = object (with_group names o.row.label (object_members names o b))
@@ -189,64 +192,35 @@ unfoldable pub attribute_count : VisibleEvent → ℕ
 attribute_count e =
     length e.attributes + sum_by (λ (o : VisibleObject). length o.attributes) e.objects
 
--- its lists and organisations, and then other members
-abbrev pub event_lists : GroupNames → VisibleEvent → EventBody → Members → Members
-event_lists names e b others =
+-- but for its lists, its organisations and the sharing group
+abbrev pub event_texts : VisibleEvent → EventBody → Members
+event_texts e b =
+    member (codes "analysis") (number_data b.analysis) (
+    member (codes "attribute_count") (number_data (attribute_count e)) (
+    member (codes "date") (string b.date) (
+    member (codes "distribution") (number_data (label_kind e.row.label)) (
+    member (codes "extends_uuid") (optional_uuid_data b.extends_uuid) (
+    member (codes "info") (string b.info) (
+    member (codes "publish_timestamp") (number_data b.publish_stamp) (
+    member (codes "published") (boolean (not e.row.held)) (
+    member (codes "threat_level_id") (number_data b.threat_level_id) (
+    member (codes "timestamp") (number_data e.row.stamp) (
+    member (codes "uuid") (uuid_data (key_uuid e.row.key))
+    no_members))))))))))
+
+-- but for the sharing group
+abbrev pub event_members : GroupNames → VisibleEvent → EventBody → Members
+event_members names e b =
     member (codes "Attribute") (list_data (attribute_data names) e.attributes) (
     member (codes "Object") (list_data (object_data names) e.objects) (
     member (codes "Org") (org_data e.row.owner e.org_name) (
     member (codes "Orgc") (org_data b.orgc b.orgc_name) (
     member (codes "ShadowAttribute") (list_data proposal_data e.proposals) (
     member (codes "Tag") (list_data tag_data b.tags)
-    others)))))
-
--- but for the sharing group
-abbrev pub event_members : GroupNames → VisibleEvent → EventBody → Members
-event_members names e b = event_lists names e b (
-    member (codes "analysis") (number_data b.analysis) (
-    member (codes "attribute_count") (number_data (attribute_count e)) (
-    member (codes "date") (string b.date) (
-    member (codes "distribution") (number_data (label_kind e.row.label)) (
-    member (codes "extends_uuid") (optional_uuid_data b.extends_uuid) (
-    member (codes "info") (string b.info) (
-    member (codes "publish_timestamp") (number_data b.publish_stamp) (
-    member (codes "published") (boolean (not e.row.held)) (
-    member (codes "threat_level_id") (number_data b.threat_level_id) (
-    member (codes "timestamp") (number_data e.row.stamp) (
-    member (codes "uuid") (uuid_data (key_uuid e.row.key))
-    no_members)))))))))))
+    (event_texts e b))))))
 
 unfoldable pub event_with : GroupNames → VisibleEvent → EventBody → Data
 event_with names e b = object (with_group names e.row.label (event_members names e b))
-
--- the organisations that hold and created it, its own lists, and then other members
-abbrev pub event_parts : VisibleEvent → EventBody → Members → Members
-event_parts e b others =
-    member (codes "Org") (org_data e.row.owner e.org_name) (
-    member (codes "Orgc") (org_data b.orgc b.orgc_name) (
-    member (codes "ShadowAttribute") (list_data proposal_data e.proposals) (
-    member (codes "Tag") (list_data tag_data b.tags)
-    others)))
-
--- the members of an event, but for its attributes, its objects and the sharing group
-abbrev pub event_others : VisibleEvent → EventBody → Members
-event_others e b = event_parts e b (
-    member (codes "analysis") (number_data b.analysis) (
-    member (codes "attribute_count") (number_data (attribute_count e)) (
-    member (codes "date") (string b.date) (
-    member (codes "distribution") (number_data (label_kind e.row.label)) (
-    member (codes "extends_uuid") (optional_uuid_data b.extends_uuid) (
-    member (codes "info") (string b.info) (
-    member (codes "publish_timestamp") (number_data b.publish_stamp) (
-    member (codes "published") (boolean (not e.row.held)) (
-    member (codes "threat_level_id") (number_data b.threat_level_id) (
-    member (codes "timestamp") (number_data e.row.stamp) (
-    member (codes "uuid") (uuid_data (key_uuid e.row.key))
-    no_members)))))))))))
-
--- the members of an event, but for its attributes and its objects
-unfoldable pub others_with : GroupNames → VisibleEvent → EventBody → Members
-others_with names e b = with_group names e.row.label (event_others e b)
 
 -- a row of another content is null
 abbrev pub event_of : GroupNames → VisibleEvent → Content → Data

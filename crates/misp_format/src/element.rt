@@ -1,20 +1,22 @@
-//! Attributes and objects as they are written.
+//! Tags, attributes and objects as they are written.
 
-ghost use Rattle.std.specs.Prelude.{◌≡◌, IfOk, map, string_bytes};
-ghost use Rattle.serde_json.specs.View.{view};
-ghost use Rattle.misp_format.specs.Fields.{members_of};
+ghost use Rattle.std.specs.Prelude.{◌≡◌, ◌++◌, IfOk, OnOk, codes, string_bytes};
+ghost use Rattle.misp_format.specs.Fields.{list_data};
 ghost use Rattle.misp_format.specs.Names.{names_in};
-ghost use Rattle.misp_format.specs.Written.{colour_text, tag_data, attribute_members, attribute_with, attribute_data, object_members, object_with, object_data};
+ghost use Rattle.misp_format.specs.Tokens.{put_value, put_members, put_attribute_lists, put_object_lists};
+ghost use Rattle.misp_format.specs.Written.{colour_text, tag_data, attribute_texts, attribute_with, attribute_data, object_texts, object_with, object_data};
 
-use crate::fields::Fields;
-use crate::groups::{GroupNames, sharing_group};
-use crate::keys::put_row;
+use crate::groups::{GroupNames, put_sharing_group};
+use crate::keys::{key_uuid, label_number, put_stamp_and_uuid};
 use crate::kinds::category_name;
-use crate::statement::{proposal_values, reference_values, sighting_values};
+use crate::listed::{Listed, put_list};
+use crate::statement::{Proposals, References, Sightings};
+use crate::writer::Writer;
 use misp_elem::{AttributeBody, Content, ObjectBody, Tag, VisibleAttribute, VisibleObject};
 use misp_ids::NoMemory;
-use serde_json::Value;
 use std::alloc::Global;
+
+// ---- tags
 
 /// `#`, and two digits for each of red, green and blue.
 fn colour_text(alloc: Global, colour: [u8; 3]) -> Result<String, NoMemory>
@@ -26,153 +28,175 @@ fn colour_text(alloc: Global, colour: [u8; 3]) -> Result<String, NoMemory>
     Ok(text)
 }
 
-#[tactic(auto, unfolding(crate::specs::Written::tag_data))]
-fn tag_value(alloc: Global, tag: &Tag) -> Result<Value, NoMemory>
-    ensures { IfOk result (λ v. view v ≡ tag_data tag.now) }
-{
-    let mut it = Fields::new(alloc);
-    it.text("colour", colour_text(alloc, tag.colour)?.as_str())?;
-    it.flag("exportable", tag.exportable)?;
-    it.text("name", tag.name.as_str())?;
-    Ok(it.done())
-}
+/// The tags of an element.
+pub(crate) struct Tags;
 
-pub(crate) fn tag_values(alloc: Global, tags: &[Tag]) -> Result<Vec<Value>, NoMemory>
-    ensures { IfOk result (λ vs. map view vs.items ≡ map tag_data tags.now) }
-{
-    let mut values = Vec::new(alloc);
-    for tag in tags {
-        values.push(tag_value(alloc, tag)?)?;
+impl Listed for Tags {
+    ghost use Rattle.misp_format.specs.Written.{tag_data};
+
+    type Item = Tag;
+
+    ghost value = { λ _. tag_data };
+
+    #[tactic(auto, unfolding(crate::specs::Written::tag_data))]
+    fn put(out: &mut Writer, _names: &GroupNames, tag: &Tag) -> Result<(), NoMemory> {
+        let alloc = out.alloc;
+        out.begin_object()?;
+        out.text("colour", colour_text(alloc, tag.colour)?.as_str())?;
+        out.flag("exportable", tag.exportable)?;
+        out.text("name", tag.name.as_str())?;
+        out.end_object()?;
+        Ok(())
     }
-    Ok(values)
 }
 
-/// The members of an attribute, but for the sharing group.
-fn attribute_fields(
-    alloc: Global,
-    attribute: &VisibleAttribute,
-    body: &AttributeBody,
-) -> Result<Fields, NoMemory>
-    ensures { IfOk result (λ it. members_of it ≡ attribute_members attribute.now body.now) }
-{
-    let mut it = Fields::new(alloc);
-    it.list(
-        "ShadowAttribute",
-        proposal_values(alloc, attribute.proposals.as_slice())?,
-    )?;
-    it.list(
-        "Sighting",
-        sighting_values(alloc, attribute.sightings.as_slice())?,
-    )?;
-    it.list("Tag", tag_values(alloc, body.tags.as_slice())?)?;
-    it.text("category", category_name(body.category))?;
-    it.text("comment", body.comment.as_str())?;
-    it.flag("deleted", body.deleted)?;
-    it.flag("to_ids", body.to_ids)?;
-    it.text("type", body.kind.as_str())?;
-    it.text("value", body.value.as_str())?;
-    put_row(&mut it, &attribute.row)?;
-    Ok(it)
+// ---- attributes
+
+/// The attributes of an event or of an object.
+pub(crate) struct Attributes;
+
+impl Listed for Attributes {
+    ghost use Rattle.misp_format.specs.Written.{attribute_data};
+
+    type Item = VisibleAttribute;
+
+    ghost value = { attribute_data };
+
+    #[tactic(auto, unfolding(crate::specs::Written::attribute_data))]
+    fn put(
+        out: &mut Writer,
+        names: &GroupNames,
+        attribute: &VisibleAttribute,
+    ) -> Result<(), NoMemory> {
+        match &attribute.row.content {
+            Content::Attribute(body) => put_attribute(out, names, attribute, body),
+            _ => out.null(),
+        }
+    }
 }
 
-#[tactic(auto, unfolding(crate::specs::Written::attribute_with))]
-fn attribute_with(
-    alloc: Global,
+#[tactic(auto, using(crate::proofs::Texts::attribute_put))]
+fn put_attribute(
+    out: &mut Writer,
     names: &GroupNames,
     attribute: &VisibleAttribute,
     body: &AttributeBody,
-) -> Result<Value, NoMemory>
-    ensures { IfOk result (λ v. view v
-        ≡ attribute_with (names_in names.now) attribute.now body.now) }
+) -> Result<(), NoMemory>
+    ensures { OnOk result (out.new ≡ put_value
+        (attribute_with (names_in names.now) attribute.now body.now) out.old) }
 {
-    let mut it = attribute_fields(alloc, attribute, body)?;
-    sharing_group(alloc, &mut it, names, &attribute.row.label)?;
-    Ok(it.done())
+    out.begin_object()?;
+    put_attribute_lists(out, names, attribute, body)?;
+    put_attribute_texts(out, attribute, body)?;
+    out.end_object()?;
+    Ok(())
 }
 
-#[tactic(auto, unfolding(crate::specs::Written::attribute_data))]
-pub(crate) fn attribute_value(
-    alloc: Global,
+fn put_attribute_lists(
+    out: &mut Writer,
     names: &GroupNames,
     attribute: &VisibleAttribute,
-) -> Result<Value, NoMemory>
-    ensures { IfOk result (λ v. view v ≡ attribute_data (names_in names.now) attribute.now) }
+    body: &AttributeBody,
+) -> Result<(), NoMemory>
+    ensures { OnOk result (out.new ≡ put_attribute_lists
+        (names_in names.now) attribute.now.row.label attribute.now body.now out.old) }
 {
-    match &attribute.row.content {
-        Content::Attribute(body) => attribute_with(alloc, names, attribute, body),
-        _ => Ok(Value::Null),
+    let proposals = attribute.proposals.as_slice();
+    put_list::<Proposals>(out, "ShadowAttribute", names, proposals)?;
+    put_sharing_group(out, names, &attribute.row.label)?;
+    put_list::<Sightings>(out, "Sighting", names, attribute.sightings.as_slice())?;
+    put_list::<Tags>(out, "Tag", names, body.tags.as_slice())?;
+    Ok(())
+}
+
+fn put_attribute_texts(
+    out: &mut Writer,
+    attribute: &VisibleAttribute,
+    body: &AttributeBody,
+) -> Result<(), NoMemory>
+    ensures { OnOk result (out.new
+        ≡ put_members (attribute_texts attribute.now body.now) out.old) }
+{
+    out.text("category", category_name(body.category))?;
+    out.text("comment", body.comment.as_str())?;
+    out.flag("deleted", body.deleted)?;
+    out.number("distribution", label_number(&attribute.row.label))?;
+    out.number("timestamp", attribute.row.stamp.get())?;
+    out.flag("to_ids", body.to_ids)?;
+    out.text("type", body.kind.as_str())?;
+    out.uuid("uuid", &key_uuid(attribute.row.key.form))?;
+    out.text("value", body.value.as_str())?;
+    Ok(())
+}
+
+// ---- objects
+
+/// The objects of an event.
+pub(crate) struct Objects;
+
+impl Listed for Objects {
+    ghost use Rattle.misp_format.specs.Written.{object_data};
+
+    type Item = VisibleObject;
+
+    ghost value = { object_data };
+
+    #[tactic(auto, unfolding(crate::specs::Written::object_data))]
+    fn put(out: &mut Writer, names: &GroupNames, object: &VisibleObject) -> Result<(), NoMemory> {
+        match &object.row.content {
+            Content::Object(body) => put_object(out, names, object, body),
+            _ => out.null(),
+        }
     }
 }
 
-pub(crate) fn attribute_values(
-    alloc: Global,
-    names: &GroupNames,
-    attributes: &[VisibleAttribute],
-) -> Result<Vec<Value>, NoMemory>
-    ensures { IfOk result (λ vs. map view vs.items
-        ≡ map (attribute_data (names_in names.now)) attributes.now) }
-{
-    let mut values = Vec::new(alloc);
-    for attribute in attributes {
-        values.push(attribute_value(alloc, names, attribute)?)?;
-    }
-    Ok(values)
-}
-
-/// The members of an object, but for the sharing group.
-fn object_fields(
-    alloc: Global,
+#[tactic(auto, using(crate::proofs::Texts::visible_object_put))]
+fn put_object(
+    out: &mut Writer,
     names: &GroupNames,
     object: &VisibleObject,
     body: &ObjectBody,
-) -> Result<Fields, NoMemory>
-    ensures { IfOk result (λ it. members_of it
-        ≡ object_members (names_in names.now) object.now body.now) }
+) -> Result<(), NoMemory>
+    ensures { OnOk result (out.new ≡ put_value
+        (object_with (names_in names.now) object.now body.now) out.old) }
 {
-    let mut it = Fields::new(alloc);
-    it.list(
-        "Attribute",
-        attribute_values(alloc, names, object.attributes.as_slice())?,
-    )?;
-    it.list(
-        "ObjectReference",
-        reference_values(alloc, object.references.as_slice())?,
-    )?;
-    it.text("comment", body.comment.as_str())?;
-    it.flag("deleted", body.deleted)?;
-    it.text("description", body.description.as_str())?;
-    it.text("meta-category", body.meta_category.as_str())?;
-    it.text("name", body.name.as_str())?;
-    it.optional_uuid("template_uuid", &body.template_uuid)?;
-    it.number("template_version", body.template_version)?;
-    put_row(&mut it, &object.row)?;
-    Ok(it)
+    out.begin_object()?;
+    put_object_lists(out, names, object)?;
+    put_object_texts(out, object, body)?;
+    out.end_object()?;
+    Ok(())
 }
 
-#[tactic(auto, unfolding(crate::specs::Written::object_with))]
-fn object_with(
-    alloc: Global,
+fn put_object_lists(
+    out: &mut Writer,
     names: &GroupNames,
+    object: &VisibleObject,
+) -> Result<(), NoMemory>
+    ensures { OnOk result (out.new ≡ put_object_lists
+        (names_in names.now) object.now.row.label object.now out.old) }
+{
+    put_list::<Attributes>(out, "Attribute", names, object.attributes.as_slice())?;
+    put_list::<References>(out, "ObjectReference", names, object.references.as_slice())?;
+    put_sharing_group(out, names, &object.row.label)?;
+    Ok(())
+}
+
+fn put_object_texts(
+    out: &mut Writer,
     object: &VisibleObject,
     body: &ObjectBody,
-) -> Result<Value, NoMemory>
-    ensures { IfOk result (λ v. view v ≡ object_with (names_in names.now) object.now body.now) }
+) -> Result<(), NoMemory>
+    ensures { OnOk result (out.new
+        ≡ put_members (object_texts object.now body.now) out.old) }
 {
-    let mut it = object_fields(alloc, names, object, body)?;
-    sharing_group(alloc, &mut it, names, &object.row.label)?;
-    Ok(it.done())
-}
-
-#[tactic(auto, unfolding(crate::specs::Written::object_data))]
-pub(crate) fn object_value(
-    alloc: Global,
-    names: &GroupNames,
-    object: &VisibleObject,
-) -> Result<Value, NoMemory>
-    ensures { IfOk result (λ v. view v ≡ object_data (names_in names.now) object.now) }
-{
-    match &object.row.content {
-        Content::Object(body) => object_with(alloc, names, object, body),
-        _ => Ok(Value::Null),
-    }
+    out.text("comment", body.comment.as_str())?;
+    out.flag("deleted", body.deleted)?;
+    out.text("description", body.description.as_str())?;
+    out.number("distribution", label_number(&object.row.label))?;
+    out.text("meta-category", body.meta_category.as_str())?;
+    out.text("name", body.name.as_str())?;
+    out.optional_uuid("template_uuid", &body.template_uuid)?;
+    out.number("template_version", body.template_version)?;
+    put_stamp_and_uuid(out, &object.row)?;
+    Ok(())
 }

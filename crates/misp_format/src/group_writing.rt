@@ -1,38 +1,40 @@
 //! Whole sharing groups as they are written.
 
-ghost use Rattle.std.specs.Prelude.{◌≡◌, ◌++◌, Ok, IfOk, OnOk, map, string_bytes};
-ghost use Rattle.serde_json.specs.View.{view};
+ghost use Rattle.std.specs.Prelude.{◌≡◌, ◌++◌, Ok, IfOk, OnOk, string_bytes};
 ghost use Rattle.misp_groups.specs.Group.{IsGroup};
 ghost use Rattle.misp_format.specs.GroupText.{group_in_text};
-ghost use Rattle.misp_format.specs.WholeGroup.{group_org_data, server_url, named_server_data, group_server_data, whole_group_data, group_text, groups_text, uncarried};
+ghost use Rattle.misp_format.specs.Tokens.{put_value};
+ghost use Rattle.misp_format.specs.WholeGroup.{server_url, named_server_data, whole_group_data, group_text, groups_text, uncarried};
 
-use crate::fields::Fields;
-use crate::pieces::{put_item, put_text};
+use crate::groups::GroupNames;
+use crate::listed::{Listed, put_items, put_list};
+use crate::writer::Writer;
 use misp_groups::{Group, GroupOrg, GroupServer};
 use misp_ids::{InstId, NoMemory};
-use serde_json::Value;
 use std::alloc::Global;
+use std::collections::BTreeMap;
+use std::mem;
 
 // ---- organisations
 
-#[tactic(auto, unfolding(crate::specs::WholeGroup::group_org_data))]
-fn org_value(alloc: Global, org: &GroupOrg) -> Result<Value, NoMemory>
-    ensures { IfOk result (λ v. view v ≡ group_org_data org.now) }
-{
-    let mut it = Fields::new(alloc);
-    it.org("Organisation", &org.org, org.name.as_str())?;
-    it.flag("extend", org.extend)?;
-    Ok(it.done())
-}
+/// The organisations of a group.
+struct GroupOrgs;
 
-fn org_values(alloc: Global, orgs: &[GroupOrg]) -> Result<Vec<Value>, NoMemory>
-    ensures { IfOk result (λ vs. map view vs.items ≡ map group_org_data orgs.now) }
-{
-    let mut values = Vec::new(alloc);
-    for org in orgs {
-        values.push(org_value(alloc, org)?)?;
+impl Listed for GroupOrgs {
+    ghost use Rattle.misp_format.specs.WholeGroup.{group_org_data};
+
+    type Item = GroupOrg;
+
+    ghost value = { λ _. group_org_data };
+
+    #[tactic(auto, unfolding(crate::specs::WholeGroup::group_org_data))]
+    fn put(out: &mut Writer, _names: &GroupNames, org: &GroupOrg) -> Result<(), NoMemory> {
+        out.begin_object()?;
+        out.org("Organisation", &org.org, org.name.as_str())?;
+        out.flag("extend", org.extend)?;
+        out.end_object()?;
+        Ok(())
     }
-    Ok(values)
 }
 
 // ---- instances
@@ -47,57 +49,74 @@ fn server_url(alloc: Global, name: &str) -> Result<String, NoMemory>
     Ok(text)
 }
 
-fn named_server(alloc: Global, name: &InstId) -> Result<Value, NoMemory>
-    ensures { IfOk result (λ v. view v ≡ named_server_data name.now) }
+/// An instance, by its name and its place in the web.
+#[tactic(auto)]
+fn put_server(out: &mut Writer, name: &InstId) -> Result<(), NoMemory>
+    ensures { OnOk result (out.new ≡ put_value (named_server_data name.now) out.old) }
 {
-    let mut it = Fields::new(alloc);
-    it.text("name", name.text())?;
-    it.text("url", server_url(alloc, name.text())?.as_str())?;
-    Ok(it.done())
+    let alloc = out.alloc;
+    out.begin_object()?;
+    out.text("name", name.text())?;
+    out.text("url", server_url(alloc, name.text())?.as_str())?;
+    out.end_object()?;
+    Ok(())
 }
 
-#[tactic(auto, unfolding(crate::specs::WholeGroup::group_server_data))]
-fn server_value(alloc: Global, server: &GroupServer) -> Result<Value, NoMemory>
-    ensures { IfOk result (λ v. view v ≡ group_server_data server.now) }
-{
-    let mut it = Fields::new(alloc);
-    it.value("Server", named_server(alloc, &server.name)?)?;
-    it.flag("all_orgs", server.all_orgs)?;
-    Ok(it.done())
-}
+/// The instances of a group.
+struct GroupServers;
 
-fn server_values(alloc: Global, servers: &[GroupServer]) -> Result<Vec<Value>, NoMemory>
-    ensures { IfOk result (λ vs. map view vs.items ≡ map group_server_data servers.now) }
-{
-    let mut values = Vec::new(alloc);
-    for server in servers {
-        values.push(server_value(alloc, server)?)?;
+impl Listed for GroupServers {
+    ghost use Rattle.misp_format.specs.WholeGroup.{group_server_data};
+
+    type Item = GroupServer;
+
+    ghost value = { λ _. group_server_data };
+
+    #[tactic(auto, unfolding(crate::specs::WholeGroup::group_server_data))]
+    fn put(out: &mut Writer, _names: &GroupNames, server: &GroupServer) -> Result<(), NoMemory> {
+        out.begin_object()?;
+        out.name("Server")?;
+        put_server(out, &server.name)?;
+        out.flag("all_orgs", server.all_orgs)?;
+        out.end_object()?;
+        Ok(())
     }
-    Ok(values)
 }
 
 // ---- groups
 
-#[tactic(auto, unfolding(crate::specs::WholeGroup::whole_group_data))]
-fn group_value(alloc: Global, group: &Group) -> Result<Value, NoMemory>
-    ensures written { IfOk result (λ v. view v ≡ whole_group_data group.now) }
-    ensures fits { IsGroup group.now }
+/// Whole groups.
+struct Groups;
+
+impl Listed for Groups {
+    ghost use Rattle.misp_format.specs.WholeGroup.{whole_group_data};
+
+    type Item = Group;
+
+    ghost value = { λ _. whole_group_data };
+
+    fn put(out: &mut Writer, names: &GroupNames, group: &Group) -> Result<(), NoMemory> {
+        put_group(out, names, group)
+    }
+}
+
+fn put_group(out: &mut Writer, names: &GroupNames, group: &Group) -> Result<(), NoMemory>
+    ensures written { OnOk result (out.new ≡ put_value (whole_group_data group.now) out.old) }
+    ensures fits { OnOk result (IsGroup group.now) }
 {
-    let mut it = Fields::new(alloc);
-    it.list("SharingGroupOrg", org_values(alloc, group.orgs.as_slice())?)?;
-    it.list(
-        "SharingGroupServer",
-        server_values(alloc, group.servers.as_slice())?,
-    )?;
-    it.flag("active", group.active)?;
-    it.text("description", group.description.as_str())?;
-    it.number("modified", group.modified.get())?;
-    it.text("name", group.name.as_str())?;
-    it.uuid("organisation_uuid", &group.id.creator.0)?;
-    it.text("releasability", group.releasability.as_str())?;
-    it.flag("roaming", group.roaming)?;
-    it.uuid("uuid", &group.id.uuid)?;
-    Ok(it.done())
+    out.begin_object()?;
+    put_list::<GroupOrgs>(out, "SharingGroupOrg", names, group.orgs.as_slice())?;
+    put_list::<GroupServers>(out, "SharingGroupServer", names, group.servers.as_slice())?;
+    out.flag("active", group.active)?;
+    out.text("description", group.description.as_str())?;
+    out.number("modified", group.modified.get())?;
+    out.text("name", group.name.as_str())?;
+    out.uuid("organisation_uuid", &group.id.creator.0)?;
+    out.text("releasability", group.releasability.as_str())?;
+    out.flag("roaming", group.roaming)?;
+    out.uuid("uuid", &group.id.uuid)?;
+    out.end_object()?;
+    Ok(())
 }
 
 /// The text of a group.
@@ -108,20 +127,18 @@ pub fn write_group(alloc: Global, group: &Group) -> Result<Vec<u8>, NoMemory>
     ensures read_back { IfOk result (λ bytes. group_in_text bytes.items
         ≡ Ok (uncarried group.now)) }
 {
-    let value = group_value(alloc, group)?;
-    Ok(value.to_vec(alloc)?)
+    let mut out = Writer::behind(alloc, Vec::new(alloc));
+    put_group(&mut out, &BTreeMap::new(alloc), group)?;
+    Ok(out.into_text())
 }
 
 /// Puts the text of a list of groups at the end of a text.
 pub fn put_groups(lines: &mut Vec<u8>, alloc: Global, groups: &[Group]) -> Result<(), NoMemory>
     ensures { OnOk result (lines.new.items ≡ lines.old.items ++ groups_text groups.now) }
 {
-    put_text(lines, "[")?;
-    let mut later = false;
-    for group in groups {
-        let value = group_value(alloc, group)?;
-        put_item(lines, alloc, later, &value)?;
-        later = true;
-    }
-    put_text(lines, "]")
+    let mut out = Writer::behind(alloc, mem::replace(lines, Vec::new(alloc)));
+    let put = put_items::<Groups>(&mut out, &BTreeMap::new(alloc), groups);
+    *lines = out.into_text();
+    put?;
+    Ok(())
 }

@@ -1,13 +1,12 @@
 //! Sharing groups as they are written, with their names.
 
 ghost use Rattle.std.specs.Prelude.{◌≡◌, OnOk, IfOk};
-ghost use Rattle.serde_json.specs.View.{view};
-ghost use Rattle.misp_format.specs.Fields.{members_of, group_data, group_names, with_group};
+ghost use Rattle.misp_format.specs.Fields.{group_data, group_names};
 ghost use Rattle.misp_format.specs.Names.{names_in};
+ghost use Rattle.misp_format.specs.Tokens.{put_value, put_group};
 
-use crate::fields::Fields;
+use crate::writer::Writer;
 use misp_ids::{GroupId, Label, NoMemory, Text};
-use serde_json::Value;
 use std::alloc::Global;
 use std::collections::BTreeMap;
 
@@ -38,30 +37,32 @@ fn name_of<'a>(names: &'a GroupNames, group: &GroupId) -> &'a str
     }
 }
 
-fn group_value(alloc: Global, names: &GroupNames, group: &GroupId) -> Result<Value, NoMemory>
-    ensures { IfOk result (λ v. view v ≡ group_data (names_in names.now) group.now) }
+fn put_group_value(out: &mut Writer, names: &GroupNames, group: &GroupId) -> Result<(), NoMemory>
+    ensures { OnOk result (out.new
+        ≡ put_value (group_data (names_in names.now) group.now) out.old) }
 {
-    let mut it = Fields::new(alloc);
-    it.text("name", name_of(names, group))?;
-    it.uuid("organisation_uuid", &group.creator.0)?;
-    it.uuid("uuid", &group.uuid)?;
-    Ok(it.done())
+    out.begin_object()?;
+    out.text("name", name_of(names, group))?;
+    out.uuid("organisation_uuid", &group.creator.0)?;
+    out.uuid("uuid", &group.uuid)?;
+    out.end_object()?;
+    Ok(())
 }
 
 /// The member `SharingGroup`, where the label names a group.
-pub(crate) fn sharing_group(
-    alloc: Global,
-    it: &mut Fields,
+#[tactic(auto, unfolding(crate::specs::Tokens::put_member))]
+pub(crate) fn put_sharing_group(
+    out: &mut Writer,
     names: &GroupNames,
     label: &Label,
 ) -> Result<(), NoMemory>
-    ensures { OnOk result (members_of it.new
-        ≡ with_group (names_in names.now) label.now (members_of it.old)) }
+    ensures { OnOk result (out.new ≡ put_group (names_in names.now) label.now out.old) }
 {
     match label {
         Label::Group(group) => {
-            let value = group_value(alloc, names, group)?;
-            it.value("SharingGroup", value)
+            out.name("SharingGroup")?;
+            put_group_value(out, names, group)?;
+            Ok(())
         }
         _ => Ok(()),
     }

@@ -1,12 +1,12 @@
-//! What rows say beside their contents, as it is written.
+//! What is written of keys, labels and stamps.
 
 ghost use Rattle.std.specs.Prelude.{◌≡◌, OnOk, codes};
-ghost use Rattle.serde_json.specs.Data.{put};
 ghost use Rattle.misp_elem.specs.Row.{label_kind};
-ghost use Rattle.misp_format.specs.Fields.{members_of, org_data};
-ghost use Rattle.misp_format.specs.Written.{place_uuid, key_uuid, with_row};
+ghost use Rattle.misp_format.specs.Fields.{number_data, uuid_data};
+ghost use Rattle.misp_format.specs.Tokens.{put_member};
+ghost use Rattle.misp_format.specs.Written.{place_uuid, key_uuid};
 
-use crate::fields::Fields;
+use crate::writer::Writer;
 use misp_elem::{KeyForm, Place, Row};
 use misp_ids::{EventId, Label, NoMemory, Uid};
 
@@ -23,7 +23,7 @@ pub(crate) fn place_uuid(event: EventId, place: Place) -> Uid
 }
 
 /// The identifier of what a key names.
-fn key_uuid(key: KeyForm) -> Uid
+pub(crate) fn key_uuid(key: KeyForm) -> Uid
     ensures { result ≡ key_uuid key }
 {
     match key {
@@ -36,7 +36,7 @@ fn key_uuid(key: KeyForm) -> Uid
 }
 
 /// The number of a label.
-fn label_number(label: &Label) -> u64
+pub(crate) fn label_number(label: &Label) -> u64
     ensures { result ≡ label_kind label.now }
 {
     match label {
@@ -49,19 +49,12 @@ fn label_number(label: &Label) -> u64
     }
 }
 
-/// The members `distribution`, `timestamp` and `uuid`, which each element has.
-pub(crate) fn put_row(it: &mut Fields, row: &Row) -> Result<(), NoMemory>
-    ensures { OnOk result (members_of it.new ≡ with_row row.now (members_of it.old)) }
+/// The members `timestamp` and `uuid`.
+pub(crate) fn put_stamp_and_uuid(out: &mut Writer, row: &Row) -> Result<(), NoMemory>
+    ensures { OnOk result (out.new ≡ put_member (codes "uuid") (uuid_data (key_uuid row.now.key))
+        (put_member (codes "timestamp") (number_data row.now.stamp) out.old)) }
 {
-    it.number("distribution", label_number(&row.label))?;
-    it.number("timestamp", row.stamp.get())?;
-    it.uuid("uuid", &key_uuid(row.key.form))
-}
-
-/// The member `Org`: the holder, and the name that it is known by.
-pub(crate) fn put_owner(it: &mut Fields, row: &Row, name: &str) -> Result<(), NoMemory>
-    ensures { OnOk result (members_of it.new
-        ≡ put (codes "Org") (org_data row.now.owner name.now) (members_of it.old)) }
-{
-    it.org("Org", &row.owner, name)
+    out.number("timestamp", row.stamp.get())?;
+    out.uuid("uuid", &key_uuid(row.key.form))?;
+    Ok(())
 }

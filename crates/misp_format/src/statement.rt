@@ -1,150 +1,150 @@
 //! References, proposals and sightings as they are written.
 
-ghost use Rattle.std.specs.Prelude.{◌≡◌, IfOk, map};
-ghost use Rattle.serde_json.specs.View.{view};
+ghost use Rattle.std.specs.Prelude.{◌≡◌, OnOk};
 ghost use Rattle.misp_elem.specs.declared.content.Content.TheVariants as contents;
-ghost use Rattle.misp_format.specs.Written.{reference_with, reference_data, proposal_with, proposal_data, sighting_with, sighting_data};
+ghost use Rattle.misp_format.specs.Tokens.{put_value};
+ghost use Rattle.misp_format.specs.Written.{place_uuid, reference_with, proposal_with, sighting_with};
 
-use crate::fields::Fields;
+use crate::groups::GroupNames;
 use crate::keys::place_uuid;
 use crate::kinds::category_name;
-use misp_elem::{Content, KeyForm, ProposalBody, ProposalName, Row, SightingBody};
-use misp_ids::{ElemId, NoMemory, OrgId, Stamp, Uid};
-use serde_json::Value;
-use std::alloc::Global;
+use crate::listed::Listed;
+use crate::writer::Writer;
+use misp_elem::{
+    Content, KeyForm, Place, ProposalBody, ProposalName, ReferenceBody, Row, SightingBody,
+};
+use misp_ids::{ElemId, EventId, NoMemory, OrgId, Stamp};
 
-fn reference_with(
-    alloc: Global,
+/// The references of an object.
+pub(crate) struct References;
+
+impl Listed for References {
+    ghost use Rattle.misp_format.specs.Written.{reference_data};
+
+    type Item = Row;
+
+    ghost value = { λ _. reference_data };
+
+    #[tactic(auto, unfolding(crate::specs::Written::reference_data))]
+    fn put(out: &mut Writer, _names: &GroupNames, row: &Row) -> Result<(), NoMemory> {
+        match (row.key.form, &row.content) {
+            (
+                KeyForm::Reference {
+                    event,
+                    target,
+                    uuid,
+                    ..
+                },
+                Content::Reference(body),
+            ) => put_reference(out, row.stamp, event, target, uuid, body),
+            _ => out.null(),
+        }
+    }
+}
+
+fn put_reference(
+    out: &mut Writer,
     stamp: Stamp,
-    referenced: Uid,
+    event: EventId,
+    target: Place,
     uuid: ElemId,
-    content: &Content,
-) -> Result<Value, NoMemory>
-    ensures { IfOk result (λ v. view v ≡ reference_with stamp referenced uuid content.now) }
+    body: &ReferenceBody,
+) -> Result<(), NoMemory>
+    ensures { OnOk result (out.new ≡ put_value
+        (reference_with stamp (place_uuid event target) uuid (contents.Reference body.now)) out.old) }
 {
-    match content {
-        Content::Reference(body) => {
-            let mut it = Fields::new(alloc);
-            it.text("comment", body.comment.as_str())?;
-            it.flag("deleted", body.deleted)?;
-            it.uuid("referenced_uuid", &referenced)?;
-            it.text("relationship_type", body.relationship_type.as_str())?;
-            it.number("timestamp", stamp.get())?;
-            it.uuid("uuid", &uuid.0)?;
-            Ok(it.done())
+    out.begin_object()?;
+    out.text("comment", body.comment.as_str())?;
+    out.flag("deleted", body.deleted)?;
+    out.uuid("referenced_uuid", &place_uuid(event, target))?;
+    out.text("relationship_type", body.relationship_type.as_str())?;
+    out.number("timestamp", stamp.get())?;
+    out.uuid("uuid", &uuid.0)?;
+    out.end_object()?;
+    Ok(())
+}
+
+/// The open proposals to an attribute or an event.
+pub(crate) struct Proposals;
+
+impl Listed for Proposals {
+    ghost use Rattle.misp_format.specs.Written.{proposal_data};
+
+    type Item = Row;
+
+    ghost value = { λ _. proposal_data };
+
+    #[tactic(auto, unfolding(crate::specs::Written::proposal_data))]
+    fn put(out: &mut Writer, _names: &GroupNames, row: &Row) -> Result<(), NoMemory> {
+        match (row.key.form, &row.content) {
+            (KeyForm::Proposal { name, .. }, Content::Proposal(body)) => {
+                put_proposal(out, row.stamp, &name, body)
+            }
+            _ => out.null(),
         }
-        _ => Ok(Value::Null),
     }
 }
 
-#[tactic(auto, unfolding(crate::specs::Written::reference_data))]
-fn reference_value(alloc: Global, row: &Row) -> Result<Value, NoMemory>
-    ensures { IfOk result (λ v. view v ≡ reference_data row.now) }
-{
-    match row.key.form {
-        KeyForm::Reference {
-            event,
-            target,
-            uuid,
-            ..
-        } => {
-            let referenced = place_uuid(event, target);
-            reference_with(alloc, row.stamp, referenced, uuid, &row.content)
-        }
-        _ => Ok(Value::Null),
-    }
-}
-
-pub(crate) fn reference_values(alloc: Global, rows: &[Row]) -> Result<Vec<Value>, NoMemory>
-    ensures { IfOk result (λ vs. map view vs.items ≡ map reference_data rows.now) }
-{
-    let mut values = Vec::new(alloc);
-    for row in rows {
-        values.push(reference_value(alloc, row)?)?;
-    }
-    Ok(values)
-}
-
-fn proposal_with(
-    alloc: Global,
+fn put_proposal(
+    out: &mut Writer,
     stamp: Stamp,
     name: &ProposalName,
     body: &ProposalBody,
-) -> Result<Value, NoMemory>
-    ensures { IfOk result (λ v. view v
-        ≡ proposal_with stamp name.now (contents.Proposal body.now)) }
+) -> Result<(), NoMemory>
+    ensures { OnOk result (out.new ≡ put_value
+        (proposal_with stamp name.now (contents.Proposal body.now)) out.old) }
 {
-    let mut it = Fields::new(alloc);
-    it.org("Org", &name.by, body.by_name.as_str())?;
-    it.text("category", category_name(body.category))?;
-    it.text("comment", body.comment.as_str())?;
-    it.text("origin", name.at.text())?;
-    it.flag("proposal_to_delete", body.remove)?;
-    it.number("timestamp", stamp.get())?;
-    it.flag("to_ids", body.to_ids)?;
-    it.text("type", body.kind.as_str())?;
-    it.uuid("uuid", &name.uuid.0)?;
-    it.text("value", body.value.as_str())?;
-    Ok(it.done())
+    out.begin_object()?;
+    out.org("Org", &name.by, body.by_name.as_str())?;
+    out.text("category", category_name(body.category))?;
+    out.text("comment", body.comment.as_str())?;
+    out.text("origin", name.at.text())?;
+    out.flag("proposal_to_delete", body.remove)?;
+    out.number("timestamp", stamp.get())?;
+    out.flag("to_ids", body.to_ids)?;
+    out.text("type", body.kind.as_str())?;
+    out.uuid("uuid", &name.uuid.0)?;
+    out.text("value", body.value.as_str())?;
+    out.end_object()?;
+    Ok(())
 }
 
-#[tactic(auto, unfolding(crate::specs::Written::proposal_data))]
-fn proposal_value(alloc: Global, row: &Row) -> Result<Value, NoMemory>
-    ensures { IfOk result (λ v. view v ≡ proposal_data row.now) }
-{
-    match (row.key.form, &row.content) {
-        (KeyForm::Proposal { name, .. }, Content::Proposal(body)) => {
-            proposal_with(alloc, row.stamp, &name, body)
+/// The sightings of an attribute.
+pub(crate) struct Sightings;
+
+impl Listed for Sightings {
+    ghost use Rattle.misp_format.specs.Written.{sighting_data};
+
+    type Item = Row;
+
+    ghost value = { λ _. sighting_data };
+
+    #[tactic(auto, unfolding(crate::specs::Written::sighting_data))]
+    fn put(out: &mut Writer, _names: &GroupNames, row: &Row) -> Result<(), NoMemory> {
+        match (row.key.form, &row.content) {
+            (KeyForm::Sighting { by, uuid, .. }, Content::Sighting(body)) => {
+                put_sighting(out, &by, uuid, body)
+            }
+            _ => out.null(),
         }
-        _ => Ok(Value::Null),
     }
 }
 
-pub(crate) fn proposal_values(alloc: Global, rows: &[Row]) -> Result<Vec<Value>, NoMemory>
-    ensures { IfOk result (λ vs. map view vs.items ≡ map proposal_data rows.now) }
-{
-    let mut values = Vec::new(alloc);
-    for row in rows {
-        values.push(proposal_value(alloc, row)?)?;
-    }
-    Ok(values)
-}
-
-fn sighting_with(
-    alloc: Global,
+fn put_sighting(
+    out: &mut Writer,
     by: &OrgId,
     uuid: ElemId,
     body: &SightingBody,
-) -> Result<Value, NoMemory>
-    ensures { IfOk result (λ v. view v ≡ sighting_with by.now uuid (contents.Sighting body.now)) }
+) -> Result<(), NoMemory>
+    ensures { OnOk result (out.new ≡ put_value
+        (sighting_with by.now uuid (contents.Sighting body.now)) out.old) }
 {
-    let mut it = Fields::new(alloc);
-    it.org("Organisation", by, body.by_name.as_str())?;
-    it.number("date_sighting", body.date.get())?;
-    it.text("source", body.source.as_str())?;
-    it.number("type", u64::from(body.kind))?;
-    it.uuid("uuid", &uuid.0)?;
-    Ok(it.done())
-}
-
-#[tactic(auto, unfolding(crate::specs::Written::sighting_data))]
-fn sighting_value(alloc: Global, row: &Row) -> Result<Value, NoMemory>
-    ensures { IfOk result (λ v. view v ≡ sighting_data row.now) }
-{
-    match (row.key.form, &row.content) {
-        (KeyForm::Sighting { by, uuid, .. }, Content::Sighting(body)) => {
-            sighting_with(alloc, &by, uuid, body)
-        }
-        _ => Ok(Value::Null),
-    }
-}
-
-pub(crate) fn sighting_values(alloc: Global, rows: &[Row]) -> Result<Vec<Value>, NoMemory>
-    ensures { IfOk result (λ vs. map view vs.items ≡ map sighting_data rows.now) }
-{
-    let mut values = Vec::new(alloc);
-    for row in rows {
-        values.push(sighting_value(alloc, row)?)?;
-    }
-    Ok(values)
+    out.begin_object()?;
+    out.org("Organisation", by, body.by_name.as_str())?;
+    out.number("date_sighting", body.date.get())?;
+    out.text("source", body.source.as_str())?;
+    out.number("type", u64::from(body.kind))?;
+    out.uuid("uuid", &uuid.0)?;
+    out.end_object()?;
+    Ok(())
 }

@@ -1,25 +1,27 @@
 //! Events as they are written.
 
 ghost use Rattle.std.specs.Prelude.{◌≡◌, ◌++◌, ℕ, IfOk, OnOk, Some, Ok};
-ghost use Rattle.serde_json.specs.Data.{Data, no_members};
+ghost use Rattle.serde_json.specs.Data.{Data};
 ghost use Rattle.serde_json.specs.Read.{read};
 ghost use Rattle.serde_json.specs.Written.{compact_text};
 ghost use Rattle.misp_elem.specs.Visible.{IsWhole};
 ghost use Rattle.misp_format.specs.Brought.{brought};
-ghost use Rattle.misp_format.specs.Fields.{members_of};
+ghost use Rattle.misp_format.specs.Fields.{group_names};
 ghost use Rattle.misp_format.specs.Names.{names_in};
 ghost use Rattle.misp_format.specs.Tables.{event_at};
-ghost use Rattle.misp_format.specs.Written.{attribute_count, event_parts, event_others, others_with, event_with, event_data, body_data};
+ghost use Rattle.misp_format.specs.Tokens.{put_value, put_members, put_event_lists};
+ghost use Rattle.misp_format.specs.Written.{attribute_count, event_texts, event_with, event_data, body_data};
 
-use crate::element::tag_values;
-use crate::fields::Fields;
-use crate::groups::{GroupNames, group_names, sharing_group};
-use crate::keys::{put_owner, put_row};
-use crate::pieces::{put_attributes, put_members, put_objects, put_text};
-use crate::statement::proposal_values;
+use crate::element::{Attributes, Objects, Tags};
+use crate::groups::{GroupNames, group_names, put_sharing_group};
+use crate::keys::{label_number, put_stamp_and_uuid};
+use crate::listed::put_list;
+use crate::statement::Proposals;
+use crate::writer::Writer;
 use misp_elem::{Content, EventBody, VisibleEvent};
 use misp_ids::NoMemory;
 use std::alloc::Global;
+use std::mem;
 
 /// How many attributes are shown, those in objects included.
 #[tactic(auto, unfolding(crate::specs::Written::attribute_count))]
@@ -34,87 +36,83 @@ fn attribute_count(event: &VisibleEvent) -> Result<usize, NoMemory>
     Ok(total)
 }
 
-/// The organisations that hold and created an event, and its own lists.
-fn event_parts(alloc: Global, event: &VisibleEvent, body: &EventBody) -> Result<Fields, NoMemory>
-    ensures { IfOk result (λ it. members_of it ≡ event_parts event.now body.now no_members) }
-{
-    let mut it = Fields::new(alloc);
-    put_owner(&mut it, &event.row, event.org_name.as_str())?;
-    it.org("Orgc", &body.orgc, body.orgc_name.as_str())?;
-    it.list(
-        "ShadowAttribute",
-        proposal_values(alloc, event.proposals.as_slice())?,
-    )?;
-    it.list("Tag", tag_values(alloc, body.tags.as_slice())?)?;
-    Ok(it)
-}
-
-/// The members of an event, but for its attributes, its objects and the sharing group.
-fn event_others(alloc: Global, event: &VisibleEvent, body: &EventBody) -> Result<Fields, NoMemory>
-    ensures { IfOk result (λ it. members_of it ≡ event_others event.now body.now) }
-{
-    let mut it = event_parts(alloc, event, body)?;
-    it.number("analysis", u64::from(body.analysis))?;
-    it.number("attribute_count", attribute_count(event)? as u64)?;
-    it.text("date", body.date.as_str())?;
-    it.optional_uuid("extends_uuid", &body.extends_uuid)?;
-    it.text("info", body.info.as_str())?;
-    it.number("publish_timestamp", body.publish_stamp.get())?;
-    it.flag("published", !event.row.held)?;
-    it.number("threat_level_id", u64::from(body.threat_level_id))?;
-    put_row(&mut it, &event.row)?;
-    Ok(it)
-}
-
-/// The members of an event, but for its attributes and its objects.
-#[tactic(auto, unfolding(crate::specs::Written::others_with))]
-fn others_with(
-    alloc: Global,
-    names: &GroupNames,
-    event: &VisibleEvent,
-    body: &EventBody,
-) -> Result<Fields, NoMemory>
-    ensures { IfOk result (λ it. members_of it
-        ≡ others_with (names_in names.now) event.now body.now) }
-{
-    let mut it = event_others(alloc, event, body)?;
-    sharing_group(alloc, &mut it, names, &event.row.label)?;
-    Ok(it)
-}
-
-/// An event: its attributes and its objects one after another, and then the other members.
-fn put_with(
-    text: &mut Vec<u8>,
-    alloc: Global,
+/// The lists of an event, its organisations, and the sharing group.
+fn put_lists(
+    out: &mut Writer,
     names: &GroupNames,
     event: &VisibleEvent,
     body: &EventBody,
 ) -> Result<(), NoMemory>
-    ensures { OnOk result (text.new.items ≡ text.old.items
-        ++ compact_text (event_with (names_in names.now) event.now body.now)) }
+    ensures { OnOk result (out.new ≡ put_event_lists
+        (names_in names.now) event.now.row.label event.now body.now out.old) }
 {
-    put_text(text, "{\"Attribute\":")?;
-    put_attributes(text, alloc, names, event.attributes.as_slice())?;
-    put_text(text, ",\"Object\":")?;
-    put_objects(text, alloc, names, event.objects.as_slice())?;
-    put_text(text, ",")?;
-    put_members(text, alloc, others_with(alloc, names, event, body)?)
+    put_list::<Attributes>(out, "Attribute", names, event.attributes.as_slice())?;
+    put_list::<Objects>(out, "Object", names, event.objects.as_slice())?;
+    out.org("Org", &event.row.owner, event.org_name.as_str())?;
+    out.org("Orgc", &body.orgc, body.orgc_name.as_str())?;
+    put_list::<Proposals>(out, "ShadowAttribute", names, event.proposals.as_slice())?;
+    put_sharing_group(out, names, &event.row.label)?;
+    put_list::<Tags>(out, "Tag", names, body.tags.as_slice())?;
+    Ok(())
+}
+
+/// The other members of an event.
+fn put_texts(out: &mut Writer, event: &VisibleEvent, body: &EventBody) -> Result<(), NoMemory>
+    ensures { OnOk result (out.new
+        ≡ put_members (event_texts event.now body.now) out.old) }
+{
+    out.number("analysis", u64::from(body.analysis))?;
+    out.number("attribute_count", attribute_count(event)? as u64)?;
+    out.text("date", body.date.as_str())?;
+    out.number("distribution", label_number(&event.row.label))?;
+    out.optional_uuid("extends_uuid", &body.extends_uuid)?;
+    out.text("info", body.info.as_str())?;
+    out.number("publish_timestamp", body.publish_stamp.get())?;
+    out.flag("published", !event.row.held)?;
+    out.number("threat_level_id", u64::from(body.threat_level_id))?;
+    put_stamp_and_uuid(out, &event.row)?;
+    Ok(())
+}
+
+#[tactic(auto, using(crate::proofs::Texts::event_put))]
+fn put_with(
+    out: &mut Writer,
+    names: &GroupNames,
+    event: &VisibleEvent,
+    body: &EventBody,
+) -> Result<(), NoMemory>
+    ensures { OnOk result (out.new ≡ put_value
+        (event_with (names_in names.now) event.now body.now) out.old) }
+{
+    out.begin_object()?;
+    put_lists(out, names, event, body)?;
+    put_texts(out, event, body)?;
+    out.end_object()?;
+    Ok(())
 }
 
 #[tactic(auto, unfolding(crate::specs::Written::event_data))]
-fn put_content(
-    text: &mut Vec<u8>,
-    alloc: Global,
-    names: &GroupNames,
-    event: &VisibleEvent,
-) -> Result<(), NoMemory>
-    ensures { OnOk result (text.new.items ≡ text.old.items
-        ++ compact_text (event_data (names_in names.now) event.now)) }
+fn put_content(out: &mut Writer, names: &GroupNames, event: &VisibleEvent) -> Result<(), NoMemory>
+    ensures { OnOk result (out.new ≡ put_value
+        (event_data (names_in names.now) event.now) out.old) }
 {
     match &event.row.content {
-        Content::Event(body) => put_with(text, alloc, names, event, body),
-        _ => put_text(text, "null"),
+        Content::Event(body) => put_with(out, names, event, body),
+        _ => out.null(),
     }
+}
+
+/// An event in a member of its own.
+#[tactic(auto, unfolding(crate::specs::Tokens::put_member))]
+fn put_body(out: &mut Writer, names: &GroupNames, event: &VisibleEvent) -> Result<(), NoMemory>
+    requires { names_in names.now ≡ group_names event.now.group_names }
+    ensures { OnOk result (out.new ≡ put_value (body_data event.now) out.old) }
+{
+    out.begin_object()?;
+    out.name("Event")?;
+    put_content(out, names, event)?;
+    out.end_object()?;
+    Ok(())
 }
 
 /// Puts the text of an event at the end of a text.
@@ -122,9 +120,11 @@ pub fn put_event(text: &mut Vec<u8>, alloc: Global, event: &VisibleEvent) -> Res
     ensures { OnOk result (text.new.items ≡ text.old.items ++ compact_text (body_data event.now)) }
 {
     let names = group_names(alloc, event.group_names.as_slice())?;
-    put_text(text, "{\"Event\":")?;
-    put_content(text, alloc, &names, event)?;
-    put_text(text, "}")
+    let mut out = Writer::behind(alloc, mem::replace(text, Vec::new(alloc)));
+    let put = put_body(&mut out, &names, event);
+    *text = out.into_text();
+    put?;
+    Ok(())
 }
 
 /// The text of an event.

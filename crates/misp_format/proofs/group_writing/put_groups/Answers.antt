@@ -1,7 +1,7 @@
-use Rattle.std.proofs.Common.{ap, ◌∙◌}
-use Rattle.serde_json.specs.Written.{has_float}
-use Rattle.misp_format.proofs.GroupTexts.{plain_whole}
+use Rattle.misp_format.specs.Fields.{list_data}
+use Rattle.misp_format.specs.WholeGroup.{whole_group_data}
+use Rattle.misp_format.proofs.Texts.{printed}
 use Rattle.misp_format.proofs.group_writing.put_groups.Goals as goal
 
-pub put_item-requires : goal.put_item-requires
-put_item-requires c = ap has_float c.in_ok-value.ensures.written ∙ (plain_whole _).no_float
+pub returns : goal.returns
+returns c = rw (c.into_text.ensures, c.in_ok-put.ensures, c.behind-out.ensures, c.replace.ensures.value) (printed c.args.lines.now.items (list_data whole_group_data c.args.groups.now))

@@ -1,7 +1,6 @@
-use Rattle.std.proofs.Common.{arith}
-use Rattle.std.proofs.lemmas.Grind.{common_steps}
-use Rattle.misp_format.proofs.Texts.{body_text}
+use Rattle.misp_format.specs.Written.{body_data}
+use Rattle.misp_format.proofs.Texts.{printed}
 use Rattle.misp_format.proofs.writing.put_event.Goals as goal
 
 pub returns : goal.returns
-returns c = rw (body_text c.args.event.now) (grind (arith, common_steps))
+returns c = rw (c.into_text.ensures, c.in_ok-put.ensures, c.behind-out.ensures, c.replace.ensures.value) (printed c.args.text.now.items (body_data c.args.event.now))
