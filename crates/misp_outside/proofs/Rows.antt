@@ -5,7 +5,7 @@ use Rattle.std.specs.declared.cmp.Ordering.TheVariants.{Less, Equal, Greater}
 use Rattle.std.specs.Ordering.{nat_cmp, ordering_then, is_le, is_gt}
 use Rattle.std.specs.Cmp.Lexicographic.{slice_cmp}
 use Rattle.std.specs.Global.{Vec}
-use Rattle.std.specs.List.{filter, AllZip}
+use Rattle.std.specs.List.{filter}
 use Rattle.std.specs.declared.ops.Bound.{Bound}
 use Rattle.std.specs.declared.ops.Bound.TheVariants.{Included, Excluded, Unbounded}
 use Rattle.std.specs.BTreeMap.Range.{range_contains, entries_between, IsLeBy}
@@ -18,13 +18,6 @@ use Rattle.misp_outside.specs.declared.row.RawBatch.{RawBatch}
 use Rattle.misp_outside.specs.Held.{Held, same_name, put, ascend, comes_before, admin_before, same_raw, same_admin, put_raw, put_admin, put_rows, put_admins, with_batch, rows_of}
 use Rattle.misp_outside.specs.Stored.{Entry, entry_name, key_name, named, stored, before_by, put_by, put_all_by, raw_row, admin_row, raw_rows, admin_rows, key_order, Spans}
 use Rattle.misp_outside.proofs.Lists.{ascend_kept, map_filter, map_put, ascend_map}
-
--- copies are what they were made from
-same_copies : {A : Type 0} (rows copies : List A) → AllZip (λ row copy. copy ≡ row) rows copies → copies ≡ rows
-same_copies [] [] all = refl
-same_copies [] (copy ∷ copies) all = absurd all
-same_copies (row ∷ rows) [] all = absurd all
-same_copies (row ∷ rows) (copy ∷ copies) all = rw (all.0, same_copies rows copies all.1) refl
 
 -- what a table of either kind has for each key
 abbrev pub Cells : Type 0
@@ -47,16 +40,16 @@ unfolding put_all_by put_rows
 put_raw_rows [] held = refl
 put_raw_rows (entry ∷ new) held = put_raw_rows new (put_by entry_name entry held) ∙ ap (put_rows (map raw_row new)) (put_raw_row entry held)
 
--- copies of rows, put into a table after room was made
-pub rows_put : (before room after : Cells) (new : List ((ℕ × Vec ℕ) × List ℕ)) (rows copies : List RawRow)
+-- rows, put into a table after room was made
+pub rows_put : (before room after : Cells) (new : List ((ℕ × Vec ℕ) × List ℕ)) (rows : List RawRow)
     → kept room ≡ kept before → kept after ≡ put_all_by entry_name (map (named (λ n. n)) new) (kept room)
-    → map raw_row (map (named (λ n. n)) new) ≡ copies → AllZip (λ row copy. copy ≡ row) rows copies
+    → map raw_row (map (named (λ n. n)) new) ≡ rows
     → raw_rows after ≡ put_rows rows (raw_rows before)
 unfolding raw_rows
-rows_put before room after new rows copies same put entries all =
+rows_put before room after new rows same put entries =
     ap (map raw_row) (put ∙ ap (put_all_by entry_name (map (named (λ n. n)) new)) same)
     ∙ put_raw_rows (map (named (λ n. n)) new) (kept before)
-    ∙ ap (λ list. put_rows list (map raw_row (kept before))) (entries ∙ same_copies rows copies all)
+    ∙ ap (λ list. put_rows list (map raw_row (kept before))) entries
 
 -- rows ascend as entries do
 pub rows_ascend : (cells : Cells) → ascend comes_before (raw_rows cells) ≡ ascend (before_by entry_name) (kept cells)
@@ -89,15 +82,15 @@ unfolding put_all_by put_admins
 put_admin_rows [] held = refl
 put_admin_rows (entry ∷ new) held = put_admin_rows new (put_by entry_name entry held) ∙ ap (put_admins (map admin_row new)) (put_admin_row entry held)
 
-pub admins_put : (before room after : Cells) (new : List ((ℕ × Vec ℕ) × List ℕ)) (rows copies : List AdminRow)
+pub admins_put : (before room after : Cells) (new : List ((ℕ × Vec ℕ) × List ℕ)) (rows : List AdminRow)
     → kept room ≡ kept before → kept after ≡ put_all_by entry_name (map (named (λ n. n)) new) (kept room)
-    → map admin_row (map (named (λ n. n)) new) ≡ copies → AllZip (λ row copy. copy ≡ row) rows copies
+    → map admin_row (map (named (λ n. n)) new) ≡ rows
     → admin_rows after ≡ put_admins rows (admin_rows before)
 unfolding admin_rows
-admins_put before room after new rows copies same put entries all =
+admins_put before room after new rows same put entries =
     ap (map admin_row) (put ∙ ap (put_all_by entry_name (map (named (λ n. n)) new)) same)
     ∙ put_admin_rows (map (named (λ n. n)) new) (kept before)
-    ∙ ap (λ list. put_admins list (map admin_row (kept before))) (entries ∙ same_copies rows copies all)
+    ∙ ap (λ list. put_admins list (map admin_row (kept before))) entries
 
 pub admins_ascend : (cells : Cells) → ascend admin_before (admin_rows cells) ≡ ascend (before_by entry_name) (kept cells)
 unfolding admin_rows admin_before

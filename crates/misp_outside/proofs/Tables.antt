@@ -1,5 +1,5 @@
 -- What a table stores after a key is inserted.
-use Rattle.std.proofs.Common.{◌≡◌, ℕ, Bool, true, false, not, cond, List, [], ◌∷◌, Option, None, Some, IsSome, refl, sym, ap, ◌∙◌, subst, ◌⊎◌, inl, inr, is_some}
+use Rattle.std.proofs.Common.{◌≡◌, ℕ, Bool, true, false, not, cond, List, [], ◌∷◌, Option, None, Some, IsSome, refl, sym, ap, ◌∙◌, subst, ◌⊎◌, inl, inr, is_some, unwrap_or}
 use Rattle.std.specs.declared.cmp.Ordering.{Ordering}
 use Rattle.std.specs.declared.cmp.Ordering.TheVariants.{Less, Equal, Greater}
 use Rattle.std.specs.Ordering.{is_lt, is_eq, ordering_reverse, ordering_then, nat_cmp}
@@ -22,21 +22,6 @@ three Greater = inr (inr refl)
 
 -- the keys of a table are in the order of their names
 module _ {K : Type 0} (R : K → K → Ordering) (name : K → ℕ × List ℕ) (by_names : (a b : K) → R a b ≡ name_order (name a) (name b)) where
-  -- a new key with no bytes changes nothing
-  pub stored_room : (es : List (K × Option (List ℕ))) (key : K) → lookup (is_at (R key)) es ≡ None → stored name (insert_entry R es key None) ≡ stored name es
-  unfolding stored
-  stored_room [] key none = refl
-  stored_room ((k, None) ∷ es) key none = elim (three (R key k)) [
-    | inl less ↦ rw less refl
-    | inr (inl equal) ↦ absurd (true≢false (ap is_some (rw equal at none)))
-    | inr (inr greater) ↦ rw greater (stored_room es key (rw greater at none))
-  ]
-  stored_room ((k, Some x) ∷ es) key none = elim (three (R key k)) [
-    | inl less ↦ rw less refl
-    | inr (inl equal) ↦ absurd (true≢false (ap is_some (rw equal at none)))
-    | inr (inr greater) ↦ rw greater (ap (λ rest. (name k, x) ∷ rest) (stored_room es key (rw greater at none)))
-  ]
-
   -- what is behind a greater key is greater
   above : (key k : K) (ks : List K) → R key k ≡ Less → AllByRecursion (λ q. R k q ≡ Less) ks → AllByRecursion (λ q. R key q ≡ Less) ks
   above key k [] less all = tt
@@ -48,6 +33,30 @@ module _ {K : Type 0} (R : K → K → Ordering) (name : K → ℕ × List ℕ) 
   above_equal key k [] equal all = tt
   above_equal key k (q ∷ ks) equal all =
       (by_names key q ∙ names_total.congr (name key) (name k) (name q) (sym (by_names key k) ∙ equal) ∙ sym (by_names k q) ∙ all.0, above_equal key k ks equal all.1)
+
+  none_above : {X : Type 0} (key : K) (es : List (K × X)) → AllByRecursion (λ q. R key q ≡ Less) (keys_of es) → lookup (is_at (R key)) es ≡ None
+  none_above key [] all = refl
+  none_above key (e ∷ es) all = rw all.0 (none_above key es all.1)
+
+  no_bytes : (key : K) (x : Option (List ℕ)) (es : List (K × Option (List ℕ))) → x ≡ None → stored name ((key, x) ∷ es) ≡ stored name es
+  unfolding stored
+  no_bytes key None es none = refl
+  no_bytes key (Some x) es none = absurd (true≢false (ap is_some none))
+
+  behind : (key : K) (x : Option (List ℕ)) (es fs : List (K × Option (List ℕ))) → stored name es ≡ stored name fs → stored name ((key, x) ∷ es) ≡ stored name ((key, x) ∷ fs)
+  unfolding stored
+  behind key None es fs same = same
+  behind key (Some x) es fs same = ap (λ rest. (name key, x) ∷ rest) same
+
+  -- a key with what is under it, or with no bytes where nothing is, changes nothing
+  pub stored_room : (es : List (K × Option (List ℕ))) (key : K) (x : Option (List ℕ)) → IsStrictlySortedBy R (keys_of es) → x ≡ unwrap_or (lookup (is_at (R key)) es) None → stored name (insert_entry R es key x) ≡ stored name es
+  unfolding IsStrictlySortedBy
+  stored_room [] key x up is = no_bytes key x [] is
+  stored_room ((k, y) ∷ es) key x up is = elim (three (R key k)) [
+    | inl less ↦ rw less (no_bytes key x ((k, y) ∷ es) ((rw less at is) ∙ ap (λ o. unwrap_or o None) (none_above key es (above key k (keys_of es) less up.0))))
+    | inr (inl equal) ↦ rw equal (ap (λ z. stored name ((k, z) ∷ es)) (rw equal at is))
+    | inr (inr greater) ↦ rw greater (behind k y _ es (stored_room es key x up.1 (rw greater at is)))
+  ]
 
   stored_above : (key : K) (x : List ℕ) (es : List (K × Option (List ℕ))) → AllByRecursion (λ q. R key q ≡ Less) (keys_of es) → list_all (before_by entry_name (name key, x)) (stored name es) ≡ true
   unfolding stored
@@ -91,7 +100,7 @@ module _ {K : Type 0} (R : K → K → Ordering) (name : K → ℕ × List ℕ) 
 -- ---- keys
 
 -- keys with the same bytes are the same in the order
-pub same_keys : {N : Type 0} (order : N → N → Ordering) (n : N) (a b : Vec ℕ) → a.items ≡ b.items → key_order order (n, a) ≡ key_order order (n, b)
+same_keys : {N : Type 0} (order : N → N → Ordering) (n : N) (a b : Vec ℕ) → a.items ≡ b.items → key_order order (n, a) ≡ key_order order (n, b)
 same_keys order n a b same = ap (λ items key. ordering_then (order n key.0) (slice_cmp nat_cmp items key.1.items)) same
 
 pub by_names : {N : Type 0} (number : N → ℕ) (order : N → N → Ordering) → ((a b : N) → order a b ≡ nat_cmp (number a) (number b)) → (a b : N × Vec ℕ) → key_order order a b ≡ name_order (key_name number a) (key_name number b)
@@ -102,6 +111,10 @@ pub still_there : {X : Type 0} (b : Bool) (x : X) (old new : Option X) → new �
 still_there true x old new is some = subst IsSome (sym is) refl
 still_there false x old new is some = subst IsSome (sym is) some
 
-pub none_from_test : {X : Type 0} (o : Option X) → is_some o ≡ false → o ≡ None
-none_from_test None absent = refl
-none_from_test (Some x) absent = absurd (true≢false absent)
+-- the key with the same bytes is there
+pub same_there : {N X : Type 0} (order : N → N → Ordering) (n : N) (a b : Vec ℕ) (es : List ((N × Vec ℕ) × X)) (x : X) → a.items ≡ b.items → lookup (is_at (key_order order (n, a))) es ≡ Some x → IsSome (lookup (is_at (key_order order (n, b))) es)
+same_there order n a b es x same there = subst (λ compare. IsSome (lookup (is_at compare) es)) (same_keys order n a b same) (subst IsSome (sym there) refl)
+
+-- the same entries have the same keys
+pub same_entries : {K X : Type 0} (test : K → Bool) (es fs : List (K × X)) → fs ≡ es → IsSome (lookup test es) → IsSome (lookup test fs)
+same_entries test es fs same there = subst (λ gs. IsSome (lookup test gs)) (sym same) there

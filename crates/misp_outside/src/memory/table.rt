@@ -71,7 +71,7 @@ pub fn put_all<N: Number>(table: &mut Table<N>, new: Vec<Entry<N>>)
     }
 }
 
-// Makes room under a key that the table does not have.
+// Makes room under the key, where the table does not have it.
 fn room_for<N: Number>(table: &mut Table<N>, key: &Key<N>) -> Result<(), AllocError>
     ensures same { stored (key_name N.number) table.new.entries
         ≡ stored (key_name N.number) table.old.entries }
@@ -79,11 +79,8 @@ fn room_for<N: Number>(table: &mut Table<N>, key: &Key<N>) -> Result<(), AllocEr
     ensures keeps { (other : N × Vec ℕ) → HasKey N.cmp table.old other
         → HasKey N.cmp table.new other }
 {
-    if table.contains_key(key) {
-        return Ok(());
-    }
     let name = Vec::from_slice(*key.1.allocator(), key.1.as_slice())?;
-    drop(table.insert((key.0, name), None)?);
+    table.entry((key.0, name))?.or_insert(None);
     Ok(())
 }
 
