@@ -8,7 +8,8 @@ use Rattle.misp_script.specs.Faults.{Reading}
 use Rattle.misp_script.specs.Network.{description_at}
 use Rattle.misp_script.specs.Directory.{directory_of}
 use Rattle.misp_script.specs.Source.{description_part, script_part}
-use Rattle.misp_net.specs.Hosts.{Stock, described_hosts}
+use Rattle.misp_outside.specs.Stock.{Stock}
+use Rattle.misp_net.specs.Hosts.{described_hosts}
 use Rattle.misp_net.specs.Opening.{may_be_sound, may_be_unsound}
 use Rattle.misp_net.specs.Run.{acts_of}
 use Rattle.misp_net.specs.History.{AreDistinct}

@@ -3,7 +3,7 @@
 ghost use Rattle.std.specs.Prelude.{◌≡◌, ◌≤◌, ◌↔◌, ◌⊎◌, None, Some, IfErr, IfSome, OnOk, IsSome, ◌<◌, length, map, vec_len, string_bytes};
 ghost use Rattle.misp_outside.specs.Causes.{Rose};
 ghost use Rattle.std.specs.Io.KnownBytes.{Appends};
-ghost use Rattle.misp_net.specs.Hosts.{stocks, told};
+ghost use Rattle.misp_net.specs.Hosts.{told};
 ghost use Rattle.misp_net.specs.Opening.{OneFailed};
 ghost use Rattle.misp_app.specs.Limits.{source_limit, least_keepers};
 ghost use Rattle.misp_app.specs.Source.{described, described_status, status_of, ok_line, IsTold, HasWritten, IsPartly, IsPartlyChecked, IsUnsound};
@@ -50,11 +50,11 @@ pub fn run<S: Source, W: Sink, K: Keeper, C: Carry, D: Door, L: Dial, T: Clock>(
     // Where the instances do not open, a keeper failed, or holds a row of the administration that
     // is none; and each holds what it held.
     ensures keeper { result ≡ Status.KeeperFault → OneFailed
-        (stocks K.held K.faults keepers.old.items) (stocks K.held K.faults keepers.new.items) }
+        (map K.stock keepers.old.items) (map K.stock keepers.new.items) }
     ensures bad_row { result ≡ Status.BadRow → IfSome (S.left source.old)
-        (λ left. IsUnsound (described left) (stocks K.held K.faults keepers.old.items)) }
-    ensures kept { IsUnopened result → told (stocks K.held K.faults keepers.new.items)
-        ≡ told (stocks K.held K.faults keepers.old.items) }
+        (λ left. IsUnsound (described left) (map K.stock keepers.old.items)) }
+    ensures kept { IsUnopened result → told (map K.stock keepers.new.items)
+        ≡ told (map K.stock keepers.old.items) }
     ensures opening { IsUnopened result →
         command_of (map string_bytes words.now) ≡ Some Command.Net }
 
@@ -62,13 +62,13 @@ pub fn run<S: Source, W: Sink, K: Keeper, C: Carry, D: Door, L: Dial, T: Clock>(
     // and what an organisation was never granted changes none of its replies.
     ensures done { command_of (map string_bytes words.now) ≡ Some Command.Net →
         result ≡ Status.Done → IfSome (S.left source.old) (λ left.
-        HasWritten left (stocks K.held K.faults keepers.old.items)
-        (stocks K.held K.faults keepers.new.items)
+        HasWritten left (map K.stock keepers.old.items)
+        (map K.stock keepers.new.items)
         (Appends (W.written sink.old) (W.written sink.new))) }
     ensures partly { command_of (map string_bytes words.now) ≡ Some Command.Net →
         result ≡ Status.WriteFault → IfSome (S.left source.old) (λ left.
-        IsPartly (described left) left (stocks K.held K.faults keepers.old.items)
-        (stocks K.held K.faults keepers.new.items) (W.written sink.old) (W.written sink.new)) }
+        IsPartly (described left) left (map K.stock keepers.old.items)
+        (map K.stock keepers.new.items) (W.written sink.old) (W.written sink.new)) }
 
     // A check writes that the description is one, and asks no keeper.
     ensures checked { command_of (map string_bytes words.now) ≡ Some Command.Check →
@@ -127,19 +127,19 @@ fn run_source<W: Sink, K: Keeper>(
         IsSilent status → W.written sink.new ≡ W.written sink.old) }
     ensures others { IfErr result IsRunEnd }
     ensures keeper { result ≡ Err Status.KeeperFault → OneFailed
-        (stocks K.held K.faults keepers.old.items) (stocks K.held K.faults keepers.new.items) }
+        (map K.stock keepers.old.items) (map K.stock keepers.new.items) }
     ensures bad_row { result ≡ Err Status.BadRow →
-        IsUnsound (described bytes.now) (stocks K.held K.faults keepers.old.items) }
+        IsUnsound (described bytes.now) (map K.stock keepers.old.items) }
     ensures kept { IfErr result (λ status. IsUnopened status →
-        told (stocks K.held K.faults keepers.new.items)
-        ≡ told (stocks K.held K.faults keepers.old.items)) }
+        told (map K.stock keepers.new.items)
+        ≡ told (map K.stock keepers.old.items)) }
     ensures done { OnOk result
-        (HasWritten bytes.now (stocks K.held K.faults keepers.old.items)
-        (stocks K.held K.faults keepers.new.items)
+        (HasWritten bytes.now (map K.stock keepers.old.items)
+        (map K.stock keepers.new.items)
         (Appends (W.written sink.old) (W.written sink.new))) }
     ensures partly { result ≡ Err Status.WriteFault →
-        IsPartly (described bytes.now) bytes.now (stocks K.held K.faults keepers.old.items)
-        (stocks K.held K.faults keepers.new.items) (W.written sink.old) (W.written sink.new) }
+        IsPartly (described bytes.now) bytes.now (map K.stock keepers.old.items)
+        (map K.stock keepers.new.items) (W.written sink.old) (W.written sink.new) }
     ensures bad { result ≡ Err Status.BadDescription →
         IsTold (described bytes.now) (W.written sink.old) (W.written sink.new) }
     ensures places { vec_len keepers.new ≡ vec_len keepers.old }

@@ -77,10 +77,10 @@ fn batch_of(alloc: Global, group: &Group) -> Result<RawBatch, NoMemory>
 #[tactic(auto, using(crate::proofs::Administered::put_one))]
 fn keep<K: Keeper>(keeper: &mut K, alloc: Global, group: &Group) -> Result<(), KeeperFault>
     ensures ok { OnOk result
-        (K.held keeper.new ≡ option_map (with_group group.now) (K.held keeper.old)) }
+        ((K.stock keeper.new).held ≡ option_map (with_group group.now) (K.stock keeper.old).held) }
     ensures read { OnOk result (group_in (group_row group.now) ≡ Some group.now) }
-    ensures err { OnErr result (K.held keeper.new ≡ K.held keeper.old) }
-    ensures cause { HasCause (K.faults keeper.old) (K.faults keeper.new)
+    ensures err { OnErr result ((K.stock keeper.new).held ≡ (K.stock keeper.old).held) }
+    ensures cause { HasCause (K.stock keeper.old).faults (K.stock keeper.new).faults
         (result ≡ Err KeeperFault.Failed) }
 {
     match batch_of(alloc, group) {
@@ -98,11 +98,11 @@ fn keep_named<K: Keeper>(
 ) -> Result<(), KeeperFault>
     requires { is_some (known_group groups.now id.now) ≡ true }
     ensures ok { OnOk result (IfSome (known_group groups.now id.now) (λ g.
-        K.held keeper.new ≡ option_map (with_group g) (K.held keeper.old))) }
+        (K.stock keeper.new).held ≡ option_map (with_group g) (K.stock keeper.old).held)) }
     ensures read { OnOk result (IfSome (known_group groups.now id.now)
         (λ g. group_in (group_row g) ≡ Some g)) }
-    ensures err { OnErr result (K.held keeper.new ≡ K.held keeper.old) }
-    ensures cause { HasCause (K.faults keeper.old) (K.faults keeper.new)
+    ensures err { OnErr result ((K.stock keeper.new).held ≡ (K.stock keeper.old).held) }
+    ensures cause { HasCause (K.stock keeper.old).faults (K.stock keeper.new).faults
         (result ≡ Err KeeperFault.Failed) }
 {
     match groups.get(id) {
@@ -122,12 +122,12 @@ pub(crate) fn administer<K: Keeper>(
     group: Group,
     add: bool,
 ) -> Reply
-    requires { HoldsGroups (K.held keeper.old) groups.old }
-    ensures answered { IfSome (K.held keeper.old) (λ held.
-        IsAdministered now by.now add group held result (K.held keeper.new)) }
-    ensures refused { IsRefused result → K.held keeper.new ≡ K.held keeper.old }
-    ensures groups { HoldsGroups (K.held keeper.new) groups.new }
-    ensures cause { HasCause (K.faults keeper.old) (K.faults keeper.new)
+    requires { HoldsGroups (K.stock keeper.old).held groups.old }
+    ensures answered { IfSome (K.stock keeper.old).held (λ held.
+        IsAdministered now by.now add group held result (K.stock keeper.new).held) }
+    ensures refused { IsRefused result → (K.stock keeper.new).held ≡ (K.stock keeper.old).held }
+    ensures groups { HoldsGroups (K.stock keeper.new).held groups.new }
+    ensures cause { HasCause (K.stock keeper.old).faults (K.stock keeper.new).faults
         (outcome_of result ≡ ByKeeper) }
 {
     let id = group.id;

@@ -45,9 +45,9 @@ pub(crate) fn replied(alloc: Global, served: Result<Reply, KeeperFault>) -> Repl
 #[tactic(auto, using(crate::proofs::Serving::put_none, crate::proofs::Serving::put_batch))]
 fn put<K: Keeper>(keeper: &mut K, alloc: Global, rows: &[Row]) -> Result<(), KeeperFault>
     ensures ok { OnOk result
-        (K.held keeper.new ≡ option_map (with_rows rows.now) (K.held keeper.old)) }
-    ensures err { OnErr result (K.held keeper.new ≡ K.held keeper.old) }
-    ensures cause { HasCause (K.faults keeper.old) (K.faults keeper.new)
+        ((K.stock keeper.new).held ≡ option_map (with_rows rows.now) (K.stock keeper.old).held) }
+    ensures err { OnErr result ((K.stock keeper.new).held ≡ (K.stock keeper.old).held) }
+    ensures cause { HasCause (K.stock keeper.old).faults (K.stock keeper.new).faults
         (result ≡ Err KeeperFault.Failed) }
 {
     let [_, ..] = rows else {
@@ -63,12 +63,12 @@ fn put<K: Keeper>(keeper: &mut K, alloc: Global, rows: &[Row]) -> Result<(), Kee
 #[tactic(auto, unfolding(misp_outside::specs::Held::ascend))]
 fn load<K: Keeper>(keeper: &mut K, alloc: Global, ask: &Ask) -> Result<Vec<RawRow>, KeeperFault>
     requires { IsBuilt ask.now }
-    ensures found { IfOk result (λ found. IfSome (K.held keeper.old)
+    ensures found { IfOk result (λ found. IfSome (K.stock keeper.old).held
         (λ held. found.items ≡ rows_asked ask.now held.rows)) }
-    ensures order { IfOk result (λ found. IfSome (K.held keeper.old)
+    ensures order { IfOk result (λ found. IfSome (K.stock keeper.old).held
         (λ _. IsTrue (ascend comes_before found.items))) }
-    ensures held { K.held keeper.new ≡ K.held keeper.old }
-    ensures cause { HasCause (K.faults keeper.old) (K.faults keeper.new)
+    ensures held { (K.stock keeper.new).held ≡ (K.stock keeper.old).held }
+    ensures cause { HasCause (K.stock keeper.old).faults (K.stock keeper.new).faults
         (result ≡ Err KeeperFault.Failed) }
 {
     match ask {
@@ -87,15 +87,17 @@ pub(crate) fn serve<K: Keeper>(
     ask: Ask,
 ) -> Result<Reply, KeeperFault>
     requires { IsBuilt ask }
-    ensures answered { (n : ℕ) → IfSome (K.held keeper.old) (λ held.
-        IfOk result (λ reply. IsServed n (site_of site.now) ask held reply (K.held keeper.new))) }
+    ensures answered { (n : ℕ) → IfSome (K.stock keeper.old).held (λ held.
+        IfOk result (λ reply.
+        IsServed n (site_of site.now) ask held reply (K.stock keeper.new).held)) }
     ensures went { IfOk result (λ reply. outcome_of reply ≡ Went) }
     ensures refused { IfOk result
-        (λ reply. IsRefused reply → K.held keeper.new ≡ K.held keeper.old) }
-    ensures err { OnErr result (K.held keeper.new ≡ K.held keeper.old) }
+        (λ reply. IsRefused reply → (K.stock keeper.new).held ≡ (K.stock keeper.old).held) }
+    ensures err { OnErr result ((K.stock keeper.new).held ≡ (K.stock keeper.old).held) }
     ensures groups { (groups : List GroupFields) →
-        HoldsGroups (K.held keeper.old) groups → HoldsGroups (K.held keeper.new) groups }
-    ensures cause { HasCause (K.faults keeper.old) (K.faults keeper.new)
+        HoldsGroups (K.stock keeper.old).held groups →
+        HoldsGroups (K.stock keeper.new).held groups }
+    ensures cause { HasCause (K.stock keeper.old).faults (K.stock keeper.new).faults
         (result ≡ Err KeeperFault.Failed) }
 {
     let raws = load(keeper, alloc, &ask)?;

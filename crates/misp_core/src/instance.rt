@@ -45,13 +45,13 @@ impl<K: Keeper> Model for Instance<K> {
     ghost view = { λ a. record {
       name = a.name;
       admin = a.admin;
-      held = K.held a.keeper;
-      faults = K.faults a.keeper;
+      held = (K.stock a.keeper).held;
+      faults = (K.stock a.keeper).faults;
     } };
 
     ghost use Rattle.misp_core.specs.Sharing.{HoldsGroups};
 
-    ghost invariant = { λ a. HoldsGroups (K.held a.keeper) a.groups };
+    ghost invariant = { λ a. HoldsGroups (K.stock a.keeper).held a.groups };
 }
 
 impl<K: Keeper> Instance<K> {
@@ -64,15 +64,15 @@ impl<K: Keeper> Instance<K> {
         keeper: K,
     ) -> Result<Instance<K>, (OpenFault, K)>
         ensures ok { IfOk result (λ instance.
-            instance ≡ standing name admin (K.held keeper) instance.faults) }
+            instance ≡ standing name admin (K.stock keeper).held instance.faults) }
         ensures groups { OnOk result
-            (IfSome (K.held keeper) (λ held. IsOk (groups_in held.admin))) }
-        ensures count { IfOk result (λ instance. K.faults keeper ≤ instance.faults) }
-        ensures back { IfErr result (λ e. K.held e.1 ≡ K.held keeper) }
+            (IfSome (K.stock keeper).held (λ held. IsOk (groups_in held.admin))) }
+        ensures count { IfOk result (λ instance. (K.stock keeper).faults ≤ instance.faults) }
+        ensures back { IfErr result (λ e. (K.stock e.1).held ≡ (K.stock keeper).held) }
         ensures bad { IfErr result (λ e.
-            IfSome (K.held keeper) (λ held. NamesFault (groups_in held.admin) e.0)) }
+            IfSome (K.stock keeper).held (λ held. NamesFault (groups_in held.admin) e.0)) }
         ensures cause { IfErr result (λ e.
-            HasCause (K.faults keeper) (K.faults e.1) (e.0 ≡ faults.KeeperFault)) }
+            HasCause (K.stock keeper).faults (K.stock e.1).faults (e.0 ≡ faults.KeeperFault)) }
     {
         let mut keeper = keeper;
         match load_groups(&mut keeper, alloc) {
@@ -88,8 +88,8 @@ impl<K: Keeper> Instance<K> {
 
     /// Gives the keeper back.
     pub fn into_keeper(self) -> K
-        ensures held { K.held result ≡ self.held }
-        ensures faults { K.faults result ≡ self.faults }
+        ensures held { (K.stock result).held ≡ self.held }
+        ensures faults { (K.stock result).faults ≡ self.faults }
     {
         self.keeper
     }

@@ -49,11 +49,11 @@ impl From<RowFault> for OpenFault {
 
 /// The groups that the keeper holds.
 pub(crate) fn load_groups<K: Keeper>(keeper: &mut K, alloc: Global) -> Result<Groups, OpenFault>
-    ensures ok { IfOk result (HoldsGroups (K.held keeper.old)) }
+    ensures ok { IfOk result (HoldsGroups (K.stock keeper.old).held) }
     ensures bad { IfErr result (λ fault.
-        IfSome (K.held keeper.old) (λ held. NamesFault (groups_in held.admin) fault)) }
-    ensures held { K.held keeper.new ≡ K.held keeper.old }
-    ensures cause { HasCause (K.faults keeper.old) (K.faults keeper.new)
+        IfSome (K.stock keeper.old).held (λ held. NamesFault (groups_in held.admin) fault)) }
+    ensures held { (K.stock keeper.new).held ≡ (K.stock keeper.old).held }
+    ensures cause { HasCause (K.stock keeper.old).faults (K.stock keeper.new).faults
         (result ≡ Err OpenFault.KeeperFault) }
 {
     let rows = keeper.load_admin(alloc)?;

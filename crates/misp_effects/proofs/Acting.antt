@@ -10,7 +10,8 @@ use Rattle.misp_effects.specs.declared.stop.Stop.TheVariants as stops
 use Rattle.misp_effects.specs.declared.stop.Side.TheVariants.{Here, There}
 use Rattle.misp_effects.specs.Batches.{Spelling}
 use Rattle.misp_effects.specs.Effect.{Effect, nothing_of, first_of, Does}
-use Rattle.misp_effects.specs.Stocks.{Stock, Tables, held_at, Tell, count_at}
+use Rattle.misp_outside.specs.Stock.{Stock}
+use Rattle.misp_effects.specs.Stocks.{Tables, held_at, Tell, count_at}
 use Rattle.misp_effects.specs.Meanings.{alone, between}
 use Rattle.misp_effects.specs.Run.{fault_at, tables_after}
 use Rattle.misp_effects.specs.Course.{IsAct}

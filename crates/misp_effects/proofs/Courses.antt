@@ -7,7 +7,8 @@ use Rattle.misp_outside.specs.Causes.{RoseBy}
 use Rattle.misp_effects.specs.declared.stop.Stop.{Stop}
 use Rattle.misp_effects.specs.Batches.{Spelling, AreReadable}
 use Rattle.misp_effects.specs.Effect.{Outcome, stop_of}
-use Rattle.misp_effects.specs.Stocks.{Stock, Tables, Tell, count_at}
+use Rattle.misp_outside.specs.Stock.{Stock}
+use Rattle.misp_effects.specs.Stocks.{Tables, Tell, count_at}
 use Rattle.misp_effects.specs.Meanings.{Meaning}
 use Rattle.misp_effects.specs.Run.{effect_in, output_of, tables_after, outputs_of, tables_left, AreFit, fault_at, faults_at}
 use Rattle.misp_effects.specs.Course.{IsAct, HasRun}

@@ -9,7 +9,8 @@ use Rattle.misp_effects.specs.declared.stop.Stop.TheVariants.{Keeper, Memory, Ca
 use Rattle.misp_effects.specs.declared.stop.Side.TheVariants.{Here, There}
 use Rattle.misp_effects.specs.Batches.{Batch, batch, IsReadable}
 use Rattle.misp_effects.specs.Effect.{Effect, effect, Went, Stopped, nothing_of, first_of, under, left}
-use Rattle.misp_effects.specs.Stocks.{Stock, stock, Tables, Tell}
+use Rattle.misp_outside.specs.Stock.{Stock, stock}
+use Rattle.misp_effects.specs.Stocks.{Tables, Tell}
 use Rattle.misp_effects.specs.Meanings.{Meaning, alone, between}
 use Rattle.misp_effects.specs.Run.{outputs_of, tables_left, faults_at}
 use Rattle.misp_effects.specs.Course.{AreDone, HasRun}

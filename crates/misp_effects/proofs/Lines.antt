@@ -4,7 +4,7 @@ use Rattle.std.proofs.lemmas.List.{map-append}
 use Rattle.misp_outside.specs.Held.{Held}
 use Rattle.misp_effects.specs.declared.stop.Stop.{Stop}
 use Rattle.misp_effects.specs.Batches.{Spelling}
-use Rattle.misp_effects.specs.Stocks.{Stock}
+use Rattle.misp_outside.specs.Stock.{Stock}
 use Rattle.misp_effects.specs.Meanings.{Meaning}
 use Rattle.misp_effects.specs.Course.{IsAct, HasRun}
 use Rattle.misp_effects.proofs.Courses.{one_more}

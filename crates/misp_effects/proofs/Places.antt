@@ -6,7 +6,8 @@ use Rattle.misp_outside.specs.Held.{Held}
 use Rattle.misp_effects.specs.declared.stop.Stop.{Stop}
 use Rattle.misp_effects.specs.declared.stop.Stop.TheVariants as stops
 use Rattle.misp_effects.specs.declared.stop.Side.TheVariants.{Here, There}
-use Rattle.misp_effects.specs.Stocks.{Stock, Tables, held_at, Tell, count_at, Lends}
+use Rattle.misp_outside.specs.Stock.{Stock}
+use Rattle.misp_effects.specs.Stocks.{Tables, held_at, Tell, count_at, Lends}
 use Rattle.misp_effects.specs.Meanings.{Meaning}
 use Rattle.misp_effects.specs.Run.{fault_of}
 use Rattle.std.specs.Prelude.{None}

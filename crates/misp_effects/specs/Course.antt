@@ -6,7 +6,8 @@ use Rattle.misp_outside.specs.Held.{Held}
 use Rattle.misp_effects.specs.declared.stop.Stop.{Stop}
 use Rattle.misp_effects.specs.Batches.{Spelling, AreReadable}
 use Rattle.misp_effects.specs.Effect.{Outcome, stop_of}
-use Rattle.misp_effects.specs.Stocks.{Stock, Tables, Tell, count_at}
+use Rattle.misp_outside.specs.Stock.{Stock}
+use Rattle.misp_effects.specs.Stocks.{Tables, Tell, count_at}
 use Rattle.misp_effects.specs.Meanings.{Meaning}
 use Rattle.misp_effects.specs.Run.{effect_in, output_of, tables_after, outputs_of, tables_left}
 use Rattle.misp_effects.specs.Run.{AreFit, fault_at, faults_at}

@@ -3,15 +3,7 @@ use Rattle.std.specs.Prelude.{◌≡◌, ℕ, List, map, slice_index, slice_inde
 use Rattle.std.specs.declared.option.Option.{Option}
 use Rattle.std.specs.declared.option.Option.TheVariants.{None, Some}
 use Rattle.misp_outside.specs.Held.{Held, nothing_held}
-
--- a keeper: what it holds, where it tells it, and how often it has failed
-pub record Stock : Type 0 where
-  pub held : Option Held
-  pub faults : ℕ
-
--- this held, and so many faults
-abbrev pub stock : Option Held → ℕ → Stock
-stock held faults = record { held = held; faults = faults }
+use Rattle.misp_outside.specs.Stock.{Stock, stock}
 
 -- what is held at each place
 abbrev pub Tables : Type 0

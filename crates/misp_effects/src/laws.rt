@@ -12,7 +12,7 @@ ghost use Rattle.misp_effects.specs.declared.stop.Stop.TheVariants as stops;
 ghost use Rattle.misp_effects.specs.declared.stop.Side.TheVariants.{Here, There};
 ghost use Rattle.misp_effects.specs.Batches.{Batch, Spelling, IsReadable};
 ghost use Rattle.misp_effects.specs.Effect.{Effect, Telling, shown, behind, Does};
-ghost use Rattle.misp_effects.specs.Stocks.{Stock};
+ghost use Rattle.misp_outside.specs.Stock.{Stock};
 ghost use Rattle.misp_effects.specs.Meanings.{Meaning};
 ghost use Rattle.misp_effects.specs.Run.{fault_of};
 ghost use Rattle.misp_effects.specs.Course.{IsAct, HasRun};

@@ -8,7 +8,8 @@ use Rattle.misp_model.specs.Kept.{start}
 use Rattle.misp_core.specs.Outcome.{Outcome}
 use Rattle.misp_core.proofs.GroupRows.{AreReadBack}
 use Rattle.misp_net.specs.declared.line.Output.{Output}
-use Rattle.misp_net.specs.Hosts.{Host, Stock, Tables, Tell, count_at}
+use Rattle.misp_outside.specs.Stock.{Stock}
+use Rattle.misp_net.specs.Hosts.{Host, Tables, Tell, count_at}
 use Rattle.misp_net.specs.Text.{line_of, text_from}
 use Rattle.misp_net.specs.Run.{Act, output_of, tables_after, outputs_of, tables_left, outcome_in, fault_at, faults_at}
 use Rattle.misp_net.specs.History.{world_after, world_left, told_outputs, AreDistinct, empty_tables, IsHistory}

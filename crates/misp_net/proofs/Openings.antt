@@ -1,16 +1,13 @@
 -- Keepers while instances are opened over them.
-use Rattle.std.proofs.Common.{◌≡◌, ℕ, zero, suc, ◌<◌, ◌≤◌, List, [], ◌∷◌, ◌++◌, true, length, take, drop, refl, sym, ◌∙◌, ap, subst, inl, inr, arith}
+use Rattle.std.proofs.Common.{◌≡◌, ℕ, zero, suc, ◌<◌, ◌≤◌, List, [], ◌∷◌, ◌++◌, true, length, map, take, drop, refl, sym, ◌∙◌, ap, subst, inl, inr, arith}
 use Rattle.std.proofs.lemmas.Bool.{cases_Bool}
-use Rattle.std.proofs.lemmas.List.{length-map}
-use Rattle.std.specs.Prelude.{not, Option, Result, Ok, Err, OnErr, IfErr}
+use Rattle.std.specs.Prelude.{not, Result, Ok, Err, OnErr, IfErr}
 use Rattle.std.specs.List.{list_all}
 use Rattle.std.specs.Option.{option_map_or}
-use Rattle.misp_outside.specs.Held.{Held}
-use Rattle.misp_net.specs.Hosts.{Stock, stocks, told, Tables, Tell, count_at}
+use Rattle.misp_outside.specs.Stock.{Stock}
+use Rattle.misp_core.specs.Standing.{Standing}
+use Rattle.misp_net.specs.Hosts.{stock_of, stocks_of, told, Tables, Tell, count_at}
 use Rattle.misp_net.specs.Opening.{is_sound, AreKept, OneFailed, may_be_sound, may_be_unsound}
-
-pub stocks_long : {K : Type 0} (held : K → Option Held) (faults : K → ℕ) (keepers : List K) → length (stocks held faults keepers) ≡ length keepers
-stocks_long held faults keepers = length-map keepers _
 
 -- each is as it was
 pub all_kept : (old : List Stock) → AreKept old old
@@ -162,3 +159,21 @@ one_of_all olds news zero failed = absurd failed
 one_of_all [] news (suc count) failed = absurd failed
 one_of_all (s ∷ olds) [] (suc count) failed = absurd failed
 one_of_all (s ∷ olds) (t ∷ news) (suc count) failed = elim failed [ inl rose ↦ inl rose | inr more ↦ inr (one_of_all olds news count more) ]
+
+-- ---- a keeper is put back
+
+stock_from : (s : Stock) (i : Standing) → s.held ≡ i.held → s.faults ≡ i.faults → s ≡ stock_of i
+stock_from s i held faults = λ k. record { held = held k; faults = faults k }
+
+more_back : (rest : List Standing) (i : Standing) (s : Stock) (back : List Stock) → s ≡ stock_of i → stocks_of rest ++ s ∷ back ≡ stocks_of (rest ++ i ∷ []) ++ back
+more_back [] i s back is = ap (λ t. t ∷ back) is
+more_back (j ∷ rest) i s back is = ap (λ more. stock_of j ∷ more) (more_back rest i s back is)
+
+-- that of the last instance stands in front of the others
+pub put_back : {K : Type 0} (stock : K → Stock) (k : K) (rest all : List Standing) (i : Standing) (keepers now : List K)
+    → all ≡ rest ++ i ∷ [] → now ≡ k ∷ keepers → (stock k).held ≡ i.held → (stock k).faults ≡ i.faults
+    → stocks_of rest ++ map stock now ≡ stocks_of all ++ map stock keepers
+put_back stock k rest all i keepers now split first held faults =
+    ap (λ ks. stocks_of rest ++ map stock ks) first
+    ∙ more_back rest i (stock k) (map stock keepers) (stock_from (stock k) i held faults)
+    ∙ ap (λ is. stocks_of is ++ map stock keepers) (sym split)

@@ -26,7 +26,8 @@ use Rattle.misp_core.specs.Answers.{reply_in}
 use Rattle.misp_core.specs.Keeping.{act_at, caller_at}
 use Rattle.misp_core.specs.Outcome.{Went}
 use Rattle.misp_net.specs.declared.line.Output.TheVariants.{Replied}
-use Rattle.misp_net.specs.Hosts.{Host, host_at, Stock}
+use Rattle.misp_outside.specs.Stock.{Stock}
+use Rattle.misp_net.specs.Hosts.{Host, host_at}
 use Rattle.misp_net.specs.Request.{Reading}
 use Rattle.misp_net.specs.Answering.{Asked, caller_in, form_of}
 use Rattle.misp_net.specs.Run.{Act}

@@ -13,7 +13,8 @@ use Rattle.misp_core.specs.Standing.{Standing}
 use Rattle.misp_core.specs.Outcome.{Outcome, Went, ByKeeper, ByMemory, outcome_of}
 use Rattle.misp_core.specs.declared.reply.Reply.{Reply}
 use Rattle.misp_net.specs.declared.line.Output.TheVariants.{Bad, Nothing, Replied}
-use Rattle.misp_net.specs.Hosts.{Host, host_of, hosts_of, host_at, nobody, Stock, stock_of, stocks_of, Tables, held_at, Tell, count_at}
+use Rattle.misp_outside.specs.Stock.{Stock}
+use Rattle.misp_net.specs.Hosts.{Host, host_of, hosts_of, host_at, nobody, stock_of, stocks_of, Tables, held_at, Tell, count_at}
 use Rattle.misp_net.specs.Answering.{form_of, IsReplied}
 use Rattle.misp_net.specs.Administering.{group_form, group_held, IsDone}
 use Rattle.misp_net.specs.Run.{request_held, fault_there}

@@ -4,6 +4,7 @@ use Rattle.std.specs.declared.option.Option.{Option}
 use Rattle.std.specs.declared.option.Option.TheVariants.{Some}
 use Rattle.misp_orgs.specs.Admin.{AdminFields as Admin}
 use Rattle.misp_outside.specs.Held.{Held, nothing_held}
+use Rattle.misp_outside.specs.Stock.{Stock, stock}
 use Rattle.misp_script.specs.declared.description.Description.{Description}
 use Rattle.misp_script.specs.declared.description.Entry.{Entry}
 use Rattle.misp_core.specs.Standing.{Standing}
@@ -35,21 +36,11 @@ host_at place hosts = slice_index_or hosts place nobody
 
 -- ---- what they hold
 
--- a keeper: what it holds, where it tells it, and how often it has failed
-pub record Stock : Type 0 where
-  pub held : Option Held
-  pub faults : ℕ
-
 abbrev pub stock_of : Standing → Stock
-stock_of i = record { held = i.held; faults = i.faults }
+stock_of i = stock i.held i.faults
 
 abbrev pub stocks_of : List Standing → List Stock
 stocks_of instances = map stock_of instances
-
--- keepers, by what is told of each
-abbrev pub stocks : {K : Type 0} → (K → Option Held) → (K → ℕ) → List K → List Stock
-stocks held faults keepers =
-    map (λ keeper. record { held = held keeper; faults = faults keeper }) keepers
 
 -- what is held at each place
 abbrev pub Tables : Type 0

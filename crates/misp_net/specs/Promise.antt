@@ -7,7 +7,8 @@ use Rattle.misp_model.specs.Kept.{start, erased}
 use Rattle.misp_core.specs.Outcome.{Outcome, Went, IsRefused}
 use Rattle.misp_net.specs.declared.line.Output.{Output}
 use Rattle.misp_net.specs.declared.line.Output.TheVariants.{Bad, Nothing, Replied}
-use Rattle.misp_net.specs.Hosts.{Host, Stock, Tables, Tell}
+use Rattle.misp_outside.specs.Stock.{Stock}
+use Rattle.misp_net.specs.Hosts.{Host, Tables, Tell}
 use Rattle.misp_net.specs.Run.{Act, output_of, tables_after}
 use Rattle.misp_net.specs.Course.{HasRun}
 use Rattle.misp_net.specs.History.{acts_in, no_links, told_output, AreDistinct, empty_tables, is_of}

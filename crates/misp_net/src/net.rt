@@ -1,9 +1,9 @@
 //! The run of a script.
 
-ghost use Rattle.std.specs.Prelude.{◌≡◌, ◌≤◌, ℕ, true, Err, IfOk, IfErr, OnOk, length, take, drop, vec_len};
+ghost use Rattle.std.specs.Prelude.{◌≡◌, ◌≤◌, ℕ, true, Err, IfOk, IfErr, OnOk, length, map, take, drop, vec_len};
 ghost use Rattle.misp_script.specs.Directory.{directory_of};
 ghost use Rattle.misp_script.specs.Step.{step_of};
-ghost use Rattle.misp_net.specs.Hosts.{described_hosts, hosts_of, stocks_of, stocks, told};
+ghost use Rattle.misp_net.specs.Hosts.{described_hosts, hosts_of, stocks_of, told};
 ghost use Rattle.misp_net.specs.Opening.{may_be_sound, may_be_unsound, OneFailed, IsUnopened};
 ghost use Rattle.misp_net.specs.Run.{acts_of};
 ghost use Rattle.misp_net.specs.Course.{IsAct, HasPut, HasRun};
@@ -109,26 +109,26 @@ pub fn run_net<K: Keeper>(
     // and what an organisation was never granted changes none of its replies.
     ensures ran { IfOk result (λ lines.
         IsPromised (described_hosts net) (acts_of (directory_of net) script.now)
-        (take (length net.instances) (stocks K.held K.faults keepers.old.items))
-        (take (length net.instances) (stocks K.held K.faults keepers.new.items)) lines.items) }
+        (take (length net.instances) (map K.stock keepers.old.items))
+        (take (length net.instances) (map K.stock keepers.new.items)) lines.items) }
 
     // Lines are run only where every row of the administration that is told is a group; else it is
     // told which fault was met, and no keeper holds anything else than before.
     ensures sound { OnOk result (may_be_sound
-        (take (length net.instances) (stocks K.held K.faults keepers.old.items)) ≡ true) }
+        (take (length net.instances) (map K.stock keepers.old.items)) ≡ true) }
     ensures bad_row { result ≡ Err NetFault.BadRow → may_be_unsound
-        (take (length net.instances) (stocks K.held K.faults keepers.old.items)) ≡ true }
+        (take (length net.instances) (map K.stock keepers.old.items)) ≡ true }
     ensures keeper { result ≡ Err NetFault.KeeperFault → OneFailed
-        (take (length net.instances) (stocks K.held K.faults keepers.old.items))
-        (take (length net.instances) (stocks K.held K.faults keepers.new.items)) }
+        (take (length net.instances) (map K.stock keepers.old.items))
+        (take (length net.instances) (map K.stock keepers.new.items)) }
     ensures kept { IfErr result (λ fault. IsUnopened fault →
-        told (stocks K.held K.faults keepers.new.items)
-        ≡ told (stocks K.held K.faults keepers.old.items)) }
+        told (map K.stock keepers.new.items)
+        ≡ told (map K.stock keepers.old.items)) }
 
     // Each keeper is back in its place, and the others are as they were.
     ensures places { vec_len keepers.new ≡ vec_len keepers.old }
-    ensures others { drop (length net.instances) (stocks K.held K.faults keepers.new.items)
-        ≡ drop (length net.instances) (stocks K.held K.faults keepers.old.items) }
+    ensures others { drop (length net.instances) (map K.stock keepers.new.items)
+        ≡ drop (length net.instances) (map K.stock keepers.old.items) }
 {
     let directory = net.directory(alloc)?;
     let mut instances = open_all(alloc, keepers, net.instances.into_vec())?;

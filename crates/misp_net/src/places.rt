@@ -1,7 +1,7 @@
 //! Takes keepers out of their places, and puts them back.
 
 ghost use Rattle.std.specs.Prelude.{◌≡◌, ◌+◌, ◌<◌, ◌≤◌, [], ◌∷◌, ◌++◌, true, Err, IfOk, OnOk, OnErr, map, take, drop, vec_len, vec_capacity};
-ghost use Rattle.misp_net.specs.Hosts.{described_host, host_of, hosts_of, stock_of, stocks_of, stocks};
+ghost use Rattle.misp_net.specs.Hosts.{described_host, host_of, hosts_of, stock_of, stocks_of};
 ghost use Rattle.misp_net.specs.Opening.{may_be_sound, may_be_unsound, AreKept, OneFailed, fault_of};
 
 use misp_core::{Instance, OpenFault};
@@ -60,21 +60,21 @@ fn open_first<K: Keeper>(
     requires { 0 < vec_len keepers.old }
     ensures host { IfOk result (λ instance. host_of instance ≡ described_host entry) }
     ensures opened { IfOk result (λ instance. AreKept
-        (take 1 (stocks K.held K.faults keepers.old.items)) (stock_of instance ∷ [])) }
+        (take 1 (map K.stock keepers.old.items)) (stock_of instance ∷ [])) }
     ensures sound { IfOk result (λ instance. may_be_sound (stock_of instance ∷ []) ≡ true) }
-    ensures rest { OnOk result (stocks K.held K.faults keepers.new.items
-        ≡ drop 1 (stocks K.held K.faults keepers.old.items)) }
+    ensures rest { OnOk result (map K.stock keepers.new.items
+        ≡ drop 1 (map K.stock keepers.old.items)) }
     ensures fewer { OnOk result (1 + vec_len keepers.new ≡ vec_len keepers.old) }
-    ensures back { OnErr result (AreKept (take 1 (stocks K.held K.faults keepers.old.items))
-        (take 1 (stocks K.held K.faults keepers.new.items))) }
-    ensures others { OnErr result (drop 1 (stocks K.held K.faults keepers.new.items)
-        ≡ drop 1 (stocks K.held K.faults keepers.old.items)) }
+    ensures back { OnErr result (AreKept (take 1 (map K.stock keepers.old.items))
+        (take 1 (map K.stock keepers.new.items))) }
+    ensures others { OnErr result (drop 1 (map K.stock keepers.new.items)
+        ≡ drop 1 (map K.stock keepers.old.items)) }
     ensures places { OnErr result (vec_len keepers.new ≡ vec_len keepers.old) }
     ensures bad_row { result ≡ Err NetFault.BadRow →
-        may_be_unsound (take 1 (stocks K.held K.faults keepers.old.items)) ≡ true }
+        may_be_unsound (take 1 (map K.stock keepers.old.items)) ≡ true }
     ensures keeper { result ≡ Err NetFault.KeeperFault →
-        OneFailed (take 1 (stocks K.held K.faults keepers.old.items))
-        (take 1 (stocks K.held K.faults keepers.new.items)) }
+        OneFailed (take 1 (map K.stock keepers.old.items))
+        (take 1 (map K.stock keepers.new.items)) }
     ensures room { vec_capacity keepers.new ≡ vec_capacity keepers.old }
 {
     match Instance::open(alloc, entry.name, entry.admin, take_first(keepers)) {
@@ -97,27 +97,27 @@ pub(crate) fn open_all<K: Keeper>(
     ensures hosts { IfOk result (λ instances.
         hosts_of instances.items ≡ map described_host entries.items) }
     ensures opened { IfOk result (λ instances. AreKept
-        (take (vec_len entries) (stocks K.held K.faults keepers.old.items))
+        (take (vec_len entries) (map K.stock keepers.old.items))
         (stocks_of instances.items)) }
-    ensures rest { OnOk result (stocks K.held K.faults keepers.new.items
-        ≡ drop (vec_len entries) (stocks K.held K.faults keepers.old.items)) }
+    ensures rest { OnOk result (map K.stock keepers.new.items
+        ≡ drop (vec_len entries) (map K.stock keepers.old.items)) }
     ensures sound { OnOk result (may_be_sound
-        (take (vec_len entries) (stocks K.held K.faults keepers.old.items)) ≡ true) }
+        (take (vec_len entries) (map K.stock keepers.old.items)) ≡ true) }
     ensures fewer { IfOk result (λ instances.
         vec_len instances + vec_len keepers.new ≡ vec_len keepers.old) }
     ensures room { OnOk result (vec_len keepers.old ≤ vec_capacity keepers.new) }
     ensures back { OnErr result (AreKept
-        (take (vec_len entries) (stocks K.held K.faults keepers.old.items))
-        (take (vec_len entries) (stocks K.held K.faults keepers.new.items))) }
+        (take (vec_len entries) (map K.stock keepers.old.items))
+        (take (vec_len entries) (map K.stock keepers.new.items))) }
     ensures places { OnErr result (vec_len keepers.new ≡ vec_len keepers.old) }
     ensures others { OnErr result
-        (drop (vec_len entries) (stocks K.held K.faults keepers.new.items)
-        ≡ drop (vec_len entries) (stocks K.held K.faults keepers.old.items)) }
+        (drop (vec_len entries) (map K.stock keepers.new.items)
+        ≡ drop (vec_len entries) (map K.stock keepers.old.items)) }
     ensures bad_row { result ≡ Err NetFault.BadRow →
-        may_be_unsound (take (vec_len entries) (stocks K.held K.faults keepers.old.items)) ≡ true }
+        may_be_unsound (take (vec_len entries) (map K.stock keepers.old.items)) ≡ true }
     ensures keeper { result ≡ Err NetFault.KeeperFault →
-        OneFailed (take (vec_len entries) (stocks K.held K.faults keepers.old.items))
-        (take (vec_len entries) (stocks K.held K.faults keepers.new.items)) }
+        OneFailed (take (vec_len entries) (map K.stock keepers.old.items))
+        (take (vec_len entries) (map K.stock keepers.new.items)) }
 {
     let mut instances = Vec::with_capacity(alloc, entries.len())?;
     for entry in entries {
@@ -135,8 +135,8 @@ pub(crate) fn open_all<K: Keeper>(
 /// Puts the keepers of instances back in front of the others.
 pub(crate) fn close_all<K: Keeper>(mut instances: Vec<Instance<K>>, keepers: &mut Vec<K>)
     requires { vec_len instances + vec_len keepers.old ≤ vec_capacity keepers.old }
-    ensures { stocks K.held K.faults keepers.new.items
-        ≡ stocks_of instances.items ++ stocks K.held K.faults keepers.old.items }
+    ensures { map K.stock keepers.new.items
+        ≡ stocks_of instances.items ++ map K.stock keepers.old.items }
 {
     while let Some(instance) = instances.pop() {
         put_first(keepers, instance.into_keeper());

@@ -27,15 +27,15 @@ returns-in-Ok-keep_named-clause-answered g c =
     let same : c.group.inside.id ≡ c.args.group.id = ap (λ (x : Group). x.id) c.group.view_is in
     let known : known_group c.change.new.groups c.group.inside.id ≡ Some (group_now c.args.now c.args.group c.args.groups.now) =
     ap (known_group c.change.new.groups) same ∙ known_now c.args.groups.now c.change.new.groups c.args.group c.args.now c.in-Ok.ensures.put in
-    done c.args.now c.args.by.now c.args.add c.args.group (g.K.Keeper.held c.args.keeper.now) (g.K.Keeper.held c.keep_named.new.keeper) c.args.groups.now c.requires c.in-Ok.ensures.cause
-    (at_known _ _ (λ (x : Group). g.K.Keeper.held c.keep_named.new.keeper ≡ option_map (with_group x) (g.K.Keeper.held c.args.keeper.now)) known c.in-Ok-keep_named.ensures.ok)
+    done c.args.now c.args.by.now c.args.add c.args.group (g.K.Keeper.stock c.args.keeper.now).held (g.K.Keeper.stock c.keep_named.new.keeper).held c.args.groups.now c.requires c.in-Ok.ensures.cause
+    (at_known _ _ (λ (x : Group). (g.K.Keeper.stock c.keep_named.new.keeper).held ≡ option_map (with_group x) (g.K.Keeper.stock c.args.keeper.now).held) known c.in-Ok-keep_named.ensures.ok)
 
 pub returns-in-Ok-keep_named-clause-groups : goal.returns-in-Ok-keep_named-clause-groups
 returns-in-Ok-keep_named-clause-groups g c =
     let same : c.group.inside.id ≡ c.args.group.id = ap (λ (x : Group). x.id) c.group.view_is in
     let known : known_group c.change.new.groups c.group.inside.id ≡ Some (group_now c.args.now c.args.group c.args.groups.now) =
     ap (known_group c.change.new.groups) same ∙ known_now c.args.groups.now c.change.new.groups c.args.group c.args.now c.in-Ok.ensures.put in
-    holds_put (group_now c.args.now c.args.group c.args.groups.now) (g.K.Keeper.held c.args.keeper.now) (g.K.Keeper.held c.keep_named.new.keeper) c.args.groups.now c.change.new.groups
+    holds_put (group_now c.args.now c.args.group c.args.groups.now) (g.K.Keeper.stock c.args.keeper.now).held (g.K.Keeper.stock c.keep_named.new.keeper).held c.args.groups.now c.change.new.groups
     (at_known _ _ IsRead known c.in-Ok-keep_named.ensures.read)
-    (at_known _ _ (λ (x : Group). g.K.Keeper.held c.keep_named.new.keeper ≡ option_map (with_group x) (g.K.Keeper.held c.args.keeper.now)) known c.in-Ok-keep_named.ensures.ok)
+    (at_known _ _ (λ (x : Group). (g.K.Keeper.stock c.keep_named.new.keeper).held ≡ option_map (with_group x) (g.K.Keeper.stock c.args.keeper.now).held) known c.in-Ok-keep_named.ensures.ok)
     c.in-Ok.ensures.put c.requires

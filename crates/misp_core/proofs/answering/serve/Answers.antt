@@ -17,5 +17,5 @@ returns-in_ok-put-in-Ok-clause-went g c = c.in-Ok.ensures.settled.went
 pub returns-in_ok-put-in-Ok-clause-refused : goal.returns-in_ok-put-in-Ok-clause-refused
 returns-in_ok-put-in-Ok-clause-refused g c = λ refused.
     rw (← c.as_slice.ensures, ← c.in_ok-raws.ensures.held) c.in_ok-put-in-Ok.ensures.ok
-    ∙ ap (λ rows. option_map (with_rows rows) (g.K.Keeper.held c.args.keeper.now)) (c.in-Ok.ensures.settled.refused refused)
-    ∙ sym (put_none (g.K.Keeper.held c.args.keeper.now))
+    ∙ ap (λ rows. option_map (with_rows rows) (g.K.Keeper.stock c.args.keeper.now).held) (c.in-Ok.ensures.settled.refused refused)
+    ∙ sym (put_none (g.K.Keeper.stock c.args.keeper.now).held)

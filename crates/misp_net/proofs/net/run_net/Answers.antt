@@ -1,8 +1,8 @@
 use Rattle.std.proofs.Common.{◌≡◌, length, map, vec_len, ◌∙◌, ap, arith, length-append}
 use Rattle.std.proofs.lemmas.List.{length-map}
 use Rattle.misp_script.specs.Directory.{roster_of}
-use Rattle.misp_net.specs.Hosts.{stock_of, described_host, hosts_of, stocks_of, stocks}
-use Rattle.misp_net.proofs.Openings.{stocks_long, told_back, if_err}
+use Rattle.misp_net.specs.Hosts.{stock_of, described_host, hosts_of, stocks_of}
+use Rattle.misp_net.proofs.Openings.{told_back, if_err}
 use Rattle.misp_net.proofs.Privacy.{promised}
 use Rattle.misp_net.proofs.Fronts.{opened_long, run_in_front, others_kept}
 use Rattle.misp_net.proofs.net.run_net.Goals as goal
@@ -16,7 +16,7 @@ returns-clause-ran g c =
     let hosts : hosts_of opened ≡ map described_host entries = c.in_ok-instances.ensures.hosts ∙ ap (map described_host) c.into_vec.ensures in
     promised _ _ _ _ _
     (run_in_front (hosts_of opened) (map described_host entries) _ (stocks_of opened) (stocks_of c.run_lines-lines.new.instances.items)
-    (stocks g.K.Keeper.held g.K.Keeper.faults c.open_all.new.keepers.items) _ _ (length entries) _
+    (map g.K.Keeper.stock c.open_all.new.keepers.items) _ _ (length entries) _
     hosts (opened_long opened entries hosts) (rw count at c.in_ok-instances.ensures.opened) c.close_all.ensures
     (rw (← c.in_ok-directory.ensures) c.in_ok-lines.ensures.ran))
 
@@ -30,7 +30,7 @@ returns-clause-others g c =
     let long = opened_long opened entries hosts in
     let still : length (stocks_of ran) ≡ length entries =
     omega (arith, length-map ran stock_of, length-map opened stock_of, long, c.in_ok-lines.ensures.places, c.run_lines-lines.new.instances.ok.0, c.in_ok-instances.instances.ok.0) in
-    others_kept (stocks_of ran) (stocks g.K.Keeper.held g.K.Keeper.faults c.open_all.new.keepers.items) _ _ (length entries)
+    others_kept (stocks_of ran) (map g.K.Keeper.stock c.open_all.new.keepers.items) _ _ (length entries)
     still (rw count at c.in_ok-instances.ensures.rest) c.close_all.ensures
 
 pub returns-in_err-lines-clause-others : goal.returns-in_err-lines-clause-others
@@ -43,7 +43,7 @@ returns-in_err-lines-clause-others g c =
     let long = opened_long opened entries hosts in
     let still : length (stocks_of ran) ≡ length entries =
     omega (arith, length-map ran stock_of, length-map opened stock_of, long, c.in_err-lines.ensures.places, c.run_lines-lines.new.instances.ok.0, c.in_ok-instances.instances.ok.0) in
-    others_kept (stocks_of ran) (stocks g.K.Keeper.held g.K.Keeper.faults c.open_all.new.keepers.items) _ _ (length entries)
+    others_kept (stocks_of ran) (map g.K.Keeper.stock c.open_all.new.keepers.items) _ _ (length entries)
     still (rw count at c.in_ok-instances.ensures.rest) c.close_all.ensures
 
 -- ---- there are as many instances as entries, and as many keepers as before
@@ -65,10 +65,10 @@ returns-clause-places g c =
     omega (
       arith,
       same,
-      length-append (stocks_of ran) (stocks g.K.Keeper.held g.K.Keeper.faults c.open_all.new.keepers.items),
+      length-append (stocks_of ran) (map g.K.Keeper.stock c.open_all.new.keepers.items),
       length-map ran stock_of,
-      stocks_long g.K.Keeper.held g.K.Keeper.faults c.open_all.new.keepers.items,
-      stocks_long g.K.Keeper.held g.K.Keeper.faults c.close_all.new.keepers.items,
+      length-map c.open_all.new.keepers.items g.K.Keeper.stock,
+      length-map c.close_all.new.keepers.items g.K.Keeper.stock,
       c.run_lines-lines.new.instances.ok.0,
       c.open_all.new.keepers.ok.0,
       c.close_all.new.keepers.ok.0,
@@ -83,10 +83,10 @@ returns-in_err-lines-clause-places g c =
     omega (
       arith,
       same,
-      length-append (stocks_of ran) (stocks g.K.Keeper.held g.K.Keeper.faults c.open_all.new.keepers.items),
+      length-append (stocks_of ran) (map g.K.Keeper.stock c.open_all.new.keepers.items),
       length-map ran stock_of,
-      stocks_long g.K.Keeper.held g.K.Keeper.faults c.open_all.new.keepers.items,
-      stocks_long g.K.Keeper.held g.K.Keeper.faults c.close_all.new.keepers.items,
+      length-map c.open_all.new.keepers.items g.K.Keeper.stock,
+      length-map c.close_all.new.keepers.items g.K.Keeper.stock,
       c.run_lines-lines.new.instances.ok.0,
       c.open_all.new.keepers.ok.0,
       c.close_all.new.keepers.ok.0,

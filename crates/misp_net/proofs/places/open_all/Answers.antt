@@ -3,8 +3,8 @@ use Rattle.std.proofs.lemmas.List.{length-map, map-append}
 use Rattle.std.proofs.lemmas.Iterator.Adapters.{YieldsList-from_vec}
 use Rattle.std.proofs.lemmas.Iterator.Consumers.{YieldsList-turn, YieldsList-end}
 use Rattle.misp_net.specs.declared.places.NetFault.TheVariants as faults
-use Rattle.misp_net.specs.Hosts.{described_host, host_of, hosts_of, stock_of, stocks_of, stocks}
-use Rattle.misp_net.proofs.Openings.{all_kept, opens, more_left, closes, closes_others, closes_failed, closes_unsound, sound_kept, sound_more, on_err, stocks_long}
+use Rattle.misp_net.specs.Hosts.{described_host, host_of, hosts_of, stock_of, stocks_of}
+use Rattle.misp_net.proofs.Openings.{all_kept, opens, more_left, closes, closes_others, closes_failed, closes_unsound, sound_kept, sound_more, on_err}
 use Rattle.misp_net.proofs.places.open_all.Given.{Over}
 use Rattle.misp_net.proofs.places.open_all.Goals as goal
 
@@ -16,7 +16,7 @@ pub loop-entry-preserved : goal.loop-entry-preserved
 loop-entry-preserved g c =
     let before = c.loop-entry.instances.items in
     let one = c.in-Ok.instance in
-    let olds = stocks g.K.Keeper.held g.K.Keeper.faults c.args.keepers.now.items in
+    let olds = map g.K.Keeper.stock c.args.keepers.now.items in
     let items : c.push.new.self.items ≡ before ++ one ∷ [] = rw c.unwrap.ensures at c.push.ensures.items in
     let long : length (stocks_of before) ≡ length c.loop-entry.yielded = omega (arith, length-map before stock_of, c.loop-entry.invariant.count, c.loop-entry.instances.ok.0) in
     let more : suc (length c.loop-entry.yielded) ≡ length (c.loop-entry.yielded ++ c.in-Some.entry ∷ []) = omega (arith, length-append c.loop-entry.yielded (c.in-Some.entry ∷ [])) in
@@ -51,8 +51,8 @@ more_come g c =
     let turn = YieldsList-turn road c.loop-entry.yielded c.loop-entry.entry-iterator c.loop-entry.yielded_by c.next.result c.next.new.self c.in-Some.entry c.in-Some.is c.next.ensures.steps in
     omega (arith, turn.0, c.args.entries.ok.0)
 
-enough : (g : Over) (c : goal.After-drop-entry-iterator g) → vec_len c.args.entries ≤ length (stocks g.K.Keeper.held g.K.Keeper.faults c.args.keepers.now.items)
-enough g c = omega (arith, c.requires, c.args.keepers.now.ok.0, stocks_long g.K.Keeper.held g.K.Keeper.faults c.args.keepers.now.items)
+enough : (g : Over) (c : goal.After-drop-entry-iterator g) → vec_len c.args.entries ≤ length (map g.K.Keeper.stock c.args.keepers.now.items)
+enough g c = omega (arith, c.requires, c.args.keepers.now.ok.0, length-map c.args.keepers.now.items g.K.Keeper.stock)
 
 pub returns-in-Err-clause-back : goal.returns-in-Err-clause-back
 returns-in-Err-clause-back g c =
@@ -80,10 +80,10 @@ returns-in-Err-clause-places g c =
     omega (
       arith,
       same,
-      length-append (stocks_of c.loop-entry.instances.items) (stocks g.K.Keeper.held g.K.Keeper.faults c.open_first.new.keepers.items),
+      length-append (stocks_of c.loop-entry.instances.items) (map g.K.Keeper.stock c.open_first.new.keepers.items),
       length-map c.loop-entry.instances.items stock_of,
-      stocks_long g.K.Keeper.held g.K.Keeper.faults c.open_first.new.keepers.items,
-      stocks_long g.K.Keeper.held g.K.Keeper.faults c.close_all.new.keepers.items,
+      length-map c.open_first.new.keepers.items g.K.Keeper.stock,
+      length-map c.close_all.new.keepers.items g.K.Keeper.stock,
       c.loop-entry.instances.ok.0,
       c.open_first.new.keepers.ok.0,
       c.close_all.new.keepers.ok.0,

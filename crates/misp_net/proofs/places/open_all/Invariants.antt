@@ -1,12 +1,12 @@
 use Rattle.std.proofs.Common.{◌≡◌, ◌+◌, ◌≤◌, true, map, length, take, drop, vec_len, vec_capacity}
-use Rattle.misp_net.specs.Hosts.{described_host, hosts_of, stocks_of, stocks}
+use Rattle.misp_net.specs.Hosts.{described_host, hosts_of, stocks_of}
 use Rattle.misp_net.specs.Opening.{AreKept, may_be_sound}
 use Rattle.misp_net.proofs.places.open_all.Given as goal
 
 -- the first keepers have been taken, each into its instance
 abbrev pub invariant-loop-entry : goal.invariant-loop-entry
 invariant-loop-entry g l =
-    let seen = stocks g.K.Keeper.held g.K.Keeper.faults in
+    let seen = map g.K.Keeper.stock in
     record {
       hosts : hosts_of l.instances.items ≡ map described_host l.yielded;
       opened : AreKept (take (length l.yielded) (seen l.fn.keepers.items)) (stocks_of l.instances.items);

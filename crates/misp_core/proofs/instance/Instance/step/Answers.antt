@@ -20,7 +20,7 @@ pub returns-clause-answered : goal.returns-clause-answered
 returns-clause-answered g c = λ n.
     rw (c.replied.ensures, ← c.self.view_is)
     (at_groups _ c.self.inside.groups
-    (λ held groups. IsAnswered n (site c.self.inside.name c.self.inside.admin groups c.args.caller.now c.args.now) c.args.ask held (replied_of c.serve-served.result) (g.K.Keeper.held c.serve-served.new.keeper))
+    (λ held groups. IsAnswered n (site c.self.inside.name c.self.inside.admin groups c.args.caller.now c.args.now) c.args.ask held (replied_of c.serve-served.result) (g.K.Keeper.stock c.serve-served.new.keeper).held)
     c.self.invariant
     (replied n (site c.self.inside.name c.self.inside.admin c.self.inside.groups c.args.caller.now c.args.now) _ _ _ c.serve-served.result
     (rw (← c.caller.view_is, ← c.permission_for-perm.ensures) (sym c.if-not-may.ensures))
