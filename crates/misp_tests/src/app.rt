@@ -2,7 +2,6 @@
 
 mod cases;
 
-use crate::helpers;
 use cases::{CASES, Case, NAMES};
 use misp_app::{KEEPERS, Status, run};
 use misp_ids::{EventId, Items, Uid};
@@ -15,7 +14,7 @@ use std::test::Fail;
 
 /// The text with what its names stand for.
 fn named(alloc: Global, text: &str) -> Result<String, Fail> {
-    helpers::filled(alloc, &NAMES, text)
+    misp_samples::filled(alloc, &NAMES, text)
 }
 
 // A keeper that holds a row without bytes and these rows of the administration, and whose call of

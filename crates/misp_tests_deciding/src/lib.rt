@@ -1,0 +1,15 @@
+//! The tests of what is decided about groups and events, in a file for each crate.
+#![tactic(auto)]
+
+#[cfg(test)]
+mod edit;
+#[cfg(test)]
+mod levels;
+#[cfg(test)]
+mod package;
+#[cfg(test)]
+mod publish;
+#[cfg(test)]
+mod rows;
+#[cfg(test)]
+mod view;

@@ -1,0 +1,17 @@
+//! The tests of what things are and of what is read beside bodies, in a file for each crate.
+#![tactic(auto)]
+
+#[cfg(test)]
+mod dates;
+#[cfg(test)]
+mod elem;
+#[cfg(test)]
+mod fields;
+#[cfg(test)]
+mod ids;
+#[cfg(test)]
+mod outside;
+#[cfg(test)]
+mod script;
+#[cfg(test)]
+mod types;
