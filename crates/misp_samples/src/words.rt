@@ -1,6 +1,6 @@
 //! Texts, moments and an instance, each made of what a test writes.
 
-ghost use Rattle.std.specs.Prelude.{◌≡◌, true, IfOk};
+ghost use Rattle.std.specs.Prelude.{◌≡◌, true, IfOk, codes};
 ghost use Rattle.std.specs.Str.{is_utf8};
 
 use misp_ids::{InstId, Stamp, Text};
@@ -23,11 +23,15 @@ pub fn text(alloc: Global, text: &str) -> Result<Text, AllocError>
     Ok(Text::of(String::from_str(alloc, text)?))
 }
 
-pub fn stamp(second: u64) -> Result<Stamp, Fail> {
+pub fn stamp(second: u64) -> Result<Stamp, Fail>
+    ensures value { IfOk result (λ stamp. stamp ≡ second) }
+{
     Ok(Stamp::new(second).ok_or("the moment is one")?)
 }
 
 /// The instance at which the events of the tests are.
-pub fn here() -> Result<InstId, Fail> {
+pub fn here() -> Result<InstId, Fail>
+    ensures name { IfOk result (λ here. here ≡ codes "north") }
+{
     Ok(InstId::read("north").ok_or("that is a name")?)
 }

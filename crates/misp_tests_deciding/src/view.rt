@@ -112,20 +112,34 @@ fn counts(event: &VisibleEvent) -> [usize; 4] {
     ]
 }
 
+fn owner_of(event: &VisibleEvent) -> OrgId {
+    event.row.owner
+}
+
+/// Whose copy an organisation sees, and the counts of what shows of it.
+fn told(alloc: Global, rows: &[Row], org: OrgId) -> Result<(OrgId, [usize; 4]), Fail> {
+    match seen(alloc, rows, org, None)? {
+        Some(event) => Ok((owner_of(&event), counts(&event))),
+        None => Err(Fail::from("no copy is granted")),
+    }
+}
+
+/// Each organisation, how many rows it knows, and the counts of what shows.
+const SEEN: [(OrgId, usize, [usize; 4]); 4] = [
+    (ALPHA, 10, [3, 1, 1, 1]),
+    (BETA, 14, [5, 2, 2, 2]),
+    (GAMMA, 8, [2, 1, 1, 1]),
+    (DELTA, 7, [2, 1, 1, 1]),
+];
+
 #[test]
 fn each_sees_what_is_open_to_it(rt: HostRuntime) -> Result<(), Fail> {
     let rows = rows_of(rt.alloc(), &TABLE)?;
-    for (org, known, shown) in [
-        (ALPHA, 10, [3, 1, 1, 1]),
-        (BETA, 14, [5, 2, 2, 2]),
-        (GAMMA, 8, [2, 1, 1, 1]),
-        (DELTA, 7, [2, 1, 1, 1]),
-    ] {
-        let seen = seen(rt.alloc(), rows.as_slice(), org, None)?;
-        let seen = seen.ok_or("a copy is granted")?;
-        assert_eq!(rt; seen.row.owner, BETA);
-        assert_eq!(rt; counts(&seen), shown);
-        assert_eq!(rt; count_known(rt.alloc(), org)?, known);
+    for (org, known, shown) in &SEEN {
+        let (owner, counts) = told(rt.alloc(), rows.as_slice(), *org)?;
+        assert_eq!(rt; owner, BETA);
+        assert_eq!(rt; counts, *shown);
+        assert_eq!(rt; count_known(rt.alloc(), *org)?, *known);
     }
     Ok(())
 }
