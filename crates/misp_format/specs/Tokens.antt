@@ -57,7 +57,7 @@ put_group names (labels.Group group) was =
     put_member (codes "SharingGroup") (group_data names group) was
 put_group names labels.Inherit was = was
 
--- ---- the lists of elements, with the organisations of an event and the group of a label among them
+-- ---- the lists of elements, and among them the organisations of an event and the sharing group
 
 abbrev pub put_attribute_lists : GroupNames → Label → VisibleAttribute → AttributeBody
     → PutDown → PutDown

@@ -43,7 +43,8 @@ fn kind(it: &Members<'_>) -> Result<Text, FormatFault>
 }
 
 fn category_or_other(it: &Members<'_>) -> Result<u8, FormatFault>
-    ensures { Gives result (row (body_of it.now) (codes "category") category_of (Ok other_category)) }
+    ensures { Gives result
+        (row (body_of it.now) (codes "category") category_of (Ok other_category)) }
 {
     match member(it.value, "category") {
         Some(value) => it.kept("category", category(value)),

@@ -50,8 +50,9 @@ fn put_reference(
     uuid: ElemId,
     body: &ReferenceBody,
 ) -> Result<(), NoMemory>
-    ensures { OnOk result (out.new ≡ put_value
-        (reference_with stamp (place_uuid event target) uuid (contents.Reference body.now)) out.old) }
+    ensures { OnOk result (out.new
+        ≡ put_value (reference_with stamp (place_uuid event target) uuid
+        (contents.Reference body.now)) out.old) }
 {
     out.begin_object()?;
     out.text("comment", body.comment.as_str())?;
