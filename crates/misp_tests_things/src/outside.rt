@@ -47,6 +47,12 @@ fn shown(alloc: Global, rows: &[RawRow]) -> Result<String, Fail> {
     Ok(line)
 }
 
+// The names and bytes of all rows that a keeper holds.
+fn held<K: Keeper>(alloc: Global, keeper: &mut K) -> Result<String, Fail> {
+    let all = keeper.load_all(alloc).map_err(fault)?;
+    shown(alloc, &all)
+}
+
 fn fault(fault: KeeperFault) -> Fail {
     match fault {
         KeeperFault::Failed => Fail::from("the keeper failed"),
@@ -62,9 +68,8 @@ fn rows_come_back_in_the_order_of_their_names(rt: HostRuntime) -> Result<(), Fai
     keeper.apply(&batch(alloc, &first)?).map_err(fault)?;
     let second = [(7, "aa", "5"), (7, "b", "6")];
     keeper.apply(&batch(alloc, &second)?).map_err(fault)?;
-    let all = keeper.load_all(alloc).map_err(fault)?;
     assert_eq!(rt;
-        shown(alloc, &all)?.as_str(),
+        held(alloc, &mut keeper)?.as_str(),
         "4 b 2;7  4;7 a 3;7 aa 5;7 b 6;"
     );
     let event = keeper.load_event(alloc, &EventId(Uid(4))).map_err(fault)?;
@@ -83,12 +88,10 @@ fn a_failed_call_leaves_the_rows(rt: HostRuntime) -> Result<(), Fail> {
     let two = batch(alloc, &[(1, "a", "y"), (2, "b", "z")])?;
     keeper.apply(&one).map_err(fault)?;
     assert_eq!(rt; keeper.apply(&two), Err(KeeperFault::Failed));
-    let all = keeper.load_all(alloc).map_err(fault)?;
-    assert_eq!(rt; shown(alloc, &all)?.as_str(), "1 a x;");
+    assert_eq!(rt; held(alloc, &mut keeper)?.as_str(), "1 a x;");
     assert!(rt; matches!(keeper.load_admin(alloc), Err(KeeperFault::Failed)));
     keeper.apply(&two).map_err(fault)?;
-    let all = keeper.load_all(alloc).map_err(fault)?;
-    assert_eq!(rt; shown(alloc, &all)?.as_str(), "1 a y;2 b z;");
+    assert_eq!(rt; held(alloc, &mut keeper)?.as_str(), "1 a y;2 b z;");
     assert_eq!(rt; keeper.batches(), 2);
     Ok(())
 }
