@@ -134,9 +134,7 @@ fn note(targets: &mut Targets, place: Place) -> Result<(), NoMemory>
         target_in targets.new u ≡ or_place u place (target_in targets.old u)) }
 {
     if let Some(uuid) = uuid_of(place) {
-        if !targets.contains_key(&uuid) {
-            targets.insert(uuid, place)?;
-        }
+        targets.entry(uuid)?.or_insert(place);
     }
     Ok(())
 }

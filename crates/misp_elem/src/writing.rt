@@ -14,6 +14,9 @@ use misp_ids::{ElemId, EventId, InstId, NoMemory, OrgId, Uid};
 pub use rows::encode;
 use std::alloc::{AllocError, Global};
 
+/// Room that the names of most rows fit into.
+const NAME_ROOM: usize = 64;
+
 #[tactic(auto, unfolding(crate::specs::Spelling::uid))]
 fn put_uid(out: &mut Vec<u8>, id: Uid) -> Result<(), AllocError>
     ensures { OnOk result (out.new.items ≡ out.old.items ++ spelling.uid id) }
@@ -163,7 +166,7 @@ fn put_key(out: &mut Vec<u8>, key: &KeyForm) -> Result<(), AllocError>
 pub fn encode_key(alloc: Global, key: &Key) -> Result<Vec<u8>, NoMemory>
     ensures { IfOk result (λ v. v.items ≡ spelling.key key.now) }
 {
-    let mut out = Vec::new(alloc);
+    let mut out = Vec::with_capacity(alloc, NAME_ROOM)?;
     match put_key(&mut out, &key.form) {
         Ok(()) => Ok(out),
         Err(_) => Err(NoMemory),
@@ -181,7 +184,7 @@ fn put_name(out: &mut Vec<u8>, owner: &OrgId, key: &Key) -> Result<(), AllocErro
 pub fn encode_name(alloc: Global, owner: &OrgId, key: &Key) -> Result<Vec<u8>, NoMemory>
     ensures { IfOk result (λ v. v.items ≡ spelling.name owner.now key.now) }
 {
-    let mut out = Vec::new(alloc);
+    let mut out = Vec::with_capacity(alloc, NAME_ROOM)?;
     match put_name(&mut out, owner, key) {
         Ok(()) => Ok(out),
         Err(_) => Err(NoMemory),

@@ -54,11 +54,14 @@ fn put_row(out: &mut Vec<u8>, row: &Row) -> Result<(), AllocError>
     put_content(out, &row.content)
 }
 
+/// Room that the rows of most attributes fit into.
+const ROW_ROOM: usize = 128;
+
 /// The one spelling of a row.
 pub fn encode(alloc: Global, row: &Row) -> Result<Vec<u8>, NoMemory>
     ensures { IfOk result (λ v. v.items ≡ spelling.row row.now) }
 {
-    let mut out = Vec::new(alloc);
+    let mut out = Vec::with_capacity(alloc, ROW_ROOM)?;
     match put_row(&mut out, row) {
         Ok(()) => Ok(out),
         Err(_) => Err(NoMemory),
