@@ -12,6 +12,7 @@ use Rattle.misp_elem.specs.Refusal.{bare}
 use Rattle.misp_elem.specs.Draft.{SubmissionFields as Submission}
 use Rattle.misp_elem.specs.Row.{AreRows}
 use Rattle.misp_groups.specs.declared.group.GroupFields.{GroupFields as Group}
+use Rattle.misp_requests.specs.declared.ask.Ask.{Ask}
 use Rattle.misp_requests.specs.declared.ask.Ask.TheVariants.{View}
 use Rattle.misp_requests.specs.declared.ask.Ask.TheVariants as asks
 use Rattle.misp_requests.specs.declared.change.Change.TheVariants.{AddEvent}
@@ -25,9 +26,16 @@ use Rattle.misp_model.specs.Acts as model
 use Rattle.misp_edit.specs.Adding.{refusing, Refuses}
 use Rattle.misp_edit.specs.declared.fault.AddFault.{AddFault}
 use Rattle.misp_edit.specs.declared.fault.AddFault.TheVariants as faults
-use Rattle.misp_core.specs.Answers.{IsDecision, IsRefusal, reply_of, reply_in, writes_in, greatest, named, named_event, uuid_text, group_text, added_place}
+use Rattle.misp_core.specs.Answers.{IsRefusal, reply_of, reply_in, writes_in, greatest, named, named_event, uuid_text, group_text, added_place}
 use Rattle.misp_core.specs.declared.reply.Answer.TheVariants as answers
+use Rattle.misp_core.specs.declared.reply.Reply.{Reply}
 use Rattle.misp_core.specs.declared.reply.Reply.TheVariants as replies
+
+-- what is replied to an ask, and written for it
+pub record IsDecision (s : Scene) (admin : Admin) (ask : Ask) (reply : Reply) (rows : List Row) : Type 0 where
+  pub reply_is : reply ≡ reply_in admin s ask
+  pub writes : rows ≡ writes_in s ask
+  pub are_rows : AreRows rows
 
 stamps_of_fresh : (vs : List Version) → map (λ (row : Row). row.stamp) (map fresh_row vs) ≡ map (λ (v : Version). v.stamp) vs
 unfolding fresh_row
@@ -53,10 +61,10 @@ module _ (s : Scene) (admin : Admin) (b : Submission) where
 
   -- nothing refuses it
   pub added : (rows : List Row) → refusing s b ≡ None → rows ≡ map fresh_row (event_written s b) → AreRows rows →
-      IsDecision s admin (asks.Change (AddEvent b)) (record { reply = replies.Ok (answers.Saved (length rows) b.event (greatest (map (λ (row : Row). row.stamp) rows))); writes = rows })
+      IsDecision s admin (asks.Change (AddEvent b)) (replies.Ok (answers.Saved (length rows) b.event (greatest (map (λ (row : Row). row.stamp) rows)))) rows
   unfolding reply_in
   added rows e is are = record {
-    reply =
+    reply_is =
         ap (λ (rs : List Row). replies.Ok (answers.Saved (length rs) b.event (greatest (map (λ (row : Row). row.stamp) rs)))) is
         ∙ ap (λ n. replies.Ok (answers.Saved n b.event (greatest (map (λ (row : Row). row.stamp) (map fresh_row (event_written s b)))))) (length-map (event_written s b) fresh_row)
         ∙ ap (λ stamps. replies.Ok (answers.Saved (length (event_written s b)) b.event (greatest stamps))) (stamps_of_fresh (event_written s b))
@@ -66,17 +74,17 @@ module _ (s : Scene) (admin : Admin) (b : Submission) where
   }
 
   by_rule : (rule : Rule) (refusal : Refusal) → refusing s b ≡ Some rule → refusal ≡ record { name = named rule; place = added_place s b rule } →
-      IsDecision s admin (asks.Change (AddEvent b)) (record { reply = replies.Refused refusal; writes = [] })
+      IsDecision s admin (asks.Change (AddEvent b)) (replies.Refused refusal) []
   unfolding reply_in
   by_rule rule refusal e is = record {
-    reply = ap replies.Refused is ∙ ap (reply_of admin s (asks.Change (AddEvent b))) (sym (refused rule e));
+    reply_is = ap replies.Refused is ∙ ap (reply_of admin s (asks.Change (AddEvent b))) (sym (refused rule e));
     writes = sym (unwritten rule e);
     are_rows = tt;
   }
 
   -- a rule refuses it
   pub refused_by : (fault : AddFault) (refusal : Refusal) → Refuses s b fault → IsRefusal fault refusal →
-      IsDecision s admin (asks.Change (AddEvent b)) (record { reply = replies.Refused refusal; writes = [] })
+      IsDecision s admin (asks.Change (AddEvent b)) (replies.Refused refusal) []
   refused_by faults.EventExists refusal why is = by_rule asking.EventExists refusal why is
   refused_by faults.EventGone refusal why is = by_rule asking.EventGone refusal why is
   refused_by (faults.ElementExists u) refusal why is = by_rule asking.ElementExists refusal why.0 (is ∙ ap (λ clash. record { name = rules.ElementExists; place = uuid_text clash }) (sym why.1))
@@ -93,20 +101,20 @@ module _ (s : Scene) (admin : Admin) (event : EventId) (owner : Option OrgId) wh
       one false = refl
 
   -- the event is shown
-  pub sighted : (v : VisibleEvent) → shown s event owner ≡ Some v → IsDecision s admin (View event owner) (record { reply = replies.Ok (answers.Event (named_event admin s.groups v)); writes = [] })
+  pub sighted : (v : VisibleEvent) → shown s event owner ≡ Some v → IsDecision s admin (View event owner) (replies.Ok (answers.Event (named_event admin s.groups v))) []
   unfolding reply_in answer ask_rules ok_answer first_rule
   sighted v e = record {
-    reply = ap (reply_of admin s (View event owner)) (sym (ap (λ (seen : Option VisibleEvent).
+    reply_is = ap (reply_of admin s (View event owner)) (sym (ap (λ (seen : Option VisibleEvent).
         elim (first_rule ((elim seen [ None ↦ true | Some x ↦ false ], asking.NotGranted) ∷ [])) [ None ↦ elim seen [ None ↦ model.Other | Some x ↦ Seen x ] | Some r ↦ Refused r ]) e));
     writes = sym none_written;
     are_rows = tt;
   }
 
   -- it is not
-  pub unseen : shown s event owner ≡ None → IsDecision s admin (View event owner) (record { reply = replies.Refused (bare rules.NotGranted); writes = [] })
+  pub unseen : shown s event owner ≡ None → IsDecision s admin (View event owner) (replies.Refused (bare rules.NotGranted)) []
   unfolding reply_in answer ask_rules ok_answer first_rule
   unseen e = record {
-    reply = ap (reply_of admin s (View event owner)) (sym (ap (λ (seen : Option VisibleEvent).
+    reply_is = ap (reply_of admin s (View event owner)) (sym (ap (λ (seen : Option VisibleEvent).
         elim (first_rule ((elim seen [ None ↦ true | Some x ↦ false ], asking.NotGranted) ∷ [])) [ None ↦ elim seen [ None ↦ model.Other | Some x ↦ Seen x ] | Some r ↦ Refused r ]) e));
     writes = sym none_written;
     are_rows = tt;
@@ -122,10 +130,10 @@ module _ (s : Scene) (admin : Admin) where
       one false = refl
 
   -- the groups are told
-  pub listed : (groups : List Group) → groups ≡ filter (concerns s.by s.at) s.groups → IsDecision s admin asks.Groups (record { reply = replies.Ok (answers.Groups groups); writes = [] })
+  pub listed : (groups : List Group) → groups ≡ filter (concerns s.by s.at) s.groups → IsDecision s admin asks.Groups (replies.Ok (answers.Groups groups)) []
   unfolding reply_in answer ask_rules ok_answer first_rule concerning
   listed groups e = record {
-    reply = ap (λ (gs : List Group). replies.Ok (answers.Groups gs)) e;
+    reply_is = ap (λ (gs : List Group). replies.Ok (answers.Groups gs)) e;
     writes = sym none_for_groups;
     are_rows = tt;
   }

@@ -1,11 +1,15 @@
 pub mod Decisions
+pub mod Planned
+pub mod Stepped
+pub mod Carried
+pub mod Storable
+pub mod Answered
 pub mod Serving
 pub mod HeldRows
 pub mod GroupRows
 pub mod OwnRows
 pub mod Keeping
 pub mod Ordering
-pub mod Administered
 pub mod KeepingGroups
 pub mod TableRows
 pub mod RowNames

@@ -21,9 +21,11 @@ use Rattle.misp_model.specs.Acts.{answer, ok_answer, ask_rules, Refused, Seen, S
 use Rattle.misp_model.specs.Acts as model
 use Rattle.misp_core.specs.Permission.{is_permitted}
 use Rattle.misp_core.specs.Answers.{Surroundings, IsBuilt, reply_of, reply_in, reply_over, named, scene_at}
-use Rattle.misp_core.specs.Outcome.{Outcome, Went, outcome_of, asked_of, refusal_by, forbidden, step_reply, IsAnswered}
+use Rattle.misp_core.specs.Outcome.{Outcome, Went, outcome_of, asked_of, refusal_by, forbidden, step_reply}
+use Rattle.misp_core.specs.Effects.{IsAnswered}
 use Rattle.misp_core.specs.Order.{first_ground, rule_of, IsInOrder, ground_of, row_grounds, grounds}
 use Rattle.misp_core.specs.declared.reply.Reply.{Reply}
+use Rattle.misp_core.proofs.Stepped.{stepped}
 
 -- the first of the named rules is the name of the first
 first_named : (rs : List (Bool × Rule)) → first_ground (map ground_of rs) ≡ option_map named (first_rule rs)
@@ -89,4 +91,4 @@ in_order n at ask held reply built is went =
 pub told_in_order : (n : ℕ) (at : Held → Surroundings) (ask : Ask) (old new : Option Held) (reply : Reply) → IsBuilt ask
     → IfSome old (λ held. IsAnswered n (at held) ask held reply new) → IfSome old (λ held. IsInOrder (grounds n (at held) ask held) reply)
 told_in_order n at ask None new reply built is = tt
-told_in_order n at ask (Some held) new reply built is = in_order n (at held) ask held reply built is.reply_is
+told_in_order n at ask (Some held) new reply built is = in_order n (at held) ask held reply built (stepped n (at held) ask held reply new is).reply_is

@@ -1,5 +1,5 @@
 -- The administration of groups: why it is refused, what it is replied, and what it leaves.
-use Rattle.std.specs.Prelude.{◌≡◌, Bool, List, if◌then◌else◌}
+use Rattle.std.specs.Prelude.{◌≡◌, Bool, List, [], ◌∷◌, if◌then◌else◌}
 use Rattle.std.specs.declared.option.Option.{Option}
 use Rattle.std.specs.declared.option.Option.TheVariants.{None, Some}
 use Rattle.misp_ids.specs.declared.uid.OrgId.{OrgId}
@@ -7,7 +7,11 @@ use Rattle.misp_ids.specs.declared.uid.GroupId.{GroupId}
 use Rattle.misp_elem.specs.declared.refusal.RuleName.{RuleName}
 use Rattle.misp_elem.specs.declared.refusal.RuleName.TheVariants as rules
 use Rattle.misp_groups.specs.declared.group.GroupFields.{GroupFields as Group}
+use Rattle.misp_elem.specs.Refusal.{bare}
 use Rattle.misp_outside.specs.Held.{Held, put_admin}
+use Rattle.misp_effects.specs.Batches.{batch}
+use Rattle.misp_effects.specs.Effect.{Effect, effect}
+use Rattle.misp_core.specs.Effects.{refused, Did}
 use Rattle.misp_model.specs.Names.{Stamp}
 use Rattle.misp_model.specs.Acts.{group_now}
 use Rattle.misp_levels.specs.Groups.{why_not_added, why_not_edited}
@@ -60,8 +64,29 @@ administering_held Went now by add g held =
 administering_held ByKeeper now by add g held = held
 administering_held ByMemory now by add g held = held
 
--- the reply is the stated one, and so is what is held afterwards
-pub record IsAdministered (now : Stamp) (by : OrgId) (add : Bool) (g : Group)
+-- the reply is the stated one by the outcome that it tells, and so is what is held afterwards
+pub record HasChanged (now : Stamp) (by : OrgId) (add : Bool) (g : Group)
     (held : Held) (reply : Reply) (new : Option Held) : Type 0 where
   pub reply_is : reply ≡ administering_reply (outcome_of reply) by add g (groups_of held)
   pub left : new ≡ Some (administering_held (outcome_of reply) now by add g held)
+
+-- ---- as an effect
+
+-- the group is put, and one group was taken
+abbrev pub taken : Group → Effect Reply
+taken g = effect (replies.Ok (answers.Taken 1)) (batch [] (g ∷ []) ∷ [])
+
+-- what it comes to where this is the first cause, if there is one
+abbrev pub effect_by : Option GroupFault → Group → Effect Reply
+effect_by None g = taken g
+effect_by (Some cause) g = refused (bare (rule_by cause))
+
+-- the adding or editing of a group, which is put as it is now, where these are the groups
+abbrev pub administered : Stamp → OrgId → Bool → Group → List Group → Effect Reply
+administered now by add g groups = effect_by (why_not add groups by g.id) (group_now now g groups)
+
+-- it was answered so, and left this
+abbrev pub IsAdministered :
+    Stamp → OrgId → Bool → Group → Held → Reply → Option Held → Type 0
+IsAdministered now by add g held reply new =
+    Did (administered now by add g (groups_of held)) held reply new

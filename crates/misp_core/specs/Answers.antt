@@ -15,7 +15,6 @@ use Rattle.misp_elem.specs.declared.refusal.RuleName.TheVariants as rules
 use Rattle.misp_elem.specs.Refusal.{bare}
 use Rattle.misp_elem.specs.declared.visible.VisibleEvent.{VisibleEvent}
 use Rattle.misp_elem.specs.Draft.{SubmissionFields as Submission}
-use Rattle.misp_elem.specs.Row.{AreRows}
 use Rattle.misp_groups.specs.declared.group.GroupFields.{GroupFields as Group}
 use Rattle.misp_requests.specs.declared.ask.Ask.{Ask}
 use Rattle.misp_requests.specs.declared.ask.Ask.TheVariants.{View}
@@ -43,7 +42,6 @@ use Rattle.misp_core.specs.declared.reply.Answer.TheVariants as answers
 use Rattle.misp_core.specs.declared.reply.Reply.{Reply}
 use Rattle.misp_core.specs.declared.reply.Reply.TheVariants as replies
 use Rattle.misp_core.specs.declared.site.Site.{Site}
-use Rattle.misp_core.specs.declared.decide.Verdict.{Verdict}
 
 -- ---- asks
 
@@ -186,19 +184,7 @@ abbrev pub writes_over : ℕ → Surroundings → Ask → Result (List Row) (Lis
 writes_over n at ask (Ok rows) = writes_in (scene_at n at rows) ask
 writes_over n at ask (Err name) = []
 
--- what is replied to an ask in these surroundings, and written for it
-pub record IsDecision (s : Scene) (admin : Admin) (ask : Ask) (verdict : Verdict) : Type 0 where
-  pub reply : verdict.reply ≡ reply_in admin s ask
-  pub writes : verdict.writes ≡ writes_in s ask
-  pub are_rows : AreRows verdict.writes
-
--- the same over what is held of the event, which may have a row that is none
-abbrev pub IsVerdict : ℕ → Surroundings → Ask → Result (List Row) (List ℕ) → Verdict → Type 0
-IsVerdict n at ask (Ok rows) verdict = IsDecision (scene_at n at rows) at.admin ask verdict
-IsVerdict n at ask (Err name) verdict =
-    verdict ≡ record { reply = replies.Refused (bad_row name); writes = [] }
-
--- ---- by the parts of a verdict
+-- ---- refusals of an addition
 
 -- the refusal for a fault
 abbrev pub IsRefusal : AddFault → Refusal → Type 0

@@ -5,6 +5,8 @@ pub mod Permission
 pub mod Naming
 pub mod Answers
 pub mod Outcome
+pub mod Effects
+pub mod Planning
 pub mod Administering
 pub mod Opening
 pub mod Keeping

@@ -1,5 +1,5 @@
 -- What stopped a request, and what it is answered and leaves where that is known.
-use Rattle.std.specs.Prelude.{◌≡◌, ℕ, Bool, true, false, ◌==◌, List, [], map, Result, Ok, Err, if◌then◌else◌}
+use Rattle.std.specs.Prelude.{◌≡◌, ℕ, Bool, true, false, ◌==◌, List, [], map, Result, if◌then◌else◌}
 use Rattle.std.specs.declared.option.Option.{Option}
 use Rattle.std.specs.declared.option.Option.TheVariants.{Some}
 use Rattle.misp_elem.specs.declared.refusal.Refusal.{Refusal}
@@ -17,7 +17,6 @@ use Rattle.misp_outside.specs.Held.{Held, rows_of, put_rows}
 use Rattle.misp_core.specs.Raw.{raw_row, rows_in}
 use Rattle.misp_core.specs.Permission.{permission_of, is_permitted, no_permission}
 use Rattle.misp_core.specs.Answers.{Surroundings, event_asked, reply_over, writes_over}
-use Rattle.misp_core.specs.declared.decide.Verdict.{Verdict}
 use Rattle.misp_core.specs.declared.reply.Reply.{Reply}
 use Rattle.misp_core.specs.declared.reply.Reply.TheVariants as replies
 
@@ -100,19 +99,13 @@ abbrev pub step_writes : ℕ → Surroundings → Ask → Held → List Row
 step_writes n at ask held =
     if is_permitted at.caller ask then writes_over n at ask (asked_of ask held) else []
 
--- the reply is the stated one, and so is what is held afterwards; what is written are rows
-pub record IsAnswered (n : ℕ) (at : Surroundings) (ask : Ask)
+-- the reply is the stated one by the outcome that it tells, and so is what is held afterwards; what
+-- is written are rows
+pub record IsStepped (n : ℕ) (at : Surroundings) (ask : Ask)
     (held : Held) (reply : Reply) (new : Option Held) : Type 0 where
   pub reply_is : reply ≡ step_reply (outcome_of reply) n at ask held
   pub left : new ≡ Some (step_held (outcome_of reply) n at ask held)
   pub are_rows : outcome_of reply ≡ Went → AreRows (step_writes n at ask held)
-
--- the same of an ask that is permitted, where nothing stopped it
-pub record IsServed (n : ℕ) (at : Surroundings) (ask : Ask)
-    (held : Held) (reply : Reply) (new : Option Held) : Type 0 where
-  pub reply_is : reply ≡ reply_over n at ask (asked_of ask held)
-  pub left : new ≡ Some (with_rows (writes_over n at ask (asked_of ask held)) held)
-  pub are_rows : AreRows (writes_over n at ask (asked_of ask held))
 
 -- the reply is a refusal
 abbrev pub is_refused : Reply → Bool
@@ -122,13 +115,3 @@ is_refused (replies.Ok answer) = false
 abbrev pub IsRefused : Reply → Type 0
 IsRefused (replies.Refused refusal) = Unit {0}
 IsRefused (replies.Ok answer) = ⊥
-
--- a verdict that nothing stopped, which writes nothing where it refuses
-pub record IsSettled (verdict : Verdict) : Type 0 where
-  pub went : outcome_of verdict.reply ≡ Went
-  pub refused : IsRefused verdict.reply → verdict.writes ≡ []
-
--- what was served, or what stopped it, as a reply
-abbrev pub replied_of : Result Reply KeeperFault → Reply
-replied_of (Ok reply) = reply
-replied_of (Err stop) = refused_by (rule_of_stop stop)

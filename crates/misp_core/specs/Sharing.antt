@@ -2,9 +2,11 @@
 use Rattle.std.specs.Prelude.{◌≡◌, ℕ, ◌^◌, Bool, true, false, ltb, ◌==◌, ◌&&◌, cond, List, [], ◌∷◌, ◌++◌, Result, Ok, Err, bytes_eq, option_map}
 use Rattle.std.specs.declared.option.Option.{Option}
 use Rattle.std.specs.declared.option.Option.TheVariants.{None, Some}
+use Rattle.std.specs.List.{AllByRecursion}
 use Rattle.std.specs.Result.{result_ok}
 use Rattle.misp_ids.specs.declared.uid.GroupId.{GroupId}
 use Rattle.misp_groups.specs.declared.group.GroupFields.{GroupFields as Group}
+use Rattle.misp_groups.specs.Group.{IsGroup}
 use Rattle.misp_elem.specs.Spelling.{uid}
 use Rattle.misp_format.specs.WholeGroup.{group_text}
 use Rattle.misp_format.specs.GroupText.{group_in_text}
@@ -71,6 +73,15 @@ group_in row = group_where row (group_told row.bytes)
 unfoldable pub groups_in : List AdminRow → Result (List Group) (List ℕ)
 groups_in [] = Ok []
 groups_in (row ∷ rows) = onto row.name (group_in row) (groups_in rows)
+
+-- it is a group, and its row is read as it
+pub record IsStorable (g : Group) : Type 0 where
+  pub is_group : IsGroup g
+  pub read : group_in (group_row g) ≡ Some g
+
+-- the same of each of these
+abbrev pub AreStorable : List Group → Type 0
+AreStorable groups = AllByRecursion IsStorable groups
 
 -- these groups, or none where a row is none
 abbrev pub or_none : Result (List Group) (List ℕ) → List Group

@@ -1,21 +1,22 @@
 //! What a request comes to over the rows of its event.
 
-ghost use Rattle.std.specs.Prelude.{◌≡◌, ◌≤◌, ℕ, List, IfOk, IsTrue, Ok, map, length, []};
+ghost use Rattle.std.specs.Prelude.{◌≡◌, ◌≤◌, ℕ, List, None, IfOk, IsTrue, map, length};
 ghost use Rattle.misp_elem.specs.declared.row.RowFields.{RowFields};
 ghost use Rattle.misp_outside.specs.Held.{ascend, comes_before};
 ghost use Rattle.misp_model.specs.View.{IsTable};
 ghost use Rattle.misp_requests.specs.declared.ask.Ask.TheVariants.{View};
 ghost use Rattle.misp_requests.specs.declared.ask.Ask.TheVariants as asks;
 ghost use Rattle.misp_requests.specs.declared.change.Change.TheVariants.{AddEvent};
-ghost use Rattle.misp_core.specs.declared.reply.Reply.TheVariants as replies;
 ghost use Rattle.misp_core.specs.declared.reply.Answer.TheVariants as answers;
 ghost use Rattle.misp_core.specs.Raw.{rows_in};
-ghost use Rattle.misp_core.specs.Answers.{site_of, scene_with, scene_at, IsAdded, IsBuilt, IsDecision, IsVerdict, IsRefusal, named_event, name_in, bad_row, greatest};
-ghost use Rattle.misp_core.specs.Outcome.{IsSettled};
+ghost use Rattle.misp_core.specs.Answers.{site_of, scene_with, scene_at, IsAdded, IsBuilt, IsRefusal, named_event, name_in, bad_row, greatest};
+ghost use Rattle.misp_core.specs.Effects.{asked, asked_over, row_batches};
+ghost use Rattle.misp_core.specs.Planning.{Plans, TellsNoStop, batches_of, rows_put};
 
 use crate::listing::concerning;
 use crate::naming::group_names;
-use crate::reply::{Answer, Reply};
+use crate::planning::{Batch, NoPlan, Plan};
+use crate::reply::Answer;
 use crate::site::Site;
 use crate::store::{RowFault, take_rows};
 use misp_edit::{AddFault, add_event};
@@ -28,21 +29,28 @@ use misp_requests::{Ask, Change};
 use misp_view::{known, shown};
 use std::alloc::Global;
 
-/// What is replied, and the rows that are written before.
-#[derive(Debug, Drop)]
-pub(crate) struct Verdict {
-    pub(crate) reply: Reply,
-    pub(crate) writes: Items<Row>,
+// An answer for which nothing is put.
+fn told(answer: Answer) -> Plan
+    ensures { result ≡ record { answer = answer; batch = None } }
+{
+    Plan {
+        answer,
+        batch: None,
+    }
 }
 
-// A reply for which nothing is written.
-fn unwritten(alloc: Global, reply: Reply) -> Verdict
-    ensures { result ≡ record { reply = reply; writes = [] } }
+// Rows are put in one batch, and no rows in none.
+fn rows_put(alloc: Global, rows: Vec<Row>) -> Option<Batch>
+    ensures batches { batches_of result ≡ row_batches rows.items }
+    ensures rows { rows_put result ≡ rows.items }
 {
-    Verdict {
-        reply,
-        writes: Items::of(Vec::new(alloc)),
-    }
+    let [_, ..] = rows.as_slice() else {
+        return None;
+    };
+    Some(Batch {
+        rows: Items::of(rows),
+        groups: Items::of(Vec::new(alloc)),
+    })
 }
 
 // The name of an organisation, empty where it is not known here.
@@ -87,21 +95,21 @@ fn refusal(alloc: Global, fault: AddFault) -> Result<Refusal, NoMemory>
     }
 }
 
-// The reply to an addition, and the rows that it writes.
-fn saved(event: EventId, rows: Vec<Row>) -> Verdict
-    ensures { result ≡ record {
-      reply = replies.Ok (answers.Saved (length rows.items) event
-          (greatest (map (λ row. row.stamp) rows.items)));
-      writes = rows.items;
-    } }
+// What is answered to an addition, and the rows that it writes.
+fn saved(alloc: Global, event: EventId, rows: Vec<Row>) -> Plan
+    ensures answer { result.answer ≡ answers.Saved (length rows.items) event
+        (greatest (map (λ row. row.stamp) rows.items)) }
+    ensures batches { batches_of result.batch ≡ row_batches rows.items }
+    ensures rows { rows_put result.batch ≡ rows.items }
 {
-    Verdict {
-        reply: Reply::Ok(Answer::Saved {
-            elements: rows.len() as u64,
-            event,
-            stamp: greatest(&rows),
-        }),
-        writes: Items::of(rows),
+    let answer = Answer::Saved {
+        elements: rows.len() as u64,
+        event,
+        stamp: greatest(&rows),
+    };
+    Plan {
+        answer,
+        batch: rows_put(alloc, rows),
     }
 }
 
@@ -119,15 +127,10 @@ fn event_in(submission: &Submission) -> EventId
 }
 
 // Adds an event, over the rows that the caller knows of it.
-fn add(
-    alloc: Global,
-    site: &Site<'_>,
-    submission: Submission,
-    rows: &[Row],
-) -> Result<Verdict, NoMemory>
+fn add(alloc: Global, site: &Site<'_>, submission: Submission, rows: &[Row]) -> Result<Plan, NoPlan>
     requires { IsAdded submission }
-    ensures { (n : ℕ) → IfOk result (IsDecision (scene_with n (site_of site.now) rows.now)
-        site.now.admin.now (asks.Change (AddEvent submission))) }
+    ensures { (n : ℕ) → Plans result (asked site.now.admin.now
+        (scene_with n (site_of site.now) rows.now) (asks.Change (AddEvent submission))) }
 {
     let org = asker(site.caller);
     let name = name_text(alloc, site.admin, &org)?;
@@ -142,11 +145,8 @@ fn add(
         site.moment,
         rows,
     ) {
-        Ok(added) => Ok(saved(event, added)),
-        Err(fault) => {
-            let refusal = refusal(alloc, fault)?;
-            Ok(unwritten(alloc, Reply::Refused(refusal)))
-        }
+        Ok(added) => Ok(saved(alloc, event, added)),
+        Err(fault) => Err(NoPlan::Refused(refusal(alloc, fault)?)),
     }
 }
 
@@ -179,11 +179,10 @@ fn add_known(
     site: &Site<'_>,
     submission: Submission,
     rows: Vec<Row>,
-) -> Result<Verdict, NoMemory>
+) -> Result<Plan, NoPlan>
     requires { IsAdded submission }
-    ensures decision { (n : ℕ) → IfOk result (IsDecision (scene_at n (site_of site.now) rows.items)
-        site.now.admin.now (asks.Change (AddEvent submission))) }
-    ensures settled { IfOk result IsSettled }
+    ensures { (n : ℕ) → Plans result (asked site.now.admin.now
+        (scene_at n (site_of site.now) rows.items) (asks.Change (AddEvent submission))) }
 {
     let org = asker(site.caller);
     let rows = known(alloc, rows, site.groups, site.here, &org)?;
@@ -198,43 +197,41 @@ fn view(
     event: &EventId,
     owner: Option<OrgId>,
     rows: &[Row],
-) -> Result<Verdict, NoMemory>
-    ensures all { (n : ℕ) → IfOk result (IsDecision (scene_with n (site_of site.now) rows.now)
-        site.now.admin.now (View event.now owner)) }
-    ensures known { (n : ℕ) → IsTable rows.now →
-        IfOk result (IsDecision (scene_at n (site_of site.now) rows.now)
-        site.now.admin.now (View event.now owner)) }
+) -> Result<Plan, NoPlan>
+    ensures all { (n : ℕ) → Plans result (asked site.now.admin.now
+        (scene_with n (site_of site.now) rows.now) (View event.now owner)) }
+    ensures known { (n : ℕ) → IsTable rows.now → Plans result (asked site.now.admin.now
+        (scene_at n (site_of site.now) rows.now) (View event.now owner)) }
 {
     let org = asker(site.caller);
     match shown(alloc, rows, site.groups, site.here, &org, event, owner)? {
         Some(seen) => {
             let seen = named(alloc, site.admin, site.groups, seen)?;
-            Ok(unwritten(alloc, Reply::Ok(Answer::Event(seen))))
+            Ok(told(Answer::Event(seen)))
         }
         None => {
             let refusal = Refusal::bare(alloc, RuleName::NotGranted);
-            Ok(unwritten(alloc, Reply::Refused(refusal)))
+            Err(NoPlan::Refused(refusal))
         }
     }
 }
 
 // Tells the groups that concern the caller.
-fn list(alloc: Global, site: &Site<'_>) -> Result<Verdict, NoMemory>
-    ensures { (n : ℕ) (rows : List RowFields) → IfOk result (IsDecision
-        (scene_with n (site_of site.now) rows) site.now.admin.now asks.Groups) }
+fn list(alloc: Global, site: &Site<'_>) -> Result<Plan, NoPlan>
+    ensures { (n : ℕ) (rows : List RowFields) → Plans result (asked site.now.admin.now
+        (scene_with n (site_of site.now) rows) asks.Groups) }
 {
     let org = asker(site.caller);
     let groups = concerning(alloc, site.groups, &org, site.here)?;
-    let answer = Answer::Groups(Items::of(groups));
-    Ok(unwritten(alloc, Reply::Ok(answer)))
+    Ok(told(Answer::Groups(Items::of(groups))))
 }
 
-// What a request comes to, over all rows of its event.
-fn decide(alloc: Global, site: &Site<'_>, ask: Ask, rows: Vec<Row>) -> Result<Verdict, NoMemory>
+// What is planned for a request, over all rows of its event.
+fn decide(alloc: Global, site: &Site<'_>, ask: Ask, rows: Vec<Row>) -> Result<Plan, NoPlan>
     requires { IsBuilt ask }
-    ensures verdict { (n : ℕ) → IsTable rows.items →
-        IfOk result (IsVerdict n (site_of site.now) ask (Ok rows.items)) }
-    ensures settled { IfOk result IsSettled }
+    ensures plan { (n : ℕ) → IsTable rows.items → Plans result (asked site.now.admin.now
+        (scene_at n (site_of site.now) rows.items) ask) }
+    ensures no_stop { TellsNoStop result }
 {
     match ask {
         Ask::View { event, owner } => view(alloc, site, &event, owner, &rows),
@@ -244,28 +241,35 @@ fn decide(alloc: Global, site: &Site<'_>, ask: Ask, rows: Vec<Row>) -> Result<Ve
     }
 }
 
-/// What a request comes to, over what a keeper holds of its event.
-pub(crate) fn judge(
+// The refusal that names a row which does not decode.
+fn bad_row(alloc: Global, name: &[u8]) -> Result<Refusal, NoMemory>
+    ensures { IfOk result (λ refusal. refusal ≡ bad_row name.now) }
+{
+    Ok(Refusal {
+        name: RuleName::BadRow,
+        place: Text::of(hex::encode(alloc, name)?),
+    })
+}
+
+/// What is planned for a request, over what a keeper holds of its event.
+pub(crate) fn plan_request(
     alloc: Global,
     site: &Site<'_>,
     ask: Ask,
     raws: Vec<RawRow>,
-) -> Result<Verdict, NoMemory>
+) -> Result<Plan, NoPlan>
     requires { IsBuilt ask }
     // Where they ascend by their names.
-    ensures verdict { (n : ℕ) → IsTrue (ascend comes_before raws.items) →
-        IfOk result (IsVerdict n (site_of site.now) ask (rows_in raws.items)) }
-    ensures settled { IfOk result IsSettled }
+    ensures plan { (n : ℕ) → IsTrue (ascend comes_before raws.items) →
+        Plans result (asked_over n (site_of site.now) ask (rows_in raws.items)) }
+    ensures no_stop { TellsNoStop result }
 {
     match take_rows(alloc, raws) {
         Ok(rows) => decide(alloc, site, ask, rows),
         Err(RowFault::BadRow { name }) => {
-            let refusal = Refusal {
-                name: RuleName::BadRow,
-                place: Text::of(hex::encode(alloc, name.as_slice())?),
-            };
-            Ok(unwritten(alloc, Reply::Refused(refusal)))
+            let refusal = bad_row(alloc, name.as_slice())?;
+            Err(NoPlan::Refused(refusal))
         }
-        Err(RowFault::NoMemory) => Err(NoMemory),
+        Err(RowFault::NoMemory) => Err(NoPlan::NoMemory),
     }
 }

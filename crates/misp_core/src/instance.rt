@@ -6,17 +6,20 @@ ghost use Rattle.misp_core.specs.Sharing.{groups_in};
 ghost use Rattle.misp_core.specs.Answers.{site_at, IsBuilt};
 ghost use Rattle.misp_core.specs.Standing.{standing};
 ghost use Rattle.misp_core.specs.Opening.{NamesFault};
-ghost use Rattle.misp_core.specs.Outcome.{ByKeeper, outcome_of, IsAnswered, IsRefused};
+ghost use Rattle.misp_core.specs.Outcome.{ByKeeper, outcome_of, IsRefused};
+ghost use Rattle.misp_core.specs.Effects.{IsAnswered};
 ghost use Rattle.misp_core.specs.Order.{IsInOrder, grounds};
 ghost use Rattle.misp_core.specs.Administering.{IsAdministered};
 ghost use Rattle.misp_core.specs.declared.opening.OpenFault.TheVariants as faults;
 ghost use Rattle.misp_orgs.specs.Admin.{who_of, link_of};
 
-use crate::administering::administer;
-use crate::answering::{forbidden, replied, serve};
+use crate::administering::plan_group;
+use crate::answering::{forbidden, load};
+use crate::decide::plan_request;
 use crate::opening::{OpenFault, load_groups};
 use crate::permission::permission_for;
 use crate::reply::Reply;
+use crate::settling::{carry_out, unplanned};
 use crate::site::Site;
 use misp_groups::Group;
 use misp_ids::{ApiKey, InstId, OrgId, Stamp};
@@ -128,8 +131,12 @@ impl<K: Keeper> Instance<K> {
     {
         let perm = permission_for(&ask);
         if !may(caller.role, perm) {
-            return forbidden(alloc, perm);
+            return unplanned(alloc, forbidden(alloc, perm));
         }
+        let raws = match load(&mut self.keeper, alloc, &ask) {
+            Ok(raws) => raws,
+            Err(stop) => return Reply::stopped_by(alloc, stop),
+        };
         let site = Site {
             here: &self.name,
             admin: &self.admin,
@@ -137,8 +144,8 @@ impl<K: Keeper> Instance<K> {
             caller,
             moment: now,
         };
-        let served = serve(&mut self.keeper, alloc, &site, ask);
-        replied(alloc, served)
+        let planned = plan_request(alloc, &site, ask, raws);
+        carry_out(&mut self.keeper, &mut self.groups, alloc, planned)
     }
 
     /// Adds a group at this moment, or edits the one of its name, which the organisation does.
@@ -160,7 +167,7 @@ impl<K: Keeper> Instance<K> {
         ensures name { self.new.name ≡ self.old.name }
         ensures admin { self.new.admin ≡ self.old.admin }
     {
-        let groups = &mut self.groups;
-        administer(groups, &mut self.keeper, alloc, now, by, group, add)
+        let planned = plan_group(alloc, &self.groups, now, by, group, add);
+        carry_out(&mut self.keeper, &mut self.groups, alloc, planned)
     }
 }

@@ -1,9 +1,8 @@
 //! Sharing groups as a keeper holds them.
 
-ghost use Rattle.std.specs.Prelude.{◌≡◌, ◌&&◌, Some, None, Ok, [], IfOk, IfErr, OnOk, IsErr, bytes_eq};
-ghost use Rattle.misp_groups.specs.Group.{IsGroup};
+ghost use Rattle.std.specs.Prelude.{◌≡◌, ◌&&◌, Some, None, Ok, [], map, IfOk, IfErr, OnOk, IsErr, bytes_eq};
 ghost use Rattle.misp_outside.specs.Held.{same_admin};
-ghost use Rattle.misp_core.specs.Sharing.{group_name, group_row, group_told, is_row_of, group_in, groups_in, put_onto, IsNoGroup, NamesBadGroup};
+ghost use Rattle.misp_core.specs.Sharing.{group_name, group_row, group_told, is_row_of, group_in, groups_in, put_onto, IsStorable, AreStorable, IsNoGroup, NamesBadGroup};
 
 use crate::store::RowFault;
 use misp_format::{FormatFault, read_group_text, write_group};
@@ -27,12 +26,11 @@ fn group_name(alloc: Global, id: &GroupId) -> Result<Vec<u8>, NoMemory>
     Ok(name)
 }
 
-/// A group as a keeper holds it.
+// A group as a keeper holds it.
 #[tactic(auto, unfolding(crate::specs::Sharing::group_row))]
-pub(crate) fn group_row(alloc: Global, group: &Group) -> Result<AdminRow, NoMemory>
+fn group_row(alloc: Global, group: &Group) -> Result<AdminRow, NoMemory>
     ensures row { IfOk result (λ row. row ≡ group_row group.now) }
-    ensures is_group { OnOk result (IsGroup group.now) }
-    ensures read { OnOk result (group_in (group_row group.now) ≡ Some group.now) }
+    ensures storable { OnOk result (IsStorable group.now) }
 {
     let name = group_name(alloc, &group.id)?;
     let mut bytes = Vec::new(alloc);
@@ -44,6 +42,18 @@ pub(crate) fn group_row(alloc: Global, group: &Group) -> Result<AdminRow, NoMemo
         name: Items::of(name),
         bytes: Items::of(bytes),
     })
+}
+
+/// Groups as a keeper holds them.
+pub(crate) fn group_rows(alloc: Global, groups: &[Group]) -> Result<Vec<AdminRow>, NoMemory>
+    ensures rows { IfOk result (λ rows. rows.items ≡ map group_row groups.now) }
+    ensures storable { OnOk result (AreStorable groups.now) }
+{
+    let mut rows = Vec::with_capacity(alloc, groups.len())?;
+    for group in groups {
+        rows.push(group_row(alloc, group)?)?;
+    }
+    Ok(rows)
 }
 
 // The group that a flag and a text tell.

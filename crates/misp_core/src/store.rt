@@ -11,7 +11,7 @@ use misp_elem::{
     DecodeFault, Key, NoMemory, Row, compare_keys, decode, decode_key, encode, encode_name,
 };
 use misp_ids::{EventId, Items, OrgId};
-use misp_outside::{RawBatch, RawRow};
+use misp_outside::RawRow;
 use std::alloc::{AllocError, AllocFailed, Global};
 
 /// Why rows were not read.
@@ -158,7 +158,8 @@ fn raw_row(alloc: Global, row: &Row) -> Result<RawRow, NoMemory>
     })
 }
 
-fn raw_rows(alloc: Global, rows: &[Row]) -> Result<Vec<RawRow>, NoMemory>
+/// Rows as a keeper holds them.
+pub(crate) fn raw_rows(alloc: Global, rows: &[Row]) -> Result<Vec<RawRow>, NoMemory>
     ensures { IfOk result (λ raws. raws.items ≡ map raw_row rows.now) }
 {
     let mut raws = Vec::with_capacity(alloc, rows.len())?;
@@ -166,14 +167,4 @@ fn raw_rows(alloc: Global, rows: &[Row]) -> Result<Vec<RawRow>, NoMemory>
         raws.push(raw_row(alloc, row)?)?;
     }
     Ok(raws)
-}
-
-/// The batch that puts these rows.
-pub(crate) fn batch_of(alloc: Global, rows: &[Row]) -> Result<RawBatch, NoMemory>
-    ensures { IfOk result (λ batch. batch ≡ record { rows = map raw_row rows.now; admin = [] }) }
-{
-    Ok(RawBatch {
-        rows: Items::of(raw_rows(alloc, rows)?),
-        admin: Items::of(Vec::new(alloc)),
-    })
 }

@@ -14,10 +14,9 @@ use Rattle.misp_model.specs.Asking.{last_stamp, next_stamp}
 use Rattle.misp_model.specs.Audience.{known_group, is_known_group}
 use Rattle.misp_model.specs.Acts.{put_group, administration_fails, group_stamp, group_now, administered}
 use Rattle.misp_levels.specs.declared.fault.GroupFault.TheVariants.{NotCreator, GroupExists}
-use Rattle.misp_levels.specs.Groups.{by_id, by_name, restored, why_not_added, Adds, why_kept, why_not_edited, Edits}
+use Rattle.misp_levels.specs.Groups.{by_id, by_name, why_not_added, Adds, why_kept, why_not_edited, Edits}
 use Rattle.misp_levels.proofs.Ids.{greater_apart, same_group-sound}
 use Rattle.misp_levels.proofs.Changes.{known_where}
-use Rattle.misp_levels.proofs.Putting.{others, known_named, put_away, put_back}
 
 -- ---- when it fails
 
@@ -116,18 +115,3 @@ unfolding administered administration_fails group_now
 edited_is old new by g now edits =
     let is : (same_org by g.id.creator ≡ true) × (passes may_change (known_group old g.id) ≡ true) = free_from (same_org by g.id.creator) (known_group old g.id) edits.no_cause in
     rw (is.0, any_from_known may_change g.id old is.1) (edited_where g now old new (known_group old g.id) is.1 edits.is)
-
--- ---- what takes it back
-
-pub added_back : (old new : List Group) (by : OrgId) (g : Group) (now : Stamp) → Adds old new by g now → restored g.id None new ≡ old
-unfolding restored
-added_back old new by g now adds =
-    let is : (same_org by g.id.creator ≡ true) × (known_group old g.id ≡ None) = none_from (same_org by g.id.creator) (is_known_group old g.id) (known_group old g.id) (known_where old g.id) adds.no_cause in
-    ap (others g.id) adds.is ∙ put_away (home g now) old is.1
-
-pub edited_back : (old new : List Group) (by : OrgId) (g h : Group) (now : Stamp) → IsStrictlySortedBy by_name old → Edits old new by g now → known_group old g.id ≡ Some h → restored g.id (Some h) new ≡ old
-unfolding restored
-edited_back old new by g h now up edits is =
-    let id : h.id ≡ g.id = known_named old g.id h is in
-    let put : new ≡ put_group (home g (next_stamp now h.modified)) old = rw is at edits.is in
-    ap (put_group h) put ∙ put_back (home g (next_stamp now h.modified)) h old (sym id) up (ap (known_group old) id ∙ is)

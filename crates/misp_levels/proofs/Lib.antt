@@ -3,6 +3,7 @@ pub mod Changes
 pub mod Halving
 pub mod Ids
 pub mod Places
+pub mod Planned
 pub mod Putting
 pub mod Servers
 pub mod Steps

@@ -1,7 +1,7 @@
 -- What a search among groups finds, and that a change at that place leaves them in order.
 use Rattle.std.proofs.Common.{◌≡◌, ℕ, zero, suc, ◌<◌, List, [], ◌∷◌, length, get_or, set, Some, None, Result, Ok, Err, IfOk, IfErr, ap, subst, ◌∙◌, arith}
 use Rattle.std.specs.declared.cmp.Ordering.TheVariants.{Less, Equal}
-use Rattle.std.specs.List.{insert, remove, AllByRecursion}
+use Rattle.std.specs.List.{insert, AllByRecursion}
 use Rattle.std.specs.List.Sorted.{IsStrictlySortedBy, IsSearchInRange, IsBinarySearchResult}
 use Rattle.std.proofs.lemmas.Cmp.{tied_itself}
 use Rattle.misp_ids.specs.declared.uid.GroupId.{GroupId}
@@ -75,18 +75,3 @@ sorted_set (y ∷ ys) (suc at) g place up =
     let less : by_id y.id (get_or ys at y).id ≡ Less = all_at (λ z. by_name y z ≡ Less) ys at y below up.0 in
     let lower : by_id y.id g.id ≡ Less = subst (λ i. by_id y.id i ≡ Less) (place.is y) less in
     (all_set (λ z. by_name y z ≡ Less) ys at g lower up.0, sorted_set ys at g (record { below = below; is = λ e. place.is e }) up.1)
-
--- ---- a group less
-
-all_remove : {A : Type 0} (P : A → Type 0) (xs : List A) (i : ℕ) → AllByRecursion P xs → AllByRecursion P (remove xs i)
-all_remove P [] zero all = tt
-all_remove P [] (suc i) all = tt
-all_remove P (x ∷ xs) zero all = all.1
-all_remove P (x ∷ xs) (suc i) all = (all.0, all_remove P xs i all.1)
-
-pub sorted_remove : (xs : List Group) (at : ℕ) → IsStrictlySortedBy by_name xs → IsStrictlySortedBy by_name (remove xs at)
-unfolding IsStrictlySortedBy
-sorted_remove [] zero up = tt
-sorted_remove [] (suc at) up = tt
-sorted_remove (x ∷ xs) zero up = up.1
-sorted_remove (x ∷ xs) (suc at) up = (all_remove (λ z. by_name x z ≡ Less) xs at up.0, sorted_remove xs at up.1)

@@ -1,7 +1,7 @@
 -- Groups put in their places, and taken away again.
 use Rattle.std.proofs.Common.{◌≡◌, ℕ, zero, suc, ◌<◌, Bool, true, false, not, List, [], ◌∷◌, ◌++◌, length, find, get_or, set, if◌then◌else◌, Some, None, refl, sym, ap, subst, ◌∙◌, inl, inr, arith}
 use Rattle.std.specs.declared.cmp.Ordering.TheVariants.{Less}
-use Rattle.std.specs.List.{filter, insert, remove, AllByRecursion}
+use Rattle.std.specs.List.{filter, insert, AllByRecursion}
 use Rattle.std.specs.List.Sorted.{IsStrictlySortedBy}
 use Rattle.std.proofs.lemmas.Bool.{cases_Bool}
 use Rattle.std.proofs.lemmas.List.{append-nil, append_assoc}
@@ -11,7 +11,7 @@ use Rattle.misp_model.specs.Names.{same_group, group_before}
 use Rattle.misp_model.specs.Order.{put}
 use Rattle.misp_model.specs.Audience.{known_group}
 use Rattle.misp_model.specs.Acts.{put_group}
-use Rattle.misp_model.proofs.Lists.{find_passes, find_cut, filter_within}
+use Rattle.misp_model.proofs.Lists.{find_passes, find_cut}
 use Rattle.misp_levels.specs.Groups.{by_id, by_name, IsPlaceOf, IsGapFor, put_groups}
 use Rattle.misp_levels.proofs.Halving.{all_at}
 use Rattle.misp_levels.proofs.Ids.{less_apart, greater_apart, same_group-refl, same_group-sound, less_before, greater_behind}
@@ -114,14 +114,6 @@ module _ {X : Type 0} (before : X → X → Bool) (test : X → Bool) (x : X) wh
     | inr later ↦ rw (later, find_miss miss ys) refl
   ]
 
-  filter_miss : test x ≡ false → (xs : List X) → filter test (put before x xs) ≡ filter test xs
-  unfolding put
-  filter_miss miss [] = rw miss refl
-  filter_miss miss (y ∷ ys) = elim (cases_Bool (before x y)) [
-    | inl first ↦ rw (first, miss) refl
-    | inr later ↦ rw (later, filter_miss miss ys) refl
-  ]
-
 none_of_others : (id : GroupId) (xs : List Group) → find (λ h. same_group h.id id) (others id xs) ≡ None
 none_of_others id [] = refl
 none_of_others id (x ∷ xs) = elim (cases_Bool (same_group x.id id)) [
@@ -156,68 +148,3 @@ known_put g xs id = elim (cases_Bool (same_group g.id id)) [
 pub known_named : (xs : List Group) (id : GroupId) (h : Group) → known_group xs id ≡ Some h → h.id ≡ id
 unfolding known_group
 known_named xs id h is = same_group-sound h.id id (find_passes (λ x. same_group x.id id) xs h is)
-
--- ---- taking away
-
-pub others_remove : (xs : List Group) (at : ℕ) (id : GroupId) → IsPlaceOf xs id at → IsStrictlySortedBy by_name xs → others id xs ≡ remove xs at
-unfolding IsStrictlySortedBy
-others_remove [] at id place up = absurd (omega (arith, place.below))
-others_remove (y ∷ ys) zero id place up =
-    let hit : same_group y.id id ≡ true = ap (λ i. same_group i id) (place.is y) ∙ same_group-refl id in
-    rw hit (all_others id ys (subst (λ i. AllByRecursion (λ z. by_id i z.id ≡ Less) ys) (place.is y) up.0))
-others_remove (y ∷ ys) (suc at) id place up =
-    let below : at < length ys = omega (arith, place.below) in
-    let less : by_id y.id (get_or ys at y).id ≡ Less = all_at (λ z. by_name y z ≡ Less) ys at y below up.0 in
-    let lower : by_id y.id id ≡ Less = subst (λ i. by_id y.id i ≡ Less) (place.is y) less in
-    rw (less_apart y.id id lower) (ap (λ zs. y ∷ zs) (others_remove ys at id (record { below = below; is = λ e. place.is e }) up.1))
-
-others_unknown : (xs : List Group) (id : GroupId) → known_group xs id ≡ None → others id xs ≡ xs
-unfolding known_group
-others_unknown [] id none = refl
-others_unknown (x ∷ xs) id none = elim (cases_Bool (same_group x.id id)) [
-  | inl hit ↦ absurd (let e : Some x ≡ None = sym (rw hit refl) ∙ none in cc)
-  | inr miss ↦ rw miss (ap (λ ys. x ∷ ys) (others_unknown xs id (sym (rw miss refl) ∙ none)))
-]
-
-others_put : (g : Group) (xs : List Group) → others g.id (put_group g xs) ≡ others g.id xs
-unfolding put_group
-others_put g xs =
-    filter_miss (λ a b. group_before a.id b.id) (λ h. not (same_group h.id g.id)) g (ap not (same_group-refl g.id)) (others g.id xs)
-    ∙ filter_within (λ h. not (same_group h.id g.id)) (λ h. not (same_group h.id g.id)) (λ h. not (same_group h.id g.id)) (λ h e. refl) (λ h e. e) xs
-
--- of a name that was not known, the group that was put is taken away
-pub put_away : (g : Group) (xs : List Group) → known_group xs g.id ≡ None → others g.id (put_group g xs) ≡ xs
-put_away g xs none = others_put g xs ∙ others_unknown xs g.id none
-
--- of two groups of one name the last that is put stays
-put_twice : (g h : Group) (xs : List Group) → g.id ≡ h.id → put_group h (put_group g xs) ≡ put_group h xs
-unfolding put_group
-put_twice g h xs same = ap (put (λ a b. group_before a.id b.id) h) (subst (λ i. others i (put_group g xs) ≡ others i xs) same (others_put g xs))
-
-found_in : {A : Type 0} (P : A → Type 0) (test : A → Bool) (xs : List A) (x : A) → find test xs ≡ Some x → AllByRecursion P xs → P x
-found_in P test [] x is all = absurd cc
-found_in P test (y ∷ ys) x is all = elim (cases_Bool (test y)) [
-  | inl hit ↦ let e : y ≡ x = the_same (sym (rw hit refl) ∙ is) in subst P e all.0
-  | inr miss ↦ found_in P test ys x (sym (rw miss refl) ∙ is) all.1
-]
-  where
-    the_same : Some y ≡ Some x → y ≡ x
-    the_same e = cc
-
--- a group that is known is put where it is
-put_known : (xs : List Group) (h : Group) → IsStrictlySortedBy by_name xs → known_group xs h.id ≡ Some h → put_group h xs ≡ xs
-unfolding IsStrictlySortedBy known_group
-put_known [] h up is = absurd cc
-put_known (y ∷ ys) h up is = elim (cases_Bool (same_group y.id h.id)) [
-  | inl hit ↦
-      let same : Some y ≡ Some h = sym (rw hit refl) ∙ is in
-      let e : y ≡ h = cc in
-      put_over h y ys (ap (λ z. z.id) e) (subst (λ z. AllByRecursion (λ x. by_name z x ≡ Less) ys) e up.0) ∙ ap (λ z. z ∷ ys) (sym e)
-  | inr miss ↦
-      let later : known_group ys h.id ≡ Some h = sym (rw miss refl) ∙ is in
-      put_later h y ys (found_in (λ z. by_name y z ≡ Less) (λ z. same_group z.id h.id) ys h later up.0) ∙ ap (λ zs. y ∷ zs) (put_known ys h up.1 later)
-]
-
--- of a name that was known, the group that was put is taken away, and the one that was comes back
-pub put_back : (g h : Group) (xs : List Group) → g.id ≡ h.id → IsStrictlySortedBy by_name xs → known_group xs h.id ≡ Some h → put_group h (put_group g xs) ≡ xs
-put_back g h xs same up is = put_twice g h xs same ∙ put_known xs h up is

@@ -1,5 +1,5 @@
 -- The groups that are known at an instance, and how they change.
-use Rattle.std.specs.Prelude.{◌≡◌, ℕ, ◌<◌, ◌≤◌, ◌==◌, Bool, ltb, ◌&&◌, not, List, [], ◌∷◌, length, filter, take, drop, slice_index_or, Option, Some, None, IfSome, unwrap_or, if◌then◌else◌}
+use Rattle.std.specs.Prelude.{◌≡◌, ℕ, ◌<◌, ◌≤◌, ◌==◌, Bool, ltb, ◌&&◌, not, List, [], ◌∷◌, length, take, drop, slice_index_or, Option, Some, None, IfSome, unwrap_or, if◌then◌else◌}
 use Rattle.std.specs.declared.cmp.Ordering.{Ordering}
 use Rattle.std.specs.declared.cmp.Ordering.TheVariants.{Less}
 use Rattle.std.specs.Ordering.{nat_cmp, ordering_then}
@@ -8,7 +8,7 @@ use Rattle.misp_ids.specs.declared.uid.OrgId.{OrgId}
 use Rattle.misp_ids.specs.declared.uid.GroupId.{GroupId}
 use Rattle.misp_groups.specs.declared.group.GroupFields.{GroupFields as Group}
 use Rattle.misp_groups.specs.Group.{home}
-use Rattle.misp_model.specs.Names.{Stamp, same_org, same_group}
+use Rattle.misp_model.specs.Names.{Stamp, same_org}
 use Rattle.misp_model.specs.Asking.{last_stamp, next_stamp}
 use Rattle.misp_model.specs.Audience.{known_group, is_known_group}
 use Rattle.misp_model.specs.Acts.{put_group}
@@ -38,17 +38,12 @@ pub record IsGapFor (groups : List Group) (id : GroupId) (gap : ℕ) : Type 0 wh
   pub before : AllByRecursion (λ g. by_id g.id id ≡ Less) (take gap groups)
   pub after : AllByRecursion (λ g. by_id id g.id ≡ Less) (drop gap groups)
 
--- ---- putting and taking back
+-- ---- putting
 
 -- with each of these put in its place, one after another
 unfoldable pub put_groups : List Group → List Group → List Group
 put_groups groups [] = groups
 put_groups groups (g ∷ gs) = put_groups (put_group g groups) gs
-
--- with this group in the place of the one of its name, or with none of this name
-unfoldable pub restored : GroupId → Option Group → List Group → List Group
-restored id None groups = filter (λ g. not (same_group g.id id)) groups
-restored id (Some g) groups = put_group g groups
 
 -- ---- adding
 

@@ -1,13 +1,12 @@
 //! The groups that are known at an instance.
 
-ghost use Rattle.std.specs.Prelude.{◌≡◌, ◌<◌, true, false, [], length, option_map, Some, None, IfSome, IfOk, IfErr, OnOk, OnErr};
-ghost use Rattle.std.specs.List.{remove};
+ghost use Rattle.std.specs.Prelude.{◌≡◌, true, false, [], option_map, Some, None, IfOk, IfErr, OnOk, OnErr};
 ghost use Rattle.std.specs.List.Sorted.{IsStrictlySortedBy};
 ghost use Rattle.misp_model.specs.Asking.{next_stamp};
 ghost use Rattle.misp_model.specs.Acts.{put_group, take_group};
 ghost use Rattle.misp_model.specs.Audience.{known_group, is_known_group};
 ghost use Rattle.misp_model.specs.Names.{same_org};
-ghost use Rattle.misp_levels.specs.Groups.{by_id, by_name, is_older, taken_by, restored, why_kept, IsPlaceOf, IsGapFor, Adds, NotAdded, Edits, NotEdited};
+ghost use Rattle.misp_levels.specs.Groups.{by_id, by_name, is_older, taken_by, why_kept, IsPlaceOf, IsGapFor, Adds, NotAdded, Edits, NotEdited};
 
 use crate::fault::GroupFault;
 use misp_groups::Group;
@@ -22,7 +21,7 @@ use std::mem;
 /// A contract sees it as the list of its groups, which ascend by creator and then by uuid.
 #[derive(Debug, Drop)]
 pub struct Groups {
-    groups: Vec<Group>,
+    pub(crate) groups: Vec<Group>,
 }
 
 impl Model for Groups {
@@ -46,7 +45,7 @@ fn compare(a: &GroupId, b: &GroupId) -> Ordering
 }
 
 // Where the group of a name is, or where it would stand.
-fn place_of(groups: &[Group], id: &GroupId) -> Result<usize, usize>
+pub(crate) fn place_of(groups: &[Group], id: &GroupId) -> Result<usize, usize>
     requires { IsStrictlySortedBy by_name groups.now }
     ensures found { IfOk result (IsPlaceOf groups.now id.now) }
     ensures absent { IfErr result (IsGapFor groups.now id.now) }
@@ -56,7 +55,7 @@ fn place_of(groups: &[Group], id: &GroupId) -> Result<usize, usize>
 
 // Whether the organisation created the group of this name.
 #[tactic(auto, unfolding(misp_model::specs::Names::same_org))]
-fn is_creator(org: &OrgId, id: &GroupId) -> bool
+pub(crate) fn is_creator(org: &OrgId, id: &GroupId) -> bool
     ensures { result ≡ same_org org.now id.now.creator }
 {
     *org == id.creator
@@ -64,7 +63,7 @@ fn is_creator(org: &OrgId, id: &GroupId) -> bool
 
 // The stamp of an edit of the group, or why it keeps its form.
 #[tactic(auto, unfolding(misp_model::specs::Asking::last_stamp, misp_model::specs::Asking::next_stamp))]
-fn edit_stamp(held: &Group, now: Stamp) -> Result<Stamp, GroupFault>
+pub(crate) fn edit_stamp(held: &Group, now: Stamp) -> Result<Stamp, GroupFault>
     ensures free { OnOk result (why_kept (Some held.now) ≡ None) }
     ensures stamp { IfOk result (λ stamp. stamp ≡ next_stamp now held.now.modified) }
     ensures err { IfErr result (λ fault. why_kept (Some held.now) ≡ Some fault) }
@@ -208,21 +207,6 @@ impl Groups {
         }
     }
 
-    /// Takes back a change of the group of this name: `before` is the group that was known by it,
-    /// if one was. It takes no memory.
-    pub fn restore(&mut self, id: &GroupId, before: Option<Group>)
-        requires known { is_known_group self.old id.now ≡ true }
-        requires named { IfSome before (λ group. group.id ≡ id.now) }
-        ensures { self.new ≡ restored id.now before self.old }
-    {
-        if let Ok(place) = place_of(self.groups.as_slice(), id) {
-            match before {
-                Some(group) => drop(self.put_at(place, group)),
-                None => self.take_at(place),
-            }
-        }
-    }
-
     // Puts a group in the place of the one of its name.
     fn put_at(&mut self, place: usize, group: Group) -> Group
         requires { IsPlaceOf self.old group.id place }
@@ -239,13 +223,5 @@ impl Groups {
         ensures err { OnErr result (self.new ≡ self.old) }
     {
         Ok(self.groups.insert(gap, group)?)
-    }
-
-    // Takes the group at this place away.
-    fn take_at(&mut self, place: usize)
-        requires { place < length self.old }
-        ensures { self.new ≡ remove self.old place }
-    {
-        drop(self.groups.remove(place));
     }
 }

@@ -1,6 +1,6 @@
 //! Laws of labels on the way, and of the groups of an instance.
 
-ghost use Rattle.std.specs.Prelude.{◌≡◌, ℕ, ◌+◌, ◌≤◌, List, [], true, false, Some, None, is_some, if◌then◌else◌};
+ghost use Rattle.std.specs.Prelude.{◌≡◌, ℕ, ◌+◌, ◌≤◌, List, [], true, false, Some, is_some, if◌then◌else◌};
 ghost use Rattle.std.specs.Ordering.{is_lt};
 ghost use Rattle.std.specs.List.Sorted.{IsStrictlySortedBy};
 ghost use Rattle.misp_ids.specs.declared.uid.OrgId.{OrgId};
@@ -12,7 +12,7 @@ ghost use Rattle.misp_model.specs.Names.{Stamp, same_group, group_before};
 ghost use Rattle.misp_model.specs.Audience.{hop, down, known_group};
 ghost use Rattle.misp_model.specs.Acts.{put_group, administration_fails, administered};
 ghost use Rattle.misp_levels.specs.Levels.{rank};
-ghost use Rattle.misp_levels.specs.Groups.{by_id, by_name, put_groups, restored, why_not_added, why_not_edited, Adds, Edits};
+ghost use Rattle.misp_levels.specs.Groups.{by_id, by_name, put_groups, why_not_added, why_not_edited, Adds, Edits};
 
 /// What is sent comes with the label one step down.
 pub fn a_hop_is_one_step_down()
@@ -44,15 +44,6 @@ pub fn groups_change_as_they_are_administered()
     ensures not_edited { (old : List Group) (by : OrgId) (g : Group) →
         IsStrictlySortedBy by_name old →
         is_some (why_not_edited old by g.id) ≡ administration_fails by false g old }
-{}
-
-/// Once a change is taken back, the groups are as they were before it.
-pub fn a_change_is_taken_back()
-    ensures added { (old new : List Group) (by : OrgId) (g : Group) (now : Stamp) →
-        Adds old new by g now → restored g.id None new ≡ old }
-    ensures edited { (old new : List Group) (by : OrgId) (g h : Group) (now : Stamp) →
-        IsStrictlySortedBy by_name old → Edits old new by g now →
-        known_group old g.id ≡ Some h → restored g.id (Some h) new ≡ old }
 {}
 
 /// The name of a group that is put in its place has this group, and every other name the group that

@@ -5,13 +5,16 @@ mod fault;
 mod groups;
 mod laws;
 mod level;
+mod planning;
+mod room;
 mod sharing;
 
 pub use fault::GroupFault;
 pub use groups::{Groups, Taken};
 pub use laws::{
-    a_change_is_taken_back, a_hop_is_one_step_down, groups_are_put_in_order,
-    groups_change_as_they_are_administered, no_hop_raises_a_label, steps_down_add_up,
+    a_hop_is_one_step_down, groups_are_put_in_order, groups_change_as_they_are_administered,
+    no_hop_raises_a_label, steps_down_add_up,
 };
 pub use level::{down, hop, open};
+pub use room::Room;
 pub use sharing::{allows, carries};

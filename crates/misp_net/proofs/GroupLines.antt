@@ -9,7 +9,8 @@ use Rattle.misp_outside.specs.Held.{Held}
 use Rattle.misp_script.specs.Step.{GroupData}
 use Rattle.misp_format.specs.GroupText.{group_in_text}
 use Rattle.misp_core.specs.Sharing.{groups_of}
-use Rattle.misp_core.specs.Administering.{IsAdministered}
+use Rattle.misp_core.specs.Administering.{HasChanged, IsAdministered}
+use Rattle.misp_core.proofs.Stepped.{changed}
 use Rattle.misp_core.specs.Outcome.{ByKeeper, outcome_of}
 use Rattle.misp_core.specs.declared.reply.Reply.{Reply}
 use Rattle.misp_core.specs.declared.reply.Reply.TheVariants as replies
@@ -25,7 +26,8 @@ pub by_instance : (now : ℕ) (line : GroupData) (form : Reading Group) (g : Gro
     → IfSome old (λ held. IsAdministered now line.org line.add g held reply new) → IfSome old (λ held. IsDone now line form held reply new)
 by_instance now line form g reply None new is fits moment done = tt
 by_instance now line form g reply (Some held) new is fits moment done =
-    subst (λ f. IsDone now line f held reply new) (sym is) (record { reply_is = done.reply_is; left = done.left; is_group = λ went. (fits, moment) })
+    let so : HasChanged now line.org line.add g held reply new = changed now line.org line.add g held reply new done in
+    subst (λ f. IsDone now line f held reply new) (sym is) (record { reply_is = so.reply_is; left = so.left; is_group = λ went. (fits, moment) })
 
 text_by_form : (text : _) → ByForm (group_form text)
 unfolding group_form

@@ -18,7 +18,9 @@ use Rattle.misp_elem.specs.Row.{AreRows}
 use Rattle.misp_core.specs.Permission.{is_permitted}
 use Rattle.misp_core.specs.Sharing.{groups_of}
 use Rattle.misp_core.specs.Answers.{site, site_at, writes_over}
-use Rattle.misp_core.specs.Outcome.{Went, ByKeeper, outcome_of, asked_of, reply_to, held_after, refusal_by, forbidden, IsAnswered}
+use Rattle.misp_core.specs.Outcome.{Went, ByKeeper, outcome_of, asked_of, reply_to, held_after, refusal_by, forbidden, IsStepped}
+use Rattle.misp_core.specs.Effects.{IsAnswered}
+use Rattle.misp_core.proofs.Stepped.{stepped}
 use Rattle.misp_core.specs.declared.reply.Reply.{Reply}
 use Rattle.misp_core.specs.declared.reply.Reply.TheVariants as replies
 use Rattle.misp_net.specs.declared.route.Route.{Route}
@@ -46,8 +48,9 @@ pub by_step : (n : ℕ) (i : Standing) (now : ℕ) (request : RequestData) (word
     → IfSome old (λ held. IsReplied n (host_of i) now (form_of i.admin request word) held reply new)
 by_step n i now request word asked reply None new is answered = tt
 by_step n i now request word asked reply (Some held) new is answered =
+    let so : IsStepped n (site_at i held asked.0 now) asked.1 held reply new = stepped n (site_at i held asked.0 now) asked.1 held reply new answered in
     subst (λ read. IsReplied n (host_of i) now (permitted read) held reply new) (sym is)
-    (answer_replies n (host_of i) now asked (is_permitted asked.0 asked.1) held reply new answered.reply_is answered.left answered.are_rows)
+    (answer_replies n (host_of i) now asked (is_permitted asked.0 asked.1) held reply new so.reply_is so.left so.are_rows)
 
 -- a refusal by the form of a request comes from no keeper, and from memory only where memory ran out
 abbrev pub IsFormal : Refusal → Type 0

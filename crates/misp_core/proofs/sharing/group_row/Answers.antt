@@ -5,7 +5,10 @@ use Rattle.misp_format.specs.GroupText.{group_in_text}
 use Rattle.misp_core.proofs.GroupRows.{read_when}
 use Rattle.misp_core.proofs.sharing.group_row.Goals as goal
 
-pub returns-clause-read : goal.returns-clause-read
-returns-clause-read c =
+pub returns-clause-storable : goal.returns-clause-storable
+returns-clause-storable c =
     let is : IsGroup c.args.group.now = subst IsGroup c.group.view_is c.group.invariant in
-    read_when c.args.group.now (is.creator, is.uuid) (subst (λ text. group_in_text text ≡ Ok (uncarried c.args.group.now)) c.in_ok-text.ensures.text c.in_ok-text.ensures.read_back)
+    record {
+      is_group = is;
+      read = read_when c.args.group.now (is.creator, is.uuid) (subst (λ text. group_in_text text ≡ Ok (uncarried c.args.group.now)) c.in_ok-text.ensures.text c.in_ok-text.ensures.read_back);
+    }

@@ -1,30 +1,45 @@
-use Rattle.std.proofs.Common.{◌≡◌, sym, subst}
+use Rattle.std.proofs.Common.{sym, subst}
+use Rattle.std.specs.Prelude.{Err}
 use Rattle.misp_core.specs.Answers.{site, site_at}
+use Rattle.misp_core.specs.Sharing.{groups_of}
 use Rattle.misp_core.specs.Permission.{no_permission}
-use Rattle.misp_core.specs.Outcome.{outcome_of, refusal_by, replied_of, IsAnswered}
-use Rattle.misp_core.proofs.Serving.{replied, turned_away, at_groups}
+use Rattle.misp_core.specs.Effects.{refused, requested, IsAnswered}
+use Rattle.misp_core.specs.Planning.{Plans}
+use Rattle.misp_core.proofs.Answered.{turned_away, asked_there}
+use Rattle.misp_core.proofs.Carried.{stopped_there}
+use Rattle.misp_core.proofs.Serving.{at_groups}
 use Rattle.misp_core.proofs.Ordering.{told_in_order}
 use Rattle.misp_core.proofs.instance.Instance.step.Goals as goal
 
 pub returns-then-not-may-clause-answered : goal.returns-then-not-may-clause-answered
 returns-then-not-may-clause-answered g c = λ n.
-    turned_away n c.args.self.now c.args.caller.now c.args.now c.args.ask _ _
+    rw c.unplanned.ensures
+    (turned_away n c.args.self.now c.args.caller.now c.args.now c.args.ask _ c.forbidden.result
     (rw (← c.caller.view_is, ← c.permission_for-perm.ensures) (sym c.if-not-may.ensures))
-    (subst (λ perm. c.forbidden.result ≡ refusal_by (outcome_of c.forbidden.result) (no_permission perm)) c.permission_for-perm.ensures c.forbidden.ensures.reply)
+    (subst (λ perm. Plans (Err c.forbidden.result) (refused (no_permission perm))) c.permission_for-perm.ensures c.forbidden.ensures))
 
 pub returns-then-not-may-clause-order : goal.returns-then-not-may-clause-order
 returns-then-not-may-clause-order g c = λ n.
     told_in_order n (λ held. site_at c.args.self.now held c.args.caller.now c.args.now) _ _ _ _ c.requires (returns-then-not-may-clause-answered g c n)
 
+pub returns-in-Err-clause-answered : goal.returns-in-Err-clause-answered
+returns-in-Err-clause-answered g c = λ n.
+    rw (c.stopped_by.ensures, ← c.self.view_is)
+    (stopped_there (λ held. requested n (site c.self.inside.name c.self.inside.admin (groups_of held) c.args.caller.now c.args.now) c.args.ask held) c.in-Err.stop _ _ c.in-Err.ensures.held)
+
+pub returns-in-Err-clause-order : goal.returns-in-Err-clause-order
+returns-in-Err-clause-order g c = λ n.
+    told_in_order n (λ held. site_at c.args.self.now held c.args.caller.now c.args.now) _ _ _ _ c.requires (returns-in-Err-clause-answered g c n)
+
 pub returns-clause-answered : goal.returns-clause-answered
 returns-clause-answered g c = λ n.
-    rw (c.replied.ensures, ← c.self.view_is)
+    rw (← c.self.view_is)
     (at_groups _ c.self.inside.groups
-    (λ held groups. IsAnswered n (site c.self.inside.name c.self.inside.admin groups c.args.caller.now c.args.now) c.args.ask held (replied_of c.serve-served.result) (g.K.Keeper.stock c.serve-served.new.keeper).held)
+    (λ held groups. IsAnswered n (site c.self.inside.name c.self.inside.admin groups c.args.caller.now c.args.now) c.args.ask held c.carry_out.result (g.K.Keeper.stock c.carry_out.new.keeper).held)
     c.self.invariant
-    (replied n (site c.self.inside.name c.self.inside.admin c.self.inside.groups c.args.caller.now c.args.now) _ _ _ c.serve-served.result
+    (asked_there n (site c.self.inside.name c.self.inside.admin c.self.inside.groups c.args.caller.now c.args.now) c.args.ask c.in-Ok.raws.items c.plan_request-planned.result _ _ _ c.carry_out.result
     (rw (← c.caller.view_is, ← c.permission_for-perm.ensures) (sym c.if-not-may.ensures))
-    (c.serve-served.ensures.answered n) c.serve-served.ensures.went c.serve-served.ensures.err))
+    c.in-Ok.ensures.held c.in-Ok.ensures.found c.in-Ok.ensures.order (c.plan_request-planned.ensures.plan n) c.carry_out.ensures.done))
 
 pub returns-clause-order : goal.returns-clause-order
 returns-clause-order g c = λ n.

@@ -1,0 +1,115 @@
+-- What carrying a plan out did.
+use Rattle.std.proofs.Common.{false, ◌≡◌, List, [], ◌∷◌, refl, ap, sym, subst, ◌∙◌, map, option_map, Option, Some, None, Result, Ok, Err}
+use Rattle.std.specs.Prelude.{IfSome}
+use Rattle.std.specs.List.{AllByRecursion}
+use Rattle.misp_elem.specs.Row.{AreRows}
+use Rattle.misp_groups.specs.declared.group.GroupFields.{GroupFields as Group}
+use Rattle.misp_groups.specs.Group.{IsGroup}
+use Rattle.misp_outside.specs.declared.fault.KeeperFault.{KeeperFault}
+use Rattle.misp_outside.specs.declared.fault.KeeperFault.TheVariants as faults
+use Rattle.misp_outside.specs.declared.row.AdminRow.{AdminRow}
+use Rattle.misp_outside.specs.Held.{Held, with_batch, put_admins}
+use Rattle.misp_effects.specs.declared.stop.Stop.TheVariants as stops
+use Rattle.misp_effects.specs.declared.stop.Side.TheVariants.{Here}
+use Rattle.misp_effects.specs.Batches.{Batch, AreReadable, put_batches}
+use Rattle.misp_effects.specs.Effect.{Effect, effect, left}
+use Rattle.misp_effects.specs.Effect as effects
+use Rattle.misp_levels.specs.Groups.{put_groups}
+use Rattle.misp_core.specs.Sharing.{HoldsGroups, group_row, groups_in, AreStorable}
+use Rattle.misp_core.specs.Outcome.{ByKeeper, outcome_by, refused_by, rule_of_stop}
+use Rattle.misp_core.specs.Effects.{spelled, Did}
+use Rattle.misp_core.specs.Planning.{batch_of, batches_of, rows_put, Plans, TellsNoStop, unplanned}
+use Rattle.misp_core.specs.declared.planning.Plan.{Plan}
+use Rattle.misp_core.specs.declared.planning.Batch.{Batch as Put}
+use Rattle.misp_core.specs.declared.planning.NoPlan.{NoPlan}
+use Rattle.misp_core.specs.declared.planning.NoPlan.TheVariants as no
+use Rattle.misp_core.specs.declared.reply.Answer.{Answer}
+use Rattle.misp_core.specs.declared.reply.Reply.{Reply}
+use Rattle.misp_core.specs.declared.reply.Reply.TheVariants as replies
+use Rattle.misp_core.proofs.GroupRows.{group_put}
+
+-- a call over a keeper that may not tell what it holds
+abbrev pub DidThere : Effect Reply → Option Held → Reply → Option Held → Type 0
+DidThere e old reply new = IfSome old (λ held. Did e held reply new)
+
+-- ---- nothing is planned
+
+pub refused_did : (why : NoPlan) (e : Effect Reply) (old new : Option Held) → Plans (Err why) e → new ≡ old → DidThere e old (unplanned why) new
+refused_did why e None new plans same = tt
+refused_did (no.Refused refusal) e (Some held) new plans same = record {
+  outcome = effects.Went;
+  agree = sym plans.no_stop;
+  reply_is = sym (ap (λ (x : Effect Reply). x.reply) plans.is);
+  held_is = same ∙ sym (ap (λ (x : Effect Reply). Some (left spelled x held)) plans.is);
+  fits = subst (λ (x : Effect Reply). AreReadable x.batches) (sym plans.is) tt;
+}
+refused_did no.NoMemory e (Some held) new plans same =
+    record { outcome = effects.Stopped (stops.Memory Here) 0 false; agree = refl; reply_is = refl; held_is = same; fits = tt }
+
+pub no_stop : (planned : Result Plan NoPlan) (e : Effect Reply) → Plans planned e → TellsNoStop planned
+no_stop (Ok p) e plans = tt
+no_stop (Err (no.Refused refusal)) e plans = plans.no_stop
+no_stop (Err no.NoMemory) e plans = tt
+
+-- ---- the keeper stopped
+
+pub stopped_did : (stop : KeeperFault) (e : Effect Reply) (old new : Option Held) → new ≡ old → DidThere e old (refused_by (rule_of_stop stop)) new
+stopped_did stop e None new same = tt
+stopped_did faults.Failed e (Some held) new same =
+    record { outcome = effects.Stopped (stops.Keeper Here) 0 false; agree = refl; reply_is = refl; held_is = same; fits = tt }
+stopped_did faults.NoMemory e (Some held) new same =
+    record { outcome = effects.Stopped (stops.Memory Here) 0 false; agree = refl; reply_is = refl; held_is = same; fits = tt }
+
+-- the same where the effect is that of what is held
+pub stopped_there : (e : Held → Effect Reply) (stop : KeeperFault) (old new : Option Held) → new ≡ old → IfSome old (λ held. Did (e held) held (refused_by (rule_of_stop stop)) new)
+stopped_there e stop None new same = tt
+stopped_there e stop (Some held) new same = stopped_did stop (e held) (Some held) new same
+
+-- a keeper that stopped by its fault failed
+pub stop_failed : (stop : KeeperFault) → outcome_by (rule_of_stop stop) ≡ ByKeeper → stop ≡ faults.Failed
+stop_failed faults.Failed e = refl
+stop_failed faults.NoMemory e = absurd cc
+
+-- ---- it was put
+
+went_did : (e : Effect Reply) (answer : Answer) (bs : List Batch) (old new : Option Held) → e ≡ effect (replies.Ok answer) bs
+    → new ≡ option_map (put_batches (map spelled bs)) old → AreReadable bs → DidThere e old (replies.Ok answer) new
+went_did e answer bs None new is put fits = tt
+went_did e answer bs (Some held) new is put fits = record {
+  outcome = effects.Went;
+  agree = refl;
+  reply_is = sym (ap (λ (x : Effect Reply). x.reply) is);
+  held_is = put ∙ sym (ap (λ (x : Effect Reply). Some (left spelled x held)) is);
+  fits = subst (λ (x : Effect Reply). AreReadable x.batches) (sym is) fits;
+}
+
+put_there : (b : Batch) (old : Option Held) → option_map (with_batch (spelled b)) old ≡ option_map (put_batches (map spelled (b ∷ []))) old
+put_there b None = refl
+put_there b (Some held) = refl
+
+are_groups : (gs : List Group) → AreStorable gs → AllByRecursion IsGroup gs
+are_groups [] are = tt
+are_groups (g ∷ gs) are = (are.0.is_group, are_groups gs are.1)
+
+pub settled_did : (p : Plan) (put : Put) (e : Effect Reply) (old new : Option Held) → Plans (Ok p) e → p.batch ≡ Some put → AreStorable put.groups
+    → new ≡ option_map (with_batch (spelled (batch_of put))) old → DidThere e old (replies.Ok p.answer) new
+settled_did p put e old new plans some are is =
+    went_did e p.answer (batch_of put ∷ []) old new (plans.is ∙ ap (λ (b : Option Put). effect (replies.Ok p.answer) (batches_of b)) some)
+    (is ∙ put_there (batch_of put) old)
+    (record { rows = subst (λ (b : Option Put). AreRows (rows_put b)) some plans.are_rows; groups = are_groups put.groups are }, tt)
+
+-- ---- the groups beside
+
+groups_put : (gs : List Group) → AreStorable gs → (rows : List AdminRow) (groups : List Group) → groups_in rows ≡ Ok groups
+    → groups_in (put_admins (map group_row gs) rows) ≡ Ok (put_groups groups gs)
+unfolding put_admins put_groups
+groups_put [] are rows groups e = e
+groups_put (g ∷ gs) are rows groups e = groups_put gs are.1 _ _ (group_put g are.0.read rows groups e)
+
+pub groups_beside : (put : Put) (old new : Option Held) (groups kept : List Group) → AreStorable put.groups → new ≡ option_map (with_batch (spelled (batch_of put))) old
+    → kept ≡ put_groups groups put.groups → HoldsGroups old groups → HoldsGroups new kept
+unfolding with_batch
+groups_beside put None new groups kept are is same holds = subst (λ (h : Option Held). HoldsGroups h kept) (sym is) tt
+groups_beside put (Some held) new groups kept are is same holds =
+    subst (λ (h : Option Held). HoldsGroups h kept) (sym is)
+    (subst (λ gs. groups_in (put_admins (map group_row put.groups) held.admin) ≡ Ok gs) (sym same) (groups_put put.groups are held.admin groups holds))

@@ -1,0 +1,86 @@
+-- What a request comes to, and how a stop of it is told.
+use Rattle.std.specs.Prelude.{ℕ, ◌==◌, List, [], ◌∷◌, map, Result, Ok, Err, if◌then◌else◌}
+use Rattle.std.specs.declared.option.Option.{Option}
+use Rattle.std.specs.declared.option.Option.TheVariants.{None, Some}
+use Rattle.misp_elem.specs.declared.refusal.Refusal.{Refusal}
+use Rattle.misp_elem.specs.declared.refusal.RuleName.{RuleName}
+use Rattle.misp_elem.specs.declared.refusal.RuleName.TheVariants as rules
+use Rattle.misp_elem.specs.Refusal.{rule_number}
+use Rattle.misp_elem.specs.declared.row.RowFields.{RowFields as Row}
+use Rattle.misp_requests.specs.declared.ask.Ask.{Ask}
+use Rattle.misp_orgs.specs.Admin.{AdminFields as Admin}
+use Rattle.misp_outside.specs.Held.{Held}
+use Rattle.misp_effects.specs.declared.stop.Stop.{Stop}
+use Rattle.misp_effects.specs.declared.stop.Stop.TheVariants as stops
+use Rattle.misp_effects.specs.declared.stop.Side.TheVariants.{Here}
+use Rattle.misp_effects.specs.Batches.{Batch, batch, Spelling}
+use Rattle.misp_effects.specs.Effect.{Effect, effect, Telling, nothing_of, Does}
+use Rattle.misp_model.specs.Asking.{Scene}
+use Rattle.misp_core.specs.Raw.{raw_row}
+use Rattle.misp_core.specs.Sharing.{group_row}
+use Rattle.misp_core.specs.Permission.{is_permitted}
+use Rattle.misp_core.specs.Answers.{Surroundings, scene_at, reply_in, writes_in, bad_row}
+use Rattle.misp_core.specs.Outcome.{refused_by, forbidden, asked_of}
+use Rattle.misp_core.specs.declared.reply.Reply.{Reply}
+use Rattle.misp_core.specs.declared.reply.Reply.TheVariants as replies
+
+-- a batch as a keeper is given it: each row and each group as it is held
+abbrev pub spelled : Spelling
+spelled b = record { rows = map raw_row b.rows; admin = map group_row b.groups }
+
+-- ---- stops
+
+-- the rule that tells a stop
+abbrev pub rule_told : Stop → RuleName
+rule_told (stops.Keeper side) = rules.KeeperFault
+rule_told (stops.Memory side) = rules.NoMemory
+rule_told stops.Carry = rules.LinkFault
+
+-- whole or not at all: a stop is refused by its rule
+abbrev pub telling : Telling Reply
+telling = nothing_of (λ stop. refused_by (rule_told stop))
+
+-- the stop that a rule tells
+abbrev pub stop_by : RuleName → Option Stop
+stop_by name =
+    if rule_number name == 26 then Some (stops.Keeper Here)
+    else if rule_number name == 27 then Some (stops.Memory Here) else None
+
+-- read off the reply
+abbrev pub stop_in : Reply → Option Stop
+stop_in (replies.Ok answer) = None
+stop_in (replies.Refused refusal) = stop_by refusal.name
+
+-- ---- requests
+
+-- a refusal puts nothing
+abbrev pub refused : Refusal → Effect Reply
+refused refusal = effect (replies.Refused refusal) []
+
+-- rows are one batch, and no rows are none
+abbrev pub row_batches : List Row → List Batch
+row_batches [] = []
+row_batches (row ∷ rows) = batch (row ∷ rows) [] ∷ []
+
+-- an ask in a scene: the reply of the definitions, and the rows that it writes
+abbrev pub asked : Admin → Scene → Ask → Effect Reply
+asked admin s ask = effect (reply_in admin s ask) (row_batches (writes_in s ask))
+
+-- the n-th ask over what is held of its event
+abbrev pub asked_over : ℕ → Surroundings → Ask → Result (List Row) (List ℕ) → Effect Reply
+asked_over n at ask (Ok rows) = asked at.admin (scene_at n at rows) ask
+asked_over n at ask (Err name) = refused (bad_row name)
+
+-- the n-th request, where this is held: the role of the caller must permit what it asks
+abbrev pub requested : ℕ → Surroundings → Ask → Held → Effect Reply
+requested n at ask held =
+    if is_permitted at.caller ask then asked_over n at ask (asked_of ask held)
+    else refused (forbidden ask)
+
+-- a call that was to have this effect did what it comes to under some outcome
+abbrev pub Did : Effect Reply → Held → Reply → Option Held → Type 0
+Did e held reply new = Does Reply spelled stop_in telling e held reply new
+
+-- the n-th request was answered so, and left this
+abbrev pub IsAnswered : ℕ → Surroundings → Ask → Held → Reply → Option Held → Type 0
+IsAnswered n at ask held reply new = Did (requested n at ask held) held reply new

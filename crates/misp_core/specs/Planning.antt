@@ -1,0 +1,63 @@
+-- What a planner answers.
+use Rattle.std.specs.Prelude.{◌≡◌, List, [], ◌∷◌, Result, Ok, Err}
+use Rattle.std.specs.declared.option.Option.{Option}
+use Rattle.std.specs.declared.option.Option.TheVariants.{None, Some}
+use Rattle.misp_elem.specs.declared.refusal.Refusal.{Refusal}
+use Rattle.misp_elem.specs.declared.row.RowFields.{RowFields as Row}
+use Rattle.misp_elem.specs.Row.{AreRows}
+use Rattle.misp_effects.specs.Batches.{Batch, batch}
+use Rattle.misp_effects.specs.Effect.{Effect, effect}
+use Rattle.misp_elem.specs.declared.refusal.RuleName.TheVariants as rules
+use Rattle.misp_core.specs.Outcome.{refused_by}
+use Rattle.misp_core.specs.Effects.{refused, stop_by}
+use Rattle.misp_core.specs.declared.planning.Plan.{Plan}
+use Rattle.misp_core.specs.declared.planning.Batch.{Batch as Planned}
+use Rattle.misp_core.specs.declared.planning.NoPlan.{NoPlan}
+use Rattle.misp_core.specs.declared.planning.NoPlan.TheVariants as why
+use Rattle.misp_core.specs.declared.reply.Reply.{Reply}
+use Rattle.misp_core.specs.declared.reply.Reply.TheVariants as replies
+
+-- a batch as the definitions see it
+abbrev pub batch_of : Planned → Batch
+batch_of b = batch b.rows b.groups
+
+-- no batch, or one
+abbrev pub batches_of : Option Planned → List Batch
+batches_of None = []
+batches_of (Some b) = batch_of b ∷ []
+
+-- it answers so, and puts this
+abbrev pub effect_of : Plan → Effect Reply
+effect_of p = effect (replies.Ok p.answer) (batches_of p.batch)
+
+-- the rows that are put
+abbrev pub rows_put : Option Planned → List Row
+rows_put None = []
+rows_put (Some b) = b.rows
+
+-- the plan has this effect, and what it puts of rows are rows
+pub record IsPlan (p : Plan) (e : Effect Reply) : Type 0 where
+  pub is : e ≡ effect_of p
+  pub are_rows : AreRows (rows_put p.batch)
+
+-- the effect is this refusal, by a rule that tells no stop
+pub record Refuses (refusal : Refusal) (e : Effect Reply) : Type 0 where
+  pub is : e ≡ refused refusal
+  pub no_stop : stop_by refusal.name ≡ None
+
+-- the plan of this effect, or its refusal; the want of memory says nothing
+abbrev pub Plans : Result Plan NoPlan → Effect Reply → Type 0
+Plans (Ok p) e = IsPlan p e
+Plans (Err (why.Refused refusal)) e = Refuses refusal e
+Plans (Err why.NoMemory) e = Unit {0}
+
+-- where nothing is planned, no stop is told but the want of memory
+abbrev pub TellsNoStop : Result Plan NoPlan → Type 0
+TellsNoStop (Ok p) = Unit {0}
+TellsNoStop (Err (why.Refused refusal)) = stop_by refusal.name ≡ None
+TellsNoStop (Err why.NoMemory) = Unit {0}
+
+-- what is replied where nothing is planned
+abbrev pub unplanned : NoPlan → Reply
+unplanned (why.Refused refusal) = replies.Refused refusal
+unplanned why.NoMemory = refused_by rules.NoMemory

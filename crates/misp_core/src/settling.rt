@@ -1,0 +1,118 @@
+//! The one place where something is put.
+
+ghost use Rattle.std.specs.Prelude.{◌≡◌, ◌≤◌, length, IfOk, IfSome, OnOk, OnErr, option_map};
+ghost use Rattle.misp_groups.specs.declared.group.GroupFields.{GroupFields};
+ghost use Rattle.misp_outside.specs.Causes.{HasCause};
+ghost use Rattle.misp_outside.specs.Held.{with_batch};
+ghost use Rattle.misp_effects.specs.Effect.{Effect};
+ghost use Rattle.misp_levels.specs.Groups.{put_groups};
+ghost use Rattle.misp_core.specs.Sharing.{HoldsGroups, AreStorable};
+ghost use Rattle.misp_core.specs.Outcome.{ByKeeper, outcome_of, IsRefused};
+ghost use Rattle.misp_core.specs.Effects.{spelled, Did};
+ghost use Rattle.misp_core.specs.Planning.{batch_of, Plans, TellsNoStop, unplanned};
+ghost use Rattle.misp_core.specs.declared.reply.Reply.{Reply as Answered};
+
+use crate::planning::{Batch, NoPlan, Plan};
+use crate::reply::Reply;
+use crate::sharing::group_rows;
+use crate::store::raw_rows;
+use misp_elem::{NoMemory, RuleName};
+use misp_groups::Group;
+use misp_ids::Items;
+use misp_levels::{Groups, Room};
+use misp_outside::{Keeper, KeeperFault, RawBatch};
+use std::alloc::Global;
+
+// The batch as the keeper is given it.
+fn spelled(alloc: Global, put: &Batch) -> Result<RawBatch, NoMemory>
+    ensures batch { IfOk result (λ raw. raw ≡ spelled (batch_of put.now)) }
+    ensures groups { OnOk result (AreStorable put.now.groups) }
+{
+    Ok(RawBatch {
+        rows: Items::of(raw_rows(alloc, put.rows.as_slice())?),
+        admin: Items::of(group_rows(alloc, put.groups.as_slice())?),
+    })
+}
+
+// Puts one group after another.
+fn put_all(room: &mut Room, groups: Vec<Group>)
+    requires { length groups.items ≤ room.old.spare }
+    ensures { room.new.groups ≡ put_groups room.old.groups groups.items }
+{
+    for group in groups {
+        room.put(group);
+    }
+}
+
+// Takes all memory, puts the batch, and keeps its groups beside.
+fn settle<K: Keeper>(
+    keeper: &mut K,
+    groups: &mut Groups,
+    alloc: Global,
+    put: Batch,
+) -> Result<(), KeeperFault>
+    ensures put { OnOk result ((K.stock keeper.new).held
+        ≡ option_map (with_batch (spelled (batch_of put))) (K.stock keeper.old).held) }
+    ensures groups { OnOk result (groups.new ≡ put_groups groups.old put.groups) }
+    ensures storable { OnOk result (AreStorable put.groups) }
+    ensures err { OnErr result ((K.stock keeper.new).held ≡ (K.stock keeper.old).held) }
+    ensures same { OnErr result (groups.new ≡ groups.old) }
+    ensures cause { HasCause (K.stock keeper.old).faults (K.stock keeper.new).faults
+        (result ≡ Err KeeperFault.Failed) }
+{
+    let raw = spelled(alloc, &put)?;
+    let more = put.groups.into_vec();
+    let mut room = groups.with_room(alloc, more.len())?;
+    match keeper.apply(&raw) {
+        Ok(()) => {
+            put_all(&mut room, more);
+            *groups = room.into_groups();
+            Ok(())
+        }
+        Err(stop) => {
+            *groups = room.into_groups();
+            Err(stop)
+        }
+    }
+}
+
+/// What is replied where nothing is planned.
+pub(crate) fn unplanned(alloc: Global, why: NoPlan) -> Reply
+    ensures { result ≡ unplanned why }
+{
+    match why {
+        NoPlan::Refused(refusal) => Reply::Refused(refusal),
+        NoPlan::NoMemory => Reply::refused_by(alloc, RuleName::NoMemory),
+    }
+}
+
+/// Carries a plan out, and answers.
+pub(crate) fn carry_out<K: Keeper>(
+    keeper: &mut K,
+    groups: &mut Groups,
+    alloc: Global,
+    planned: Result<Plan, NoPlan>,
+) -> Reply
+    ensures done { (e : Effect Answered) → Plans planned e →
+        IfSome (K.stock keeper.old).held (λ held. Did e held result (K.stock keeper.new).held) }
+    ensures refused { IsRefused result → (K.stock keeper.new).held ≡ (K.stock keeper.old).held }
+    ensures groups { HoldsGroups (K.stock keeper.old).held groups.old →
+        HoldsGroups (K.stock keeper.new).held groups.new }
+    ensures cause { TellsNoStop planned →
+        HasCause (K.stock keeper.old).faults (K.stock keeper.new).faults
+        (outcome_of result ≡ ByKeeper) }
+{
+    match planned {
+        Err(why) => unplanned(alloc, why),
+        Ok(plan) => {
+            let Plan { answer, batch } = plan;
+            match batch {
+                None => Reply::Ok(answer),
+                Some(put) => match settle(keeper, groups, alloc, put) {
+                    Ok(()) => Reply::Ok(answer),
+                    Err(stop) => Reply::stopped_by(alloc, stop),
+                },
+            }
+        }
+    }
+}
