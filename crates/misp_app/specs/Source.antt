@@ -11,7 +11,7 @@ use Rattle.misp_script.specs.Source.{description_part, script_part}
 use Rattle.misp_outside.specs.Stock.{Stock}
 use Rattle.misp_net.specs.Hosts.{described_hosts}
 use Rattle.misp_net.specs.Opening.{may_be_sound, may_be_unsound}
-use Rattle.misp_net.specs.Run.{acts_of}
+use Rattle.misp_net.specs.Lines.{acts_of}
 use Rattle.misp_net.specs.History.{AreDistinct}
 use Rattle.misp_net.specs.Promise.{IsPromised}
 use Rattle.misp_app.specs.declared.status.Status.{Status}

@@ -7,8 +7,7 @@ use Rattle.misp_core.specs.Standing.{Standing}
 use Rattle.misp_outside.specs.Stock.{Stock}
 use Rattle.misp_net.specs.Hosts.{Host, host_of, described_host, hosts_of, stock_of, stocks_of}
 use Rattle.misp_net.specs.Opening.{AreKept}
-use Rattle.misp_net.specs.Run.{Act}
-use Rattle.misp_net.specs.History.{empty_tables}
+use Rattle.misp_net.specs.Lines.{Act}
 use Rattle.misp_net.specs.Course.{HasRun}
 use Rattle.misp_net.proofs.Openings.{kept_long, kept_count, tell_kept}
 
@@ -23,17 +22,15 @@ rose_before n before old now later rose = omega arith
 -- their run is one of the keepers as they were before they were opened
 run_before : (hosts : List Host) (acts : List Act) (before old new : List Stock) (text : List ℕ) → AreKept before old → HasRun hosts acts old new text → HasRun hosts acts before new text
 run_before hosts acts before old new text kept run = record {
-  outcomes = run.outcomes;
   outputs = run.outputs;
-  each = run.each;
-  agree = run.agree;
   text_is = run.text_is;
-  places = run.places ∙ kept_long before old kept;
-  causes = λ place. rose_before _ _ _ _ (kept_count place before old kept) (run.causes place);
-  outputs_are = λ tables tell. run.outputs_are tables (tell_kept before old tables kept tell);
-  tables_are = λ tables tell. run.tables_are tables (tell_kept before old tables kept tell);
-  told = λ distinct empty. run.told distinct (tell_kept before old (empty_tables hosts) kept empty);
-  history = λ distinct empty. run.history distinct (tell_kept before old (empty_tables hosts) kept empty);
+  ran = record {
+    each = run.ran.each;
+    places = run.ran.places ∙ kept_long before old kept;
+    causes = λ place. rose_before _ _ _ _ (kept_count place before old kept) (run.ran.causes place);
+    done = λ tables tell. run.ran.done tables (tell_kept before old tables kept tell);
+  };
+  among = run.among;
 }
 
 -- and of the first keepers
@@ -41,7 +38,7 @@ pub run_in_front : (hosts described : List Host) (acts : List Act) (front after 
     → hosts ≡ described → length front ≡ count → AreKept (take count olds) front → news ≡ after ++ rest
     → HasRun hosts acts front after text → HasRun described acts (take count olds) (take count news) text
 run_in_front hosts described acts front after rest olds news count text same long kept after_is run =
-    let last : take count news ≡ after = ap (take count) after_is ∙ take_at after rest count (run.places ∙ long) in
+    let last : take count news ≡ after = ap (take count) after_is ∙ take_at after rest count (run.ran.places ∙ long) in
     subst (λ there. HasRun there acts (take count olds) (take count news) text) same
     (subst (λ new. HasRun hosts acts (take count olds) new text) (sym last) (run_before hosts acts (take count olds) front after text kept run))
 

@@ -1,41 +1,28 @@
--- The history goes on by one line.
-use Rattle.std.proofs.Common.{◌≡◌, ℕ, zero, suc, ◌+◌, List, [], ◌∷◌, ◌++◌, length, refl, ◌∙◌, ap, arith}
+-- The lines over keepers that held nothing are those of the history.
+use Rattle.std.proofs.Common.{◌≡◌, ℕ, zero, suc, ◌+◌, List, [], ◌∷◌, length, refl, ◌∙◌, ap, subst, arith}
 use Rattle.std.proofs.lemmas.List.{length-map}
 use Rattle.std.specs.List.Sorted.{IsStrictlySortedBy}
 use Rattle.misp_outside.specs.Held.{nothing_held}
+use Rattle.misp_outside.specs.Stock.{Stock}
+use Rattle.misp_effects.specs.Effect.{Outcome}
+use Rattle.misp_effects.specs.Stocks.{Tables, held_at, Tell}
+use Rattle.misp_effects.specs.Run.{outputs_of, tables_left, AreFit}
 use Rattle.misp_model.specs.History.{tables, newest, newest_from}
 use Rattle.misp_model.specs.Order.{in_order}
 use Rattle.misp_model.specs.Acts.{World}
 use Rattle.misp_model.specs.Kept.{start}
-use Rattle.misp_core.specs.Outcome.{Outcome}
 use Rattle.misp_core.specs.Sharing.{groups_in}
-use Rattle.misp_net.specs.Hosts.{Host, held_at}
-use Rattle.misp_net.specs.Run.{Act}
-use Rattle.misp_net.specs.History.{world_after, world_left, told_output, told_outputs, empty_tables, IsHistory}
-
-pub told_push : (n : ℕ) (hosts : List Host) (w : World) (acts : List Act) (act : Act) (outcomes : List Outcome) (outcome : Outcome) → length outcomes ≡ length acts
-    → told_outputs n hosts w (acts ++ act ∷ []) (outcomes ++ outcome ∷ [])
-    ≡ told_outputs n hosts w acts outcomes ++ told_output outcome (n + length acts) hosts (world_left n hosts w acts outcomes) act ∷ []
-told_push n hosts w [] act [] outcome each = ap (λ k. told_output outcome k hosts w act ∷ []) (omega arith)
-told_push n hosts w [] act (o ∷ outcomes) outcome each = absurd (omega arith)
-told_push n hosts w (a ∷ acts) act [] outcome each = absurd (omega arith)
-told_push n hosts w (a ∷ acts) act (o ∷ outcomes) outcome each =
-    let later : suc n + length acts ≡ n + suc (length acts) = omega arith in
-    let after : World = world_after o n hosts w a in
-    ap (λ outputs. told_output o n hosts w a ∷ outputs)
-    (told_push (suc n) hosts after acts act outcomes outcome (omega arith)
-    ∙ ap (λ k. told_outputs (suc n) hosts after acts outcomes ++ told_output outcome k hosts (world_left (suc n) hosts after acts outcomes) act ∷ []) later)
-
-pub world_push : (n : ℕ) (hosts : List Host) (w : World) (acts : List Act) (act : Act) (outcomes : List Outcome) (outcome : Outcome) → length outcomes ≡ length acts
-    → world_left n hosts w (acts ++ act ∷ []) (outcomes ++ outcome ∷ []) ≡ world_after outcome (n + length acts) hosts (world_left n hosts w acts outcomes) act
-world_push n hosts w [] act [] outcome each = ap (λ k. world_after outcome k hosts w act) (omega arith)
-world_push n hosts w [] act (o ∷ outcomes) outcome each = absurd (omega arith)
-world_push n hosts w (a ∷ acts) act [] outcome each = absurd (omega arith)
-world_push n hosts w (a ∷ acts) act (o ∷ outcomes) outcome each =
-    let later : suc n + length acts ≡ n + suc (length acts) = omega arith in
-    let after : World = world_after o n hosts w a in
-    world_push (suc n) hosts after acts act outcomes outcome (omega arith)
-    ∙ ap (λ k. world_after outcome k hosts (world_left (suc n) hosts after acts outcomes) act) later
+use Rattle.misp_core.specs.Effects.{spelled}
+use Rattle.misp_core.proofs.GroupRows.{AreReadBack}
+use Rattle.misp_net.specs.declared.line.Output.{Output}
+use Rattle.misp_net.specs.Hosts.{Host}
+use Rattle.misp_net.specs.Lines.{Act, AreAmong}
+use Rattle.misp_net.specs.Seen.{seen_in}
+use Rattle.misp_net.specs.Meaning.{meanings_of}
+use Rattle.misp_net.specs.Run.{tables_after, Ran}
+use Rattle.misp_net.specs.History.{world_after, world_left, told_output, told_outputs, AreDistinct, empty_tables, IsHistory, IsTold}
+use Rattle.misp_net.proofs.Courses.{meanings_long}
+use Rattle.misp_net.proofs.Telling.{output_told, line_left}
 
 empty_at : (place : ℕ) (hosts : List Host) → held_at place (empty_tables hosts) ≡ nothing_held
 empty_at zero [] = refl
@@ -44,10 +31,47 @@ empty_at zero (host ∷ hosts) = refl
 empty_at (suc place) (host ∷ hosts) = empty_at place hosts
 
 -- before the first line nothing is held, and there is no history
-pub at_start : (hosts : List Host) → IsHistory hosts 0 start (empty_tables hosts)
+at_start : (hosts : List Host) → IsHistory hosts 0 start (empty_tables hosts)
 unfolding start tables newest newest_from in_order nothing_held groups_in IsStrictlySortedBy
 at_start hosts = record {
   long = length-map hosts (λ host. nothing_held);
   each = λ place inside. rw (empty_at place hosts) (record { rows = refl; are_rows = tt; groups = refl; are_groups = tt; ascend = tt });
   earlier = refl;
 }
+
+module _ (back : AreReadBack) (hosts : List Host) (distinct : AreDistinct hosts) where
+  -- what the lines put out and leave, the first being the n-th
+  all_told : (n : ℕ) (w : World) (acts : List Act) (outcomes : List Outcome) (old : Tables) → length outcomes ≡ length acts
+      → AreAmong (length hosts) acts → IsHistory hosts n w old → AreFit seen_in spelled (meanings_of n hosts acts) outcomes old
+      → (outputs_of seen_in spelled (meanings_of n hosts acts) outcomes old ≡ told_outputs n hosts w acts outcomes)
+      × IsHistory hosts (n + length acts) (world_left n hosts w acts outcomes) (tables_left seen_in spelled (meanings_of n hosts acts) outcomes old)
+  all_told n w [] outcomes old each among history fits =
+      let same : n ≡ n + 0 = omega arith in (refl, subst (λ k. IsHistory hosts k w old) same history)
+  all_told n w (act ∷ acts) [] old each among history fits = absurd (omega (arith, each))
+  all_told n w (act ∷ acts) (outcome ∷ outcomes) old each among history fits =
+      let after : Tables = tables_after outcome n hosts act old in
+      let next : World = world_after outcome n hosts w act in
+      let rest = all_told (suc n) next acts outcomes after (omega (arith, each)) among.1
+      (line_left hosts distinct n w old history back outcome act among.0 fits.0) fits.1 in
+      let later : suc n + length acts ≡ n + suc (length acts) = omega arith in (
+        ap (λ output. output ∷ outputs_of seen_in spelled (meanings_of (suc n) hosts acts) outcomes after) (output_told hosts distinct n w old history outcome act among.0)
+            ∙ ap (λ outputs. told_output outcome n hosts w act ∷ outputs) rest.0,
+        subst (λ k. IsHistory hosts k (world_left (suc n) hosts next acts outcomes) (tables_left seen_in spelled (meanings_of (suc n) hosts acts) outcomes after)) later rest.1,
+      )
+
+  pub are_told : (acts : List Act) (old new : List Stock) (outputs : List Output) → AreAmong (length hosts) acts → Ran hosts acts old new outputs
+      → Tell old (empty_tables hosts) → IsTold hosts acts outputs new
+  are_told acts old new outputs among ran empty =
+      let done = ran.done (empty_tables hosts) empty in
+      let each : length done.outcomes ≡ length acts = done.each ∙ meanings_long 0 hosts acts in
+      let told = all_told 0 start acts done.outcomes (empty_tables hosts) each among (at_start hosts) done.fits in
+      let same : 0 + length acts ≡ length acts = omega arith in
+      record {
+        outcomes = done.outcomes;
+        each = each;
+        agree = done.agree;
+        outputs_are = done.outputs_are ∙ told.0;
+        tables = tables_left seen_in spelled (meanings_of 0 hosts acts) done.outcomes (empty_tables hosts);
+        tables_are = done.tables_are;
+        history = subst (λ k. IsHistory hosts k (world_left 0 hosts start acts done.outcomes) (tables_left seen_in spelled (meanings_of 0 hosts acts) done.outcomes (empty_tables hosts))) same told.1;
+      }

@@ -6,7 +6,8 @@ use Rattle.std.specs.List.{list_all}
 use Rattle.std.specs.Option.{option_map_or}
 use Rattle.misp_outside.specs.Stock.{Stock}
 use Rattle.misp_core.specs.Standing.{Standing}
-use Rattle.misp_net.specs.Hosts.{stock_of, stocks_of, told, Tables, Tell, count_at}
+use Rattle.misp_effects.specs.Stocks.{told, Tables, Tell, count_at}
+use Rattle.misp_net.specs.Hosts.{stock_of, stocks_of}
 use Rattle.misp_net.specs.Opening.{is_sound, AreKept, OneFailed, may_be_sound, may_be_unsound}
 
 -- each is as it was

@@ -1,18 +1,20 @@
 -- What an organisation was never granted changes none of its replies.
-use Rattle.std.proofs.Common.{◌≡◌, ℕ, suc, Bool, true, List, [], ◌∷◌, Option, Some, None, Ok, Err, refl, sym, ◌∙◌, ap, subst, inl, inr}
+use Rattle.std.proofs.Common.{◌≡◌, ℕ, suc, Bool, true, List, [], ◌∷◌, length, map, Option, Some, None, Ok, Err, refl, sym, ◌∙◌, ap, subst, inl, inr, arith}
 use Rattle.std.proofs.lemmas.Bool.{cases_Bool}
-use Rattle.std.specs.Prelude.{if◌then◌else◌}
+use Rattle.std.specs.Prelude.{if◌then◌else◌, option_map}
 use Rattle.std.specs.List.{list_all}
 use Rattle.misp_ids.specs.declared.uid.OrgId.{OrgId}
 use Rattle.misp_elem.specs.declared.key.KeyForm.{KeyForm as Key}
 use Rattle.misp_orgs.specs.Keys.{CallerFields as Caller}
+use Rattle.misp_outside.specs.Stock.{Stock}
+use Rattle.misp_effects.specs.Effect.{Outcome, Went, Stopped, stop_of}
+use Rattle.misp_effects.specs.Stocks.{Tell}
 use Rattle.misp_script.specs.Step.{DeedData}
 use Rattle.misp_script.specs.Step as deeds
-use Rattle.misp_model.specs.Names.{same_org}
-use Rattle.misp_dates.specs.Dates.{date_of}
+use Rattle.misp_model.specs.Names.{Inst, same_org}
 use Rattle.misp_model.specs.View.{known}
 use Rattle.misp_model.specs.History.{tables}
-use Rattle.misp_model.specs.Acts.{World, scene, known_at, step}
+use Rattle.misp_model.specs.Acts.{World, known_at, step}
 use Rattle.misp_model.specs.Acts as model
 use Rattle.misp_model.specs.Erasure.{cut, cut_rows, cut_world, IsClosed, HasKnown, IsKept, erased_act, erase}
 use Rattle.misp_model.specs.Kept.{kept, start, erased}
@@ -22,60 +24,50 @@ use Rattle.misp_model.proofs.Knowing.{known_cut}
 use Rattle.misp_model.proofs.Tables.{tables_cut}
 use Rattle.misp_model.proofs.Erasing.{step_cut}
 use Rattle.misp_model.proofs.Headline.{kept_is_closed, kept_has}
-use Rattle.misp_core.specs.Answers.{reply_in}
-use Rattle.misp_core.specs.Keeping.{act_at, caller_at}
-use Rattle.misp_core.specs.Outcome.{Went}
+use Rattle.misp_core.specs.Answers.{site, scene_with, reply_in}
+use Rattle.misp_core.proofs.GroupRows.{AreReadBack}
+use Rattle.misp_net.specs.declared.line.Output.{Output}
 use Rattle.misp_net.specs.declared.line.Output.TheVariants.{Replied}
-use Rattle.misp_outside.specs.Stock.{Stock}
 use Rattle.misp_net.specs.Hosts.{Host, host_at}
+use Rattle.misp_net.specs.Lines.{Act}
 use Rattle.misp_net.specs.Request.{Reading}
-use Rattle.misp_net.specs.Answering.{Asked, caller_in, form_of}
-use Rattle.misp_net.specs.Run.{Act}
+use Rattle.misp_net.specs.Answering.{Asked, caller_in, form_of, replied}
+use Rattle.misp_net.specs.Meaning.{deed_meaning, stop_in}
 use Rattle.misp_net.specs.Course.{HasRun}
-use Rattle.misp_net.specs.History.{surroundings_of, act_in, acts_in, no_links, told_reply, told_deed, told_output, told_outputs, is_caller, deed_is_of, is_of}
-use Rattle.misp_net.specs.Promise.{unstopped, outputs_over, replies_to, own_lines, IsPromised}
+use Rattle.misp_net.specs.History.{act_in, acts_in, no_links, seen_by, told_output, told_outputs, AreDistinct, empty_tables, IsTold, is_asker, is_of}
+use Rattle.misp_net.specs.Promise.{ShowNoStop, outputs_over, replies_to, own_lines, IsPromised}
 use Rattle.misp_net.proofs.Forms.{AskedBy, form_caller}
 use Rattle.misp_net.proofs.Telling.{world_whole}
+use Rattle.misp_net.proofs.Histories.{are_told}
 use Rattle.misp_net.proofs.Refusing.{idle_same}
 
 -- ---- over a set of keys that has all that the organisation knows
 
 module _ (keep : Key → Bool) (closed : IsClosed keep) (o : OrgId) (hosts : List Host) where
   -- it knows the same over the history without the others
-  own_scene : (n : ℕ) (w : World) (act : model.Act) (c : model.Caller) → same_org c.org o ≡ true → HasKnown o keep w → scene n (cut_world keep w) act c ≡ scene n w act c
-  unfolding scene known_at cut_world cut_rows
-  own_scene n w act c same has = λ i. record {
-    act = n;
-    at = act.at;
-    by = c.org;
-    by_name = c.name;
-    now = act.now;
-    today = date_of act.now;
-    rows = rows_same i;
-    groups = w.groups act.at;
-  }
-    where
-      granted : list_all (λ row. keep row.key) (known (tables w.log act.at) (w.groups act.at) act.at c.org) ≡ true
-      granted = ap (λ x. list_all (λ row. keep row.key) (known (tables w.log act.at) (w.groups act.at) act.at x)) (same_org-sound c.org o same) ∙ has.granted act.at
+  own_rows : (w : World) (i : Inst) (org : OrgId) → same_org org o ≡ true → HasKnown o keep w → known (tables (cut keep w.log) i) (w.groups i) i org ≡ known (tables w.log i) (w.groups i) i org
+  unfolding known_at cut_rows
+  own_rows w i org same has =
+      let granted : list_all (λ row. keep row.key) (known (tables w.log i) (w.groups i) i org) ≡ true =
+      ap (λ x. list_all (λ row. keep row.key) (known (tables w.log i) (w.groups i) i x)) (same_org-sound org o same) ∙ has.granted i in
+      ap (λ rows. known rows (w.groups i) i org) (tables_cut keep closed w.log i)
+      ∙ known_cut keep closed (tables w.log i) (w.groups i) i org
+      ∙ filter_all (λ row. keep row.key) (known (tables w.log i) (w.groups i) i org) granted
 
-      rows_same : known (tables (cut keep w.log) act.at) (w.groups act.at) act.at c.org ≡ known (tables w.log act.at) (w.groups act.at) act.at c.org
-      rows_same =
-          ap (λ rows. known rows (w.groups act.at) act.at c.org) (tables_cut keep closed w.log act.at)
-          ∙ known_cut keep closed (tables w.log act.at) (w.groups act.at) act.at c.org
-          ∙ filter_all (λ row. keep row.key) (known (tables w.log act.at) (w.groups act.at) act.at c.org) granted
+  own_reply : (n : ℕ) (w : World) (at now : ℕ) (form : Reading Asked) (caller : Option Caller) → AskedBy caller form → is_asker o (option_map (λ c. c.org) caller) ≡ true → HasKnown o keep w
+      → (replied n (host_at at hosts) now form (seen_by hosts (cut_world keep w) at)).reply ≡ (replied n (host_at at hosts) now form (seen_by hosts w at)).reply
+  unfolding cut_world
+  own_reply n w at now (Ok asked) caller by own has =
+      let host : Host = host_at at hosts in
+      let same : same_org asked.0.org o ≡ true = subst (λ (c : Option Caller). is_asker o (option_map (λ (d : Caller). d.org) c) ≡ true) by own in
+      ap (λ rows. reply_in host.admin (scene_with n (site host.name host.admin (w.groups host.name) asked.0 now) rows) asked.1) (own_rows w host.name asked.0.org same has)
+  own_reply n w at now (Err refusal) caller by own has = refl
 
-  own_reply : (n : ℕ) (w : World) (host : Host) (now : ℕ) (form : Reading Asked) (caller : Option Caller) → AskedBy caller form → is_caller o caller ≡ true → HasKnown o keep w
-      → told_reply Went n (cut_world keep w) host now form ≡ told_reply Went n w host now form
-  own_reply n w host now (Ok asked) caller by own has =
-      let same : same_org asked.0.org o ≡ true = subst (λ c. is_caller o c ≡ true) by own in
-      ap (λ s. reply_in host.admin s asked.1) (own_scene n w (act_at (surroundings_of w host now asked.0) asked.1) (caller_at host.admin asked.0) same has)
-  own_reply n w host now (Err refusal) caller by own has = refl
-
-  own_deed : (n : ℕ) (w : World) (time word : ℕ) (deed : DeedData) → deed_is_of o hosts deed ≡ true → HasKnown o keep w
-      → told_deed Went n hosts (cut_world keep w) time word deed ≡ told_deed Went n hosts w time word deed
+  own_deed : (n : ℕ) (w : World) (time word : ℕ) (deed : DeedData) → is_asker o (deed_meaning hosts time word deed).asker ≡ true → HasKnown o keep w
+      → told_output Went n hosts (cut_world keep w) (Ok (record { time = time; word = word; deed = deed })) ≡ told_output Went n hosts w (Ok (record { time = time; word = word; deed = deed }))
   own_deed n w time word deeds.Nothing own has = refl
   own_deed n w time word (deeds.Request r) own has =
-      ap Replied (own_reply n w (host_at r.at hosts) time (form_of (host_at r.at hosts).admin r word) (caller_in (host_at r.at hosts).admin r.key)
+      ap Replied (own_reply n w r.at time (form_of (host_at r.at hosts).admin r word) (caller_in (host_at r.at hosts).admin r.key)
       (form_caller (host_at r.at hosts).admin r word) own has)
   own_deed n w time word (deeds.Group line) own has = absurd cc
 
@@ -148,23 +140,41 @@ same_lines o hosts n w (act ∷ acts) (other ∷ others) (a ∷ history) same =
     ]
 
 -- where nothing is stopped, the history is that of all acts
-told_unstopped : (n : ℕ) (hosts : List Host) (w : World) (acts : List Act) → told_outputs n hosts w acts (unstopped acts) ≡ outputs_over n hosts w acts (acts_in hosts acts)
-told_unstopped n hosts w [] = refl
-told_unstopped n hosts w (act ∷ acts) =
-    ap (λ v. told_output Went n hosts w act ∷ told_outputs (suc n) hosts v acts (unstopped acts)) (world_whole n w (act_in hosts act))
-    ∙ ap (λ outputs. told_output Went n hosts w act ∷ outputs) (told_unstopped (suc n) hosts (step no_links n w (act_in hosts act)) acts)
+told_unstopped : (n : ℕ) (hosts : List Host) (w : World) (acts : List Act) (outcomes : List Outcome) (outputs : List Output) → length outcomes ≡ length acts
+    → map stop_of outcomes ≡ map stop_in outputs → ShowNoStop outputs → told_outputs n hosts w acts outcomes ≡ outputs_over n hosts w acts (acts_in hosts acts)
+told_unstopped n hosts w [] outcomes outputs each agree none = refl
+told_unstopped n hosts w (act ∷ acts) [] outputs each agree none = absurd (omega (arith, each))
+told_unstopped n hosts w (act ∷ acts) (outcome ∷ outcomes) [] each agree none = absurd cc
+told_unstopped n hosts w (act ∷ acts) (Stopped stop k lost ∷ outcomes) (output ∷ outputs) each agree none =
+    let first : Some stop ≡ stop_in output = cc in absurd (let no_ : Some stop ≡ None = first ∙ none.0 in cc)
+told_unstopped n hosts w (act ∷ acts) (Went ∷ outcomes) (output ∷ outputs) each agree none =
+    let rest : map stop_of outcomes ≡ map stop_in outputs = cc in
+    ap (λ v. told_output Went n hosts w act ∷ told_outputs (suc n) hosts v acts outcomes) (world_whole n w (act_in hosts act))
+    ∙ ap (λ os. told_output Went n hosts w act ∷ os) (told_unstopped (suc n) hosts (step no_links n w (act_in hosts act)) acts outcomes outputs (omega (arith, each)) rest none.1)
 
-pub promised : (hosts : List Host) (acts : List Act) (old new : List Stock) (text : List ℕ) → HasRun hosts acts old new text → IsPromised hosts acts old new text
-promised hosts acts old new text run = record {
-  run = run;
+module _ (back : AreReadBack) (hosts : List Host) (acts : List Act) (old new : List Stock) (text : List ℕ) (run : HasRun hosts acts old new text)
+    (distinct : AreDistinct hosts) (empty : Tell old (empty_tables hosts)) where
+  told : IsTold hosts acts run.outputs new
+  told = are_told back hosts distinct acts old new run.outputs run.among run.ran empty
+
+  -- what was put out is what the history says of all acts
+  told_whole : ShowNoStop run.outputs → run.outputs ≡ outputs_over 0 hosts start acts (acts_in hosts acts)
+  told_whole none = told.outputs_are ∙ told_unstopped 0 hosts start acts told.outcomes run.outputs told.each told.agree none
+
+pub promised : AreReadBack → (hosts : List Host) (acts : List Act) (old new : List Stock) (text : List ℕ) → HasRun hosts acts old new text → IsPromised hosts acts old new text
+promised back hosts acts old new text run = record {
+  outputs = run.outputs;
+  text_is = run.text_is;
+  ran = run.ran;
   refused = λ outcome n act tables idle. idle_same outcome n hosts act tables idle;
-  private = λ distinct empty went o.
-      ap (replies_to o hosts acts) (run.told distinct empty ∙ ap (told_outputs 0 hosts start acts) went ∙ told_unstopped 0 hosts start acts)
+  told = λ distinct empty. told back hosts acts old new text run distinct empty;
+  private = λ distinct empty none o.
+      ap (replies_to o hosts acts) (told_whole back hosts acts old new text run distinct empty none)
       ∙ sym (private_replies o hosts acts);
-  alike = λ distinct empty went o others own same.
+  alike = λ distinct empty none o others own same.
       sym (private_replies o hosts others)
       ∙ ap (λ history. replies_to o hosts others (outputs_over 0 hosts start others history)) same
       ∙ same_lines o hosts 0 start acts others (erased o no_links (acts_in hosts acts)) own
       ∙ private_replies o hosts acts
-      ∙ sym (ap (replies_to o hosts acts) (run.told distinct empty ∙ ap (told_outputs 0 hosts start acts) went ∙ told_unstopped 0 hosts start acts));
+      ∙ sym (ap (replies_to o hosts acts) (told_whole back hosts acts old new text run distinct empty none));
 }

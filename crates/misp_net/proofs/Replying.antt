@@ -1,5 +1,5 @@
 -- The reply to a request by its form.
-use Rattle.std.proofs.Common.{◌≡◌, ◌⊎◌, ℕ, Bool, true, false, List, [], refl, sym, ap, subst, inl, inr, Option, Some, None, Result, Ok, Err}
+use Rattle.std.proofs.Common.{◌≡◌, ◌⊎◌, ℕ, Bool, true, false, List, refl, sym, subst, inl, inr, Option, Some, None, Result, Ok, Err}
 use Rattle.std.specs.Prelude.{IfSome, bytes_eq, if◌then◌else◌}
 use Rattle.misp_elem.specs.declared.refusal.Refusal.{Refusal}
 use Rattle.misp_elem.specs.declared.refusal.RuleName.{RuleName}
@@ -14,13 +14,16 @@ use Rattle.misp_outside.specs.Held.{Held}
 use Rattle.misp_requests.specs.declared.ask.Ask.{Ask}
 use Rattle.misp_script.specs.Step.{RequestData}
 use Rattle.misp_core.specs.Standing.{Standing}
-use Rattle.misp_elem.specs.Row.{AreRows}
+use Rattle.misp_effects.specs.declared.stop.Stop.TheVariants as kinds
+use Rattle.misp_effects.specs.declared.stop.Side.TheVariants.{Here}
+use Rattle.misp_effects.specs.Effect.{Effect, Stopped}
+use Rattle.misp_effects.specs.Effect as effects
 use Rattle.misp_core.specs.Permission.{is_permitted}
 use Rattle.misp_core.specs.Sharing.{groups_of}
-use Rattle.misp_core.specs.Answers.{site, site_at, writes_over}
-use Rattle.misp_core.specs.Outcome.{Went, ByKeeper, outcome_of, asked_of, reply_to, held_after, refusal_by, forbidden, IsStepped}
-use Rattle.misp_core.specs.Effects.{IsAnswered}
-use Rattle.misp_core.proofs.Stepped.{stepped}
+use Rattle.misp_core.specs.Answers.{site, site_at}
+use Rattle.misp_core.specs.Outcome.{Went, ByKeeper, outcome_of, asked_of, forbidden}
+use Rattle.misp_core.specs.Effects.{stop_in, refused, asked_over, Did, IsAnswered}
+use Rattle.misp_core.proofs.Stepped.{went_told}
 use Rattle.misp_core.specs.declared.reply.Reply.{Reply}
 use Rattle.misp_core.specs.declared.reply.Reply.TheVariants as replies
 use Rattle.misp_net.specs.declared.route.Route.{Route}
@@ -31,16 +34,15 @@ use Rattle.misp_net.specs.Route.{path_of, path_route, method_of, by_method, rout
 use Rattle.misp_net.specs.Hosts.{Host, host_of}
 use Rattle.misp_net.specs.Request.{Reading, Gives, event_in, added, formed, asked, ask_of}
 use Rattle.misp_net.proofs.Forms.{allowed}
-use Rattle.misp_net.specs.Answering.{Asked, caller_in, by_body, by_route, read_of, permitted, form_of, fault_reply, reply_by, IsReplied}
+use Rattle.misp_net.specs.Seen.{seen_in}
+use Rattle.misp_net.specs.Answering.{Asked, caller_in, by_body, by_route, read_of, permitted, form_of, fault_reply, replied, IsReplied}
 
--- what an instance answers to an ask is what is replied to its form, by whether the role permits the ask
-answer_replies : (n : ℕ) (host : Host) (now : ℕ) (asked : Asked) (may : Bool) (held : Held) (reply : Reply) (new : Option Held)
-    → reply ≡ (if may then reply_to (outcome_of reply) n (site host.name host.admin (groups_of held) asked.0 now) asked.1 held else refusal_by (outcome_of reply) (forbidden asked.1))
-    → new ≡ Some (if may then held_after (outcome_of reply) n (site host.name host.admin (groups_of held) asked.0 now) asked.1 held else held)
-    → (outcome_of reply ≡ Went → AreRows (if may then writes_over n (site host.name host.admin (groups_of held) asked.0 now) asked.1 (asked_of asked.1 held) else []))
-    → IsReplied n host now (allowed may asked) held reply new
-answer_replies n host now asked true held reply new is left are = record { reply_is = is; left = left; are_rows = are }
-answer_replies n host now asked false held reply new is left are = record { reply_is = is; left = left; are_rows = are }
+-- what an instance comes to by an ask is what its form comes to, by whether the role permits the ask
+ask_replied : (n : ℕ) (host : Host) (now : ℕ) (asked : Asked) (may : Bool) (held : Held)
+    → replied n host now (allowed may asked) (seen_in held)
+    ≡ (if may then asked_over n (site host.name host.admin (groups_of held) asked.0 now) asked.1 (asked_of asked.1 held) else refused (forbidden asked.1))
+ask_replied n host now asked true held = refl
+ask_replied n host now asked false held = refl
 
 -- an ask is answered by the instance
 pub by_step : (n : ℕ) (i : Standing) (now : ℕ) (request : RequestData) (word : ℕ) (asked : Asked) (reply : Reply) (old new : Option Held)
@@ -48,13 +50,12 @@ pub by_step : (n : ℕ) (i : Standing) (now : ℕ) (request : RequestData) (word
     → IfSome old (λ held. IsReplied n (host_of i) now (form_of i.admin request word) held reply new)
 by_step n i now request word asked reply None new is answered = tt
 by_step n i now request word asked reply (Some held) new is answered =
-    let so : IsStepped n (site_at i held asked.0 now) asked.1 held reply new = stepped n (site_at i held asked.0 now) asked.1 held reply new answered in
     subst (λ read. IsReplied n (host_of i) now (permitted read) held reply new) (sym is)
-    (answer_replies n (host_of i) now asked (is_permitted asked.0 asked.1) held reply new so.reply_is so.left so.are_rows)
+    (subst (λ e. Did e held reply new) (sym (ask_replied n (host_of i) now asked (is_permitted asked.0 asked.1) held)) answered)
 
 -- a refusal by the form of a request comes from no keeper, and from memory only where memory ran out
 abbrev pub IsFormal : Refusal → Type 0
-IsFormal refusal = (outcome_of (replies.Refused refusal) ≡ Went) ⊎ (refusal ≡ bare rules.NoMemory)
+IsFormal refusal = (stop_in (replies.Refused refusal) ≡ None) ⊎ (refusal ≡ bare rules.NoMemory)
 
 abbrev pub ByForm : {A : Type 0} → Reading A → Type 0
 ByForm (Ok x) = Unit {0}
@@ -107,39 +108,35 @@ read_by_form : (admin : Admin) (request : RequestData) (word : ℕ) → ByForm (
 unfolding read_of
 read_by_form admin request word = route_by_form (route_of request.method request.target) (caller_in admin request.key) request.body word (target_by_form request.method request.target)
 
+-- where memory ran out, nothing is left
+pub out_of_memory : (e : Effect Reply) (held : Held) → Did e held (fault_reply stops.NoMemory) (Some held)
+out_of_memory e held = record { outcome = Stopped (kinds.Memory Here) 0 false; agree = refl; reply_is = refl; held_is = refl; fits = tt }
+
 -- such a refusal is the stated one
-formal_reply : (n : ℕ) (host : Host) (now : ℕ) (held : Held) (refusal : Refusal) → IsFormal refusal
-    → IsReplied n host now (Err refusal) held (replies.Refused refusal) (Some held)
-formal_reply n host now held refusal (inl went) = record {
-  reply_is = sym (ap (λ outcome. reply_by outcome n host now (Err refusal) held) went);
-  left = refl;
-  are_rows = λ went. tt;
-}
-formal_reply n host now held refusal (inr out) = subst (λ r. IsReplied n host now (Err r) held (replies.Refused r) (Some held)) (sym out)
-    (record { reply_is = refl; left = refl; are_rows = λ went. tt })
+formal_reply : (held : Held) (refusal : Refusal) → IsFormal refusal → Did (refused refusal) held (replies.Refused refusal) (Some held)
+formal_reply held refusal (inl none) = record { outcome = effects.Went; agree = sym none; reply_is = refl; held_is = refl; fits = tt }
+formal_reply held refusal (inr out) =
+    subst (λ r. Did (refused r) held (replies.Refused r) (Some held)) (sym out) (out_of_memory (refused (bare rules.NoMemory)) held)
 
-out_of_memory : (n : ℕ) (host : Host) (now : ℕ) (form : Reading Asked) (held : Held)
-    → IsReplied n host now form held (fault_reply stops.NoMemory) (Some held)
-out_of_memory n host now (Ok asked) held = record { reply_is = refl; left = refl; are_rows = λ went. absurd cc }
-out_of_memory n host now (Err refusal) held = record { reply_is = refl; left = refl; are_rows = λ went. tt }
-
--- a request that was not read is refused, and what is held stays
-by_fault : (n : ℕ) (host : Host) (now : ℕ) (read : Reading Asked) (fault : AskFault) (held : Held) → Gives (Err fault) read → ByForm read
-    → IsReplied n host now (permitted read) held (fault_reply fault) (Some held)
-by_fault n host now read (stops.Refused refusal) held given formed =
+-- what was not read is refused, and what is held stays
+pub by_fault : {A : Type 0} (comes : Reading A → Effect Reply) → ((refusal : Refusal) → comes (Err refusal) ≡ refused refusal)
+    → (read : Reading A) (fault : AskFault) (held : Held) → Gives (Err fault) read → ByForm read → Did (comes read) held (fault_reply fault) (Some held)
+by_fault comes refuses read (stops.Refused refusal) held given formed =
     let formal : IsFormal refusal = subst ByForm given formed in
-    subst (λ f. IsReplied n host now (permitted f) held (replies.Refused refusal) (Some held)) (sym given) (formal_reply n host now held refusal formal)
-by_fault n host now read stops.NoMemory held given formed = out_of_memory n host now (permitted read) held
+    subst (λ r. Did (comes r) held (replies.Refused refusal) (Some held)) (sym given)
+    (subst (λ e. Did e held (replies.Refused refusal) (Some held)) (sym (refuses refusal)) (formal_reply held refusal formal))
+by_fault comes refuses read stops.NoMemory held given formed = out_of_memory (comes read) held
 
 pub refused_by_form : (n : ℕ) (i : Standing) (now : ℕ) (request : RequestData) (word : ℕ) (fault : AskFault) (old : Option Held)
     → Gives (Err fault) (read_of i.admin request word)
     → IfSome old (λ held. IsReplied n (host_of i) now (form_of i.admin request word) held (fault_reply fault) old)
 refused_by_form n i now request word fault None given = tt
 refused_by_form n i now request word fault (Some held) given =
-    by_fault n (host_of i) now (read_of i.admin request word) fault held given (read_by_form i.admin request word)
+    by_fault (λ read. replied n (host_of i) now (permitted read) (seen_in held)) (λ refusal. refl)
+    (read_of i.admin request word) fault held given (read_by_form i.admin request word)
 
 pub no_keeper_in : (refusal : Refusal) → IsFormal refusal → outcome_of (replies.Refused refusal) ≡ ByKeeper → ⊥
-no_keeper_in refusal (inl went) is = absurd cc
+no_keeper_in refusal (inl none) is = let went : outcome_of (replies.Refused refusal) ≡ Went = went_told (replies.Refused refusal) none in cc
 no_keeper_in refusal (inr out) is = absurd cc
 
 -- no keeper failed where a request was not read

@@ -1,150 +1,116 @@
--- What a request at one instance is among all of them.
-use Rattle.std.proofs.Common.{◌≡◌, ◌≢◌, ℕ, zero, suc, ◌<◌, List, [], ◌∷◌, length, get_or, set, Option, Some, Ok, Err, refl, sym, ◌∙◌, ap, subst, inl, inr, arith, length-set}
-use Rattle.std.proofs.lemmas.Bool.{cases_eq}
-use Rattle.std.proofs.lemmas.Bool.Decides.{nat_tests}
-use Rattle.std.proofs.lemmas.List.{length-map, map-set, get_or-map}
-use Rattle.std.specs.Prelude.{IfSome}
-use Rattle.misp_outside.specs.Causes.{RoseBy, HasCause}
-use Rattle.misp_outside.specs.Held.{Held}
+-- What one instance does is an act among all of them.
+use Rattle.std.proofs.Common.{◌≡◌, ℕ, zero, suc, ◌<◌, Bool, true, false, eqb, List, [], ◌∷◌, length, get_or, set, Option, Some, None, Ok, Err, refl, sym, ◌∙◌, ap, subst, arith}
+use Rattle.std.proofs.lemmas.List.{length-map, map-set, get_or-map, set-get_or}
+use Rattle.std.specs.Prelude.{IfSome, if◌then◌else◌}
+use Rattle.misp_elem.specs.Refusal.{rule_number}
+use Rattle.misp_outside.specs.Causes.{HasCause}
+use Rattle.misp_outside.specs.Held.{Held, nothing_held}
+use Rattle.misp_outside.specs.Stock.{Stock}
+use Rattle.misp_effects.specs.declared.stop.Stop.TheVariants as stops
+use Rattle.misp_effects.specs.declared.stop.Side.TheVariants.{Here, There}
+use Rattle.misp_effects.specs.Effect.{Effect, shown, nothing_of, Does}
+use Rattle.misp_effects.specs.Effect as effects
+use Rattle.misp_effects.specs.Stocks.{Tell}
+use Rattle.misp_effects.specs.Course.{IsAct}
+use Rattle.misp_effects.proofs.Acting.{one_act}
+use Rattle.misp_effects.proofs.Showing.{does_shown}
 use Rattle.misp_script.specs.declared.field.BadLine.{BadLine}
-use Rattle.misp_script.specs.Step.{StepData, RequestData, GroupData, Request, Group}
+use Rattle.misp_script.specs.Step.{StepData, RequestData, GroupData}
 use Rattle.misp_script.specs.Step as deeds
 use Rattle.misp_core.specs.Standing.{Standing}
-use Rattle.misp_core.specs.Outcome.{Outcome, Went, ByKeeper, ByMemory, outcome_of}
+use Rattle.misp_core.specs.Outcome.{Went, ByKeeper, ByMemory, outcome_of, refused_by}
+use Rattle.misp_core.specs.Effects.{spelled, rule_told, telling, Did}
+use Rattle.misp_core.specs.Effects as core
 use Rattle.misp_core.specs.declared.reply.Reply.{Reply}
+use Rattle.misp_core.specs.declared.reply.Reply.TheVariants as replies
+use Rattle.misp_net.specs.declared.line.Output.{Output}
 use Rattle.misp_net.specs.declared.line.Output.TheVariants.{Bad, Nothing, Replied}
-use Rattle.misp_outside.specs.Stock.{Stock}
-use Rattle.misp_net.specs.Hosts.{Host, host_of, hosts_of, host_at, nobody, stock_of, stocks_of, Tables, held_at, Tell, count_at}
-use Rattle.misp_net.specs.Answering.{form_of, IsReplied}
-use Rattle.misp_net.specs.Administering.{group_form, group_held, IsDone}
-use Rattle.misp_net.specs.Run.{request_held, fault_there}
-use Rattle.misp_net.specs.Course.{IsAct}
+use Rattle.misp_net.specs.Hosts.{Host, nobody, host_of, hosts_of, host_at, stock_of, stocks_of}
+use Rattle.misp_net.specs.Seen.{Seen, seen_in}
+use Rattle.misp_net.specs.Answering.{form_of, replied, IsReplied}
+use Rattle.misp_net.specs.Administering.{group_form, grouped, IsDone}
+use Rattle.misp_net.specs.Meaning.{asks, silent, stop_in}
+use Rattle.misp_net.specs.Run as lines
 
--- what one that tells holds
-tell_at : (old : List Stock) (tables : Tables) (place : ℕ) (none : Stock) → place < length old → Tell old tables → (get_or old place none).held ≡ Some (held_at place tables)
-tell_at [] tables place none lt tell = absurd (omega arith)
-tell_at (s ∷ old) [] place none lt tell = cc
-tell_at (s ∷ old) (t ∷ tables) zero none lt tell = cc
-tell_at (s ∷ old) (t ∷ tables) (suc place) none lt tell =
-    let rest : Tell old tables = cc in tell_at old tables place none (omega arith) rest
+-- ---- what stopped a reply
 
--- one of them tells another table
-tell_set : (old : List Stock) (tables : Tables) (place : ℕ) (new : Stock) (held : Held) → Tell old tables → new.held ≡ Some held → Tell (set old place new) (set tables place held)
-tell_set [] [] place new held tell is = refl
-tell_set [] (t ∷ tables) place new held tell is = cc
-tell_set (s ∷ old) [] place new held tell is = cc
-tell_set (s ∷ old) (t ∷ tables) zero new held tell is = cc
-tell_set (s ∷ old) (t ∷ tables) (suc place) new held tell is =
-    let rest : Tell old tables = cc in let more = tell_set old tables place new held rest is in cc
+keeper_by : (keeper memory : Bool) → (if keeper then Some (stops.Keeper Here) else if memory then Some (stops.Memory Here) else None) ≡ Some (stops.Keeper Here)
+    → (if keeper then ByKeeper else if memory then ByMemory else Went) ≡ ByKeeper
+keeper_by true memory is = refl
+keeper_by false true is = absurd cc
+keeper_by false false is = absurd cc
 
-count_same : (old : List Stock) (place : ℕ) (new : Stock) → place < length old → count_at place (set old place new) ≡ new.faults
-count_same [] place new lt = absurd (omega arith)
-count_same (s ∷ old) zero new lt = refl
-count_same (s ∷ old) (suc place) new lt = count_same old place new (omega arith)
+-- a reply that tells a keeper's stop tells the keeper
+keeper_told : (reply : Reply) → core.stop_in reply ≡ Some (stops.Keeper Here) → outcome_of reply ≡ ByKeeper
+keeper_told (replies.Ok answer) is = absurd cc
+keeper_told (replies.Refused refusal) is = keeper_by (eqb (rule_number refusal.name) 26) (eqb (rule_number refusal.name) 27) is
 
-count_is : (old : List Stock) (place : ℕ) (none : Stock) → place < length old → count_at place old ≡ (get_or old place none).faults
-count_is [] place none lt = absurd (omega arith)
-count_is (s ∷ old) zero none lt = refl
-count_is (s ∷ old) (suc place) none lt = count_is old place none (omega arith)
+none_there : (keeper memory : Bool) → (if keeper then Some (stops.Keeper Here) else if memory then Some (stops.Memory Here) else None) ≡ Some (stops.Keeper There) → ⊥
+none_there true memory is = cc
+none_there false true is = cc
+none_there false false is = cc
 
-count_other : (old : List Stock) (place other : ℕ) (new : Stock) → other ≢ place → count_at other (set old place new) ≡ count_at other old
-count_other [] place other new ne = refl
-count_other (s ∷ old) zero zero new ne = absurd (ne refl)
-count_other (s ∷ old) zero (suc other) new ne = refl
-count_other (s ∷ old) (suc place) zero new ne = refl
-count_other (s ∷ old) (suc place) (suc other) new ne = count_other old place other new (λ e. ne (ap suc e))
+-- and none that of another
+never_there : (reply : Reply) → core.stop_in reply ≡ Some (stops.Keeper There) → ⊥
+never_there (replies.Ok answer) is = cc
+never_there (replies.Refused refusal) is = none_there (eqb (rule_number refusal.name) 26) (eqb (rule_number refusal.name) 27) is
 
--- a keeper stopped the request only where its count rose
-fault_rose : (at : ℕ) (outcome : Outcome) (place before now : ℕ) → HasCause before now (outcome ≡ ByKeeper) → RoseBy (fault_there place at outcome) before now
-fault_rose at Went place before now cause = omega (arith, cause.later)
-fault_rose at ByMemory place before now cause = omega (arith, cause.later)
-fault_rose at ByKeeper place before now cause = let rose = cause.rose refl in grind (arith, nat_tests)
+-- ---- one instance
 
-fault_other : (at : ℕ) (outcome : Outcome) (place : ℕ) → place ≢ at → fault_there place at outcome ≡ 0
-fault_other at Went place ne = refl
-fault_other at ByMemory place ne = refl
-fault_other at ByKeeper place ne = grind (arith, nat_tests)
+as_output : (comes : Seen → Effect Reply) (old new : Option Held) (reply : Reply) → IfSome old (λ held. Did (comes (seen_in held)) held reply new)
+    → IfSome old (λ held. Does Output spelled stop_in (nothing_of (λ stop. Replied (refused_by (rule_told stop)))) (shown Replied (comes (seen_in held))) held (Replied reply) new)
+as_output comes None new reply did = tt
+as_output comes (Some held) new reply did =
+    does_shown spelled Replied core.stop_in stop_in telling _ (λ a. refl) (λ stop n lost e. refl) (comes (seen_in held)) held reply new did
 
-act_causes : (at : ℕ) (old : List Stock) (new none : Stock) (outcome : Outcome) → at < length old
-    → HasCause (get_or old at none).faults new.faults (outcome ≡ ByKeeper)
-    → (place : ℕ) → RoseBy (fault_there place at outcome) (count_at place old) (count_at place (set old at new))
-act_causes at old new none outcome lt cause place =
-    elim (cases_eq place at) [
-      | inl same ↦
-          let here = fault_rose at outcome place (get_or old at none).faults new.faults cause in
-          rw (same, count_is old at none lt, count_same old at new lt) (rw same at here)
-      | inr other ↦ rw (fault_other at outcome place other, count_other old at place new other) (omega arith)
-    ]
+-- what is replied at one keeper is an act among all
+stock_act : (at : ℕ) (comes : Seen → Effect Reply) (old : List Stock) (new none : Stock) (reply : Reply) → at < length old
+    → IfSome (get_or old at none).held (λ held. Did (comes (seen_in held)) held reply new.held)
+    → HasCause (get_or old at none).faults new.faults (outcome_of reply ≡ ByKeeper)
+    → IsAct Seen Output seen_in spelled stop_in (asks at comes) old (set old at new) (Replied reply)
+stock_act at comes old new none reply lt did cause =
+    one_act seen_in spelled stop_in (λ stop. Replied (refused_by (rule_told stop))) at (λ here. shown Replied (comes here)) old new none (Replied reply) lt
+    (as_output comes (get_or old at none).held new.held reply did)
+    (record { later = cause.later; rose = λ is. cause.rose (keeper_told reply is) })
+    (never_there reply)
+
+-- and so is what one instance replies
+pub instance_act : (at : ℕ) (comes : Seen → Effect Reply) (old : List Standing) (new none : Standing) (reply : Reply) → at < length old
+    → IfSome (get_or old at none).held (λ held. Did (comes (seen_in held)) held reply new.held)
+    → HasCause (get_or old at none).faults new.faults (outcome_of reply ≡ ByKeeper)
+    → IsAct Seen Output seen_in spelled stop_in (asks at comes) (stocks_of old) (stocks_of (set old at new)) (Replied reply)
+instance_act at comes old new none reply lt did cause =
+    let stock : get_or (stocks_of old) at (stock_of none) ≡ stock_of (get_or old at none) = get_or-map stock_of old at none (stock_of none) lt in
+    let long : at < length (stocks_of old) = rw (length-map old stock_of) lt in
+    subst (λ news. IsAct Seen Output seen_in spelled stop_in (asks at comes) (stocks_of old) news (Replied reply)) (sym (map-set stock_of old at new))
+    (stock_act at comes (stocks_of old) (stock_of new) (stock_of none) reply long
+    (subst (λ (s : Stock). IfSome s.held (λ held. Did (comes (seen_in held)) held reply new.held)) (sym stock) did)
+    (subst (λ (s : Stock). HasCause s.faults new.faults (outcome_of reply ≡ ByKeeper)) (sym stock) cause))
 
 abbrev pub step_at : ℕ → ℕ → RequestData → StepData
-step_at time word r = record { time = time; word = word; deed = Request r }
+step_at time word r = record { time = time; word = word; deed = deeds.Request r }
 
 abbrev pub group_step : ℕ → ℕ → GroupData → StepData
-group_step time word line = record { time = time; word = word; deed = Group line }
+group_step time word line = record { time = time; word = word; deed = deeds.Group line }
 
--- the step of one keeper is a step of all
-one_act : (n : ℕ) (hosts : List Host) (time word : ℕ) (r : RequestData) (old : List Stock) (new none : Stock) (reply : Reply) → r.at < length old → r.at < length hosts
-    → IfSome (get_or old r.at none).held (λ held. IsReplied n (host_at r.at hosts) time (form_of (host_at r.at hosts).admin r word) held reply new.held)
-    → HasCause (get_or old r.at none).faults new.faults (outcome_of reply ≡ ByKeeper)
-    → IsAct n hosts (Ok (step_at time word r)) old (set old r.at new) (Replied reply)
-one_act n hosts time word r old new none reply lt among replied cause =
-    let P : Option Held → Type 0 = λ held. IfSome held (λ held. IsReplied n (host_at r.at hosts) time (form_of (host_at r.at hosts).admin r word) held reply new.held) in
-    let at : (tables : Tables) → Tell old tables → IsReplied n (host_at r.at hosts) time (form_of (host_at r.at hosts).admin r word) (held_at r.at tables) reply new.held =
-    λ tables tell. subst P (tell_at old tables r.at none lt tell) replied in
-    record {
-      places = length-set old r.at new;
-      causes = λ place. act_causes r.at old new none (outcome_of reply) lt cause place;
-      output_is = λ tables tell. ap Replied (at tables tell).reply_is;
-      tables_are = λ tables tell. tell_set old tables r.at new (request_held (outcome_of reply) n hosts time word r tables) tell (at tables tell).left;
-      among = among;
-      fits = λ tables tell went. (at tables tell).are_rows went;
-    }
-
--- and that of one instance
+-- a request
 pub one_request : (n time word : ℕ) (r : RequestData) (old : List Standing) (new none : Standing) (reply : Reply) → r.at < length old
     → IfSome (get_or old r.at none).held (λ held. IsReplied n (host_of (get_or old r.at none)) time (form_of (get_or old r.at none).admin r word) held reply new.held)
     → HasCause (get_or old r.at none).faults new.faults (outcome_of reply ≡ ByKeeper)
-    → IsAct n (hosts_of old) (Ok (step_at time word r)) (stocks_of old) (stocks_of (set old r.at new)) (Replied reply)
-one_request n time word r old new none reply lt replied cause =
+    → lines.IsAct n (hosts_of old) (Ok (step_at time word r)) (stocks_of old) (stocks_of (set old r.at new)) (Replied reply)
+one_request n time word r old new none reply lt did cause =
     let host : host_at r.at (hosts_of old) ≡ host_of (get_or old r.at none) = get_or-map host_of old r.at none nobody lt in
-    let stock : get_or (stocks_of old) r.at (stock_of none) ≡ stock_of (get_or old r.at none) = get_or-map stock_of old r.at none (stock_of none) lt in
-    let R : Host → Stock → Type 0 = λ h s. IfSome s.held (λ held. IsReplied n h time (form_of h.admin r word) held reply new.held) in
-    let there : R (host_at r.at (hosts_of old)) (get_or (stocks_of old) r.at (stock_of none)) =
-    subst (λ h. R h (get_or (stocks_of old) r.at (stock_of none))) (sym host) (subst (λ s. R (host_of (get_or old r.at none)) s) (sym stock) replied) in
-    let long : r.at < length (stocks_of old) = rw (length-map old stock_of) lt in
-    subst (λ news. IsAct n (hosts_of old) (Ok (step_at time word r)) (stocks_of old) news (Replied reply)) (sym (map-set stock_of old r.at new))
-    (one_act n (hosts_of old) time word r (stocks_of old) (stock_of new) (stock_of none) reply long (rw (length-map old host_of) lt) there
-    (subst (λ s. HasCause s.faults new.faults (outcome_of reply ≡ ByKeeper)) (sym stock) cause))
+    instance_act r.at (replied n (host_at r.at (hosts_of old)) time (form_of (host_at r.at (hosts_of old)).admin r word)) old new none reply lt
+    (subst (λ (h : Host). IfSome (get_or old r.at none).held (λ held. IsReplied n h time (form_of h.admin r word) held reply new.held)) (sym host) did)
+    cause
 
--- a line of a group at one keeper is one of all
-one_line : (n : ℕ) (hosts : List Host) (time word : ℕ) (line : GroupData) (old : List Stock) (new none : Stock) (reply : Reply) → line.at < length old → line.at < length hosts
-    → IfSome (get_or old line.at none).held (λ held. IsDone time line (group_form line.body) held reply new.held)
-    → HasCause (get_or old line.at none).faults new.faults (outcome_of reply ≡ ByKeeper)
-    → IsAct n hosts (Ok (group_step time word line)) old (set old line.at new) (Replied reply)
-one_line n hosts time word line old new none reply lt among done cause =
-    let P : Option Held → Type 0 = λ held. IfSome held (λ held. IsDone time line (group_form line.body) held reply new.held) in
-    let at : (tables : Tables) → Tell old tables → IsDone time line (group_form line.body) (held_at line.at tables) reply new.held =
-    λ tables tell. subst P (tell_at old tables line.at none lt tell) done in
-    record {
-      places = length-set old line.at new;
-      causes = λ place. act_causes line.at old new none (outcome_of reply) lt cause place;
-      output_is = λ tables tell. ap Replied (at tables tell).reply_is;
-      tables_are = λ tables tell. tell_set old tables line.at new (group_held (outcome_of reply) time line (group_form line.body) (held_at line.at tables)) tell (at tables tell).left;
-      among = among;
-      fits = λ tables tell went. (at tables tell).is_group went;
-    }
-
+-- a line of a group
 pub one_group : (n time word : ℕ) (line : GroupData) (old : List Standing) (new none : Standing) (reply : Reply) → line.at < length old
     → IfSome (get_or old line.at none).held (λ held. IsDone time line (group_form line.body) held reply new.held)
     → HasCause (get_or old line.at none).faults new.faults (outcome_of reply ≡ ByKeeper)
-    → IsAct n (hosts_of old) (Ok (group_step time word line)) (stocks_of old) (stocks_of (set old line.at new)) (Replied reply)
-one_group n time word line old new none reply lt done cause =
-    let stock : get_or (stocks_of old) line.at (stock_of none) ≡ stock_of (get_or old line.at none) = get_or-map stock_of old line.at none (stock_of none) lt in
-    let long : line.at < length (stocks_of old) = rw (length-map old stock_of) lt in
-    subst (λ news. IsAct n (hosts_of old) (Ok (group_step time word line)) (stocks_of old) news (Replied reply)) (sym (map-set stock_of old line.at new))
-    (one_line n (hosts_of old) time word line (stocks_of old) (stock_of new) (stock_of none) reply long (rw (length-map old host_of) lt)
-    (subst (λ s. IfSome s.held (λ held. IsDone time line (group_form line.body) held reply new.held)) (sym stock) done)
-    (subst (λ s. HasCause s.faults new.faults (outcome_of reply ≡ ByKeeper)) (sym stock) cause))
+    → lines.IsAct n (hosts_of old) (Ok (group_step time word line)) (stocks_of old) (stocks_of (set old line.at new)) (Replied reply)
+one_group n time word line old new none reply lt did cause =
+    instance_act line.at (λ here. grouped time line (group_form line.body) here.groups) old new none reply lt did cause
 
 pub hosts_kept : (old : List Standing) (place : ℕ) (new none : Standing) → place < length old
     → new.name ≡ (get_or old place none).name → new.admin ≡ (get_or old place none).admin → hosts_of (set old place new) ≡ hosts_of old
@@ -152,27 +118,28 @@ hosts_kept [] place new none lt name admin = absurd (omega arith)
 hosts_kept (s ∷ old) zero new none lt name admin = cc
 hosts_kept (s ∷ old) (suc place) new none lt name admin = ap (λ hosts. host_of s ∷ hosts) (hosts_kept old place new none (omega arith) name admin)
 
--- a line that asks nothing
-pub no_request : (n : ℕ) (hosts : List Host) (time word : ℕ) (old : List Stock)
-    → IsAct n hosts (Ok (record { time = time; word = word; deed = deeds.Nothing })) old old Nothing
-no_request n hosts time word old = record {
+-- ---- no instance
+
+-- a line that asks none puts out what it says, and leaves all as it was
+pub silent_act : (output : Output) (old : List Stock) → stop_in output ≡ None → IsAct Seen Output seen_in spelled stop_in (silent output) old old output
+silent_act output old none = record {
   places = refl;
-  causes = λ place. omega arith;
-  output_is = λ tables tell. refl;
-  tables_are = λ tables tell. tell;
-  among = tt;
-  fits = λ tables tell went. tt;
+  causes = λ place. rw none (omega arith);
+  done = λ tables tell. record {
+    outcome = effects.Went;
+    agree = sym none;
+    output_is = refl;
+    tables_are = subst (Tell old) (sym (set-get_or tables 0 nothing_held)) tell;
+    fits = tt;
+  };
 }
 
-pub no_step : (n : ℕ) (hosts : List Host) (bad : BadLine) (old : List Stock) → IsAct n hosts (Err bad) old old (Bad bad.place)
-no_step n hosts bad old = record {
-  places = refl;
-  causes = λ place. omega arith;
-  output_is = λ tables tell. refl;
-  tables_are = λ tables tell. tell;
-  among = tt;
-  fits = λ tables tell went. tt;
-}
+pub no_request : (n : ℕ) (hosts : List Host) (time word : ℕ) (old : List Stock)
+    → lines.IsAct n hosts (Ok (record { time = time; word = word; deed = deeds.Nothing })) old old Nothing
+no_request n hosts time word old = silent_act Nothing old refl
+
+pub no_step : (n : ℕ) (hosts : List Host) (bad : BadLine) (old : List Stock) → lines.IsAct n hosts (Err bad) old old (Bad bad.place)
+no_step n hosts bad old = silent_act (Bad bad.place) old refl
 
 -- there are as many instances as before
 pub hosts_long : (old new : List Standing) → hosts_of new ≡ hosts_of old → length new ≡ length old

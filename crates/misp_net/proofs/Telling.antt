@@ -1,49 +1,108 @@
 -- One line over keepers that hold the tables of the history.
-use Rattle.std.proofs.Common.{◌≡◌, ◌≢◌, ℕ, suc, ◌<◌, true, false, List, map, length, Option, Some, None, Ok, Err, refl, sym, ◌∙◌, ap, subst, inl, inr, length-set}
+use Rattle.std.proofs.Common.{◌≡◌, ◌≢◌, ℕ, zero, suc, ◌<◌, ◌≤◌, Bool, true, false, List, [], ◌∷◌, map, length, cond, Option, Some, None, Result, Ok, Err, refl, sym, ◌∙◌, ap, subst, inl, inr, arith, length-set}
 use Rattle.std.proofs.lemmas.Bool.{cases_eq, cases_Bool}
 use Rattle.std.proofs.lemmas.List.{get_or-set_same, get_or-set_other, set-get_or}
 use Rattle.std.specs.Prelude.{ltb, slice_set}
 use Rattle.std.specs.List.{list_all, AllByRecursion}
 use Rattle.std.specs.List.Sorted.{IsStrictlySortedBy}
+use Rattle.misp_ids.specs.declared.uid.OrgId.{OrgId}
+use Rattle.misp_ids.specs.declared.stamp.TheConstants.{LAST_SECOND}
+use Rattle.misp_elem.specs.declared.row.RowFields.{RowFields as Row}
 use Rattle.misp_elem.specs.Row.{AreRows}
 use Rattle.misp_orgs.specs.Keys.{CallerFields as Caller}
-use Rattle.misp_outside.specs.Held.{Held, nothing_held}
+use Rattle.misp_requests.specs.declared.ask.Ask.{Ask}
+use Rattle.misp_outside.specs.Held.{Held, nothing_held, with_batch, put_rows, put_admins}
 use Rattle.misp_groups.specs.declared.group.GroupFields.{GroupFields as Group}
 use Rattle.misp_groups.specs.Group.{IsGroup}
+use Rattle.misp_effects.specs.declared.stop.Stop.{Stop}
+use Rattle.misp_effects.specs.Batches.{put_batches, AreReadable}
+use Rattle.misp_effects.specs.Effect.{Outcome, Went, Stopped}
+use Rattle.misp_effects.specs.Stocks.{Tables, held_at}
+use Rattle.misp_effects.specs.Run.{effect_in}
 use Rattle.misp_script.specs.Step.{DeedData, GroupData, IsPlaced}
 use Rattle.misp_script.specs.Step as deeds
-use Rattle.misp_model.specs.Names.{Inst, same_inst}
+use Rattle.misp_model.specs.Names.{Inst, Stamp, same_inst}
+use Rattle.misp_model.specs.Asking.{next_stamp, last_stamp}
 use Rattle.misp_model.specs.History.{tables}
-use Rattle.misp_model.specs.Acts.{World, step}
+use Rattle.misp_model.specs.Audience.{known_group}
+use Rattle.misp_model.specs.Acts.{World, Net, scene, known_at, step, group_stamp, group_now, administered, administration_fails}
 use Rattle.misp_model.specs.Acts as model
-use Rattle.misp_model.specs.Outcomes.{Whole, Failed, step_partly}
-use Rattle.misp_model.proofs.Steps.{step_nothing, step_misfit}
+use Rattle.misp_model.specs.Outcomes.{Whole, step_partly}
+use Rattle.misp_model.specs.Outcomes as parts
+use Rattle.misp_model.proofs.Steps.{step_nothing, step_misfit, step_administers, with_groups_here}
 use Rattle.misp_model.proofs.Numbered.{step_below}
-use Rattle.misp_core.specs.Raw.{raw_row}
 use Rattle.misp_levels.specs.Groups.{by_name}
-use Rattle.misp_core.specs.Answers.{Surroundings, site}
+use Rattle.misp_levels.specs.declared.fault.GroupFault.{GroupFault}
+use Rattle.misp_core.specs.Raw.{raw_row}
+use Rattle.misp_core.specs.Answers.{Surroundings, site, reply_in, reply_over, writes_over, scene_at, writes_in}
 use Rattle.misp_core.specs.Sharing.{or_none, groups_of}
-use Rattle.misp_core.specs.Keeping.{Keeps, act_at, act_of}
-use Rattle.misp_core.specs.Outcome.{Outcome, Went, ByKeeper, ByMemory}
+use Rattle.misp_core.specs.Keeping.{Keeps, act_at, act_of, caller_at}
+use Rattle.misp_core.specs.Outcome.{asked_of, with_rows, is_refused}
+use Rattle.misp_core.specs.Effects.{spelled, row_batches, asked_over}
+use Rattle.misp_core.specs.Administering.{why_not, reply_by, held_by, effect_by}
+use Rattle.misp_core.proofs.Stepped.{rows_left}
 use Rattle.misp_core.proofs.Keeping.{replied_there, same_elsewhere, same_groups, left_there}
 use Rattle.misp_core.proofs.GroupRows.{AreReadBack}
-use Rattle.misp_core.proofs.KeepingGroups.{administered_left, same_log, groups_elsewhere}
+use Rattle.misp_core.proofs.KeepingGroups.{reply_fails, administered_left, same_log, groups_elsewhere}
 use Rattle.misp_net.specs.declared.line.Output.TheVariants.{Replied}
-use Rattle.misp_net.specs.Hosts.{Host, host_at, Tables, held_at}
+use Rattle.misp_net.specs.Hosts.{Host, host_at}
+use Rattle.misp_net.specs.Lines.{Act, IsAmong}
 use Rattle.misp_net.specs.Request.{Reading}
-use Rattle.misp_net.specs.Answering.{Asked, caller_in, form_of, reply_by, held_by, writes_by}
-use Rattle.misp_net.specs.Run.{Act, deed_output, output_of, deed_tables, tables_after, DeedFits, Fits, IsAmong}
-use Rattle.misp_net.specs.Administering.{group_form, FormFits, group_reply, group_held}
-use Rattle.misp_net.specs.History.{surroundings_of, form_deed, group_deed, no_act, deed_act, no_links, applied, world_after, told_reply, told_deed, told_output, AreDistinct, IsHistory}
+use Rattle.misp_net.specs.Seen.{seen_in}
+use Rattle.misp_net.specs.Answering.{Asked, caller_in, form_of, replied}
+use Rattle.misp_net.specs.Administering.{group_form, grouped}
+use Rattle.misp_net.specs.Meaning.{asking, administering, deed_meaning, meaning}
+use Rattle.misp_net.specs.Run.{output_of, tables_after}
+use Rattle.misp_net.specs.History.{no_links, applied, world_after, seen_by, told_output, AreDistinct, IsHistory}
 use Rattle.misp_net.proofs.Forms.{BuiltForm, form_built}
+
+-- ---- the model's step
 
 pub world_whole : (n : ℕ) (w : World) (act : model.Act) → step_partly no_links n w act Whole ≡ step no_links n w act
 unfolding step_partly
 world_whole n w act = refl
 
-world_still : (n : ℕ) (w : World) (act : model.Act) → step_partly no_links n w act Failed ≡ w
+deed_still : (n : ℕ) (w : World) (at : Inst) (now : Stamp) (deed : model.Deed) (groups : Bool) (packages : ℕ)
+    → step_partly no_links n w (record { at = at; now = now; deed = deed }) (parts.Stopped groups packages) ≡ w
 unfolding step_partly
-world_still n w act = refl
+deed_still n w at now (model.Asks c a) groups packages = refl
+deed_still n w at now (model.Misfits c) groups packages = refl
+deed_still n w at now (model.Syncs way link) groups packages = refl
+deed_still n w at now (model.Takes_groups c gs) groups packages = refl
+deed_still n w at now (model.Administers o add g) groups packages = refl
+deed_still n w at now model.Nothing groups packages = refl
+
+-- where no instance pulls from another, of an act that was stopped nothing is applied
+world_still : (n : ℕ) (w : World) (act : model.Act) (stop : Stop) (k : ℕ) (lost : Bool) → step_partly no_links n w act (applied (Stopped stop k lost)) ≡ w
+world_still n w act stop zero lost = deed_still n w act.at act.now act.deed false 0
+world_still n w act stop (suc k) lost = deed_still n w act.at act.now act.deed true k
+
+-- ---- effects as replies and rows
+
+over_reply : (n : ℕ) (at : Surroundings) (ask : Ask) (read : Result (List Row) (List ℕ)) → (asked_over n at ask read).reply ≡ reply_over n at ask read
+over_reply n at ask (Ok rows) = refl
+over_reply n at ask (Err name) = refl
+
+over_left : (n : ℕ) (at : Surroundings) (ask : Ask) (read : Result (List Row) (List ℕ)) (held : Held)
+    → put_batches (map spelled (asked_over n at ask read).batches) held ≡ with_rows (writes_over n at ask read) held
+unfolding put_rows
+over_left n at ask (Ok rows) held = rows_left (writes_in (scene_at n at rows) ask) held
+over_left n at ask (Err name) held = refl
+
+rows_fit : (rows : List Row) → AreReadable (row_batches rows) → AreRows rows
+rows_fit [] fits = tt
+rows_fit (row ∷ rows) fits = fits.0.rows
+
+over_fit : (n : ℕ) (at : Surroundings) (ask : Ask) (read : Result (List Row) (List ℕ)) → AreReadable (asked_over n at ask read).batches → AreRows (writes_over n at ask read)
+over_fit n at ask (Ok rows) fits = rows_fit (writes_in (scene_at n at rows) ask) fits
+over_fit n at ask (Err name) fits = tt
+
+-- the scene over all rows that the history has of an instance is that of the act
+scene_shown : (n : ℕ) (w : World) (here : Inst) (host : Host) (caller : Caller) (now : ℕ) (ask : Ask)
+    → scene_at n (site here host.admin (w.groups here) caller now) (tables w.log here)
+    ≡ scene n w (act_at (site here host.admin (w.groups here) caller now) ask) (caller_at host.admin caller)
+unfolding scene known_at
+scene_shown n w here host caller now ask = refl
 
 -- what an instance has stays where the history of it does
 keeps_same : (j : Inst) (w next : World) (held : Held) → tables next.log j ≡ tables w.log j → next.groups j ≡ w.groups j → Keeps j w held → Keeps j next held
@@ -55,6 +114,63 @@ keeps_same j w next held rows groups keeps = record {
   ascend = subst (IsStrictlySortedBy by_name) (sym groups) keeps.ascend;
 }
 
+-- ---- groups
+
+-- the stamp of a group that is changed now is no earlier
+stamp_later : (now : Stamp) (known : Option Group) → now ≤ group_stamp now known
+unfolding group_stamp next_stamp last_stamp
+stamp_later now None = omega arith
+stamp_later now (Some held) = grind arith
+
+-- a group as it is now is not changed by becoming so again
+step_now : (n : ℕ) (here : Inst) (w : World) (now : Stamp) (by : OrgId) (add : Bool) (g : Group) (groups : List Group)
+    → step no_links n w (act_of here now by add (group_now now g groups)) ≡ step no_links n w (act_of here now by add g)
+unfolding step administered administration_fails group_now
+step_now n here w now by add g groups = refl
+
+module _ (back : AreReadBack) (n : ℕ) (here : Inst) (w : World) (now : Stamp) (by : OrgId) (add : Bool) (g : Group) (held : Held) (keeps : Keeps here w held) where
+  abbrev left_by : Option GroupFault → Held
+  left_by why = put_batches (map spelled (effect_by why (group_now now g (groups_of held))).batches) held
+
+  taken_left : (why : Option GroupFault) → why ≡ None → left_by why ≡ held_by why now (group_now now g (groups_of held)) held
+  unfolding with_batch put_rows put_admins group_now
+  taken_left None e = refl
+  taken_left (Some cause) e = refl
+
+  -- the group is put
+  put_left : why_not add (groups_of held) by g.id ≡ None → IsGroup (group_now now g (groups_of held))
+      → Keeps here (step no_links n w (act_of here now by add g)) (left_by (why_not add (groups_of held) by g.id))
+  unfolding group_now
+  put_left free is =
+      let moment : group_stamp now (known_group (groups_of held) g.id) ≤ LAST_SECOND = is.modified in
+      let so : now ≤ LAST_SECOND = omega (arith, moment, stamp_later now (known_group (groups_of held) g.id)) in
+      subst (λ (v : World). Keeps here v (left_by (why_not add (groups_of held) by g.id))) (step_now n here w now by add g (groups_of held))
+      (subst (λ h. Keeps here (step no_links n w (act_of here now by add (group_now now g (groups_of held)))) h) (sym (taken_left (why_not add (groups_of held) by g.id) free))
+      (administered_left no_links n here w now by add (group_now now g (groups_of held)) back held is so keeps))
+
+  -- a cause leaves all as it was
+  kept_groups : (cause : GroupFault) → why_not add (groups_of held) by g.id ≡ Some cause → (step no_links n w (act_of here now by add g)).groups here ≡ w.groups here
+  unfolding administered
+  kept_groups cause e =
+      let fails : administration_fails by add g (w.groups here) ≡ true = sym (reply_fails here w by add g held keeps) ∙ ap (λ why. is_refused (reply_by why)) e in
+      ap (λ (v : World). v.groups here) (step_administers no_links n w (act_of here now by add g) by add g refl)
+      ∙ with_groups_here w.groups here (administered now by add g (w.groups here))
+      ∙ ap (λ b. cond b (w.groups here) (model.put_group (group_now now g (w.groups here)) (w.groups here))) fails
+
+  none_left : (cause : GroupFault) → why_not add (groups_of held) by g.id ≡ Some cause → Keeps here (step no_links n w (act_of here now by add g)) held
+  none_left cause e =
+      keeps_same here w (step no_links n w (act_of here now by add g)) held (ap (λ log. tables log here) (same_log no_links n here w now by add g)) (kept_groups cause e) keeps
+
+  by_cause : (why : Option GroupFault) → why_not add (groups_of held) by g.id ≡ why → AreReadable (effect_by why (group_now now g (groups_of held))).batches
+      → Keeps here (step no_links n w (act_of here now by add g)) (left_by why)
+  by_cause None e fits = subst (λ why. Keeps here (step no_links n w (act_of here now by add g)) (left_by why)) e (put_left e fits.0.groups.0)
+  by_cause (Some cause) e fits = none_left cause e
+
+  -- a line of a group leaves what the act does
+  pub grouped_left : AreReadable (effect_by (why_not add (groups_of held) by g.id) (group_now now g (groups_of held))).batches
+      → Keeps here (step no_links n w (act_of here now by add g)) (left_by (why_not add (groups_of held) by g.id))
+  grouped_left fits = by_cause (why_not add (groups_of held) by g.id) refl fits
+
 module _ (hosts : List Host) (distinct : AreDistinct hosts) (n : ℕ) (w : World) (old : Tables) (told : IsHistory hosts n w old) where
   -- the groups that are held there are those of the history
   groups_there : (at : ℕ) → at < length hosts → groups_of (held_at at old) ≡ w.groups (host_at at hosts).name
@@ -62,38 +178,47 @@ module _ (hosts : List Host) (distinct : AreDistinct hosts) (n : ℕ) (w : World
 
   -- ---- what is put out
 
-  told_there : (outcome : Outcome) (at now : ℕ) (form : Reading Asked) → BuiltForm form → at < length hosts
-      → reply_by outcome n (host_at at hosts) now form (held_at at old) ≡ told_reply outcome n w (host_at at hosts) now form
-  told_there Went at now (Ok asked) built lt =
-      replied_there n w (site (host_at at hosts).name (host_at at hosts).admin (groups_of (held_at at old)) asked.0 now) asked.1 (held_at at old) built refl (told.each at lt)
-  told_there ByKeeper at now (Ok asked) built lt = refl
-  told_there ByMemory at now (Ok asked) built lt = refl
-  told_there Went at now (Err refusal) built lt = refl
-  told_there ByKeeper at now (Err refusal) built lt = refl
-  told_there ByMemory at now (Err refusal) built lt = refl
+  request_told : (at now : ℕ) (form : Reading Asked) → BuiltForm form → at < length hosts
+      → (replied n (host_at at hosts) now form (seen_in (held_at at old))).reply ≡ (replied n (host_at at hosts) now form (seen_by hosts w at)).reply
+  request_told at now (Ok asked) built lt =
+      let host : Host = host_at at hosts in
+      over_reply n (site host.name host.admin (groups_of (held_at at old)) asked.0 now) asked.1 (asked_of asked.1 (held_at at old))
+      ∙ replied_there n w (site host.name host.admin (groups_of (held_at at old)) asked.0 now) asked.1 (held_at at old) built refl (told.each at lt)
+      ∙ ap (λ s. reply_in host.admin s asked.1) (sym (scene_shown n w host.name host asked.0 now asked.1))
+  request_told at now (Err refusal) built lt = refl
 
-  deed_told : (outcome : Outcome) (time word : ℕ) (deed : DeedData) → IsPlaced (length hosts) deed
-      → deed_output outcome n hosts time word deed old ≡ told_deed outcome n hosts w time word deed
-  deed_told outcome time word deeds.Nothing placed = refl
-  deed_told outcome time word (deeds.Request r) placed =
-      ap Replied (told_there outcome r.at time (form_of (host_at r.at hosts).admin r word) (form_built (host_at r.at hosts).admin r word) placed)
-  deed_told outcome time word (deeds.Group line) placed =
-      ap (λ groups. Replied (group_reply outcome line (group_form line.body) groups)) (groups_there line.at placed)
+  deed_told : (outcome : Outcome) (step : deeds.StepData) → IsPlaced (length hosts) step.deed → output_of outcome n hosts (Ok step) old ≡ told_output outcome n hosts w (Ok step)
+  deed_told outcome step placed = by_deed outcome step.time step.word step.deed placed
+    where
+      by_deed : (outcome : Outcome) (time word : ℕ) (deed : DeedData) → IsPlaced (length hosts) deed
+          → output_of outcome n hosts (Ok (record { time = time; word = word; deed = deed })) old ≡ told_output outcome n hosts w (Ok (record { time = time; word = word; deed = deed }))
+      by_deed Went time word deeds.Nothing placed = refl
+      by_deed (Stopped stop k lost) time word deeds.Nothing placed = refl
+      by_deed Went time word (deeds.Request r) placed =
+          ap Replied (request_told r.at time (form_of (host_at r.at hosts).admin r word) (form_built (host_at r.at hosts).admin r word) placed)
+      by_deed (Stopped stop k lost) time word (deeds.Request r) placed = refl
+      by_deed Went time word (deeds.Group line) placed =
+          ap (λ groups. Replied (grouped time line (group_form line.body) groups).reply) (groups_there line.at placed)
+      by_deed (Stopped stop k lost) time word (deeds.Group line) placed = refl
 
   -- the line puts out what the history says
   pub output_told : (outcome : Outcome) (act : Act) → IsAmong (length hosts) act → output_of outcome n hosts act old ≡ told_output outcome n hosts w act
-  output_told outcome (Ok step) among = deed_told outcome step.time step.word step.deed among
-  output_told outcome (Err bad) among = refl
+  output_told outcome (Ok step) among = deed_told outcome step among
+  output_told Went (Err bad) among = refl
+  output_told (Stopped stop k lost) (Err bad) among = refl
 
   -- ---- what is left
+
+  abbrev no_deed : model.Act
+  no_deed = record { at = []; now = 0; deed = model.Nothing }
 
   later : IsHistory hosts (suc n) w old
   later = record {
     long = told.long;
     each = told.each;
     earlier =
-        subst (λ (v : World). list_all (λ u. ltb u.act (suc n)) v.log ≡ true) (step_nothing no_links n w (no_act 0) refl)
-        (step_below no_links n w (no_act 0) told.earlier);
+        subst (λ (v : World). list_all (λ u. ltb u.act (suc n)) v.log ≡ true) (step_nothing no_links n w no_deed refl)
+        (step_below no_links n w no_deed told.earlier);
   }
 
   as_before : (v : World) (new : Tables) → v ≡ w → new ≡ old → IsHistory hosts (suc n) v new
@@ -130,70 +255,66 @@ module _ (hosts : List Host) (distinct : AreDistinct hosts) (n : ℕ) (w : World
       earlier = earlier;
     }
 
-  module _ (at now : ℕ) (asked : Asked) (built : BuiltForm (Ok asked)) (lt : at < length hosts)
-      (are : AreRows (writes_by n (host_at at hosts) now (Ok asked) (held_at at old))) where
-    abbrev there : Surroundings
-    there = site (host_at at hosts).name (host_at at hosts).admin (groups_of (held_at at old)) asked.0 now
-
-    asked_left : IsHistory hosts (suc n) (step no_links n w (act_at there asked.1)) (slice_set old at (held_by Went n (host_at at hosts) now (Ok asked) (held_at at old)))
-    asked_left = one_left at lt (step no_links n w (act_at there asked.1)) (held_by Went n (host_at at hosts) now (Ok asked) (held_at at old))
-        (left_there no_links n w there asked.1 (held_at at old) built told.earlier refl (told.each at lt) are)
-        (λ j other. (same_elsewhere no_links n w there asked.1 j other, ap (λ groups. groups j) (same_groups no_links n w there asked.1)))
-        (step_below no_links n w (act_at there asked.1) told.earlier)
-
-  -- the state after a request
-  request_left : (outcome : Outcome) (at now : ℕ) (form : Reading Asked) (caller : Option Caller) → BuiltForm form → at < length hosts
-      → (outcome ≡ Went → AreRows (writes_by n (host_at at hosts) now form (held_at at old)))
-      → IsHistory hosts (suc n) (step_partly no_links n w (record { at = (host_at at hosts).name; now = now; deed = form_deed form (host_at at hosts) caller }) (applied outcome))
-      (slice_set old at (held_by outcome n (host_at at hosts) now form (held_at at old)))
-  request_left Went at now (Ok asked) caller built lt are =
-      subst (λ v. IsHistory hosts (suc n) v (slice_set old at (held_by Went n (host_at at hosts) now (Ok asked) (held_at at old)))) (sym (world_whole n w (act_at (surroundings_of w (host_at at hosts) now asked.0) asked.1)))
-      (asked_left at now asked built lt (are refl))
-  request_left Went at now (Err refusal) None built lt are = as_before _ _ (world_whole n w _ ∙ step_nothing no_links n w _ refl) (still at)
-  request_left Went at now (Err refusal) (Some caller) built lt are = as_before _ _ (world_whole n w _ ∙ step_misfit no_links n w _ _ refl) (still at)
-  request_left ByKeeper at now (Ok asked) caller built lt are = as_before _ _ (world_still n w _) (still at)
-  request_left ByKeeper at now (Err refusal) caller built lt are = as_before _ _ (world_still n w _) (still at)
-  request_left ByMemory at now (Ok asked) caller built lt are = as_before _ _ (world_still n w _) (still at)
-  request_left ByMemory at now (Err refusal) caller built lt are = as_before _ _ (world_still n w _) (still at)
-
-  nothing_left : (outcome : Outcome) (time : ℕ) → IsHistory hosts (suc n) (step_partly no_links n w (no_act time) (applied outcome)) old
-  nothing_left Went time = as_before _ _ (world_whole n w (no_act time) ∙ step_nothing no_links n w (no_act time) refl) refl
-  nothing_left ByKeeper time = as_before _ _ (world_still n w (no_act time)) refl
-  nothing_left ByMemory time = as_before _ _ (world_still n w (no_act time)) refl
+  -- a request
+  request_left : (at now : ℕ) (form : Reading Asked) (caller : Option Caller) → BuiltForm form → at < length hosts
+      → AreReadable (replied n (host_at at hosts) now form (seen_in (held_at at old))).batches
+      → IsHistory hosts (suc n) (step no_links n w (record { at = (host_at at hosts).name; now = now; deed = asking form (host_at at hosts) caller }))
+      (slice_set old at (put_batches (map spelled (replied n (host_at at hosts) now form (seen_in (held_at at old))).batches) (held_at at old)))
+  request_left at now (Ok asked) caller built lt fits =
+      let host : Host = host_at at hosts in
+      let held : Held = held_at at old in
+      let there : Surroundings = site host.name host.admin (groups_of held) asked.0 now in
+      subst (λ h. IsHistory hosts (suc n) (step no_links n w (act_at there asked.1)) (slice_set old at h)) (sym (over_left n there asked.1 (asked_of asked.1 held) held))
+      (one_left at lt (step no_links n w (act_at there asked.1)) (with_rows (writes_over n there asked.1 (asked_of asked.1 held)) held)
+      (left_there no_links n w there asked.1 held built told.earlier refl (told.each at lt) (over_fit n there asked.1 (asked_of asked.1 held) fits))
+      (λ j other. (same_elsewhere no_links n w there asked.1 j other, ap (λ groups. groups j) (same_groups no_links n w there asked.1)))
+      (step_below no_links n w (act_at there asked.1) told.earlier))
+  request_left at now (Err refusal) None built lt fits = as_before _ _ (step_nothing no_links n w _ refl) (still at)
+  request_left at now (Err refusal) (Some caller) built lt fits = as_before _ _ (step_misfit no_links n w _ _ refl) (still at)
 
   -- where a group that is kept is read again
   module _ (back : AreReadBack) where
-    -- the state after a line of a group
-    group_left : (outcome : Outcome) (now : ℕ) (line : GroupData) (form : Reading Group) → line.at < length hosts → (outcome ≡ Went → FormFits now form)
-        → IsHistory hosts (suc n) (step_partly no_links n w (record { at = (host_at line.at hosts).name; now = now; deed = group_deed form line }) (applied outcome))
-        (slice_set old line.at (group_held outcome now line form (held_at line.at old)))
-    group_left Went now line (Ok g) lt fits =
-        subst (λ v. IsHistory hosts (suc n) v (slice_set old line.at (group_held Went now line (Ok g) (held_at line.at old))))
-        (sym (world_whole n w (act_of (host_at line.at hosts).name now line.org line.add g)))
-        (one_left line.at lt _ (group_held Went now line (Ok g) (held_at line.at old))
-        (administered_left no_links n (host_at line.at hosts).name w now line.org line.add g back (held_at line.at old) (fits refl).0 (fits refl).1 (told.each line.at lt))
+    -- a line of a group
+    group_left : (now : ℕ) (line : GroupData) (form : Reading Group) → line.at < length hosts
+        → AreReadable (grouped now line form (groups_of (held_at line.at old))).batches
+        → IsHistory hosts (suc n) (step no_links n w (record { at = (host_at line.at hosts).name; now = now; deed = administering form line }))
+        (slice_set old line.at (put_batches (map spelled (grouped now line form (groups_of (held_at line.at old))).batches) (held_at line.at old)))
+    group_left now line (Ok g) lt fits =
+        let here : Inst = (host_at line.at hosts).name in
+        let held : Held = held_at line.at old in
+        one_left line.at lt (step no_links n w (act_of here now line.org line.add g)) _
+        (grouped_left back n here w now line.org line.add g held (told.each line.at lt) fits)
         (λ j other. (
-          ap (λ log. tables log j) (same_log no_links n (host_at line.at hosts).name w now line.org line.add g),
-          groups_elsewhere no_links n (host_at line.at hosts).name w now line.org line.add g j other,
+          ap (λ log. tables log j) (same_log no_links n here w now line.org line.add g),
+          groups_elsewhere no_links n here w now line.org line.add g j other,
         ))
-        (step_below no_links n w (act_of (host_at line.at hosts).name now line.org line.add g) told.earlier))
-    group_left Went now line (Err refusal) lt fits = as_before _ _ (world_whole n w _ ∙ step_nothing no_links n w _ refl) (still line.at)
-    group_left ByKeeper now line (Ok g) lt fits = as_before _ _ (world_still n w _) (still line.at)
-    group_left ByKeeper now line (Err refusal) lt fits = as_before _ _ (world_still n w _) (still line.at)
-    group_left ByMemory now line (Ok g) lt fits = as_before _ _ (world_still n w _) (still line.at)
-    group_left ByMemory now line (Err refusal) lt fits = as_before _ _ (world_still n w _) (still line.at)
+        (step_below no_links n w (act_of here now line.org line.add g) told.earlier)
+    group_left now line (Err refusal) lt fits = as_before _ _ (step_nothing no_links n w _ refl) (still line.at)
 
-    deed_left : (outcome : Outcome) (time word : ℕ) (deed : DeedData) → IsPlaced (length hosts) deed
-        → (outcome ≡ Went → DeedFits n hosts time word deed old)
-        → IsHistory hosts (suc n) (step_partly no_links n w (deed_act hosts time word deed) (applied outcome)) (deed_tables outcome n hosts time word deed old)
-    deed_left outcome time word deeds.Nothing placed are = nothing_left outcome time
-    deed_left outcome time word (deeds.Request r) placed are =
-        request_left outcome r.at time (form_of (host_at r.at hosts).admin r word) (caller_in (host_at r.at hosts).admin r.key)
-        (form_built (host_at r.at hosts).admin r word) placed are
-    deed_left outcome time word (deeds.Group line) placed fits = group_left outcome time line (group_form line.body) placed fits
+    -- the law of each deed: what it puts is what its act brings
+    deed_left : (time word : ℕ) (deed : DeedData) → IsPlaced (length hosts) deed
+        → AreReadable (effect_in seen_in Went ((deed_meaning hosts time word deed).means n) old).batches
+        → IsHistory hosts (suc n) (step no_links n w (deed_meaning hosts time word deed).act)
+        (tables_after Went n hosts (Ok (record { time = time; word = word; deed = deed })) old)
+    deed_left time word deeds.Nothing placed fits = as_before _ _ (step_nothing no_links n w _ refl) (still 0)
+    deed_left time word (deeds.Request r) placed fits =
+        request_left r.at time (form_of (host_at r.at hosts).admin r word) (caller_in (host_at r.at hosts).admin r.key)
+        (form_built (host_at r.at hosts).admin r word) placed fits
+    deed_left time word (deeds.Group line) placed fits = group_left time line (group_form line.body) placed fits
+
+    -- what is stopped leaves all as it was
+    stopped_left : (stop : Stop) (k : ℕ) (lost : Bool) (time word : ℕ) (deed : DeedData)
+        → IsHistory hosts (suc n) (world_after (Stopped stop k lost) n hosts w (Ok (record { time = time; word = word; deed = deed })))
+        (tables_after (Stopped stop k lost) n hosts (Ok (record { time = time; word = word; deed = deed })) old)
+    stopped_left stop k lost time word deeds.Nothing = as_before _ _ (world_still n w _ stop k lost) (still 0)
+    stopped_left stop k lost time word (deeds.Request r) = as_before _ _ (world_still n w _ stop k lost) (still r.at)
+    stopped_left stop k lost time word (deeds.Group line) = as_before _ _ (world_still n w _ stop k lost) (still line.at)
 
     -- the keepers hold the tables of the history after the line
-    pub line_left : (outcome : Outcome) (act : Act) → IsAmong (length hosts) act → (outcome ≡ Went → Fits n hosts act old)
+    pub line_left : (outcome : Outcome) (act : Act) → IsAmong (length hosts) act → AreReadable (effect_in seen_in outcome ((meaning hosts act).means n) old).batches
         → IsHistory hosts (suc n) (world_after outcome n hosts w act) (tables_after outcome n hosts act old)
-    line_left outcome (Ok step) among are = deed_left outcome step.time step.word step.deed among are
-    line_left outcome (Err bad) among are = nothing_left outcome 0
+    line_left Went (Ok step_) among fits =
+        subst (λ v. IsHistory hosts (suc n) v (tables_after Went n hosts (Ok step_) old)) (sym (world_whole n w _)) (deed_left step_.time step_.word step_.deed among fits)
+    line_left (Stopped stop k lost) (Ok step_) among fits = stopped_left stop k lost step_.time step_.word step_.deed
+    line_left Went (Err bad) among fits = as_before _ _ (world_whole n w _ ∙ step_nothing no_links n w _ refl) (still 0)
+    line_left (Stopped stop k lost) (Err bad) among fits = as_before _ _ (world_still n w _ stop k lost) (still 0)

@@ -1,21 +1,20 @@
 -- What a request is by its form, and what it is replied.
-use Rattle.std.specs.Prelude.{◌≡◌, ℕ, List, [], Option, Some, None, Result, Ok, Err, if◌then◌else◌}
+use Rattle.std.specs.Prelude.{ℕ, List, Option, Some, None, Result, Ok, Err, if◌then◌else◌}
 use Rattle.misp_ids.specs.Names.{is_api_key}
 use Rattle.misp_elem.specs.declared.refusal.RuleName.{RuleName}
 use Rattle.misp_elem.specs.declared.refusal.RuleName.TheVariants as rules
 use Rattle.misp_elem.specs.Refusal.{bare}
-use Rattle.misp_elem.specs.declared.row.RowFields.{RowFields as Row}
-use Rattle.misp_elem.specs.Row.{AreRows}
 use Rattle.misp_orgs.specs.Admin.{AdminFields as Admin}
 use Rattle.misp_orgs.specs.Keys.{CallerFields as Caller}
 use Rattle.misp_orgs.specs.Admin.{who_of}
 use Rattle.misp_outside.specs.Held.{Held}
+use Rattle.misp_effects.specs.Effect.{Effect}
 use Rattle.misp_requests.specs.declared.ask.Ask.{Ask}
 use Rattle.misp_script.specs.Step.{RequestData}
 use Rattle.misp_core.specs.Permission.{permission_of, is_permitted, no_permission}
-use Rattle.misp_core.specs.Answers.{site, writes_over}
-use Rattle.misp_core.specs.Sharing.{groups_of}
-use Rattle.misp_core.specs.Outcome.{Outcome, Went, outcome_of, asked_of, refused_by, refusal_by, reply_to, held_after}
+use Rattle.misp_core.specs.Answers.{site}
+use Rattle.misp_core.specs.Outcome.{refused_by}
+use Rattle.misp_core.specs.Effects.{refused, asked_over, Did}
 use Rattle.misp_core.specs.declared.reply.Reply.{Reply}
 use Rattle.misp_core.specs.declared.reply.Reply.TheVariants as replies
 use Rattle.misp_net.specs.declared.route.Route.{Route}
@@ -24,6 +23,7 @@ use Rattle.misp_net.specs.declared.request.AskFault.TheVariants as stops
 use Rattle.misp_net.specs.Hosts.{Host}
 use Rattle.misp_net.specs.Route.{route_of}
 use Rattle.misp_net.specs.Request.{Reading, ask_of}
+use Rattle.misp_net.specs.Seen.{Seen, seen_in}
 
 -- who asks with a text as key, which may be none that a key could be
 abbrev pub caller_in : Admin → Option (List ℕ) → Option Caller
@@ -67,29 +67,15 @@ abbrev pub fault_reply : AskFault → Reply
 fault_reply (stops.Refused refusal) = replies.Refused refusal
 fault_reply stops.NoMemory = refused_by rules.NoMemory
 
--- ---- the reply to the n-th request of a script, of this form
+-- ---- the n-th request of a script, of this form
 
-abbrev pub reply_by : Outcome → ℕ → Host → ℕ → Reading Asked → Held → Reply
-reply_by outcome n host now (Ok asked) held =
-    reply_to outcome n (site host.name host.admin (groups_of held) asked.0 now) asked.1 held
-reply_by outcome n host now (Err refusal) held = refusal_by outcome refusal
+-- what it comes to by what is seen
+abbrev pub replied : ℕ → Host → ℕ → Reading Asked → Seen → Effect Reply
+replied n host now (Ok asked) here =
+    asked_over n (site host.name host.admin here.groups asked.0 now) asked.1 (here.rows asked.1)
+replied n host now (Err refusal) here = refused refusal
 
--- what is held afterwards
-abbrev pub held_by : Outcome → ℕ → Host → ℕ → Reading Asked → Held → Held
-held_by outcome n host now (Ok asked) held =
-    held_after outcome n (site host.name host.admin (groups_of held) asked.0 now) asked.1 held
-held_by outcome n host now (Err refusal) held = held
-
--- the rows that it writes where nothing stops it
-abbrev pub writes_by : ℕ → Host → ℕ → Reading Asked → Held → List Row
-writes_by n host now (Ok asked) held =
-    writes_over n (site host.name host.admin (groups_of held) asked.0 now) asked.1
-    (asked_of asked.1 held)
-writes_by n host now (Err refusal) held = []
-
--- the reply is the stated one, and so is what is held afterwards; what is written are rows
-pub record IsReplied (n : ℕ) (host : Host) (now : ℕ) (form : Reading Asked)
-    (held : Held) (reply : Reply) (new : Option Held) : Type 0 where
-  pub reply_is : reply ≡ reply_by (outcome_of reply) n host now form held
-  pub left : new ≡ Some (held_by (outcome_of reply) n host now form held)
-  pub are_rows : outcome_of reply ≡ Went → AreRows (writes_by n host now form held)
+-- it was replied so, and left this
+abbrev pub IsReplied : ℕ → Host → ℕ → Reading Asked → Held → Reply → Option Held → Type 0
+IsReplied n host now form held reply new =
+    Did (replied n host now form (seen_in held)) held reply new

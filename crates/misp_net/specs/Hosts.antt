@@ -1,9 +1,6 @@
 -- The instances of a network, and their keepers, as a run sees them.
-use Rattle.std.specs.Prelude.{◌≡◌, ℕ, List, [], map, slice_index, slice_index_or}
-use Rattle.std.specs.declared.option.Option.{Option}
-use Rattle.std.specs.declared.option.Option.TheVariants.{Some}
+use Rattle.std.specs.Prelude.{ℕ, List, [], map, slice_index_or}
 use Rattle.misp_orgs.specs.Admin.{AdminFields as Admin}
-use Rattle.misp_outside.specs.Held.{Held, nothing_held}
 use Rattle.misp_outside.specs.Stock.{Stock, stock}
 use Rattle.misp_script.specs.declared.description.Description.{Description}
 use Rattle.misp_script.specs.declared.description.Entry.{Entry}
@@ -41,22 +38,3 @@ stock_of i = stock i.held i.faults
 
 abbrev pub stocks_of : List Standing → List Stock
 stocks_of instances = map stock_of instances
-
--- what is held at each place
-abbrev pub Tables : Type 0
-Tables = List Held
-
-abbrev pub held_at : ℕ → Tables → Held
-held_at place tables = slice_index_or tables place nothing_held
-
--- what each tells
-abbrev pub told : List Stock → List (Option Held)
-told old = map (λ stock. stock.held) old
-
--- all of them tell, and this
-abbrev pub Tell : List Stock → Tables → Type 0
-Tell old tables = told old ≡ map Some tables
-
--- how often the keeper of a place has failed
-abbrev pub count_at : ℕ → List Stock → ℕ
-count_at place old = slice_index (map (λ stock. stock.faults) old) place

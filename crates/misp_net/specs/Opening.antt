@@ -10,7 +10,7 @@ use Rattle.misp_core.specs.declared.opening.OpenFault.TheVariants as opens
 use Rattle.misp_net.specs.declared.places.NetFault.{NetFault}
 use Rattle.misp_net.specs.declared.places.NetFault.TheVariants as faults
 use Rattle.misp_outside.specs.Stock.{Stock}
-use Rattle.misp_net.specs.Hosts.{told}
+use Rattle.misp_effects.specs.Stocks.{told}
 
 -- every row of the administration is a group
 abbrev pub is_sound : Held → Bool

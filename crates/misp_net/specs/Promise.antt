@@ -1,21 +1,26 @@
--- What is promised of the run of a script over keepers that held nothing.
+-- What is promised of the run of a script.
 use Rattle.std.specs.Prelude.{◌≡◌, ℕ, suc, List, [], ◌∷◌, map, Option, Some, None, if◌then◌else◌}
 use Rattle.misp_ids.specs.declared.uid.OrgId.{OrgId}
+use Rattle.misp_outside.specs.Stock.{Stock}
+use Rattle.misp_effects.specs.Effect.{Outcome, Went}
+use Rattle.misp_effects.specs.Stocks.{Tables, Tell}
 use Rattle.misp_model.specs.Acts.{World, step}
 use Rattle.misp_model.specs.Acts as model
 use Rattle.misp_model.specs.Kept.{start, erased}
-use Rattle.misp_core.specs.Outcome.{Outcome, Went, IsRefused}
+use Rattle.misp_core.specs.Outcome.{IsRefused}
 use Rattle.misp_net.specs.declared.line.Output.{Output}
 use Rattle.misp_net.specs.declared.line.Output.TheVariants.{Bad, Nothing, Replied}
-use Rattle.misp_outside.specs.Stock.{Stock}
-use Rattle.misp_net.specs.Hosts.{Host, Tables, Tell}
-use Rattle.misp_net.specs.Run.{Act, output_of, tables_after}
-use Rattle.misp_net.specs.Course.{HasRun}
-use Rattle.misp_net.specs.History.{acts_in, no_links, told_output, AreDistinct, empty_tables, is_of}
+use Rattle.misp_net.specs.Hosts.{Host}
+use Rattle.misp_net.specs.Lines.{Act}
+use Rattle.misp_net.specs.Meaning.{stop_in}
+use Rattle.misp_net.specs.Run.{output_of, tables_after, Ran}
+use Rattle.misp_net.specs.Text.{text_from}
+use Rattle.misp_net.specs.History.{acts_in, no_links, told_output, AreDistinct, empty_tables, IsTold, is_of}
 
--- nothing stops any of the lines
-abbrev pub unstopped : List Act → List Outcome
-unstopped acts = map (λ act. Went) acts
+-- nothing stopped any of the lines
+abbrev pub ShowNoStop : List Output → Type 0
+ShowNoStop [] = Unit {0}
+ShowNoStop (output ∷ outputs) = (stop_in output ≡ None) × ShowNoStop outputs
 
 -- what the lines put out where nothing stops them, over the history of these acts
 abbrev pub outputs_over : ℕ → List Host → World → List Act → List model.Act → List Output
@@ -44,21 +49,25 @@ IsIdle (Replied reply) = IsRefused reply
 
 pub record IsPromised (hosts : List Host) (acts : List Act)
     (old new : List Stock) (text : List ℕ) : Type 0 where
-  pub run : HasRun hosts acts old new text
+  pub outputs : List Output
+  pub text_is : text ≡ text_from 1 outputs
+  pub ran : Ran hosts acts old new outputs
   -- what is refused changes nothing
   pub refused : (outcome : Outcome) (n : ℕ) (act : Act) (tables : Tables)
       → IsIdle (output_of outcome n hosts act tables)
       → tables_after outcome n hosts act tables ≡ tables
+  -- over keepers that held nothing the lines are those of the history, and each holds its tables
+  pub told : AreDistinct hosts → Tell old (empty_tables hosts) → IsTold hosts acts outputs new
   -- where nothing was stopped, elements that an organisation was never granted change none of its
   -- replies
-  pub private : AreDistinct hosts → Tell old (empty_tables hosts) → run.outcomes ≡ unstopped acts
-      → (o : OrgId) → replies_to o hosts acts run.outputs
+  pub private : AreDistinct hosts → Tell old (empty_tables hosts) → ShowNoStop outputs
+      → (o : OrgId) → replies_to o hosts acts outputs
       ≡ replies_to o hosts acts
       (outputs_over 0 hosts start acts (erased o no_links (acts_in hosts acts)))
   -- and any script with its lines that comes to the same without those elements gives it these
   -- replies
-  pub alike : AreDistinct hosts → Tell old (empty_tables hosts) → run.outcomes ≡ unstopped acts
+  pub alike : AreDistinct hosts → Tell old (empty_tables hosts) → ShowNoStop outputs
       → (o : OrgId) (others : List Act) → own_lines o hosts others ≡ own_lines o hosts acts
       → erased o no_links (acts_in hosts others) ≡ erased o no_links (acts_in hosts acts)
       → replies_to o hosts others (outputs_over 0 hosts start others (acts_in hosts others))
-      ≡ replies_to o hosts acts run.outputs
+      ≡ replies_to o hosts acts outputs

@@ -4,8 +4,8 @@ ghost use Rattle.std.specs.Prelude.{◌≡◌, IfOk, IfSome};
 ghost use Rattle.misp_groups.specs.Group.{IsGroup};
 ghost use Rattle.misp_outside.specs.Causes.{HasCause};
 ghost use Rattle.misp_script.specs.Step.{group_data};
-ghost use Rattle.misp_core.specs.Outcome.{ByKeeper, outcome_of, IsRefused};
-ghost use Rattle.misp_net.specs.Administering.{group_form, IsDone};
+ghost use Rattle.misp_core.specs.Outcome.{Went, ByKeeper, outcome_of, IsRefused};
+ghost use Rattle.misp_net.specs.Administering.{group_form, FormFits, IsDone};
 ghost use Rattle.misp_net.specs.Request.{Gives};
 
 use crate::answering::refused;
@@ -41,6 +41,9 @@ pub fn administer<K: Keeper>(
     ensures replied { IfSome instance.old.held (λ held.
         IsDone now (group_data line.now) (group_form line.now.body.now)
         held result instance.new.held) }
+
+    // What is read and not stopped is a group, at a moment that has a stamp.
+    ensures fits { outcome_of result ≡ Went → FormFits now (group_form line.now.body.now) }
 
     // A refused line changes nothing.
     ensures refused { IsRefused result → instance.new.held ≡ instance.old.held }

@@ -3,10 +3,12 @@
 ghost use Rattle.std.specs.Prelude.{◌≡◌, ◌≤◌, ℕ, true, Err, IfOk, IfErr, OnOk, length, map, take, drop, vec_len};
 ghost use Rattle.misp_script.specs.Directory.{directory_of};
 ghost use Rattle.misp_script.specs.Step.{step_of};
-ghost use Rattle.misp_net.specs.Hosts.{described_hosts, hosts_of, stocks_of, told};
+ghost use Rattle.misp_effects.specs.Stocks.{told};
+ghost use Rattle.misp_net.specs.Hosts.{described_hosts, hosts_of, stocks_of};
+ghost use Rattle.misp_net.specs.Lines.{acts_of, IsAmong};
 ghost use Rattle.misp_net.specs.Opening.{may_be_sound, may_be_unsound, OneFailed, IsUnopened};
-ghost use Rattle.misp_net.specs.Run.{acts_of};
-ghost use Rattle.misp_net.specs.Course.{IsAct, HasPut, HasRun};
+ghost use Rattle.misp_net.specs.Run.{IsAct};
+ghost use Rattle.misp_net.specs.Course.{HasPut, HasRun};
 ghost use Rattle.misp_net.specs.Promise.{IsPromised};
 
 use crate::administering::administer;
@@ -30,6 +32,7 @@ fn run_line<K: Keeper>(
     requires { length directory.now ≡ vec_len instances.old }
     ensures act { (n : ℕ) → IsAct n (hosts_of instances.old.items) (step_of directory.now line.now)
         (stocks_of instances.old.items) (stocks_of instances.new.items) result }
+    ensures among { IsAmong (length directory.now) (step_of directory.now line.now) }
     ensures hosts { hosts_of instances.new.items ≡ hosts_of instances.old.items }
 {
     match read_line(line, directory) {
@@ -81,8 +84,6 @@ fn run_lines<K: Keeper>(
         HasRun (hosts_of instances.old.items) (acts_of directory.now script.now)
         (stocks_of instances.old.items) (stocks_of instances.new.items) lines.items) }
 {
-    // A group that is held is read again as it was.
-    a_group_is_read_from_its_text();
     let mut lines = Vec::new(alloc);
     let mut number = 1usize;
     let mut rest = script;
@@ -130,6 +131,8 @@ pub fn run_net<K: Keeper>(
     ensures others { drop (length net.instances) (map K.stock keepers.new.items)
         ≡ drop (length net.instances) (map K.stock keepers.old.items) }
 {
+    // A group that is held is read again as it was.
+    a_group_is_read_from_its_text();
     let directory = net.directory(alloc)?;
     let mut instances = open_all(alloc, keepers, net.instances.into_vec())?;
     let lines = run_lines(alloc, &directory, &mut instances, script);

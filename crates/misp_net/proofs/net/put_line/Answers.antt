@@ -1,6 +1,11 @@
+use Rattle.std.proofs.Common.{sym, ◌∙◌, subst}
+use Rattle.std.proofs.lemmas.List.{length-map}
+use Rattle.misp_script.specs.Step.{step_of}
+use Rattle.misp_net.specs.Hosts.{host_of}
+use Rattle.misp_net.specs.Lines.{IsAmong}
 use Rattle.misp_net.proofs.Courses.{where_ok}
 use Rattle.misp_net.proofs.net.put_line.Goals as goal
 
 pub returns-clause-put : goal.returns-clause-put
 returns-clause-put g c =
-    where_ok c.write_line.result (λ text n. record { output = c.run_line-output.result; ran = c.run_line-output.ensures.act n; text_is = text }) c.write_line.ensures
+    where_ok c.write_line.result (λ text n. record { output = c.run_line-output.result; ran = c.run_line-output.ensures.act n; among = subst (λ count. IsAmong count (step_of c.args.directory.now c.args.line.now)) (c.requires ∙ c.args.instances.now.ok.0 ∙ sym (length-map c.args.instances.now.items host_of)) c.run_line-output.ensures.among; text_is = text }) c.write_line.ensures

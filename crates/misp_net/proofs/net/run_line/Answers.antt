@@ -1,5 +1,6 @@
-use Rattle.std.proofs.Common.{◌≡◌, ◌<◌, length, Ok, ◌∙◌, ap, subst, arith}
+use Rattle.std.proofs.Common.{◌≡◌, ◌<◌, length, Ok, sym, ◌∙◌, ap, subst, arith}
 use Rattle.misp_script.specs.Step.{IsPlaced, request_data, group_data, deed_data, step_of}
+use Rattle.misp_net.specs.Lines.{IsAmong}
 use Rattle.misp_net.proofs.Steps.{step_at, group_step, one_request, one_group, hosts_kept}
 use Rattle.misp_net.proofs.net.run_line.Goals as goal
 
@@ -52,3 +53,11 @@ returns-in-Group-clause-hosts g c =
     let placed : line.at < length c.args.instances.now.items = omega (arith, inside, c.requires, c.args.instances.now.ok.0) in
     hosts_kept c.args.instances.now.items line.at c.administer.new.instance held placed
     (rw (← c.index_mut-instance-in-Group.ensures.value) c.administer.ensures.name) (rw (← c.index_mut-instance-in-Group.ensures.value) c.administer.ensures.admin)
+
+-- ---- the instance is one of them
+
+pub returns-in-Request-clause-among : goal.returns-in-Request-clause-among
+returns-in-Request-clause-among g c = subst (IsAmong (length c.args.directory.now)) (sym c.in-Ok.ensures.step) c.in-Ok.ensures.placed
+
+pub returns-in-Group-clause-among : goal.returns-in-Group-clause-among
+returns-in-Group-clause-among g c = subst (IsAmong (length c.args.directory.now)) (sym c.in-Ok.ensures.step) c.in-Ok.ensures.placed

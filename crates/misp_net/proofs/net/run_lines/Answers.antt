@@ -1,7 +1,7 @@
 use Rattle.std.proofs.Common.{[], ◌∷◌, ◌++◌, ◌+◌, length, map, refl, sym, ◌∙◌, ap, subst, arith, append_assoc, length-append}
 use Rattle.misp_script.specs.Step.{step_of}
 use Rattle.misp_net.specs.Hosts.{hosts_of, stocks_of}
-use Rattle.misp_net.specs.Run.{Act, acts_of}
+use Rattle.misp_net.specs.Lines.{Act, acts_of}
 use Rattle.misp_net.specs.Course.{HasPut}
 use Rattle.misp_net.proofs.Courses.{no_acts, one_more}
 use Rattle.misp_net.proofs.Steps.{hosts_long}
@@ -29,7 +29,7 @@ loop-rest-preserved g c =
         append_assoc so_far.0 (act ∷ []) (acts_of c.args.directory.now c.split_line.result.1.now)
             ∙ ap (λ lines. so_far.0 ++ map (step_of c.args.directory.now) lines) (sym c.split_line.ensures.lines) ∙ so_far.1,
         omega (arith, so_far.2, length-append so_far.0 (act ∷ [])),
-        rw (put.text_is, so_far.2) (one_more c.a_group_is_read_from_its_text.ensures _ _ _ _ _ _ _ _ so_far.3 put.ran),
+        one_more _ _ _ _ _ _ _ _ so_far.3 (rw so_far.2 at put),
       );
       hosts = c.put_line.ensures.hosts ∙ c.loop-rest.invariant.hosts;
       places = omega (arith, hosts_long _ _ c.put_line.ensures.hosts, c.loop-rest.invariant.places, c.put_line.new.instances.ok.0, c.loop-rest.instances.ok.0);

@@ -1,6 +1,6 @@
 use Rattle.std.proofs.Common.{◌≡◌, ◌+◌, ◌≤◌, List, ◌++◌, length, vec_len}
 use Rattle.misp_net.specs.Hosts.{hosts_of, stocks_of}
-use Rattle.misp_net.specs.Run.{Act, acts_of}
+use Rattle.misp_net.specs.Lines.{Act, acts_of}
 use Rattle.misp_net.specs.Course.{HasRun}
 use Rattle.misp_net.proofs.net.run_lines.Given as goal
 

@@ -14,7 +14,7 @@ returns-clause-ran g c =
     let opened = c.in_ok-instances.instances.items in
     let count : vec_len c.into_vec.result ≡ length entries = c.into_vec.result.ok.0 ∙ ap length c.into_vec.ensures in
     let hosts : hosts_of opened ≡ map described_host entries = c.in_ok-instances.ensures.hosts ∙ ap (map described_host) c.into_vec.ensures in
-    promised _ _ _ _ _
+    promised c.a_group_is_read_from_its_text.ensures _ _ _ _ _
     (run_in_front (hosts_of opened) (map described_host entries) _ (stocks_of opened) (stocks_of c.run_lines-lines.new.instances.items)
     (map g.K.Keeper.stock c.open_all.new.keepers.items) _ _ (length entries) _
     hosts (opened_long opened entries hosts) (rw count at c.in_ok-instances.ensures.opened) c.close_all.ensures

@@ -1,0 +1,114 @@
+-- What each line means: THE definition by deed.
+use Rattle.std.specs.Prelude.{ℕ, suc, List, [], ◌∷◌, Option, Some, None, option_map, Ok, Err}
+use Rattle.misp_ids.specs.declared.uid.OrgId.{OrgId}
+use Rattle.misp_groups.specs.declared.group.GroupFields.{GroupFields as Group}
+use Rattle.misp_orgs.specs.Keys.{CallerFields as Caller}
+use Rattle.misp_effects.specs.declared.stop.Stop.{Stop}
+use Rattle.misp_effects.specs.Effect.{Effect, effect, shown}
+use Rattle.misp_effects.specs.Meanings.{Meaning, alone}
+use Rattle.misp_script.specs.Step.{DeedData, GroupData}
+use Rattle.misp_script.specs.Step as deeds
+use Rattle.misp_model.specs.Acts as model
+use Rattle.misp_core.specs.Keeping.{caller_at}
+use Rattle.misp_core.specs.Outcome.{refused_by}
+use Rattle.misp_core.specs.Effects.{rule_told}
+use Rattle.misp_core.specs.Effects as replies
+use Rattle.misp_core.specs.declared.reply.Reply.{Reply}
+use Rattle.misp_net.specs.declared.line.Output.{Output}
+use Rattle.misp_net.specs.declared.line.Output.TheVariants.{Bad, Nothing, Replied}
+use Rattle.misp_net.specs.Lines.{Act}
+use Rattle.misp_net.specs.Hosts.{Host, host_at}
+use Rattle.misp_net.specs.Request.{Reading}
+use Rattle.misp_net.specs.Seen.{Seen}
+use Rattle.misp_net.specs.Answering.{Asked, caller_in, form_of, replied}
+use Rattle.misp_net.specs.Administering.{group_form, grouped}
+
+-- what a line is: as the n-th what it comes to among the instances, its act in the history, and
+-- the organisation that asks
+pub record LineMeaning : Type 0 where
+  pub means : ℕ → Meaning Seen Output
+  pub act : model.Act
+  pub asker : Option OrgId
+
+-- ---- what lines come to
+
+-- one instance is asked; a stop is told by its rule, and leaves nothing
+abbrev pub asks : ℕ → (Seen → Effect Reply) → Meaning Seen Output
+asks at comes =
+    alone (λ stop. Replied (refused_by (rule_told stop))) at (λ here. shown Replied (comes here))
+
+-- none is asked, and nothing stops it
+abbrev pub silent : Output → Meaning Seen Output
+silent output = record {
+  at = 0;
+  peer = 0;
+  into = 0;
+  comes = λ here there. effect output [];
+  telling = λ stop n lost e. e;
+}
+
+-- a line that does nothing
+abbrev pub idle : Output → ℕ → LineMeaning
+idle output time = record {
+  means = λ n. silent output;
+  act = record { at = []; now = time; deed = model.Nothing };
+  asker = None;
+}
+
+-- ---- acts by form
+
+-- what is asked, or that somebody asked what is no request
+abbrev pub asking : Reading Asked → Host → Option Caller → model.Deed
+asking (Ok asked) host caller = model.Asks (caller_at host.admin asked.0) asked.1
+asking (Err refusal) host None = model.Nothing
+asking (Err refusal) host (Some caller) = model.Misfits (caller_at host.admin caller)
+
+-- the group that is administered, where the text of the line is one
+abbrev pub administering : Reading Group → GroupData → model.Deed
+administering (Ok g) line = model.Administers line.org line.add g
+administering (Err refusal) line = model.Nothing
+
+-- ---- lines
+
+-- by deed
+abbrev pub deed_meaning : List Host → ℕ → ℕ → DeedData → LineMeaning
+deed_meaning hosts time word deeds.Nothing = idle Nothing time
+deed_meaning hosts time word (deeds.Request r) =
+    let host : Host = host_at r.at hosts in
+    let caller : Option Caller = caller_in host.admin r.key in
+    record {
+      means = λ n. asks r.at (replied n host time (form_of host.admin r word));
+      act = record {
+        at = host.name;
+        now = time;
+        deed = asking (form_of host.admin r word) host caller;
+      };
+      asker = option_map (λ c. c.org) caller;
+    }
+deed_meaning hosts time word (deeds.Group line) = record {
+  means = λ n. asks line.at (λ here. grouped time line (group_form line.body) here.groups);
+  act = record {
+    at = (host_at line.at hosts).name;
+    now = time;
+    deed = administering (group_form line.body) line;
+  };
+  asker = None;
+}
+
+-- a line that is none does nothing
+abbrev pub meaning : List Host → Act → LineMeaning
+meaning hosts (Ok step) = deed_meaning hosts step.time step.word step.deed
+meaning hosts (Err bad) = idle (Bad bad.place) 0
+
+-- the meanings of lines, the first being the n-th
+abbrev pub meanings_of : ℕ → List Host → List Act → List (Meaning Seen Output)
+meanings_of n hosts [] = []
+meanings_of n hosts (act ∷ acts) = (meaning hosts act).means n ∷ meanings_of (suc n) hosts acts
+
+-- ---- stops
+
+-- what stopped a line, read off what is put out
+abbrev pub stop_in : Output → Option Stop
+stop_in (Bad place) = None
+stop_in Nothing = None
+stop_in (Replied reply) = replies.stop_in reply
