@@ -13,7 +13,7 @@ use Rattle.misp_net.specs.Hosts.{described_hosts}
 use Rattle.misp_net.specs.Opening.{may_be_sound, may_be_unsound}
 use Rattle.misp_net.specs.Lines.{acts_of}
 use Rattle.misp_net.specs.History.{AreDistinct}
-use Rattle.misp_net.specs.Promise.{IsPromised}
+use Rattle.misp_net.specs.Promise.{IsPromised, IsPrivate}
 use Rattle.misp_app.specs.declared.status.Status.{Status}
 use Rattle.misp_app.specs.declared.status.Status.TheVariants.{Done, BadDescription, TooMuch}
 use Rattle.misp_app.specs.Limits.{source_limit}
@@ -46,6 +46,8 @@ pub record HasWritten (source : List ℕ) (old new : List Stock)
   pub lines : List ℕ
   pub described_is : described source ≡ Ok net
   pub distinct : AreDistinct (described_hosts net)
+  pub private : IsPrivate (described_hosts net) (acts_of (directory_of net) (script_part source))
+      (take (length net.instances) old) (take (length net.instances) new) lines
   pub ran : IsPromised (described_hosts net) (acts_of (directory_of net) (script_part source))
       (take (length net.instances) old) (take (length net.instances) new) lines
   pub sound : may_be_sound (take (length net.instances) old) ≡ true

@@ -35,7 +35,7 @@ use Rattle.misp_net.specs.Answering.{Asked, caller_in, form_of, replied}
 use Rattle.misp_net.specs.Meaning.{deed_meaning, stop_in}
 use Rattle.misp_net.specs.Course.{HasRun}
 use Rattle.misp_net.specs.History.{act_in, acts_in, no_links, seen_by, told_output, told_outputs, AreDistinct, empty_tables, IsTold, is_asker, is_of}
-use Rattle.misp_net.specs.Promise.{ShowNoStop, outputs_over, replies_to, own_lines, IsPromised}
+use Rattle.misp_net.specs.Promise.{ShowNoStop, outputs_over, replies_to, own_lines, IsPromised, IsPrivate}
 use Rattle.misp_net.proofs.Forms.{AskedBy, form_caller}
 use Rattle.misp_net.proofs.Telling.{world_whole}
 use Rattle.misp_net.proofs.Histories.{are_told}
@@ -168,7 +168,14 @@ promised back hosts acts old new text run = record {
   ran = run.ran;
   refused = λ outcome n act tables idle. idle_same outcome n hosts act tables idle;
   told = λ distinct empty. told back hosts acts old new text run distinct empty;
-  private = λ distinct empty none o.
+}
+
+pub is_private : AreReadBack → (hosts : List Host) (acts : List Act) (old new : List Stock) (text : List ℕ) → HasRun hosts acts old new text → IsPrivate hosts acts old new text
+is_private back hosts acts old new text run = record {
+  outputs = run.outputs;
+  text_is = run.text_is;
+  ran = run.ran;
+  kept = λ distinct empty none o.
       ap (replies_to o hosts acts) (told_whole back hosts acts old new text run distinct empty none)
       ∙ sym (private_replies o hosts acts);
   alike = λ distinct empty none o others own same.

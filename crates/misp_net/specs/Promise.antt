@@ -47,20 +47,29 @@ IsIdle (Bad place) = Unit {0}
 IsIdle Nothing = Unit {0}
 IsIdle (Replied reply) = IsRefused reply
 
+-- The lines put these outputs out, and wrote this text: one line for each. What is refused changes
+-- nothing; and over keepers that held nothing the lines are those of the history, and each keeper
+-- holds its tables.
 pub record IsPromised (hosts : List Host) (acts : List Act)
     (old new : List Stock) (text : List ℕ) : Type 0 where
   pub outputs : List Output
   pub text_is : text ≡ text_from 1 outputs
   pub ran : Ran hosts acts old new outputs
-  -- what is refused changes nothing
   pub refused : (outcome : Outcome) (n : ℕ) (act : Act) (tables : Tables)
       → IsIdle (output_of outcome n hosts act tables)
       → tables_after outcome n hosts act tables ≡ tables
-  -- over keepers that held nothing the lines are those of the history, and each holds its tables
   pub told : AreDistinct hosts → Tell old (empty_tables hosts) → IsTold hosts acts outputs new
-  -- where nothing was stopped, elements that an organisation was never granted change none of its
-  -- replies
-  pub private : AreDistinct hosts → Tell old (empty_tables hosts) → ShowNoStop outputs
+
+-- THE headline, of the outputs of these lines, of which this is the text, over keepers that held
+-- nothing.
+pub record IsPrivate (hosts : List Host) (acts : List Act)
+    (old new : List Stock) (text : List ℕ) : Type 0 where
+  pub outputs : List Output
+  pub text_is : text ≡ text_from 1 outputs
+  pub ran : Ran hosts acts old new outputs
+  -- where no output shows a stop, elements that an organisation was never granted change none of
+  -- its replies
+  pub kept : AreDistinct hosts → Tell old (empty_tables hosts) → ShowNoStop outputs
       → (o : OrgId) → replies_to o hosts acts outputs
       ≡ replies_to o hosts acts
       (outputs_over 0 hosts start acts (erased o no_links (acts_in hosts acts)))

@@ -9,7 +9,7 @@ ghost use Rattle.misp_net.specs.Lines.{acts_of, IsAmong};
 ghost use Rattle.misp_net.specs.Opening.{may_be_sound, may_be_unsound, OneFailed, IsUnopened};
 ghost use Rattle.misp_net.specs.Run.{IsAct};
 ghost use Rattle.misp_net.specs.Course.{HasPut, HasRun};
-ghost use Rattle.misp_net.specs.Promise.{IsPromised};
+ghost use Rattle.misp_net.specs.Promise.{IsPromised, IsPrivate};
 
 use crate::administering::administer;
 use crate::answering::answer;
@@ -106,8 +106,13 @@ pub fn run_net<K: Keeper>(
 ) -> Result<Vec<u8>, NetFault>
     requires { length net.instances ≤ vec_len keepers.old }
 
-    // What was written and what is held follow from the script, and from what stopped each line;
-    // and what an organisation was never granted changes none of its replies.
+    // What an organisation was never granted changes none of its replies.
+    ensures private { IfOk result (λ lines.
+        IsPrivate (described_hosts net) (acts_of (directory_of net) script.now)
+        (take (length net.instances) (map K.stock keepers.old.items))
+        (take (length net.instances) (map K.stock keepers.new.items)) lines.items) }
+
+    // What was written and what is held follow from the script, and from what stopped each line.
     ensures ran { IfOk result (λ lines.
         IsPromised (described_hosts net) (acts_of (directory_of net) script.now)
         (take (length net.instances) (map K.stock keepers.old.items))
