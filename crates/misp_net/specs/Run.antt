@@ -30,7 +30,8 @@ IsAct n hosts act old new output =
 
 -- The lines took the keepers from old to new, and put this out, one output for each. They name the
 -- fault of a keeper no more often than this keeper's count rose; and where all keepers tell what
--- they hold, output and holdings are those of the lines, each under an outcome that its output tells.
+-- they hold, output and holdings are those of the lines, each under an outcome that its output
+-- tells.
 abbrev pub Ran : List Host → List Act → List Stock → List Stock → List Output → Type 0
 Ran hosts acts old new outputs =
     courses.HasRun Seen Output seen_in spelled stop_in (meanings_of 0 hosts acts) old new outputs

@@ -8,4 +8,8 @@ use Rattle.misp_net.proofs.net.put_line.Goals as goal
 
 pub returns-clause-put : goal.returns-clause-put
 returns-clause-put g c =
-    where_ok c.write_line.result (λ text n. record { output = c.run_line-output.result; ran = c.run_line-output.ensures.act n; among = subst (λ count. IsAmong count (step_of c.args.directory.now c.args.line.now)) (c.requires ∙ c.args.instances.now.ok.0 ∙ sym (length-map c.args.instances.now.items host_of)) c.run_line-output.ensures.among; text_is = text }) c.write_line.ensures
+    let long = c.requires ∙ c.args.instances.now.ok.0 ∙ sym (length-map c.args.instances.now.items host_of) in
+    let placed = subst (λ count. IsAmong count (step_of c.args.directory.now c.args.line.now)) long c.run_line-output.ensures.among in
+    where_ok c.write_line.result
+    (λ text n. record { output = c.run_line-output.result; ran = c.run_line-output.ensures.act n; among = placed; text_is = text })
+    c.write_line.ensures
