@@ -1,6 +1,5 @@
 pub mod Decisions
 pub mod Planned
-pub mod Stepped
 pub mod Carried
 pub mod Storable
 pub mod Answered

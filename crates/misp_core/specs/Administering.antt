@@ -1,5 +1,5 @@
 -- The administration of groups: why it is refused, what it is replied, and what it leaves.
-use Rattle.std.specs.Prelude.{◌≡◌, Bool, List, [], ◌∷◌, if◌then◌else◌}
+use Rattle.std.specs.Prelude.{Bool, List, [], ◌∷◌, if◌then◌else◌}
 use Rattle.std.specs.declared.option.Option.{Option}
 use Rattle.std.specs.declared.option.Option.TheVariants.{None, Some}
 use Rattle.misp_ids.specs.declared.uid.OrgId.{OrgId}
@@ -18,7 +18,7 @@ use Rattle.misp_levels.specs.Groups.{why_not_added, why_not_edited}
 use Rattle.misp_levels.specs.declared.fault.GroupFault.{GroupFault}
 use Rattle.misp_levels.specs.declared.fault.GroupFault.TheVariants as causes
 use Rattle.misp_core.specs.Sharing.{group_row, groups_of}
-use Rattle.misp_core.specs.Outcome.{Outcome, Went, ByKeeper, ByMemory, outcome_of, refused_by}
+use Rattle.misp_core.specs.Outcome.{Outcome, Went, ByKeeper, ByMemory, refused_by}
 use Rattle.misp_core.specs.declared.reply.Answer.TheVariants as answers
 use Rattle.misp_core.specs.declared.reply.Reply.{Reply}
 use Rattle.misp_core.specs.declared.reply.Reply.TheVariants as replies
@@ -63,12 +63,6 @@ administering_held Went now by add g held =
     held_by (why_not add (groups_of held) by g.id) now g held
 administering_held ByKeeper now by add g held = held
 administering_held ByMemory now by add g held = held
-
--- the reply is the stated one by the outcome that it tells, and so is what is held afterwards
-pub record HasChanged (now : Stamp) (by : OrgId) (add : Bool) (g : Group)
-    (held : Held) (reply : Reply) (new : Option Held) : Type 0 where
-  pub reply_is : reply ≡ administering_reply (outcome_of reply) by add g (groups_of held)
-  pub left : new ≡ Some (administering_held (outcome_of reply) now by add g held)
 
 -- ---- as an effect
 

@@ -1,12 +1,9 @@
--- What stopped a request, and what it is answered and leaves where that is known.
-use Rattle.std.specs.Prelude.{◌≡◌, ℕ, Bool, true, false, ◌==◌, List, [], map, Result, if◌then◌else◌}
-use Rattle.std.specs.declared.option.Option.{Option}
-use Rattle.std.specs.declared.option.Option.TheVariants.{Some}
+-- What stopped a request, and what it reads and puts of what is held.
+use Rattle.std.specs.Prelude.{ℕ, Bool, true, false, ◌==◌, List, [], map, Result, if◌then◌else◌}
 use Rattle.misp_elem.specs.declared.refusal.Refusal.{Refusal}
 use Rattle.misp_elem.specs.declared.refusal.RuleName.{RuleName}
 use Rattle.misp_elem.specs.declared.refusal.RuleName.TheVariants as rules
 use Rattle.misp_elem.specs.Refusal.{rule_number, bare}
-use Rattle.misp_elem.specs.Row.{AreRows}
 use Rattle.misp_requests.specs.declared.ask.Ask.{Ask}
 use Rattle.misp_requests.specs.declared.ask.Ask.TheVariants as asks
 use Rattle.misp_elem.specs.declared.row.RowFields.{RowFields as Row}
@@ -15,8 +12,8 @@ use Rattle.misp_outside.specs.declared.fault.KeeperFault.TheVariants as stops
 use Rattle.misp_outside.specs.declared.row.RawRow.{RawRow}
 use Rattle.misp_outside.specs.Held.{Held, rows_of, put_rows}
 use Rattle.misp_core.specs.Raw.{raw_row, rows_in}
-use Rattle.misp_core.specs.Permission.{permission_of, is_permitted, no_permission}
-use Rattle.misp_core.specs.Answers.{Surroundings, event_asked, reply_over, writes_over}
+use Rattle.misp_core.specs.Permission.{permission_of, no_permission}
+use Rattle.misp_core.specs.Answers.{event_asked}
 use Rattle.misp_core.specs.declared.reply.Reply.{Reply}
 use Rattle.misp_core.specs.declared.reply.Reply.TheVariants as replies
 
@@ -55,57 +52,13 @@ rows_asked ask raws = rows_of (event_asked ask) raws
 abbrev pub asked_of : Ask → Held → Result (List Row) (List ℕ)
 asked_of ask held = rows_in (rows_asked ask held.rows)
 
--- the reply to the n-th request, where this is held, under this outcome
-abbrev pub reply_to : Outcome → ℕ → Surroundings → Ask → Held → Reply
-reply_to Went n at ask held = reply_over n at ask (asked_of ask held)
-reply_to ByKeeper n at ask held = refused_by rules.KeeperFault
-reply_to ByMemory n at ask held = refused_by rules.NoMemory
-
 -- what is held after these rows are put
 abbrev pub with_rows : List Row → Held → Held
 with_rows rows held = record held { rows = put_rows (map raw_row rows) held.rows }
 
--- what is held afterwards
-abbrev pub held_after : Outcome → ℕ → Surroundings → Ask → Held → Held
-held_after Went n at ask held = with_rows (writes_over n at ask (asked_of ask held)) held
-held_after ByKeeper n at ask held = held
-held_after ByMemory n at ask held = held
-
--- ---- by the role of the caller
-
--- a refusal for which the keeper is not asked, unless something stopped the request
-abbrev pub refusal_by : Outcome → Refusal → Reply
-refusal_by Went refusal = replies.Refused refusal
-refusal_by ByKeeper refusal = refused_by rules.KeeperFault
-refusal_by ByMemory refusal = refused_by rules.NoMemory
-
 -- the refusal of an ask that is not permitted
 abbrev pub forbidden : Ask → Refusal
 forbidden ask = no_permission (permission_of ask)
-
--- the reply to the n-th request: the role of the caller must permit what it asks
-abbrev pub step_reply : Outcome → ℕ → Surroundings → Ask → Held → Reply
-step_reply outcome n at ask held =
-    if is_permitted at.caller ask then reply_to outcome n at ask held
-    else refusal_by outcome (forbidden ask)
-
--- what is held afterwards
-abbrev pub step_held : Outcome → ℕ → Surroundings → Ask → Held → Held
-step_held outcome n at ask held =
-    if is_permitted at.caller ask then held_after outcome n at ask held else held
-
--- the rows that it writes where nothing stops it
-abbrev pub step_writes : ℕ → Surroundings → Ask → Held → List Row
-step_writes n at ask held =
-    if is_permitted at.caller ask then writes_over n at ask (asked_of ask held) else []
-
--- the reply is the stated one by the outcome that it tells, and so is what is held afterwards; what
--- is written are rows
-pub record IsStepped (n : ℕ) (at : Surroundings) (ask : Ask)
-    (held : Held) (reply : Reply) (new : Option Held) : Type 0 where
-  pub reply_is : reply ≡ step_reply (outcome_of reply) n at ask held
-  pub left : new ≡ Some (step_held (outcome_of reply) n at ask held)
-  pub are_rows : outcome_of reply ≡ Went → AreRows (step_writes n at ask held)
 
 -- the reply is a refusal
 abbrev pub is_refused : Reply → Bool

@@ -1,5 +1,5 @@
 -- Rows as a keeper holds them.
-use Rattle.std.specs.Prelude.{◌≡◌, ℕ, Bool, ◌&&◌, cond, List, [], ◌∷◌, ◌++◌, map, Result, Ok, Err, bytes_eq}
+use Rattle.std.specs.Prelude.{◌≡◌, ℕ, Bool, ◌&&◌, cond, List, [], ◌∷◌, ◌++◌, Result, Ok, Err, bytes_eq}
 use Rattle.std.specs.declared.option.Option.{Option}
 use Rattle.std.specs.declared.option.Option.TheVariants.{None, Some}
 use Rattle.misp_elem.specs.declared.row.RowFields.{RowFields as Row}
@@ -8,17 +8,12 @@ use Rattle.misp_elem.specs.RowReading.{row_of}
 use Rattle.misp_model.specs.Names.{same_event, event_of}
 use Rattle.misp_model.specs.Machine.{name_bytes}
 use Rattle.misp_outside.specs.declared.row.RawRow.{RawRow}
-use Rattle.misp_outside.specs.Held.{Held}
 use Rattle.misp_core.specs.declared.store.RowFault.{RowFault}
 use Rattle.misp_core.specs.declared.store.RowFault.TheVariants as faults
 
 -- a row as a keeper holds it: spelled, under its event and its name
 unfoldable pub raw_row : Row → RawRow
 raw_row r = record { event = event_of r.key; name = name_bytes r; bytes = spelling.row r }
-
--- what a keeper holds that has just these rows, in their order
-abbrev pub holding : List Row → Held
-holding rows = record { rows = map raw_row rows; admin = [] }
 
 -- the row is held under its own event and name
 unfoldable pub stands_under : RawRow → Row → Bool

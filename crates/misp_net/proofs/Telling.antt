@@ -40,7 +40,6 @@ use Rattle.misp_core.specs.Keeping.{Keeps, act_at, act_of, caller_at}
 use Rattle.misp_core.specs.Outcome.{asked_of, with_rows, is_refused}
 use Rattle.misp_core.specs.Effects.{spelled, row_batches, asked_over}
 use Rattle.misp_core.specs.Administering.{why_not, reply_by, held_by, effect_by}
-use Rattle.misp_core.proofs.Stepped.{rows_left}
 use Rattle.misp_core.proofs.Keeping.{replied_there, same_elsewhere, same_groups, left_there}
 use Rattle.misp_core.proofs.GroupRows.{AreReadBack}
 use Rattle.misp_core.proofs.KeepingGroups.{reply_fails, administered_left, same_log, groups_elsewhere}
@@ -82,6 +81,11 @@ world_still n w act stop (suc k) lost = deed_still n w act.at act.now act.deed t
 over_reply : (n : ℕ) (at : Surroundings) (ask : Ask) (read : Result (List Row) (List ℕ)) → (asked_over n at ask read).reply ≡ reply_over n at ask read
 over_reply n at ask (Ok rows) = refl
 over_reply n at ask (Err name) = refl
+
+rows_left : (rows : List Row) (held : Held) → put_batches (map spelled (row_batches rows)) held ≡ with_rows rows held
+unfolding with_batch put_rows put_admins
+rows_left [] held = refl
+rows_left (row ∷ rows) held = refl
 
 over_left : (n : ℕ) (at : Surroundings) (ask : Ask) (read : Result (List Row) (List ℕ)) (held : Held)
     → put_batches (map spelled (asked_over n at ask read).batches) held ≡ with_rows (writes_over n at ask read) held
