@@ -1,48 +1,65 @@
 -- What a request over a keeper that may not tell what it holds is answered.
-use Rattle.std.proofs.Common.{◌≡◌, ℕ, List, Bool, true, false, if◌then◌else◌, refl, ap, subst, ◌∙◌, Option, Some, None, Result, Err}
-use Rattle.std.specs.Prelude.{IfSome, IsTrue}
+use Rattle.std.proofs.Common.{◌≡◌, ℕ, List, true, false, if◌then◌else◌, refl, ap, sym, subst, ◌∙◌, Option, Some, None, Result, Ok, Err}
+use Rattle.std.specs.Prelude.{IfSome}
+use Rattle.misp_elem.specs.declared.row.RowFields.{RowFields as Row}
 use Rattle.misp_requests.specs.declared.ask.Ask.{Ask}
 use Rattle.misp_orgs.specs.Keys.{CallerFields as Caller}
-use Rattle.misp_outside.specs.declared.row.RawRow.{RawRow}
-use Rattle.misp_outside.specs.Held.{Held, ascend, comes_before}
+use Rattle.misp_outside.specs.Held.{Held}
 use Rattle.misp_effects.specs.Effect.{Effect}
+use Rattle.misp_model.specs.View.{IsTable}
+use Rattle.misp_store.specs.Loading.{NamesFault}
+use Rattle.misp_store.specs.Seen.{Seen, seen_in}
+use Rattle.misp_store.specs.declared.fault.LoadFault.{LoadFault}
+use Rattle.misp_store.specs.declared.fault.LoadFault.TheVariants as faults
 use Rattle.misp_core.specs.Permission.{is_permitted}
-use Rattle.misp_core.specs.Raw.{rows_in}
 use Rattle.misp_core.specs.Standing.{Standing}
-use Rattle.misp_core.specs.Answers.{Surroundings, site_at}
-use Rattle.misp_core.specs.Outcome.{rows_asked, asked_of, forbidden}
-use Rattle.misp_core.specs.Effects.{refused, asked_over, requested, IsAnswered}
-use Rattle.misp_core.specs.Planning.{Plans, unplanned}
+use Rattle.misp_core.specs.Answers.{Surroundings, reach_of, scene_at, site_at}
+use Rattle.misp_core.specs.Outcome.{forbidden}
+use Rattle.misp_core.specs.Effects.{refused, asked, asked_over, requested, Did, IsAnswered}
+use Rattle.misp_core.specs.Planning.{Plans, IsUnread, unplanned}
 use Rattle.misp_core.specs.declared.planning.Plan.{Plan}
 use Rattle.misp_core.specs.declared.planning.NoPlan.{NoPlan}
 use Rattle.misp_core.specs.declared.reply.Reply.{Reply}
 use Rattle.misp_core.proofs.Carried.{DidThere, refused_did}
 
--- of two values the one for what is permitted, and the one for what is not
-when : {A : Type 0} (may : Bool) (x y : A) → may ≡ true → x ≡ (if may then x else y)
-when true x y is = refl
-when false x y is = absurd cc
+-- what is not permitted comes to its refusal, and what is permitted to what the ask comes to
+module _ (n : ℕ) (at : Surroundings) (ask : Ask) (seen : Seen) where
+  barred : is_permitted at.caller ask ≡ false → requested n at ask seen ≡ refused (forbidden ask)
+  barred may = ap (λ b. if b then asked_over n at ask (seen.rows (reach_of ask)) else refused (forbidden ask)) may
 
-unless : {A : Type 0} (may : Bool) (x y : A) → may ≡ false → y ≡ (if may then x else y)
-unless true x y is = absurd cc
-unless false x y is = refl
+  let_in : is_permitted at.caller ask ≡ true → requested n at ask seen ≡ asked_over n at ask (seen.rows (reach_of ask))
+  let_in may = ap (λ b. if b then asked_over n at ask (seen.rows (reach_of ask)) else refused (forbidden ask)) may
+
+  is_unread : (fault : LoadFault) → is_permitted at.caller ask ≡ true → NamesFault (seen.rows (reach_of ask)) fault → IsUnread fault (requested n at ask seen)
+  is_unread (faults.BadRow name) may names = let_in may ∙ ap (asked_over n at ask) names
+  is_unread faults.KeeperFault may names = tt
+  is_unread faults.NoMemory may names = tt
 
 -- an ask that is not permitted is refused, and what is held stays
 pub turned_away : (n : ℕ) (i : Standing) (caller : Caller) (now : ℕ) (ask : Ask) (old : Option Held) (why : NoPlan) → is_permitted caller ask ≡ false → Plans (Err why) (refused (forbidden ask))
     → IfSome old (λ held. IsAnswered n (site_at i held caller now) ask held (unplanned why) old)
 turned_away n i caller now ask None why may plans = tt
 turned_away n i caller now ask (Some held) why may plans =
-    refused_did why (requested n (site_at i held caller now) ask held) (Some held) (Some held)
-    (subst (λ (e : Effect Reply). Plans (Err why) e) (unless (is_permitted caller ask) (asked_over n (site_at i held caller now) ask (asked_of ask held)) (refused (forbidden ask)) may) plans) refl
+    refused_did why (requested n (site_at i held caller now) ask (seen_in held)) (Some held) (Some held)
+    (subst (λ (e : Effect Reply). Plans (Err why) e) (sym (barred n (site_at i held caller now) ask (seen_in held) may)) plans) refl
 
--- an ask that is permitted was planned over the rows that it is about
-pub asked_there : (n : ℕ) (at : Surroundings) (ask : Ask) (raws : List RawRow) (planned : Result Plan NoPlan) (old mid new : Option Held) (reply : Reply) → is_permitted at.caller ask ≡ true → mid ≡ old
-    → IfSome old (λ told. raws ≡ rows_asked ask told.rows) → IfSome old (λ told. IsTrue (ascend comes_before raws))
-    → (IsTrue (ascend comes_before raws) → Plans planned (asked_over n at ask (rows_in raws)))
+-- so is one that is permitted, of which the rows are not read
+pub unread_there : (n : ℕ) (i : Standing) (caller : Caller) (now : ℕ) (ask : Ask) (fault : LoadFault) (old new : Option Held) (reply : Reply) → is_permitted caller ask ≡ true → new ≡ old
+    → IfSome old (λ held. NamesFault ((seen_in held).rows (reach_of ask)) fault)
+    → ((e : Effect Reply) (held : Held) → IsUnread fault e → Did e held reply (Some held))
+    → IfSome old (λ held. IsAnswered n (site_at i held caller now) ask held reply new)
+unread_there n i caller now ask fault None new reply may same names done = tt
+unread_there n i caller now ask fault (Some held) new reply may same names done =
+    subst (λ (x : Option Held). IsAnswered n (site_at i held caller now) ask held reply x) (sym same)
+    (done (requested n (site_at i held caller now) ask (seen_in held)) held (is_unread n (site_at i held caller now) ask (seen_in held) fault may names))
+
+-- an ask that is permitted was planned over the rows that it reads
+pub asked_there : (n : ℕ) (at : Surroundings) (ask : Ask) (rows : List Row) (planned : Result Plan NoPlan) (old mid new : Option Held) (reply : Reply) → is_permitted at.caller ask ≡ true → mid ≡ old
+    → IfSome old (λ held. (seen_in held).rows (reach_of ask) ≡ Ok rows) → IfSome old (λ held. IsTable rows)
+    → (IsTable rows → Plans planned (asked at.admin (scene_at n at rows) ask))
     → ((e : Effect Reply) → Plans planned e → DidThere e mid reply new) → IfSome old (λ held. IsAnswered n at ask held reply new)
-asked_there n at ask raws planned None mid new reply may same found order is done = tt
-asked_there n at ask raws planned (Some held) mid new reply may same found order is done =
-    let as_held : asked_over n at ask (rows_in raws) ≡ asked_over n at ask (asked_of ask held) = ap (λ rs. asked_over n at ask (rows_in rs)) found in
-    let plans : Plans planned (requested n at ask held) =
-    subst (λ (e : Effect Reply). Plans planned e) (as_held ∙ when (is_permitted at.caller ask) (asked_over n at ask (asked_of ask held)) (refused (forbidden ask)) may) (is order) in
-    subst (λ (m : Option Held). DidThere (requested n at ask held) m reply new) same (done (requested n at ask held) plans)
+asked_there n at ask rows planned None mid new reply may same found table is done = tt
+asked_there n at ask rows planned (Some held) mid new reply may same found table is done =
+    let plans : Plans planned (requested n at ask (seen_in held)) =
+    subst (λ (e : Effect Reply). Plans planned e) (sym (let_in n at ask (seen_in held) may ∙ ap (asked_over n at ask) found)) (is table) in
+    subst (λ (m : Option Held). DidThere (requested n at ask (seen_in held)) m reply new) same (done (requested n at ask (seen_in held)) plans)

@@ -1,5 +1,5 @@
 -- What carrying a plan out did.
-use Rattle.std.proofs.Common.{false, ◌≡◌, List, [], ◌∷◌, refl, ap, sym, subst, ◌∙◌, map, option_map, Option, Some, None, Result, Ok, Err}
+use Rattle.std.proofs.Common.{◌≡◌, false, List, [], ◌∷◌, refl, ap, sym, subst, ◌∙◌, map, option_map, Option, Some, None, Result, Ok, Err}
 use Rattle.std.specs.Prelude.{IfSome}
 use Rattle.std.specs.List.{AllByRecursion}
 use Rattle.misp_elem.specs.Row.{AreRows}
@@ -15,9 +15,10 @@ use Rattle.misp_effects.specs.Batches.{Batch, AreReadable, put_batches}
 use Rattle.misp_effects.specs.Effect.{Effect, effect, left}
 use Rattle.misp_effects.specs.Effect as effects
 use Rattle.misp_levels.specs.Groups.{put_groups}
-use Rattle.misp_core.specs.Sharing.{HoldsGroups, group_row, groups_in, AreStorable}
+use Rattle.misp_store.specs.Sharing.{HoldsGroups, group_row, groups_in, AreStorable}
 use Rattle.misp_core.specs.Outcome.{ByKeeper, outcome_by, refused_by, rule_of_stop}
-use Rattle.misp_core.specs.Effects.{spelled, Did}
+use Rattle.misp_store.specs.Batches.{spelled}
+use Rattle.misp_core.specs.Effects.{Did}
 use Rattle.misp_core.specs.Planning.{batch_of, batches_of, rows_put, Plans, TellsNoStop, unplanned}
 use Rattle.misp_core.specs.declared.planning.Plan.{Plan}
 use Rattle.misp_core.specs.declared.planning.Batch.{Batch as Put}
@@ -26,7 +27,7 @@ use Rattle.misp_core.specs.declared.planning.NoPlan.TheVariants as no
 use Rattle.misp_core.specs.declared.reply.Answer.{Answer}
 use Rattle.misp_core.specs.declared.reply.Reply.{Reply}
 use Rattle.misp_core.specs.declared.reply.Reply.TheVariants as replies
-use Rattle.misp_core.proofs.GroupRows.{group_put}
+use Rattle.misp_store.proofs.GroupRows.{group_put}
 
 -- a call over a keeper that may not tell what it holds
 abbrev pub DidThere : Effect Reply → Option Held → Reply → Option Held → Type 0
@@ -59,11 +60,6 @@ stopped_did faults.Failed e (Some held) new same =
     record { outcome = effects.Stopped (stops.Keeper Here) 0 false; agree = refl; reply_is = refl; held_is = same; fits = tt }
 stopped_did faults.NoMemory e (Some held) new same =
     record { outcome = effects.Stopped (stops.Memory Here) 0 false; agree = refl; reply_is = refl; held_is = same; fits = tt }
-
--- the same where the effect is that of what is held
-pub stopped_there : (e : Held → Effect Reply) (stop : KeeperFault) (old new : Option Held) → new ≡ old → IfSome old (λ held. Did (e held) held (refused_by (rule_of_stop stop)) new)
-stopped_there e stop None new same = tt
-stopped_there e stop (Some held) new same = stopped_did stop (e held) (Some held) new same
 
 -- a keeper that stopped by its fault failed
 pub stop_failed : (stop : KeeperFault) → outcome_by (rule_of_stop stop) ≡ ByKeeper → stop ≡ faults.Failed

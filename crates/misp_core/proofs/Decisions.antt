@@ -20,6 +20,7 @@ use Rattle.misp_orgs.specs.Admin.{AdminFields as Admin}
 use Rattle.misp_model.specs.History.{Version, fresh_row}
 use Rattle.misp_model.specs.Asking.{Scene, Rule, first_rule, event_written, change_rules, change_writes}
 use Rattle.misp_model.specs.Asking as asking
+use Rattle.misp_model.specs.Machine.{event_changed}
 use Rattle.misp_model.specs.Shown.{shown}
 use Rattle.misp_model.specs.Acts.{answer, ok_answer, ask_rules, brings, is_accepted, concerns, concerning, Refused, Seen, Saved}
 use Rattle.misp_model.specs.Acts as model
@@ -62,7 +63,7 @@ module _ (s : Scene) (admin : Admin) (b : Submission) where
   -- nothing refuses it
   pub added : (rows : List Row) → refusing s b ≡ None → rows ≡ map fresh_row (event_written s b) → AreRows rows →
       IsDecision s admin (asks.Change (AddEvent b)) (replies.Ok (answers.Saved (length rows) b.event (greatest (map (λ (row : Row). row.stamp) rows)))) rows
-  unfolding reply_in
+  unfolding reply_in event_changed
   added rows e is are = record {
     reply_is =
         ap (λ (rs : List Row). replies.Ok (answers.Saved (length rs) b.event (greatest (map (λ (row : Row). row.stamp) rs)))) is

@@ -8,10 +8,6 @@ use Rattle.misp_elem.specs.Row.{AreRows}
 use Rattle.misp_groups.specs.declared.group.GroupFields.{GroupFields as Group}
 use Rattle.misp_groups.specs.Group.{IsGroup}
 use Rattle.misp_requests.specs.declared.ask.Ask.{Ask}
-use Rattle.misp_requests.specs.declared.ask.Ask.TheVariants.{View}
-use Rattle.misp_requests.specs.declared.ask.Ask.TheVariants as asks
-use Rattle.misp_requests.specs.declared.change.Change.TheVariants.{AddEvent}
-use Rattle.misp_requests.specs.declared.change.Change.TheVariants as changes
 use Rattle.misp_outside.specs.Held.{Held, rows_of, put_rows}
 use Rattle.misp_dates.specs.Dates.{date_of}
 use Rattle.misp_model.specs.Names.{Inst, same_inst}
@@ -25,13 +21,17 @@ use Rattle.misp_model.proofs.Elsewhere.{tables_elsewhere}
 use Rattle.misp_model.proofs.Owners.{brings_here}
 use Rattle.misp_model.proofs.Puts.{put_ask}
 use Rattle.misp_levels.specs.Groups.{by_name}
-use Rattle.misp_core.specs.Raw.{raw_row, rows_in}
-use Rattle.misp_core.specs.Sharing.{or_none, groups_of}
-use Rattle.misp_core.specs.Answers.{Surroundings, IsBuilt, scene_at, name_in, reply_in, writes_in, reply_over, writes_over}
-use Rattle.misp_core.specs.Outcome.{asked_of, with_rows}
+use Rattle.misp_store.specs.Raw.{raw_row, rows_in}
+use Rattle.misp_store.specs.Sharing.{or_none, groups_of}
+use Rattle.misp_store.specs.Seen.{seen_in}
+use Rattle.misp_store.specs.declared.reach.Reach.{Reach}
+use Rattle.misp_store.specs.declared.reach.Reach.TheVariants as reaches
+use Rattle.misp_core.specs.Answers.{Surroundings, IsBuilt, reach_of, scene_at, name_in, reply_in, writes_in, reply_over, writes_over}
+use Rattle.misp_core.specs.Outcome.{with_rows}
 use Rattle.misp_core.specs.Keeping.{caller_at, act_at, Keeps}
-use Rattle.misp_core.proofs.HeldRows.{rows_again, rows_of_event, rows_kept, rows_put, rows_put_held}
-use Rattle.misp_core.proofs.OwnRows.{own_rows, own_alike}
+use Rattle.misp_store.proofs.HeldRows.{rows_again, rows_of_event, rows_kept, rows_put, rows_put_held}
+use Rattle.misp_core.proofs.BuiltAsks.{of_built}
+use Rattle.misp_core.proofs.OwnRows.{table_within, own_alike}
 
 module _ (here : Inst) (w : World) (held : Held) (keeps : Keeps here w held) where
   -- what is held of an event is that event's rows
@@ -45,27 +45,12 @@ module _ (here : Inst) (w : World) (held : Held) (keeps : Keeps here w held) whe
   pub groups_there : groups_of held ≡ w.groups here
   groups_there = ap or_none keeps.groups
 
-  -- what is held of the event that is asked about is that event's rows
-  asked_rows : (ask : Ask) → IsBuilt ask → asked_of ask held ≡ Ok (own_rows ask (tables w.log here))
+  -- what is read within a reach is what the tables have there
+  read_there : (reach : Reach) → (seen_in held).rows reach ≡ Ok (table_within reach (tables w.log here))
   unfolding rows_in
-  asked_rows (View e owner) built = event_read e
-  asked_rows (asks.Change (AddEvent b)) built = event_read b.event
-  asked_rows (asks.Change (changes.AddParts e b)) built = absurd built
-  asked_rows (asks.Change (changes.EditEvent e edit)) built = absurd built
-  asked_rows (asks.Change (changes.EditAttribute e p edit)) built = absurd built
-  asked_rows (asks.Change (changes.EditObject e x edit)) built = absurd built
-  asked_rows (asks.Change (changes.Delete e p)) built = absurd built
-  asked_rows (asks.Change (changes.DeleteReference e x u)) built = absurd built
-  asked_rows (asks.Change (changes.Tag e p t)) built = absurd built
-  asked_rows (asks.Change (changes.Untag e p t)) built = absurd built
-  asked_rows (asks.Change (changes.DeleteEvent e)) built = absurd built
-  asked_rows (asks.Change (changes.Publish e)) built = absurd built
-  asked_rows (asks.Propose d) built = absurd built
-  asked_rows (asks.Judge e n accept) built = absurd built
-  asked_rows (asks.Sight e t d) built = absurd built
-  asked_rows asks.Index built = absurd built
-  asked_rows asks.Groups built = refl
-  asked_rows (asks.TakePart p) built = absurd built
+  read_there reaches.Nothing = refl
+  read_there (reaches.Event e) = event_read e
+  read_there reaches.All = ap rows_in keeps.rows ∙ rows_again _ keeps.are_rows
 
 -- where the groups are those of the instance, the scene over the tables is that of the act
 scene_there : (n : ℕ) (w : World) (at : Surroundings) (ask : Ask) → at.groups ≡ w.groups at.here → scene_at n at (tables w.log at.here) ≡ scene n w (act_at at ask) (caller_at at.admin at.caller)
@@ -84,31 +69,24 @@ scene_there n w at ask same = λ i. record {
 module _ (n : ℕ) (w : World) (at : Surroundings) (ask : Ask) (held : Held) where
   -- the reply is that of the history
   pub replied_there : IsBuilt ask → at.groups ≡ groups_of held → Keeps at.here w held →
-      reply_over n at ask (asked_of ask held) ≡ reply_in at.admin (scene n w (act_at at ask) (caller_at at.admin at.caller)) ask
+      reply_over n at ask ((seen_in held).rows (reach_of ask)) ≡ reply_in at.admin (scene n w (act_at at ask) (caller_at at.admin at.caller)) ask
   replied_there built same keeps =
-      ap (reply_over n at ask) (asked_rows at.here w held keeps ask built)
-      ∙ (own_alike at.admin ask (tables w.log at.here) (scene_at n at []) built).replies
+      ap (reply_over n at ask) (read_there at.here w held keeps (reach_of ask))
+      ∙ (own_alike at.admin (tables w.log at.here) (scene_at n at []) ask built).replies
       ∙ ap (λ s. reply_in at.admin s ask) (scene_there n w at ask (same ∙ groups_there at.here w held keeps))
 
   -- what is written is what the history has as rows
   written_there : IsBuilt ask → at.groups ≡ groups_of held → Keeps at.here w held →
-      writes_over n at ask (asked_of ask held) ≡ writes_in (scene n w (act_at at ask) (caller_at at.admin at.caller)) ask
+      writes_over n at ask ((seen_in held).rows (reach_of ask)) ≡ writes_in (scene n w (act_at at ask) (caller_at at.admin at.caller)) ask
   written_there built same keeps =
-      ap (writes_over n at ask) (asked_rows at.here w held keeps ask built)
-      ∙ (own_alike at.admin ask (tables w.log at.here) (scene_at n at []) built).writes
+      ap (writes_over n at ask) (read_there at.here w held keeps (reach_of ask))
+      ∙ (own_alike at.admin (tables w.log at.here) (scene_at n at []) ask built).writes
       ∙ ap (λ s. writes_in s ask) (scene_there n w at ask (same ∙ groups_there at.here w held keeps))
 
 -- no request that is built hands in a package
 built_alone : (a : Ask) → IsBuilt a → hands_in a ≡ false
 unfolding hands_in
-built_alone (View e owner) built = refl
-built_alone (asks.Change c) built = refl
-built_alone (asks.Propose d) built = refl
-built_alone (asks.Judge e n accept) built = refl
-built_alone (asks.Sight e t d) built = refl
-built_alone asks.Index built = refl
-built_alone asks.Groups built = refl
-built_alone (asks.TakePart p) built = absurd built
+built_alone = of_built (λ a. hands_in a ≡ false) (λ event owner. refl) (λ b. refl) refl
 
 module _ (net : Net) (n : ℕ) (w : World) (at : Surroundings) where
   abbrev there : Ask → Scene
@@ -150,14 +128,14 @@ module _ (net : Net) (n : ℕ) (w : World) (at : Surroundings) where
 
   -- and its keeper holds the tables after it
   pub left_there : (a : Ask) (held : Held) → IsBuilt a → list_all (λ v. ltb v.act n) w.log ≡ true → at.groups ≡ groups_of held → Keeps at.here w held →
-      AreRows (writes_over n at a (asked_of a held)) → Keeps at.here (step net n w (act_at at a)) (with_rows (writes_over n at a (asked_of a held)) held)
+      AreRows (writes_over n at a ((seen_in held).rows (reach_of a))) → Keeps at.here (step net n w (act_at at a)) (with_rows (writes_over n at a ((seen_in held).rows (reach_of a))) held)
   left_there a held built older same keeps are =
-      let written : writes_over n at a (asked_of a held) ≡ writes_in (there a) a = written_there n w at a held built same keeps in
-      let left : tables (step net n w (act_at at a)).log at.here ≡ put_all (writes_over n at a (asked_of a held)) (tables w.log at.here) =
+      let written : writes_over n at a ((seen_in held).rows (reach_of a)) ≡ writes_in (there a) a = written_there n w at a held built same keeps in
+      let left : tables (step net n w (act_at at a)).log at.here ≡ put_all (writes_over n at a ((seen_in held).rows (reach_of a))) (tables w.log at.here) =
       tables_left a (built_alone a built) older ∙ sym (ap (λ rows. put_all rows (tables w.log at.here)) written) in
       record {
         rows =
-            ap (put_rows (map raw_row (writes_over n at a (asked_of a held)))) keeps.rows
+            ap (put_rows (map raw_row (writes_over n at a ((seen_in held).rows (reach_of a))))) keeps.rows
             ∙ rows_put_held _ (tables w.log at.here) are keeps.are_rows
             ∙ sym (ap (map raw_row) left);
         are_rows = subst AreRows (sym left) (rows_put _ (tables w.log at.here) are keeps.are_rows);

@@ -29,12 +29,12 @@ use Rattle.misp_levels.proofs.Ids.{by_id_total, same_by_id, before_is}
 use Rattle.misp_levels.proofs.Changes.{known_where}
 use Rattle.misp_levels.proofs.Administered.{added_fails, edited_fails}
 use Rattle.misp_elem.specs.Row.{AreRows}
-use Rattle.misp_core.specs.Raw.{raw_row}
-use Rattle.misp_core.specs.Sharing.{groups_in, groups_of}
+use Rattle.misp_store.specs.Raw.{raw_row}
+use Rattle.misp_store.specs.Sharing.{groups_in, groups_of}
 use Rattle.misp_core.specs.Outcome.{Went, is_refused}
 use Rattle.misp_core.specs.Administering.{why_not, reply_by, administering_reply, with_group, held_by, administering_held}
 use Rattle.misp_core.specs.Keeping.{Keeps, act_of}
-use Rattle.misp_core.proofs.GroupRows.{AreReadBack, group_again, group_put}
+use Rattle.misp_store.proofs.GroupRows.{AreReadBack, group_again, group_put}
 use Rattle.misp_core.proofs.Keeping.{groups_there}
 
 -- ---- in order

@@ -1,15 +1,11 @@
+pub mod BuiltAsks
 pub mod Decisions
 pub mod Planned
 pub mod Carried
-pub mod Storable
 pub mod Answered
 pub mod Serving
-pub mod HeldRows
-pub mod GroupRows
 pub mod OwnRows
 pub mod Keeping
 pub mod Ordering
 pub mod KeepingGroups
-pub mod TableRows
-pub mod RowNames
 pub mod NamedGroups

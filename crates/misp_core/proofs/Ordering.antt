@@ -12,7 +12,6 @@ use Rattle.misp_requests.specs.declared.ask.Ask.{Ask}
 use Rattle.misp_requests.specs.declared.ask.Ask.TheVariants.{View}
 use Rattle.misp_requests.specs.declared.ask.Ask.TheVariants as asks
 use Rattle.misp_requests.specs.declared.change.Change.TheVariants.{AddEvent}
-use Rattle.misp_requests.specs.declared.change.Change.TheVariants as changes
 use Rattle.misp_orgs.specs.Admin.{AdminFields as Admin}
 use Rattle.misp_outside.specs.Held.{Held}
 use Rattle.misp_effects.specs.declared.stop.Stop.TheVariants as stops
@@ -24,13 +23,15 @@ use Rattle.misp_model.specs.Asking as asking
 use Rattle.misp_model.specs.Shown.{shown}
 use Rattle.misp_model.specs.Acts.{answer, ok_answer, ask_rules, Refused, Seen}
 use Rattle.misp_model.specs.Acts as model
+use Rattle.misp_store.specs.Seen.{seen_in}
 use Rattle.misp_core.specs.Permission.{is_permitted}
-use Rattle.misp_core.specs.Answers.{Surroundings, IsBuilt, reply_of, reply_in, named, scene_at}
-use Rattle.misp_core.specs.Outcome.{Went, ByKeeper, ByMemory, outcome_of, asked_of, forbidden}
+use Rattle.misp_core.specs.Answers.{Surroundings, IsBuilt, reach_of, reply_of, reply_in, named, scene_at}
+use Rattle.misp_core.specs.Outcome.{Went, ByKeeper, ByMemory, outcome_of, forbidden}
 use Rattle.misp_core.specs.Effects.{telling, stop_in, refused, asked_over, requested, IsAnswered}
 use Rattle.misp_core.specs.Order.{first_ground, rule_of, IsInOrder, ground_of, row_grounds, grounds}
 use Rattle.misp_core.specs.declared.reply.Reply.{Reply}
 use Rattle.misp_core.specs.declared.reply.Reply.TheVariants as replies
+use Rattle.misp_core.proofs.BuiltAsks.{of_built}
 
 -- the first of the named rules is the name of the first
 first_named : (rs : List (Bool × Rule)) → first_ground (map ground_of rs) ≡ option_map named (first_rule rs)
@@ -57,25 +58,10 @@ by_rule admin s b (Some r) = refl
 -- of an ask in its scene
 in_scene : (admin : Admin) (s : Scene) (ask : Ask) → IsBuilt ask → rule_of (reply_in admin s ask) ≡ first_ground (map ground_of (ask_rules s ask))
 unfolding reply_in answer ask_rules ok_answer first_ground first_rule
-in_scene admin s (View event owner) built = by_seen admin s event owner (shown s event owner)
-in_scene admin s (asks.Change (AddEvent b)) built =
-    by_rule admin s b (first_rule (change_rules s (AddEvent b))) ∙ sym (first_named (change_rules s (AddEvent b)))
-in_scene admin s (asks.Change (changes.AddParts e b)) built = absurd built
-in_scene admin s (asks.Change (changes.EditEvent e edit)) built = absurd built
-in_scene admin s (asks.Change (changes.EditAttribute e p edit)) built = absurd built
-in_scene admin s (asks.Change (changes.EditObject e x edit)) built = absurd built
-in_scene admin s (asks.Change (changes.Delete e p)) built = absurd built
-in_scene admin s (asks.Change (changes.DeleteReference e x u)) built = absurd built
-in_scene admin s (asks.Change (changes.Tag e p t)) built = absurd built
-in_scene admin s (asks.Change (changes.Untag e p t)) built = absurd built
-in_scene admin s (asks.Change (changes.DeleteEvent e)) built = absurd built
-in_scene admin s (asks.Change (changes.Publish e)) built = absurd built
-in_scene admin s (asks.Propose d) built = absurd built
-in_scene admin s (asks.Judge e n accept) built = absurd built
-in_scene admin s (asks.Sight e t d) built = absurd built
-in_scene admin s asks.Index built = absurd built
-in_scene admin s asks.Groups built = refl
-in_scene admin s (asks.TakePart p) built = absurd built
+in_scene admin s = of_built (λ ask. rule_of (reply_in admin s ask) ≡ first_ground (map ground_of (ask_rules s ask)))
+    (λ event owner. by_seen admin s event owner (shown s event owner))
+    (λ b. by_rule admin s b (first_rule (change_rules s (AddEvent b))) ∙ sym (first_named (change_rules s (AddEvent b))))
+    refl
 
 -- over the rows of the event, by whether the role permits the ask
 by_rows : (n : ℕ) (at : Surroundings) (ask : Ask) (may : Bool) (rows : Result (List Row) (List ℕ)) → IsBuilt ask
@@ -106,8 +92,8 @@ of_effect (effects.Stopped stop k lost) e none = absurd cc
 in_order : (n : ℕ) (at : Surroundings) (ask : Ask) (held : Held) (reply : Reply) (new : Option Held) → IsBuilt ask
     → IsAnswered n at ask held reply new → IsInOrder (grounds n at ask held) reply
 in_order n at ask held reply new built did went =
-    ap rule_of (did.reply_is ∙ of_effect did.outcome (requested n at ask held) (did.agree ∙ no_stop reply went))
-    ∙ by_rows n at ask (is_permitted at.caller ask) (asked_of ask held) built
+    ap rule_of (did.reply_is ∙ of_effect did.outcome (requested n at ask (seen_in held)) (did.agree ∙ no_stop reply went))
+    ∙ by_rows n at ask (is_permitted at.caller ask) ((seen_in held).rows (reach_of ask)) built
 
 pub told_in_order : (n : ℕ) (at : Held → Surroundings) (ask : Ask) (old new : Option Held) (reply : Reply) → IsBuilt ask
     → IfSome old (λ held. IsAnswered n (at held) ask held reply new) → IfSome old (λ held. IsInOrder (grounds n (at held) ask held) reply)

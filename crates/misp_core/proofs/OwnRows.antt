@@ -1,4 +1,4 @@
--- What is asked of one event is replied from the event's own rows as from all, with the place that a refusal shows.
+-- What is asked is replied from the rows within its reach as from all, with the place that a refusal shows.
 use Rattle.std.proofs.Common.{◌≡◌, ℕ, List, [], ◌++◌, eqb, refl, ap, ◌∙◌, map, cond, option_map}
 use Rattle.std.specs.Prelude.{◌&&◌, ◌||◌, not}
 use Rattle.std.specs.List.{filter, list_any, find}
@@ -12,7 +12,6 @@ use Rattle.misp_requests.specs.declared.ask.Ask.{Ask}
 use Rattle.misp_requests.specs.declared.ask.Ask.TheVariants.{View}
 use Rattle.misp_requests.specs.declared.ask.Ask.TheVariants as asks
 use Rattle.misp_requests.specs.declared.change.Change.TheVariants.{AddEvent}
-use Rattle.misp_requests.specs.declared.change.Change.TheVariants as changes
 use Rattle.misp_orgs.specs.Admin.{AdminFields as Admin}
 use Rattle.misp_model.specs.Names.{same_org, same_event, event_of}
 use Rattle.misp_model.specs.View.{known}
@@ -30,7 +29,10 @@ use Rattle.misp_model.proofs.OneEventChanges.{ask_of_event}
 use Rattle.misp_edit.specs.Adding.{numbered_uuids, is_read_before, read_uuids, with_those_before, is_clash, first_clash, labels_of, first_unusable}
 use Rattle.misp_core.specs.declared.reply.Answer.TheVariants as answers
 use Rattle.misp_core.specs.declared.reply.Reply.TheVariants as replies
-use Rattle.misp_core.specs.Answers.{event_asked, IsBuilt, named, named_event, added_place, place_of, uuid_text, group_text, reply_of, reply_in, writes_in}
+use Rattle.misp_store.specs.declared.reach.Reach.{Reach}
+use Rattle.misp_store.specs.declared.reach.Reach.TheVariants as reaches
+use Rattle.misp_core.proofs.BuiltAsks.{of_built}
+use Rattle.misp_core.specs.Answers.{reach_of, IsBuilt, named, named_event, added_place, place_of, uuid_text, group_text, reply_of, reply_in, writes_in}
 
 -- ---- places
 
@@ -114,34 +116,21 @@ alike admin s t ask g h same = record {
   writes = λ i. cond (same.accepted i) (map fresh_row (same.brought i)) [];
 }
 
--- the rows that an ask is about, among those of a table
-abbrev pub own_rows : Ask → List Row → List Row
-own_rows asks.Groups rows = []
-own_rows ask rows = event_rows (event_asked ask) rows
+-- of a table the rows within a reach
+abbrev pub table_within : Reach → List Row → List Row
+table_within reaches.Nothing rows = []
+table_within (reaches.Event e) rows = event_rows e rows
+table_within reaches.All rows = rows
 
 -- the groups are told whatever the rows are
 groups_of_any : (s : Scene) (rows others : List Row) → IsSame (seeing s rows) (seeing s others) asks.Groups
 unfolding ask_rules is_accepted answer ok_answer brings concerning
 groups_of_any s rows others = record { rules = refl; accepted = refl; answers = refl; brought = refl }
 
--- what is asked of an event is replied and written over its own rows as over all
-pub own_alike : (admin : Admin) (ask : Ask) (rows : List Row) (s : Scene) → IsBuilt ask → IsAlike admin (seeing s (own_rows ask rows)) (seeing s rows) ask
+-- what is asked is replied and written over the rows within its reach as over all
+pub own_alike : (admin : Admin) (rows : List Row) (s : Scene) (ask : Ask) → IsBuilt ask → IsAlike admin (seeing s (table_within (reach_of ask) rows)) (seeing s rows) ask
 unfolding event_about event_changed
-own_alike admin (View e owner) rows s built = alike admin _ _ (View e owner) refl (λ rule. refl) (ask_of_event e rows s (View e owner) refl)
-own_alike admin (asks.Change (AddEvent b)) rows s built = alike admin _ _ (asks.Change (AddEvent b)) refl (added_place_own b rows s) (ask_of_event b.event rows s (asks.Change (AddEvent b)) refl)
-own_alike admin (asks.Change (changes.AddParts e b)) rows s built = absurd built
-own_alike admin (asks.Change (changes.EditEvent e edit)) rows s built = absurd built
-own_alike admin (asks.Change (changes.EditAttribute e p edit)) rows s built = absurd built
-own_alike admin (asks.Change (changes.EditObject e x edit)) rows s built = absurd built
-own_alike admin (asks.Change (changes.Delete e p)) rows s built = absurd built
-own_alike admin (asks.Change (changes.DeleteReference e x u)) rows s built = absurd built
-own_alike admin (asks.Change (changes.Tag e p t)) rows s built = absurd built
-own_alike admin (asks.Change (changes.Untag e p t)) rows s built = absurd built
-own_alike admin (asks.Change (changes.DeleteEvent e)) rows s built = absurd built
-own_alike admin (asks.Change (changes.Publish e)) rows s built = absurd built
-own_alike admin (asks.Propose d) rows s built = absurd built
-own_alike admin (asks.Judge e n accept) rows s built = absurd built
-own_alike admin (asks.Sight e t d) rows s built = absurd built
-own_alike admin asks.Index rows s built = absurd built
-own_alike admin asks.Groups rows s built = alike admin _ _ asks.Groups refl (λ rule. refl) (groups_of_any s [] rows)
-own_alike admin (asks.TakePart p) rows s built = absurd built
+own_alike admin rows s = of_built (λ ask. IsAlike admin (seeing s (table_within (reach_of ask) rows)) (seeing s rows) ask)
+    (λ e owner. alike admin _ _ (View e owner) refl (λ rule. refl) (ask_of_event e rows s (View e owner) refl))
+    (λ b. alike admin _ _ (asks.Change (AddEvent b)) refl (added_place_own b rows s) (ask_of_event b.event rows s (asks.Change (AddEvent b)) refl))
+    (alike admin _ _ asks.Groups refl (λ rule. refl) (groups_of_any s [] rows))

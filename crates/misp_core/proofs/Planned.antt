@@ -6,11 +6,14 @@ use Rattle.misp_elem.specs.Row.{AreRows}
 use Rattle.misp_requests.specs.declared.ask.Ask.{Ask}
 use Rattle.misp_orgs.specs.Admin.{AdminFields as Admin}
 use Rattle.misp_effects.specs.Effect.{effect}
+use Rattle.misp_model.specs.History.{Version}
 use Rattle.misp_model.specs.Asking.{Scene, Rule}
 use Rattle.misp_model.specs.Asking as asking
 use Rattle.misp_model.specs.Acts.{answer}
 use Rattle.misp_model.specs.Acts as model
-use Rattle.misp_core.specs.Answers.{reply_of, reply_in, writes_in, named}
+use Rattle.misp_store.specs.declared.reach.Reach.{Reach}
+use Rattle.misp_store.specs.declared.reach.Reach.TheVariants as reaches
+use Rattle.misp_core.specs.Answers.{reach_of, saved, reply_of, reply_in, writes_in, named}
 use Rattle.misp_core.specs.Effects.{asked, row_batches, stop_by, stop_in}
 use Rattle.misp_core.specs.Planning.{batches_of, rows_put, IsPlan, Refuses}
 use Rattle.misp_core.specs.declared.planning.Plan.{Plan}
@@ -33,10 +36,15 @@ rule_tells_none asking.ProposalExists = refl
 rule_tells_none asking.ProposalClosed = refl
 rule_tells_none asking.ElementFull = refl
 
+saved_tells_none : (reach : Reach) (vs : List Version) → stop_in (saved reach vs) ≡ None
+saved_tells_none reaches.Nothing vs = refl
+saved_tells_none (reaches.Event event) vs = refl
+saved_tells_none reaches.All vs = refl
+
 reply_tells_none : (admin : Admin) (s : Scene) (ask : Ask) (r : model.Reply) → stop_in (reply_of admin s ask r) ≡ None
 reply_tells_none admin s ask (model.Refused rule) = rule_tells_none rule
 reply_tells_none admin s ask (model.Seen v) = refl
-reply_tells_none admin s ask (model.Saved vs) = refl
+reply_tells_none admin s ask (model.Saved vs) = saved_tells_none (reach_of ask) vs
 reply_tells_none admin s ask (model.Shares groups) = refl
 reply_tells_none admin s ask (model.Listed vs) = refl
 reply_tells_none admin s ask (model.Taken n) = refl

@@ -17,7 +17,7 @@ use Rattle.misp_model.specs.Acts.{group_now}
 use Rattle.misp_levels.specs.Groups.{why_not_added, why_not_edited}
 use Rattle.misp_levels.specs.declared.fault.GroupFault.{GroupFault}
 use Rattle.misp_levels.specs.declared.fault.GroupFault.TheVariants as causes
-use Rattle.misp_core.specs.Sharing.{group_row, groups_of}
+use Rattle.misp_store.specs.Sharing.{group_row, groups_of}
 use Rattle.misp_core.specs.Outcome.{Outcome, Went, ByKeeper, ByMemory, refused_by}
 use Rattle.misp_core.specs.declared.reply.Answer.TheVariants as answers
 use Rattle.misp_core.specs.declared.reply.Reply.{Reply}

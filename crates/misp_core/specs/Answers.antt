@@ -4,7 +4,6 @@ use Rattle.std.specs.declared.option.Option.{Option}
 use Rattle.std.specs.declared.option.Option.TheVariants.{None, Some}
 use Rattle.hex.specs.Hex.{encode_lower}
 use Rattle.misp_ids.specs.declared.uid.OrgId.{OrgId}
-use Rattle.misp_ids.specs.declared.uid.EventId.{EventId}
 use Rattle.misp_ids.specs.declared.label.Label.{Label}
 use Rattle.misp_ids.specs.declared.label.Label.TheVariants as labels
 use Rattle.misp_ids.specs.Uid.{text_of}
@@ -31,13 +30,15 @@ use Rattle.misp_model.specs.Asking.{Scene, Rule}
 use Rattle.misp_model.specs.Asking as asking
 use Rattle.misp_model.specs.Acts.{answer, brings, is_accepted}
 use Rattle.misp_model.specs.Acts as model
+use Rattle.misp_model.specs.Machine.{event_changed}
 use Rattle.misp_edit.specs.Adding.{scene_of, first_clash, first_unusable}
 use Rattle.misp_edit.specs.declared.fault.AddFault.{AddFault}
 use Rattle.misp_edit.specs.declared.fault.AddFault.TheVariants as faults
 use Rattle.misp_core.specs.Standing.{Standing}
-use Rattle.misp_core.specs.Sharing.{groups_of}
+use Rattle.misp_store.specs.Sharing.{groups_of}
+use Rattle.misp_store.specs.declared.reach.Reach.{Reach}
+use Rattle.misp_store.specs.declared.reach.Reach.TheVariants as reaches
 use Rattle.misp_core.specs.Naming.{group_names}
-use Rattle.misp_core.specs.declared.reply.Answer.{Answer}
 use Rattle.misp_core.specs.declared.reply.Answer.TheVariants as answers
 use Rattle.misp_core.specs.declared.reply.Reply.{Reply}
 use Rattle.misp_core.specs.declared.reply.Reply.TheVariants as replies
@@ -56,14 +57,16 @@ IsBuilt asks.Groups = Unit {0}
 IsBuilt (asks.Change (AddEvent b)) = IsAdded b
 IsBuilt ask = ⊥
 
-abbrev pub no_event : EventId
-no_event = record { 0 = record { 0 = 0 } }
-
--- the event that an ask is about
-abbrev pub event_asked : Ask → EventId
-event_asked (View event owner) = event
-event_asked (asks.Change (AddEvent b)) = b.event
-event_asked ask = no_event
+-- how much of what is held an ask reads: the rows of its event, all rows, or none
+abbrev pub reach_of : Ask → Reach
+reach_of (View event owner) = reaches.Event event
+reach_of (asks.Change change) = reaches.Event (event_changed change)
+reach_of (asks.Propose draft) = reaches.Event draft.event
+reach_of (asks.Judge event proposal accept) = reaches.Event event
+reach_of (asks.Sight event target draft) = reaches.Event event
+reach_of asks.Index = reaches.All
+reach_of asks.Groups = reaches.Nothing
+reach_of (asks.TakePart part) = reaches.Event part.event
 
 -- ---- surroundings
 
@@ -148,8 +151,10 @@ unfoldable pub greatest : List ℕ → ℕ
 greatest stamps = fold max 0 stamps
 
 -- how many rows were written, of which event, and the greatest of their stamps
-abbrev pub saved : EventId → List Version → Answer
-saved event vs = answers.Saved (length vs) event (greatest (map (λ v. v.stamp) vs))
+abbrev pub saved : Reach → List Version → Reply
+saved (reaches.Event event) vs =
+    replies.Ok (answers.Saved (length vs) event (greatest (map (λ v. v.stamp) vs)))
+saved reach vs = replies.Refused (bare rules.NoRoute)
 
 -- the event with the name of its holder, and with those of the groups that its labels name
 abbrev pub named_event : Admin → List Group → VisibleEvent → VisibleEvent
@@ -163,7 +168,7 @@ reply_of admin s ask (model.Refused rule) =
 reply_of admin s ask (model.Seen v) =
     replies.Ok (answers.Event (named_event admin s.groups v))
 reply_of admin s ask (model.Shares groups) = replies.Ok (answers.Groups groups)
-reply_of admin s ask (model.Saved vs) = replies.Ok (saved (event_asked ask) vs)
+reply_of admin s ask (model.Saved vs) = saved (reach_of ask) vs
 reply_of admin s ask _ = replies.Refused (bare rules.NoRoute)
 
 -- the reply to an ask in these surroundings
@@ -174,7 +179,7 @@ reply_in admin s ask = reply_of admin s ask (answer s ask)
 unfoldable pub writes_in : Scene → Ask → List Row
 writes_in s ask = cond (is_accepted s ask) (map fresh_row (brings s ask)) []
 
--- ---- over what a keeper holds of the event
+-- ---- over what is read
 
 abbrev pub reply_over : ℕ → Surroundings → Ask → Result (List Row) (List ℕ) → Reply
 reply_over n at ask (Ok rows) = reply_in at.admin (scene_at n at rows) ask

@@ -1,5 +1,5 @@
 -- What a request comes to, and how a stop of it is told.
-use Rattle.std.specs.Prelude.{ℕ, ◌==◌, List, [], ◌∷◌, map, Result, Ok, Err, if◌then◌else◌}
+use Rattle.std.specs.Prelude.{ℕ, ◌==◌, List, [], ◌∷◌, Result, Ok, Err, if◌then◌else◌}
 use Rattle.std.specs.declared.option.Option.{Option}
 use Rattle.std.specs.declared.option.Option.TheVariants.{None, Some}
 use Rattle.misp_elem.specs.declared.refusal.Refusal.{Refusal}
@@ -13,20 +13,16 @@ use Rattle.misp_outside.specs.Held.{Held}
 use Rattle.misp_effects.specs.declared.stop.Stop.{Stop}
 use Rattle.misp_effects.specs.declared.stop.Stop.TheVariants as stops
 use Rattle.misp_effects.specs.declared.stop.Side.TheVariants.{Here}
-use Rattle.misp_effects.specs.Batches.{Batch, batch, Spelling}
+use Rattle.misp_effects.specs.Batches.{Batch, batch}
 use Rattle.misp_effects.specs.Effect.{Effect, effect, Telling, nothing_of, Does}
 use Rattle.misp_model.specs.Asking.{Scene}
-use Rattle.misp_core.specs.Raw.{raw_row}
-use Rattle.misp_core.specs.Sharing.{group_row}
+use Rattle.misp_store.specs.Batches.{spelled}
+use Rattle.misp_store.specs.Seen.{Seen, seen_in}
 use Rattle.misp_core.specs.Permission.{is_permitted}
-use Rattle.misp_core.specs.Answers.{Surroundings, scene_at, reply_in, writes_in, bad_row}
-use Rattle.misp_core.specs.Outcome.{refused_by, forbidden, asked_of}
+use Rattle.misp_core.specs.Answers.{Surroundings, reach_of, scene_at, reply_in, writes_in, bad_row}
+use Rattle.misp_core.specs.Outcome.{refused_by, forbidden}
 use Rattle.misp_core.specs.declared.reply.Reply.{Reply}
 use Rattle.misp_core.specs.declared.reply.Reply.TheVariants as replies
-
--- a batch as a keeper is given it: each row and each group as it is held
-abbrev pub spelled : Spelling
-spelled b = record { rows = map raw_row b.rows; admin = map group_row b.groups }
 
 -- ---- stops
 
@@ -66,15 +62,15 @@ row_batches (row ∷ rows) = batch (row ∷ rows) [] ∷ []
 abbrev pub asked : Admin → Scene → Ask → Effect Reply
 asked admin s ask = effect (reply_in admin s ask) (row_batches (writes_in s ask))
 
--- the n-th ask over what is held of its event
+-- the n-th ask over what is read for it
 abbrev pub asked_over : ℕ → Surroundings → Ask → Result (List Row) (List ℕ) → Effect Reply
 asked_over n at ask (Ok rows) = asked at.admin (scene_at n at rows) ask
 asked_over n at ask (Err name) = refused (bad_row name)
 
--- the n-th request, where this is held: the role of the caller must permit what it asks
-abbrev pub requested : ℕ → Surroundings → Ask → Held → Effect Reply
-requested n at ask held =
-    if is_permitted at.caller ask then asked_over n at ask (asked_of ask held)
+-- the n-th request, where this is seen: the role of the caller must permit what it asks
+abbrev pub requested : ℕ → Surroundings → Ask → Seen → Effect Reply
+requested n at ask seen =
+    if is_permitted at.caller ask then asked_over n at ask (seen.rows (reach_of ask))
     else refused (forbidden ask)
 
 -- a call that was to have this effect did what it comes to under some outcome
@@ -83,4 +79,4 @@ Did e held reply new = Does Reply spelled stop_in telling e held reply new
 
 -- the n-th request was answered so, and left this
 abbrev pub IsAnswered : ℕ → Surroundings → Ask → Held → Reply → Option Held → Type 0
-IsAnswered n at ask held reply new = Did (requested n at ask held) held reply new
+IsAnswered n at ask held reply new = Did (requested n at ask (seen_in held)) held reply new

@@ -14,8 +14,8 @@ use Rattle.misp_model.specs.Names.{Inst, Stamp}
 use Rattle.misp_model.specs.History.{tables}
 use Rattle.misp_model.specs.Acts as model
 use Rattle.misp_levels.specs.Groups.{by_name}
-use Rattle.misp_core.specs.Raw.{raw_row}
-use Rattle.misp_core.specs.Sharing.{groups_in}
+use Rattle.misp_store.specs.Raw.{raw_row}
+use Rattle.misp_store.specs.Sharing.{groups_in}
 use Rattle.misp_core.specs.Answers.{Surroundings, name_in}
 
 -- who asks, with the name by which an instance of this administration knows the organisation

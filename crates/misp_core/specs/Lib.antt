@@ -1,5 +1,3 @@
-pub mod Raw
-pub mod Sharing
 pub mod Standing
 pub mod Permission
 pub mod Naming
@@ -8,6 +6,5 @@ pub mod Outcome
 pub mod Effects
 pub mod Planning
 pub mod Administering
-pub mod Opening
 pub mod Keeping
 pub mod Order

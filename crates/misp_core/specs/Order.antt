@@ -9,9 +9,10 @@ use Rattle.misp_requests.specs.declared.ask.Ask.{Ask}
 use Rattle.misp_outside.specs.Held.{Held}
 use Rattle.misp_model.specs.Asking.{Rule}
 use Rattle.misp_model.specs.Acts.{ask_rules}
+use Rattle.misp_store.specs.Seen.{seen_in}
 use Rattle.misp_core.specs.Permission.{is_permitted}
-use Rattle.misp_core.specs.Answers.{Surroundings, scene_at, named}
-use Rattle.misp_core.specs.Outcome.{Went, outcome_of, asked_of}
+use Rattle.misp_core.specs.Answers.{Surroundings, reach_of, scene_at, named}
+use Rattle.misp_core.specs.Outcome.{Went, outcome_of}
 use Rattle.misp_core.specs.declared.reply.Reply.{Reply}
 use Rattle.misp_core.specs.declared.reply.Reply.TheVariants as replies
 
@@ -47,4 +48,4 @@ row_grounds n at ask (Err name) = (true, rules.BadRow) ∷ []
 abbrev pub grounds : ℕ → Surroundings → Ask → Held → List Ground
 grounds n at ask held =
     (not (is_permitted at.caller ask), rules.NoPermission)
-    ∷ row_grounds n at ask (asked_of ask held)
+    ∷ row_grounds n at ask ((seen_in held).rows (reach_of ask))

@@ -1,19 +1,16 @@
--- What stopped a request, and what it reads and puts of what is held.
-use Rattle.std.specs.Prelude.{ℕ, Bool, true, false, ◌==◌, List, [], map, Result, if◌then◌else◌}
+-- What stopped a request, and what it puts of what is held.
+use Rattle.std.specs.Prelude.{Bool, true, false, ◌==◌, List, map, if◌then◌else◌}
 use Rattle.misp_elem.specs.declared.refusal.Refusal.{Refusal}
 use Rattle.misp_elem.specs.declared.refusal.RuleName.{RuleName}
 use Rattle.misp_elem.specs.declared.refusal.RuleName.TheVariants as rules
 use Rattle.misp_elem.specs.Refusal.{rule_number, bare}
 use Rattle.misp_requests.specs.declared.ask.Ask.{Ask}
-use Rattle.misp_requests.specs.declared.ask.Ask.TheVariants as asks
 use Rattle.misp_elem.specs.declared.row.RowFields.{RowFields as Row}
 use Rattle.misp_outside.specs.declared.fault.KeeperFault.{KeeperFault}
 use Rattle.misp_outside.specs.declared.fault.KeeperFault.TheVariants as stops
-use Rattle.misp_outside.specs.declared.row.RawRow.{RawRow}
-use Rattle.misp_outside.specs.Held.{Held, rows_of, put_rows}
-use Rattle.misp_core.specs.Raw.{raw_row, rows_in}
+use Rattle.misp_outside.specs.Held.{Held, put_rows}
+use Rattle.misp_store.specs.Raw.{raw_row}
 use Rattle.misp_core.specs.Permission.{permission_of, no_permission}
-use Rattle.misp_core.specs.Answers.{event_asked}
 use Rattle.misp_core.specs.declared.reply.Reply.{Reply}
 use Rattle.misp_core.specs.declared.reply.Reply.TheVariants as replies
 
@@ -41,16 +38,6 @@ refused_by rule = replies.Refused (bare rule)
 abbrev pub rule_of_stop : KeeperFault → RuleName
 rule_of_stop stops.Failed = rules.KeeperFault
 rule_of_stop stops.NoMemory = rules.NoMemory
-
--- of what is held the rows of the event that is asked about; who asks for the groups asks about
--- no event
-abbrev pub rows_asked : Ask → List RawRow → List RawRow
-rows_asked asks.Groups raws = []
-rows_asked ask raws = rows_of (event_asked ask) raws
-
--- what is held of the event that is asked about, as rows
-abbrev pub asked_of : Ask → Held → Result (List Row) (List ℕ)
-asked_of ask held = rows_in (rows_asked ask held.rows)
 
 -- what is held after these rows are put
 abbrev pub with_rows : List Row → Held → Held

@@ -8,6 +8,9 @@ use Rattle.misp_elem.specs.Row.{AreRows}
 use Rattle.misp_effects.specs.Batches.{Batch, batch}
 use Rattle.misp_effects.specs.Effect.{Effect, effect}
 use Rattle.misp_elem.specs.declared.refusal.RuleName.TheVariants as rules
+use Rattle.misp_store.specs.declared.fault.LoadFault.{LoadFault}
+use Rattle.misp_store.specs.declared.fault.LoadFault.TheVariants as unread
+use Rattle.misp_core.specs.Answers.{bad_row}
 use Rattle.misp_core.specs.Outcome.{refused_by}
 use Rattle.misp_core.specs.Effects.{refused, stop_by}
 use Rattle.misp_core.specs.declared.planning.Plan.{Plan}
@@ -56,6 +59,12 @@ abbrev pub TellsNoStop : Result Plan NoPlan → Type 0
 TellsNoStop (Ok p) = Unit {0}
 TellsNoStop (Err (why.Refused refusal)) = stop_by refusal.name ≡ None
 TellsNoStop (Err why.NoMemory) = Unit {0}
+
+-- the effect is that of rows which are not read: a row that does not decode is refused
+abbrev pub IsUnread : LoadFault → Effect Reply → Type 0
+IsUnread (unread.BadRow name) e = e ≡ refused (bad_row name)
+IsUnread unread.KeeperFault e = Unit {0}
+IsUnread unread.NoMemory e = Unit {0}
 
 -- what is replied where nothing is planned
 abbrev pub unplanned : NoPlan → Reply

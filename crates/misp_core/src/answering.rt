@@ -1,20 +1,25 @@
-//! What a request is answered over.
+//! What a request reads, and what is answered where it is not permitted or nothing is read.
 
-ghost use Rattle.std.specs.Prelude.{◌≡◌, IfOk, IfSome, IsTrue};
-ghost use Rattle.misp_outside.specs.Causes.{HasCause};
-ghost use Rattle.misp_outside.specs.Held.{ascend, comes_before};
-ghost use Rattle.misp_core.specs.Answers.{IsBuilt};
+ghost use Rattle.std.specs.Prelude.{◌≡◌, Err, Some};
+ghost use Rattle.misp_outside.specs.Held.{Held};
+ghost use Rattle.misp_effects.specs.Effect.{Effect};
+ghost use Rattle.misp_model.specs.Machine.{event_changed};
+ghost use Rattle.misp_core.specs.Answers.{reach_of, bad_row};
 ghost use Rattle.misp_core.specs.Permission.{no_permission};
-ghost use Rattle.misp_core.specs.Outcome.{rows_asked};
-ghost use Rattle.misp_core.specs.Effects.{refused};
-ghost use Rattle.misp_core.specs.Planning.{Plans};
+ghost use Rattle.misp_core.specs.Outcome.{ByKeeper, outcome_of};
+ghost use Rattle.misp_core.specs.Effects.{refused, Did};
+ghost use Rattle.misp_core.specs.Planning.{Plans, IsUnread};
+ghost use Rattle.misp_core.specs.declared.reply.Reply.{Reply as Answered};
 
 use crate::permission::no_permission;
 use crate::planning::NoPlan;
-use misp_elem::NoMemory;
+use crate::reply::Reply;
+use crate::settling::unplanned;
+use misp_elem::{NoMemory, Refusal, RuleName};
+use misp_ids::{EventId, Text};
 use misp_orgs::Perm;
-use misp_outside::{Keeper, KeeperFault, RawRow};
 use misp_requests::{Ask, Change};
+use misp_store::{LoadFault, Reach};
 use std::alloc::Global;
 
 /// The refusal of what a role does not permit.
@@ -27,26 +32,64 @@ pub(crate) fn forbidden(alloc: Global, perm: Perm) -> NoPlan
     }
 }
 
-/// The rows that an ask is about. No keeper is asked where it is about none.
-#[tactic(auto, unfolding(misp_outside::specs::Held::ascend))]
-pub(crate) fn load<K: Keeper>(
-    keeper: &mut K,
-    alloc: Global,
-    ask: &Ask,
-) -> Result<Vec<RawRow>, KeeperFault>
-    requires { IsBuilt ask.now }
-    ensures found { IfOk result (λ found. IfSome (K.stock keeper.old).held
-        (λ held. found.items ≡ rows_asked ask.now held.rows)) }
-    ensures order { IfOk result (λ found. IfSome (K.stock keeper.old).held
-        (λ _. IsTrue (ascend comes_before found.items))) }
-    ensures held { (K.stock keeper.new).held ≡ (K.stock keeper.old).held }
-    ensures cause { HasCause (K.stock keeper.old).faults (K.stock keeper.new).faults
-        (result ≡ Err KeeperFault.Failed) }
+// The event that a change is about.
+#[tactic(auto, unfolding(misp_model::specs::Machine::event_changed))]
+fn event_changed(change: &Change) -> EventId
+    ensures { result ≡ event_changed change.now }
+{
+    match change {
+        Change::AddEvent(submission) => submission.event,
+        Change::AddParts { parts, .. } => parts.event,
+        Change::EditEvent { event, .. }
+        | Change::EditAttribute { event, .. }
+        | Change::EditObject { event, .. }
+        | Change::Delete { event, .. }
+        | Change::DeleteReference { event, .. }
+        | Change::Tag { event, .. }
+        | Change::Untag { event, .. }
+        | Change::DeleteEvent { event }
+        | Change::Publish { event } => *event,
+    }
+}
+
+/// How much of what is held an ask reads.
+pub(crate) fn reach(ask: &Ask) -> Reach
+    ensures { result ≡ reach_of ask.now }
 {
     match ask {
-        Ask::View { event, .. } => keeper.load_event(alloc, event),
-        Ask::Change(Change::AddEvent(submission)) => keeper.load_event(alloc, &submission.event),
-        Ask::Groups => Ok(Vec::new(alloc)),
-        _ => unreachable!(),
+        Ask::View { event, .. } | Ask::Judge { event, .. } | Ask::Sight { event, .. } => {
+            Reach::Event(*event)
+        }
+        Ask::Change(change) => Reach::Event(event_changed(change)),
+        Ask::Propose(draft) => Reach::Event(draft.event),
+        Ask::Index => Reach::All,
+        Ask::Groups => Reach::Nothing,
+        Ask::TakePart(part) => Reach::Event(part.event),
+    }
+}
+
+// The refusal that names a row which does not decode.
+fn bad_row(alloc: Global, name: &[u8]) -> NoPlan
+    ensures { Plans (Err result) (refused (bad_row name.now)) }
+{
+    match hex::encode(alloc, name) {
+        Ok(place) => NoPlan::Refused(Refusal {
+            name: RuleName::BadRow,
+            place: Text::of(place),
+        }),
+        Err(_) => NoPlan::NoMemory,
+    }
+}
+
+/// What is replied where the rows were not read.
+pub(crate) fn unread(alloc: Global, fault: LoadFault) -> Reply
+    ensures done { (e : Effect Answered) (held : Held) → IsUnread fault e →
+        Did e held result (Some held) }
+    ensures cause { outcome_of result ≡ ByKeeper → fault ≡ LoadFault.KeeperFault }
+{
+    match fault {
+        LoadFault::KeeperFault => Reply::refused_by(alloc, RuleName::KeeperFault),
+        LoadFault::BadRow { name } => unplanned(alloc, bad_row(alloc, name.as_slice())),
+        LoadFault::NoMemory => Reply::refused_by(alloc, RuleName::NoMemory),
     }
 }

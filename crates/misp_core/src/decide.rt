@@ -1,16 +1,14 @@
 //! What a request comes to over the rows of its event.
 
-ghost use Rattle.std.specs.Prelude.{◌≡◌, ◌≤◌, ℕ, List, None, IfOk, IsTrue, map, length};
+ghost use Rattle.std.specs.Prelude.{◌≡◌, ◌≤◌, ℕ, List, None, IfOk, map, length};
 ghost use Rattle.misp_elem.specs.declared.row.RowFields.{RowFields};
-ghost use Rattle.misp_outside.specs.Held.{ascend, comes_before};
 ghost use Rattle.misp_model.specs.View.{IsTable};
 ghost use Rattle.misp_requests.specs.declared.ask.Ask.TheVariants.{View};
 ghost use Rattle.misp_requests.specs.declared.ask.Ask.TheVariants as asks;
 ghost use Rattle.misp_requests.specs.declared.change.Change.TheVariants.{AddEvent};
 ghost use Rattle.misp_core.specs.declared.reply.Answer.TheVariants as answers;
-ghost use Rattle.misp_core.specs.Raw.{rows_in};
-ghost use Rattle.misp_core.specs.Answers.{site_of, scene_with, scene_at, IsAdded, IsBuilt, IsRefusal, named_event, name_in, bad_row, greatest};
-ghost use Rattle.misp_core.specs.Effects.{asked, asked_over, row_batches};
+ghost use Rattle.misp_core.specs.Answers.{site_of, scene_with, scene_at, IsAdded, IsBuilt, IsRefusal, named_event, name_in, greatest};
+ghost use Rattle.misp_core.specs.Effects.{asked, row_batches};
 ghost use Rattle.misp_core.specs.Planning.{Plans, TellsNoStop, batches_of, rows_put};
 
 use crate::listing::concerning;
@@ -18,13 +16,11 @@ use crate::naming::group_names;
 use crate::planning::{Batch, NoPlan, Plan};
 use crate::reply::Answer;
 use crate::site::Site;
-use crate::store::{RowFault, take_rows};
 use misp_edit::{AddFault, add_event};
 use misp_elem::{NoMemory, Refusal, Row, RuleName, Submission, VisibleEvent};
 use misp_ids::{EventId, Items, OrgId, Stamp, Text};
 use misp_levels::Groups;
 use misp_orgs::{Admin, Caller};
-use misp_outside::RawRow;
 use misp_requests::{Ask, Change};
 use misp_view::{known, shown};
 use std::alloc::Global;
@@ -226,8 +222,13 @@ fn list(alloc: Global, site: &Site<'_>) -> Result<Plan, NoPlan>
     Ok(told(Answer::Groups(Items::of(groups))))
 }
 
-// What is planned for a request, over all rows of its event.
-fn decide(alloc: Global, site: &Site<'_>, ask: Ask, rows: Vec<Row>) -> Result<Plan, NoPlan>
+/// What is planned for a request, over the rows that are read for it.
+pub(crate) fn plan_request(
+    alloc: Global,
+    site: &Site<'_>,
+    ask: Ask,
+    rows: Vec<Row>,
+) -> Result<Plan, NoPlan>
     requires { IsBuilt ask }
     ensures plan { (n : ℕ) → IsTable rows.items → Plans result (asked site.now.admin.now
         (scene_at n (site_of site.now) rows.items) ask) }
@@ -238,38 +239,5 @@ fn decide(alloc: Global, site: &Site<'_>, ask: Ask, rows: Vec<Row>) -> Result<Pl
         Ask::Groups => list(alloc, site),
         Ask::Change(Change::AddEvent(submission)) => add_known(alloc, site, submission, rows),
         _ => unreachable!(),
-    }
-}
-
-// The refusal that names a row which does not decode.
-fn bad_row(alloc: Global, name: &[u8]) -> Result<Refusal, NoMemory>
-    ensures { IfOk result (λ refusal. refusal ≡ bad_row name.now) }
-{
-    Ok(Refusal {
-        name: RuleName::BadRow,
-        place: Text::of(hex::encode(alloc, name)?),
-    })
-}
-
-/// What is planned for a request, over what a keeper holds of its event.
-pub(crate) fn plan_request(
-    alloc: Global,
-    site: &Site<'_>,
-    ask: Ask,
-    raws: Vec<RawRow>,
-) -> Result<Plan, NoPlan>
-    requires { IsBuilt ask }
-    // Where they ascend by their names.
-    ensures plan { (n : ℕ) → IsTrue (ascend comes_before raws.items) →
-        Plans result (asked_over n (site_of site.now) ask (rows_in raws.items)) }
-    ensures no_stop { TellsNoStop result }
-{
-    match take_rows(alloc, raws) {
-        Ok(rows) => decide(alloc, site, ask, rows),
-        Err(RowFault::BadRow { name }) => {
-            let refusal = bad_row(alloc, name.as_slice())?;
-            Err(NoPlan::Refused(refusal))
-        }
-        Err(RowFault::NoMemory) => Err(NoPlan::NoMemory),
     }
 }

@@ -2,21 +2,20 @@
 
 ghost use Rattle.std.specs.Prelude.{◌≡◌, ◌≤◌, ℕ, IfOk, IfErr, IfSome, OnOk, IsOk, option_map};
 ghost use Rattle.misp_outside.specs.Causes.{HasCause};
-ghost use Rattle.misp_core.specs.Sharing.{groups_in};
+ghost use Rattle.misp_store.specs.Sharing.{groups_in};
 ghost use Rattle.misp_core.specs.Answers.{site_at, IsBuilt};
 ghost use Rattle.misp_core.specs.Standing.{standing};
-ghost use Rattle.misp_core.specs.Opening.{NamesFault};
+ghost use Rattle.misp_store.specs.Loading.{NamesFault};
 ghost use Rattle.misp_core.specs.Outcome.{ByKeeper, outcome_of, IsRefused};
 ghost use Rattle.misp_core.specs.Effects.{IsAnswered};
 ghost use Rattle.misp_core.specs.Order.{IsInOrder, grounds};
 ghost use Rattle.misp_core.specs.Administering.{IsAdministered};
-ghost use Rattle.misp_core.specs.declared.opening.OpenFault.TheVariants as faults;
+ghost use Rattle.misp_store.specs.declared.fault.LoadFault.TheVariants as faults;
 ghost use Rattle.misp_orgs.specs.Admin.{who_of, link_of};
 
 use crate::administering::plan_group;
-use crate::answering::{forbidden, load};
+use crate::answering::{forbidden, reach, unread};
 use crate::decide::plan_request;
-use crate::opening::{OpenFault, load_groups};
 use crate::permission::permission_for;
 use crate::reply::Reply;
 use crate::settling::{carry_out, unplanned};
@@ -27,6 +26,7 @@ use misp_levels::Groups;
 use misp_orgs::{Admin, Caller, Link, may};
 use misp_outside::Keeper;
 use misp_requests::Ask;
+use misp_store::{LoadFault, load, load_groups};
 use std::alloc::Global;
 use std::marker::Model;
 
@@ -52,7 +52,7 @@ impl<K: Keeper> Model for Instance<K> {
       faults = (K.stock a.keeper).faults;
     } };
 
-    ghost use Rattle.misp_core.specs.Sharing.{HoldsGroups};
+    ghost use Rattle.misp_store.specs.Sharing.{HoldsGroups};
 
     ghost invariant = { λ a. HoldsGroups (K.stock a.keeper).held a.groups };
 }
@@ -65,7 +65,7 @@ impl<K: Keeper> Instance<K> {
         name: InstId,
         admin: Admin,
         keeper: K,
-    ) -> Result<Instance<K>, (OpenFault, K)>
+    ) -> Result<Instance<K>, (LoadFault, K)>
         ensures ok { IfOk result (λ instance.
             instance ≡ standing name admin (K.stock keeper).held instance.faults) }
         ensures groups { OnOk result
@@ -133,9 +133,9 @@ impl<K: Keeper> Instance<K> {
         if !may(caller.role, perm) {
             return unplanned(alloc, forbidden(alloc, perm));
         }
-        let raws = match load(&mut self.keeper, alloc, &ask) {
-            Ok(raws) => raws,
-            Err(stop) => return Reply::stopped_by(alloc, stop),
+        let rows = match load(&mut self.keeper, alloc, &reach(&ask)) {
+            Ok(rows) => rows,
+            Err(fault) => return unread(alloc, fault),
         };
         let site = Site {
             here: &self.name,
@@ -144,7 +144,7 @@ impl<K: Keeper> Instance<K> {
             caller,
             moment: now,
         };
-        let planned = plan_request(alloc, &site, ask, raws);
+        let planned = plan_request(alloc, &site, ask, rows);
         carry_out(&mut self.keeper, &mut self.groups, alloc, planned)
     }
 

@@ -1,38 +1,26 @@
 //! The one place where something is put.
 
-ghost use Rattle.std.specs.Prelude.{◌≡◌, ◌≤◌, length, IfOk, IfSome, OnOk, OnErr, option_map};
+ghost use Rattle.std.specs.Prelude.{◌≡◌, ◌≤◌, length, IfSome, OnOk, OnErr, option_map};
 ghost use Rattle.misp_groups.specs.declared.group.GroupFields.{GroupFields};
 ghost use Rattle.misp_outside.specs.Causes.{HasCause};
 ghost use Rattle.misp_outside.specs.Held.{with_batch};
 ghost use Rattle.misp_effects.specs.Effect.{Effect};
 ghost use Rattle.misp_levels.specs.Groups.{put_groups};
-ghost use Rattle.misp_core.specs.Sharing.{HoldsGroups, AreStorable};
+ghost use Rattle.misp_store.specs.Sharing.{HoldsGroups, AreStorable};
 ghost use Rattle.misp_core.specs.Outcome.{ByKeeper, outcome_of, IsRefused};
-ghost use Rattle.misp_core.specs.Effects.{spelled, Did};
+ghost use Rattle.misp_store.specs.Batches.{spelled};
+ghost use Rattle.misp_core.specs.Effects.{Did};
 ghost use Rattle.misp_core.specs.Planning.{batch_of, Plans, TellsNoStop, unplanned};
 ghost use Rattle.misp_core.specs.declared.reply.Reply.{Reply as Answered};
 
 use crate::planning::{Batch, NoPlan, Plan};
 use crate::reply::Reply;
-use crate::sharing::group_rows;
-use crate::store::raw_rows;
-use misp_elem::{NoMemory, RuleName};
+use misp_elem::RuleName;
 use misp_groups::Group;
-use misp_ids::Items;
 use misp_levels::{Groups, Room};
-use misp_outside::{Keeper, KeeperFault, RawBatch};
+use misp_outside::{Keeper, KeeperFault};
+use misp_store::spell;
 use std::alloc::Global;
-
-// The batch as the keeper is given it.
-fn spelled(alloc: Global, put: &Batch) -> Result<RawBatch, NoMemory>
-    ensures batch { IfOk result (λ raw. raw ≡ spelled (batch_of put.now)) }
-    ensures groups { OnOk result (AreStorable put.now.groups) }
-{
-    Ok(RawBatch {
-        rows: Items::of(raw_rows(alloc, put.rows.as_slice())?),
-        admin: Items::of(group_rows(alloc, put.groups.as_slice())?),
-    })
-}
 
 // Puts one group after another.
 fn put_all(room: &mut Room, groups: Vec<Group>)
@@ -60,7 +48,7 @@ fn settle<K: Keeper>(
     ensures cause { HasCause (K.stock keeper.old).faults (K.stock keeper.new).faults
         (result ≡ Err KeeperFault.Failed) }
 {
-    let raw = spelled(alloc, &put)?;
+    let raw = spell(alloc, put.rows.as_slice(), put.groups.as_slice())?;
     let more = put.groups.into_vec();
     let mut room = groups.with_room(alloc, more.len())?;
     match keeper.apply(&raw) {

@@ -6,11 +6,11 @@ use Rattle.misp_effects.specs.Meanings.{Meaning}
 use Rattle.misp_effects.specs.Course as courses
 use Rattle.misp_effects.proofs.Courses.{no_lines}
 use Rattle.misp_effects.proofs.Courses as more
-use Rattle.misp_core.specs.Effects.{spelled}
+use Rattle.misp_store.specs.Batches.{spelled}
 use Rattle.misp_net.specs.declared.line.Output.{Output}
 use Rattle.misp_net.specs.Hosts.{Host}
 use Rattle.misp_net.specs.Lines.{Act, IsAmong, AreAmong}
-use Rattle.misp_net.specs.Seen.{Seen, seen_in}
+use Rattle.misp_store.specs.Seen.{Seen, seen_in}
 use Rattle.misp_net.specs.Meaning.{meaning, meanings_of, stop_in}
 use Rattle.misp_net.specs.Text.{line_of, text_from}
 use Rattle.misp_net.specs.Course.{HasPut, HasRun}

@@ -7,7 +7,7 @@ use Rattle.misp_ids.specs.declared.stamp.TheConstants.{LAST_SECOND}
 use Rattle.misp_outside.specs.Held.{Held}
 use Rattle.misp_script.specs.Step.{GroupData}
 use Rattle.misp_format.specs.GroupText.{group_in_text}
-use Rattle.misp_core.specs.Sharing.{groups_of}
+use Rattle.misp_store.specs.Sharing.{groups_of}
 use Rattle.misp_core.specs.Administering.{IsAdministered}
 use Rattle.misp_core.specs.Outcome.{Went, ByKeeper, outcome_of}
 use Rattle.misp_core.specs.declared.reply.Reply.{Reply}

@@ -11,13 +11,13 @@ use Rattle.misp_model.specs.History.{tables, newest, newest_from}
 use Rattle.misp_model.specs.Order.{in_order}
 use Rattle.misp_model.specs.Acts.{World}
 use Rattle.misp_model.specs.Kept.{start}
-use Rattle.misp_core.specs.Sharing.{groups_in}
-use Rattle.misp_core.specs.Effects.{spelled}
-use Rattle.misp_core.proofs.GroupRows.{AreReadBack}
+use Rattle.misp_store.specs.Sharing.{groups_in}
+use Rattle.misp_store.specs.Batches.{spelled}
+use Rattle.misp_store.proofs.GroupRows.{AreReadBack}
 use Rattle.misp_net.specs.declared.line.Output.{Output}
 use Rattle.misp_net.specs.Hosts.{Host}
 use Rattle.misp_net.specs.Lines.{Act, AreAmong}
-use Rattle.misp_net.specs.Seen.{seen_in}
+use Rattle.misp_store.specs.Seen.{seen_in}
 use Rattle.misp_net.specs.Meaning.{meanings_of}
 use Rattle.misp_net.specs.Run.{tables_after, Ran}
 use Rattle.misp_net.specs.History.{world_after, world_left, told_output, told_outputs, AreDistinct, empty_tables, IsHistory, IsTold}

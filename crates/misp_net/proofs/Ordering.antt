@@ -14,7 +14,7 @@ use Rattle.misp_requests.specs.declared.ask.Ask.{Ask}
 use Rattle.misp_script.specs.Step.{RequestData}
 use Rattle.misp_core.specs.Standing.{Standing}
 use Rattle.misp_core.specs.Answers.{site, site_at}
-use Rattle.misp_core.specs.Sharing.{groups_of}
+use Rattle.misp_store.specs.Sharing.{groups_of}
 use Rattle.misp_core.specs.Outcome.{Went, outcome_of}
 use Rattle.misp_core.specs.Order.{Ground, first_ground, IsInOrder, grounds}
 use Rattle.misp_core.specs.declared.reply.Reply.{Reply}

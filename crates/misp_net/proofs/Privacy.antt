@@ -25,7 +25,7 @@ use Rattle.misp_model.proofs.Tables.{tables_cut}
 use Rattle.misp_model.proofs.Erasing.{step_cut}
 use Rattle.misp_model.proofs.Headline.{kept_is_closed, kept_has}
 use Rattle.misp_core.specs.Answers.{site, scene_with, reply_in}
-use Rattle.misp_core.proofs.GroupRows.{AreReadBack}
+use Rattle.misp_store.proofs.GroupRows.{AreReadBack}
 use Rattle.misp_net.specs.declared.line.Output.{Output}
 use Rattle.misp_net.specs.declared.line.Output.TheVariants.{Replied}
 use Rattle.misp_net.specs.Hosts.{Host, host_at}

@@ -13,15 +13,17 @@ use Rattle.misp_effects.specs.Stocks.{Tables, held_at}
 use Rattle.misp_script.specs.Step.{DeedData, GroupData}
 use Rattle.misp_script.specs.Step as deeds
 use Rattle.misp_core.specs.Answers.{Surroundings, site, IsBuilt}
-use Rattle.misp_core.specs.Outcome.{IsRefused, asked_of}
-use Rattle.misp_core.specs.Sharing.{groups_of}
-use Rattle.misp_core.specs.Effects.{spelled, row_batches, asked_over}
+use Rattle.misp_core.specs.Answers.{reach_of}
+use Rattle.misp_core.specs.Outcome.{IsRefused}
+use Rattle.misp_store.specs.Sharing.{groups_of}
+use Rattle.misp_store.specs.Batches.{spelled}
+use Rattle.misp_core.specs.Effects.{row_batches, asked_over}
 use Rattle.misp_core.specs.Administering.{why_not, effect_by}
 use Rattle.misp_core.proofs.Serving.{refused_over}
 use Rattle.misp_net.specs.Hosts.{Host, host_at}
 use Rattle.misp_net.specs.Lines.{Act}
 use Rattle.misp_net.specs.Request.{Reading}
-use Rattle.misp_net.specs.Seen.{seen_in}
+use Rattle.misp_store.specs.Seen.{seen_in}
 use Rattle.misp_net.specs.Answering.{Asked, form_of, replied}
 use Rattle.misp_net.specs.Administering.{group_form, grouped}
 use Rattle.misp_net.specs.Run.{output_of, tables_after}
@@ -35,7 +37,7 @@ asked_idle n at ask (Err name) built refused = refl
 
 request_idle : (n : ℕ) (host : Host) (now : ℕ) (form : Reading Asked) (held : Held) → BuiltForm form → IsRefused (replied n host now form (seen_in held)).reply
     → (replied n host now form (seen_in held)).batches ≡ []
-request_idle n host now (Ok asked) held built refused = asked_idle n (site host.name host.admin (groups_of held) asked.0 now) asked.1 (asked_of asked.1 held) built refused
+request_idle n host now (Ok asked) held built refused = asked_idle n (site host.name host.admin (groups_of held) asked.0 now) asked.1 ((seen_in held).rows (reach_of asked.1)) built refused
 request_idle n host now (Err refusal) held built refused = refl
 
 cause_idle : (cause : Option GroupFault) (g : Group) → IsRefused (effect_by cause g).reply → (effect_by cause g).batches ≡ []

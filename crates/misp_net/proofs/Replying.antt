@@ -19,9 +19,10 @@ use Rattle.misp_effects.specs.declared.stop.Side.TheVariants.{Here}
 use Rattle.misp_effects.specs.Effect.{Effect, Stopped}
 use Rattle.misp_effects.specs.Effect as effects
 use Rattle.misp_core.specs.Permission.{is_permitted}
-use Rattle.misp_core.specs.Sharing.{groups_of}
+use Rattle.misp_store.specs.Sharing.{groups_of}
 use Rattle.misp_core.specs.Answers.{site, site_at}
-use Rattle.misp_core.specs.Outcome.{Went, ByKeeper, ByMemory, outcome_of, asked_of, forbidden}
+use Rattle.misp_core.specs.Answers.{reach_of}
+use Rattle.misp_core.specs.Outcome.{Went, ByKeeper, ByMemory, outcome_of, forbidden}
 use Rattle.misp_core.specs.Effects.{stop_in, refused, asked_over, Did, IsAnswered}
 use Rattle.misp_core.specs.declared.reply.Reply.{Reply}
 use Rattle.misp_core.specs.declared.reply.Reply.TheVariants as replies
@@ -33,13 +34,13 @@ use Rattle.misp_net.specs.Route.{path_of, path_route, method_of, by_method, rout
 use Rattle.misp_net.specs.Hosts.{Host, host_of}
 use Rattle.misp_net.specs.Request.{Reading, Gives, event_in, added, formed, asked, ask_of}
 use Rattle.misp_net.proofs.Forms.{allowed}
-use Rattle.misp_net.specs.Seen.{seen_in}
+use Rattle.misp_store.specs.Seen.{seen_in}
 use Rattle.misp_net.specs.Answering.{Asked, caller_in, by_body, by_route, read_of, permitted, form_of, fault_reply, replied, IsReplied}
 
 -- what an instance comes to by an ask is what its form comes to, by whether the role permits the ask
 ask_replied : (n : ℕ) (host : Host) (now : ℕ) (asked : Asked) (may : Bool) (held : Held)
     → replied n host now (allowed may asked) (seen_in held)
-    ≡ (if may then asked_over n (site host.name host.admin (groups_of held) asked.0 now) asked.1 (asked_of asked.1 held) else refused (forbidden asked.1))
+    ≡ (if may then asked_over n (site host.name host.admin (groups_of held) asked.0 now) asked.1 ((seen_in held).rows (reach_of asked.1)) else refused (forbidden asked.1))
 ask_replied n host now asked true held = refl
 ask_replied n host now asked false held = refl
 

@@ -19,14 +19,15 @@ use Rattle.misp_script.specs.Step.{StepData, RequestData, GroupData}
 use Rattle.misp_script.specs.Step as deeds
 use Rattle.misp_core.specs.Standing.{Standing}
 use Rattle.misp_core.specs.Outcome.{Went, ByKeeper, ByMemory, outcome_of, refused_by}
-use Rattle.misp_core.specs.Effects.{spelled, rule_told, telling, Did}
+use Rattle.misp_store.specs.Batches.{spelled}
+use Rattle.misp_core.specs.Effects.{rule_told, telling, Did}
 use Rattle.misp_core.specs.Effects as core
 use Rattle.misp_core.specs.declared.reply.Reply.{Reply}
 use Rattle.misp_core.specs.declared.reply.Reply.TheVariants as replies
 use Rattle.misp_net.specs.declared.line.Output.{Output}
 use Rattle.misp_net.specs.declared.line.Output.TheVariants.{Bad, Nothing, Replied}
 use Rattle.misp_net.specs.Hosts.{Host, nobody, host_of, hosts_of, host_at, stock_of, stocks_of}
-use Rattle.misp_net.specs.Seen.{Seen, seen_in}
+use Rattle.misp_store.specs.Seen.{Seen, seen_in}
 use Rattle.misp_net.specs.Answering.{form_of, replied, IsReplied}
 use Rattle.misp_net.specs.Administering.{group_form, grouped, IsDone}
 use Rattle.misp_net.specs.Meaning.{asks, silent, stop_in}

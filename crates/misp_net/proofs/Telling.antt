@@ -33,21 +33,23 @@ use Rattle.misp_model.proofs.Steps.{step_nothing, step_misfit, step_administers,
 use Rattle.misp_model.proofs.Numbered.{step_below}
 use Rattle.misp_levels.specs.Groups.{by_name}
 use Rattle.misp_levels.specs.declared.fault.GroupFault.{GroupFault}
-use Rattle.misp_core.specs.Raw.{raw_row}
+use Rattle.misp_store.specs.Raw.{raw_row}
 use Rattle.misp_core.specs.Answers.{Surroundings, site, reply_in, reply_over, writes_over, scene_at, writes_in}
-use Rattle.misp_core.specs.Sharing.{or_none, groups_of}
+use Rattle.misp_store.specs.Sharing.{or_none, groups_of}
 use Rattle.misp_core.specs.Keeping.{Keeps, act_at, act_of, caller_at}
-use Rattle.misp_core.specs.Outcome.{asked_of, with_rows, is_refused}
-use Rattle.misp_core.specs.Effects.{spelled, row_batches, asked_over}
+use Rattle.misp_core.specs.Answers.{reach_of}
+use Rattle.misp_core.specs.Outcome.{with_rows, is_refused}
+use Rattle.misp_store.specs.Batches.{spelled}
+use Rattle.misp_core.specs.Effects.{row_batches, asked_over}
 use Rattle.misp_core.specs.Administering.{why_not, reply_by, held_by, effect_by}
 use Rattle.misp_core.proofs.Keeping.{replied_there, same_elsewhere, same_groups, left_there}
-use Rattle.misp_core.proofs.GroupRows.{AreReadBack}
+use Rattle.misp_store.proofs.GroupRows.{AreReadBack}
 use Rattle.misp_core.proofs.KeepingGroups.{reply_fails, administered_left, same_log, groups_elsewhere}
 use Rattle.misp_net.specs.declared.line.Output.TheVariants.{Replied}
 use Rattle.misp_net.specs.Hosts.{Host, host_at}
 use Rattle.misp_net.specs.Lines.{Act, IsAmong}
 use Rattle.misp_net.specs.Request.{Reading}
-use Rattle.misp_net.specs.Seen.{seen_in}
+use Rattle.misp_store.specs.Seen.{seen_in}
 use Rattle.misp_net.specs.Answering.{Asked, caller_in, form_of, replied}
 use Rattle.misp_net.specs.Administering.{group_form, grouped}
 use Rattle.misp_net.specs.Meaning.{asking, administering, deed_meaning, meaning}
@@ -186,7 +188,7 @@ module _ (hosts : List Host) (distinct : AreDistinct hosts) (n : ℕ) (w : World
       → (replied n (host_at at hosts) now form (seen_in (held_at at old))).reply ≡ (replied n (host_at at hosts) now form (seen_by hosts w at)).reply
   request_told at now (Ok asked) built lt =
       let host : Host = host_at at hosts in
-      over_reply n (site host.name host.admin (groups_of (held_at at old)) asked.0 now) asked.1 (asked_of asked.1 (held_at at old))
+      over_reply n (site host.name host.admin (groups_of (held_at at old)) asked.0 now) asked.1 ((seen_in (held_at at old)).rows (reach_of asked.1))
       ∙ replied_there n w (site host.name host.admin (groups_of (held_at at old)) asked.0 now) asked.1 (held_at at old) built refl (told.each at lt)
       ∙ ap (λ s. reply_in host.admin s asked.1) (sym (scene_shown n w host.name host asked.0 now asked.1))
   request_told at now (Err refusal) built lt = refl
@@ -268,9 +270,9 @@ module _ (hosts : List Host) (distinct : AreDistinct hosts) (n : ℕ) (w : World
       let host : Host = host_at at hosts in
       let held : Held = held_at at old in
       let there : Surroundings = site host.name host.admin (groups_of held) asked.0 now in
-      subst (λ h. IsHistory hosts (suc n) (step no_links n w (act_at there asked.1)) (slice_set old at h)) (sym (over_left n there asked.1 (asked_of asked.1 held) held))
-      (one_left at lt (step no_links n w (act_at there asked.1)) (with_rows (writes_over n there asked.1 (asked_of asked.1 held)) held)
-      (left_there no_links n w there asked.1 held built told.earlier refl (told.each at lt) (over_fit n there asked.1 (asked_of asked.1 held) fits))
+      subst (λ h. IsHistory hosts (suc n) (step no_links n w (act_at there asked.1)) (slice_set old at h)) (sym (over_left n there asked.1 ((seen_in held).rows (reach_of asked.1)) held))
+      (one_left at lt (step no_links n w (act_at there asked.1)) (with_rows (writes_over n there asked.1 ((seen_in held).rows (reach_of asked.1))) held)
+      (left_there no_links n w there asked.1 held built told.earlier refl (told.each at lt) (over_fit n there asked.1 ((seen_in held).rows (reach_of asked.1)) fits))
       (λ j other. (same_elsewhere no_links n w there asked.1 j other, ap (λ groups. groups j) (same_groups no_links n w there asked.1)))
       (step_below no_links n w (act_at there asked.1) told.earlier))
   request_left at now (Err refusal) None built lt fits = as_before _ _ (step_nothing no_links n w _ refl) (still at)

@@ -8,7 +8,7 @@ use Rattle.misp_outside.specs.Held.{Held}
 use Rattle.misp_effects.specs.Effect.{Effect}
 use Rattle.misp_script.specs.Step.{GroupData}
 use Rattle.misp_format.specs.GroupText.{group_in_text}
-use Rattle.misp_core.specs.Sharing.{groups_of}
+use Rattle.misp_store.specs.Sharing.{groups_of}
 use Rattle.misp_core.specs.Effects.{refused, Did}
 use Rattle.misp_core.specs.Administering.{administered}
 use Rattle.misp_core.specs.declared.reply.Reply.{Reply}

@@ -12,7 +12,7 @@ use Rattle.misp_effects.specs.Effect.{Effect}
 use Rattle.misp_requests.specs.declared.ask.Ask.{Ask}
 use Rattle.misp_script.specs.Step.{RequestData}
 use Rattle.misp_core.specs.Permission.{permission_of, is_permitted, no_permission}
-use Rattle.misp_core.specs.Answers.{site}
+use Rattle.misp_core.specs.Answers.{reach_of, site}
 use Rattle.misp_core.specs.Outcome.{refused_by}
 use Rattle.misp_core.specs.Effects.{refused, asked_over, Did}
 use Rattle.misp_core.specs.declared.reply.Reply.{Reply}
@@ -23,7 +23,7 @@ use Rattle.misp_net.specs.declared.request.AskFault.TheVariants as stops
 use Rattle.misp_net.specs.Hosts.{Host}
 use Rattle.misp_net.specs.Route.{route_of}
 use Rattle.misp_net.specs.Request.{Reading, ask_of}
-use Rattle.misp_net.specs.Seen.{Seen, seen_in}
+use Rattle.misp_store.specs.Seen.{Seen, seen_in}
 
 -- who asks with a text as key, which may be none that a key could be
 abbrev pub caller_in : Admin → Option (List ℕ) → Option Caller
@@ -72,7 +72,8 @@ fault_reply stops.NoMemory = refused_by rules.NoMemory
 -- what it comes to by what is seen
 abbrev pub replied : ℕ → Host → ℕ → Reading Asked → Seen → Effect Reply
 replied n host now (Ok asked) here =
-    asked_over n (site host.name host.admin here.groups asked.0 now) asked.1 (here.rows asked.1)
+    asked_over n (site host.name host.admin here.groups asked.0 now) asked.1
+    (here.rows (reach_of asked.1))
 replied n host now (Err refusal) here = refused refusal
 
 -- it was replied so, and left this

@@ -18,7 +18,7 @@ use Rattle.misp_core.specs.Keeping.{Keeps}
 use Rattle.misp_net.specs.declared.line.Output.{Output}
 use Rattle.misp_net.specs.Hosts.{Host, host_at}
 use Rattle.misp_net.specs.Lines.{Act}
-use Rattle.misp_net.specs.Seen.{Seen}
+use Rattle.misp_store.specs.Seen.{Seen}
 use Rattle.misp_net.specs.Meaning.{meaning, stop_in}
 
 -- ---- lines as acts
@@ -57,7 +57,7 @@ world_left n hosts w (act ∷ acts) (outcome ∷ outcomes) =
 abbrev pub seen_by : List Host → World → ℕ → Seen
 seen_by hosts w place = record {
   groups = w.groups (host_at place hosts).name;
-  rows = λ ask. Ok (tables w.log (host_at place hosts).name);
+  rows = λ reach. Ok (tables w.log (host_at place hosts).name);
 }
 
 -- what the n-th line puts out

@@ -2,7 +2,6 @@ pub mod Hosts
 pub mod Route
 pub mod Request
 pub mod Lines
-pub mod Seen
 pub mod Answering
 pub mod Administering
 pub mod Meaning

@@ -19,7 +19,7 @@ use Rattle.misp_net.specs.declared.line.Output.TheVariants.{Bad, Nothing, Replie
 use Rattle.misp_net.specs.Lines.{Act}
 use Rattle.misp_net.specs.Hosts.{Host, host_at}
 use Rattle.misp_net.specs.Request.{Reading}
-use Rattle.misp_net.specs.Seen.{Seen}
+use Rattle.misp_store.specs.Seen.{Seen}
 use Rattle.misp_net.specs.Answering.{Asked, caller_in, form_of, replied}
 use Rattle.misp_net.specs.Administering.{group_form, grouped}
 

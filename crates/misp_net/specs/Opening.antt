@@ -4,9 +4,9 @@ use Rattle.std.specs.List.{list_all, list_any}
 use Rattle.std.specs.Option.{option_map_or}
 use Rattle.misp_outside.specs.Causes.{Rose}
 use Rattle.misp_outside.specs.Held.{Held}
-use Rattle.misp_core.specs.Sharing.{groups_in}
-use Rattle.misp_core.specs.declared.opening.OpenFault.{OpenFault}
-use Rattle.misp_core.specs.declared.opening.OpenFault.TheVariants as opens
+use Rattle.misp_store.specs.Sharing.{groups_in}
+use Rattle.misp_store.specs.declared.fault.LoadFault.{LoadFault}
+use Rattle.misp_store.specs.declared.fault.LoadFault.TheVariants as opens
 use Rattle.misp_net.specs.declared.places.NetFault.{NetFault}
 use Rattle.misp_net.specs.declared.places.NetFault.TheVariants as faults
 use Rattle.misp_outside.specs.Stock.{Stock}
@@ -47,7 +47,7 @@ IsUnopened faults.BadRow = Unit {0}
 IsUnopened faults.NoMemory = ⊥
 
 -- why the instances do not open, by why one of them does not
-abbrev pub fault_of : OpenFault → NetFault
+abbrev pub fault_of : LoadFault → NetFault
 fault_of opens.KeeperFault = faults.KeeperFault
 fault_of (opens.BadRow name) = faults.BadRow
 fault_of opens.NoMemory = faults.NoMemory

@@ -7,7 +7,7 @@ use Rattle.misp_elem.specs.Refusal.{rule_number}
 use Rattle.misp_outside.specs.Held.{Held}
 use Rattle.misp_script.specs.Step.{RequestData}
 use Rattle.misp_core.specs.Answers.{site}
-use Rattle.misp_core.specs.Sharing.{groups_of}
+use Rattle.misp_store.specs.Sharing.{groups_of}
 use Rattle.misp_core.specs.Order.{Ground, grounds}
 use Rattle.misp_net.specs.declared.route.Route.{Route}
 use Rattle.misp_net.specs.Hosts.{Host}

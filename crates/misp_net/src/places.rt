@@ -4,7 +4,7 @@ ghost use Rattle.std.specs.Prelude.{◌≡◌, ◌+◌, ◌<◌, ◌≤◌, [], 
 ghost use Rattle.misp_net.specs.Hosts.{described_host, host_of, hosts_of, stock_of, stocks_of};
 ghost use Rattle.misp_net.specs.Opening.{may_be_sound, may_be_unsound, AreKept, OneFailed, fault_of};
 
-use misp_core::{Instance, OpenFault};
+use misp_core::{Instance, LoadFault};
 use misp_ids::NoMemory;
 use misp_outside::Keeper;
 use misp_script::Entry;
@@ -41,13 +41,13 @@ impl From<NoMemory> for NetFault {
 }
 
 // Why a network does not open, by why an instance does not.
-fn fault_of(fault: OpenFault) -> NetFault
+fn fault_of(fault: LoadFault) -> NetFault
     ensures { result ≡ fault_of fault }
 {
     match fault {
-        OpenFault::KeeperFault => NetFault::KeeperFault,
-        OpenFault::BadRow { .. } => NetFault::BadRow,
-        OpenFault::NoMemory => NetFault::NoMemory,
+        LoadFault::KeeperFault => NetFault::KeeperFault,
+        LoadFault::BadRow { .. } => NetFault::BadRow,
+        LoadFault::NoMemory => NetFault::NoMemory,
     }
 }
 

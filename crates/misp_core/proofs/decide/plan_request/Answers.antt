@@ -1,14 +1,12 @@
-use Rattle.std.proofs.Common.{ℕ, List, sym, subst}
-use Rattle.std.specs.Prelude.{Result}
-use Rattle.misp_elem.specs.declared.row.RowFields.{RowFields as Row}
-use Rattle.misp_core.specs.Answers.{site_of}
-use Rattle.misp_core.specs.Effects.{asked_over}
-use Rattle.misp_core.specs.Planning.{Plans}
-use Rattle.misp_core.proofs.TableRows.{rows_are_table}
+use Rattle.std.proofs.Common.{[]}
+use Rattle.misp_core.proofs.Carried.{no_stop}
 use Rattle.misp_core.proofs.decide.plan_request.Goals as goal
 
-pub returns-in-Ok-clause-plan : goal.returns-in-Ok-clause-plan
-returns-in-Ok-clause-plan c = λ n order.
-    subst (λ (read : Result (List Row) (List ℕ)). Plans c.decide.result (asked_over n (site_of c.args.site.now) c.args.ask read))
-    (sym c.in-Ok.ensures.ok)
-    (c.decide.ensures.plan n (rows_are_table c.args.raws.items c.in-Ok.rows.items c.in-Ok.ensures.ok order))
+pub returns-in-View-clause-no_stop : goal.returns-in-View-clause-no_stop
+returns-in-View-clause-no_stop c = no_stop c.view.result _ (c.view.ensures.all 0)
+
+pub returns-in-Groups-clause-no_stop : goal.returns-in-Groups-clause-no_stop
+returns-in-Groups-clause-no_stop c = no_stop c.list.result _ (c.list.ensures 0 [])
+
+pub returns-in-Change-AddEvent-clause-no_stop : goal.returns-in-Change-AddEvent-clause-no_stop
+returns-in-Change-AddEvent-clause-no_stop c = no_stop c.add_known.result _ (c.add_known.ensures 0)

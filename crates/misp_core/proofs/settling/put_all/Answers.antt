@@ -4,7 +4,7 @@ use Rattle.std.proofs.lemmas.Iterator.Consumers.{YieldsList-turn, YieldsList-end
 use Rattle.misp_model.specs.Acts.{put_group}
 use Rattle.misp_levels.specs.Groups.{put_groups}
 use Rattle.misp_levels.specs.Rooms.{Roomy}
-use Rattle.misp_core.proofs.Storable.{none_put, put_more, each_same}
+use Rattle.misp_store.proofs.Storable.{none_put, put_more, each_same}
 use Rattle.misp_core.proofs.settling.put_all.Goals as goal
 
 pub loop-group-init : goal.loop-group-init

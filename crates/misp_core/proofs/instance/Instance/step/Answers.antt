@@ -1,12 +1,11 @@
-use Rattle.std.proofs.Common.{sym, subst}
-use Rattle.std.specs.Prelude.{Err}
+use Rattle.std.proofs.Common.{ap, sym, subst}
+use Rattle.std.specs.Prelude.{None, Err}
 use Rattle.misp_core.specs.Answers.{site, site_at}
-use Rattle.misp_core.specs.Sharing.{groups_of}
+use Rattle.misp_core.specs.Standing.{standing}
 use Rattle.misp_core.specs.Permission.{no_permission}
-use Rattle.misp_core.specs.Effects.{refused, requested, IsAnswered}
+use Rattle.misp_core.specs.Effects.{refused, IsAnswered}
 use Rattle.misp_core.specs.Planning.{Plans}
-use Rattle.misp_core.proofs.Answered.{turned_away, asked_there}
-use Rattle.misp_core.proofs.Carried.{stopped_there}
+use Rattle.misp_core.proofs.Answered.{turned_away, unread_there, asked_there}
 use Rattle.misp_core.proofs.Serving.{at_groups}
 use Rattle.misp_core.proofs.Ordering.{told_in_order}
 use Rattle.misp_core.proofs.instance.Instance.step.Goals as goal
@@ -24,12 +23,22 @@ returns-then-not-may-clause-order g c = λ n.
 
 pub returns-in-Err-clause-answered : goal.returns-in-Err-clause-answered
 returns-in-Err-clause-answered g c = λ n.
-    rw (c.stopped_by.ensures, ← c.self.view_is)
-    (stopped_there (λ held. requested n (site c.self.inside.name c.self.inside.admin (groups_of held) c.args.caller.now c.args.now) c.args.ask held) c.in-Err.stop _ _ c.in-Err.ensures.held)
+    rw (← c.self.view_is)
+    (unread_there n (standing c.self.inside.name c.self.inside.admin None 0) c.args.caller.now c.args.now c.args.ask c.in-Err.fault _ _ c.unread.result
+    (rw (← c.caller.view_is, ← c.permission_for-perm.ensures) (sym c.if-not-may.ensures))
+    c.in-Err.ensures.held (rw (← c.reach.ensures) c.in-Err.ensures.bad) c.unread.ensures.done)
 
 pub returns-in-Err-clause-order : goal.returns-in-Err-clause-order
 returns-in-Err-clause-order g c = λ n.
     told_in_order n (λ held. site_at c.args.self.now held c.args.caller.now c.args.now) _ _ _ _ c.requires (returns-in-Err-clause-answered g c n)
+
+pub returns-in-Err-clause-cause : goal.returns-in-Err-clause-cause
+returns-in-Err-clause-cause g c =
+    rw (← c.self.view_is)
+    (record {
+      later = c.in-Err.ensures.cause.later;
+      rose = λ is. c.in-Err.ensures.cause.rose (ap Err (c.unread.ensures.cause is));
+    })
 
 pub returns-clause-answered : goal.returns-clause-answered
 returns-clause-answered g c = λ n.
@@ -37,9 +46,9 @@ returns-clause-answered g c = λ n.
     (at_groups _ c.self.inside.groups
     (λ held groups. IsAnswered n (site c.self.inside.name c.self.inside.admin groups c.args.caller.now c.args.now) c.args.ask held c.carry_out.result (g.K.Keeper.stock c.carry_out.new.keeper).held)
     c.self.invariant
-    (asked_there n (site c.self.inside.name c.self.inside.admin c.self.inside.groups c.args.caller.now c.args.now) c.args.ask c.in-Ok.raws.items c.plan_request-planned.result _ _ _ c.carry_out.result
+    (asked_there n (site c.self.inside.name c.self.inside.admin c.self.inside.groups c.args.caller.now c.args.now) c.args.ask c.in-Ok.rows.items c.plan_request-planned.result _ _ _ c.carry_out.result
     (rw (← c.caller.view_is, ← c.permission_for-perm.ensures) (sym c.if-not-may.ensures))
-    c.in-Ok.ensures.held c.in-Ok.ensures.found c.in-Ok.ensures.order (c.plan_request-planned.ensures.plan n) c.carry_out.ensures.done))
+    c.in-Ok.ensures.held (rw (← c.reach.ensures) c.in-Ok.ensures.found) c.in-Ok.ensures.table (c.plan_request-planned.ensures.plan n) c.carry_out.ensures.done))
 
 pub returns-clause-order : goal.returns-clause-order
 returns-clause-order g c = λ n.

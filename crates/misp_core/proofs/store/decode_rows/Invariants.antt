@@ -1,7 +1,0 @@
-use Rattle.std.proofs.Common.{◌≡◌, drop}
-use Rattle.misp_core.specs.Raw.{after, rows_in}
-use Rattle.misp_core.proofs.store.decode_rows.Given as goal
-
--- what was read, and then what is left
-abbrev pub invariant-loop-raw : goal.invariant-loop-raw
-invariant-loop-raw l = after l.rows.items (rows_in (drop l.raw-index l.raws)) ≡ rows_in l.fn.raws

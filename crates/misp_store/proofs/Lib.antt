@@ -1,0 +1,5 @@
+pub mod HeldRows
+pub mod GroupRows
+pub mod TableRows
+pub mod RowNames
+pub mod Storable

@@ -1,0 +1,7 @@
+use Rattle.std.proofs.Common.{◌≡◌, drop}
+use Rattle.misp_store.specs.Raw.{after, rows_in}
+use Rattle.misp_store.proofs.rows.decode_rows.Given as goal
+
+-- what was read, and then what is left
+abbrev pub invariant-loop-raw : goal.invariant-loop-raw
+invariant-loop-raw l = after l.rows.items (rows_in (drop l.raw-index l.raws)) ≡ rows_in l.fn.raws

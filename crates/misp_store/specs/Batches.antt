@@ -1,0 +1,9 @@
+-- What is put at once, as a keeper is given it.
+use Rattle.std.specs.Prelude.{map}
+use Rattle.misp_effects.specs.Batches.{Spelling}
+use Rattle.misp_store.specs.Raw.{raw_row}
+use Rattle.misp_store.specs.Sharing.{group_row}
+
+-- a batch as a keeper is given it: each row and each group as it is held
+abbrev pub spelled : Spelling
+spelled b = record { rows = map raw_row b.rows; admin = map group_row b.groups }

@@ -1,0 +1,5 @@
+pub mod Raw
+pub mod Sharing
+pub mod Batches
+pub mod Loading
+pub mod Seen

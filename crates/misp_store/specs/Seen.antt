@@ -1,0 +1,28 @@
+-- What a command sees of what is held.
+use Rattle.std.specs.Prelude.{ℕ, List, [], Result}
+use Rattle.misp_elem.specs.declared.row.RowFields.{RowFields as Row}
+use Rattle.misp_groups.specs.declared.group.GroupFields.{GroupFields as Group}
+use Rattle.misp_outside.specs.declared.row.RawRow.{RawRow}
+use Rattle.misp_outside.specs.Held.{Held, rows_of}
+use Rattle.misp_store.specs.Raw.{rows_in}
+use Rattle.misp_store.specs.Sharing.{groups_of}
+use Rattle.misp_store.specs.declared.reach.Reach.{Reach}
+use Rattle.misp_store.specs.declared.reach.Reach.TheVariants as reaches
+
+-- of what is held what is within a reach
+abbrev pub rows_within : Reach → List RawRow → List RawRow
+rows_within reaches.Nothing raws = []
+rows_within (reaches.Event event) raws = rows_of event raws
+rows_within reaches.All raws = raws
+
+-- the groups; and within each reach the rows, or the name of the first that is none
+pub record Seen : Type 0 where
+  pub groups : List Group
+  pub rows : Reach → Result (List Row) (List ℕ)
+
+-- what is seen where this is held
+abbrev pub seen_in : Held → Seen
+seen_in held = record {
+  groups = groups_of held;
+  rows = λ reach. rows_in (rows_within reach held.rows);
+}

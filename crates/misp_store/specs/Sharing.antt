@@ -1,0 +1,119 @@
+-- Sharing groups as a keeper holds them, among the rows of its administration.
+use Rattle.std.specs.Prelude.{◌≡◌, ℕ, ◌^◌, Bool, true, false, ltb, ◌==◌, ◌&&◌, cond, List, [], ◌∷◌, ◌++◌, Result, Ok, Err, bytes_eq, option_map}
+use Rattle.std.specs.declared.option.Option.{Option}
+use Rattle.std.specs.declared.option.Option.TheVariants.{None, Some}
+use Rattle.std.specs.List.{AllByRecursion}
+use Rattle.std.specs.Result.{result_ok}
+use Rattle.misp_ids.specs.declared.uid.GroupId.{GroupId}
+use Rattle.misp_groups.specs.declared.group.GroupFields.{GroupFields as Group}
+use Rattle.misp_groups.specs.Group.{IsGroup}
+use Rattle.misp_elem.specs.Spelling.{uid}
+use Rattle.misp_format.specs.WholeGroup.{group_text}
+use Rattle.misp_format.specs.GroupText.{group_in_text}
+use Rattle.misp_outside.specs.declared.row.AdminRow.{AdminRow}
+use Rattle.misp_outside.specs.Held.{Held, same_admin}
+use Rattle.misp_levels.specs.Groups.{put_groups}
+use Rattle.misp_store.specs.Raw.{onto}
+use Rattle.misp_store.specs.declared.fault.RowFault.{RowFault}
+use Rattle.misp_store.specs.declared.fault.RowFault.TheVariants as faults
+
+-- ---- writing
+
+-- the kind of the rows of groups
+abbrev pub group_kind : ℕ
+group_kind = 1
+
+-- the sixteen bytes of the creator, and the sixteen of the group's own identifier
+unfoldable pub group_name : GroupId → List ℕ
+group_name id = uid id.creator.0 ++ uid id.uuid
+
+-- 1 for a group that was carried here, and 0 for another
+abbrev pub carried_flag : Bool → ℕ
+carried_flag true = 1
+carried_flag false = 0
+
+-- a group as a keeper holds it: whether it was carried here, and its text, under its name
+unfoldable pub group_row : Group → AdminRow
+group_row g = record {
+  kind = group_kind;
+  name = group_name g.id;
+  bytes = carried_flag g.carried ∷ group_text g;
+}
+
+-- ---- reading
+
+-- the group, carried here where the flag is 1
+abbrev pub flagged : ℕ → Group → Group
+flagged flag g = record g { carried = flag == 1 }
+
+-- the group that a flag and a text tell
+unfoldable pub group_told : List ℕ → Option Group
+group_told [] = None
+group_told (flag ∷ text) = option_map (flagged flag) (result_ok (group_in_text text))
+
+-- both identifiers have sixteen bytes
+abbrev pub is_id : GroupId → Bool
+is_id id = ltb id.creator.0.0 (2 ^ 128) && ltb id.uuid.0 (2 ^ 128)
+
+-- the row is just that of this group
+unfoldable pub is_row_of : AdminRow → Group → Bool
+is_row_of row g =
+    is_id g.id && (same_admin row (group_row g) && bytes_eq row.bytes (group_row g).bytes)
+
+-- the group, where the row is just its row
+abbrev pub group_where : AdminRow → Option Group → Option Group
+group_where row None = None
+group_where row (Some g) = cond (is_row_of row g) (Some g) None
+
+-- the group that the bytes of a row tell, where it is just that group's row
+unfoldable pub group_in : AdminRow → Option Group
+group_in row = group_where row (group_told row.bytes)
+
+-- all the groups, or the name of the first row that is none
+unfoldable pub groups_in : List AdminRow → Result (List Group) (List ℕ)
+groups_in [] = Ok []
+groups_in (row ∷ rows) = onto row.name (group_in row) (groups_in rows)
+
+-- it is a group, and its row is read as it
+pub record IsStorable (g : Group) : Type 0 where
+  pub is_group : IsGroup g
+  pub read : group_in (group_row g) ≡ Some g
+
+-- the same of each of these
+abbrev pub AreStorable : List Group → Type 0
+AreStorable groups = AllByRecursion IsStorable groups
+
+-- these groups, or none where a row is none
+abbrev pub or_none : Result (List Group) (List ℕ) → List Group
+or_none (Ok groups) = groups
+or_none (Err name) = []
+
+-- the groups that are held, or none where a row of the administration is none
+abbrev pub groups_of : Held → List Group
+groups_of held = or_none (groups_in held.admin)
+
+-- ---- putting one after another
+
+-- these groups with those that are read put in their places
+abbrev pub put_onto : List Group → Result (List Group) (List ℕ) → Result (List Group) (List ℕ)
+put_onto groups (Ok others) = Ok (put_groups groups others)
+put_onto groups (Err name) = Err name
+
+-- ---- what a reader answers
+
+-- the group that is held there is none
+abbrev pub IsNoGroup : AdminRow → RowFault → Type 0
+IsNoGroup row (faults.BadRow name) = (name ≡ row.name) × (group_in row ≡ None)
+IsNoGroup row faults.NoMemory = Unit {0}
+
+-- the first row that is no group's has this name
+abbrev pub NamesBadGroup : Result (List Group) (List ℕ) → RowFault → Type 0
+NamesBadGroup read (faults.BadRow name) = read ≡ Err name
+NamesBadGroup read faults.NoMemory = Unit {0}
+
+-- ---- keeping
+
+-- where the keeper tells what it holds, it holds these groups
+abbrev pub HoldsGroups : Option Held → List Group → Type 0
+HoldsGroups None groups = Unit {0}
+HoldsGroups (Some held) groups = groups_in held.admin ≡ Ok groups

@@ -1,0 +1,42 @@
+//! Laws of what a keeper holds.
+
+ghost use Rattle.std.specs.Prelude.{◌≡◌, List, map, Ok};
+ghost use Rattle.std.specs.List.{AllByRecursion};
+ghost use Rattle.misp_ids.specs.declared.uid.EventId.{EventId};
+ghost use Rattle.misp_elem.specs.declared.row.RowFields.{RowFields as Row};
+ghost use Rattle.misp_elem.specs.Row.{AreRows};
+ghost use Rattle.misp_groups.specs.declared.group.GroupFields.{GroupFields as Group};
+ghost use Rattle.misp_groups.specs.Group.{IsGroup};
+ghost use Rattle.misp_outside.specs.declared.row.AdminRow.{AdminRow};
+ghost use Rattle.misp_outside.specs.Held.{rows_of, put_rows, put_admin};
+ghost use Rattle.misp_model.specs.Machine.{put_all, event_rows};
+ghost use Rattle.misp_model.specs.Acts.{put_group};
+ghost use Rattle.misp_store.specs.Raw.{raw_row, rows_in};
+ghost use Rattle.misp_store.specs.Sharing.{group_row, groups_in};
+
+use misp_format::a_group_is_read_from_its_text;
+
+/// What a keeper holds of rows is read as those rows, told by event as they are, and put among
+/// others where the tables put it.
+pub fn rows_are_held_as_their_bytes()
+    ensures read { (rows : List Row) → AreRows rows → rows_in (map raw_row rows) ≡ Ok rows }
+    ensures of_event { (e : EventId) (rows : List Row) →
+        rows_of e (map raw_row rows) ≡ map raw_row (event_rows e rows) }
+    ensures put { (vs rows : List Row) → AreRows vs → AreRows rows →
+        put_rows (map raw_row vs) (map raw_row rows) ≡ map raw_row (put_all vs rows) }
+    ensures kept { (vs rows : List Row) → AreRows vs → AreRows rows → AreRows (put_all vs rows) }
+{}
+
+/// What a keeper holds of groups is read as those groups, and nothing else is. The row of a group
+/// is put where the group is.
+pub fn groups_are_held_as_their_rows()
+    ensures read { (groups : List Group) → AllByRecursion IsGroup groups →
+        groups_in (map group_row groups) ≡ Ok groups }
+    ensures only { (rows : List AdminRow) (groups : List Group) →
+        groups_in rows ≡ Ok groups → rows ≡ map group_row groups }
+    ensures put { (g : Group) (rows : List AdminRow) (groups : List Group) →
+        IsGroup g → groups_in rows ≡ Ok groups →
+        groups_in (put_admin (group_row g) rows) ≡ Ok (put_group g groups) }
+{
+    a_group_is_read_from_its_text();
+}

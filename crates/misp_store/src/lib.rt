@@ -1,0 +1,17 @@
+//! What a keeper holds: rows and groups as bytes, how they are read within a reach, and how they
+//! are put.
+#![tactic(auto)]
+
+mod batches;
+mod fault;
+mod laws;
+mod loading;
+mod reach;
+mod rows;
+mod sharing;
+
+pub use batches::spell;
+pub use fault::LoadFault;
+pub use laws::{groups_are_held_as_their_rows, rows_are_held_as_their_bytes};
+pub use loading::{load, load_groups};
+pub use reach::Reach;

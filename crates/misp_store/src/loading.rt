@@ -1,0 +1,73 @@
+//! Rows and groups, as they are loaded from a keeper.
+
+ghost use Rattle.std.specs.Prelude.{◌≡◌, Ok, Err, IfOk, IfErr, IfSome, IsTrue};
+ghost use Rattle.misp_model.specs.View.{IsTable};
+ghost use Rattle.misp_outside.specs.Causes.{HasCause};
+ghost use Rattle.misp_outside.specs.Held.{ascend, comes_before};
+ghost use Rattle.misp_store.specs.Loading.{NamesFault};
+ghost use Rattle.misp_store.specs.Seen.{rows_within, seen_in};
+ghost use Rattle.misp_store.specs.Sharing.{HoldsGroups, groups_in};
+
+use crate::fault::LoadFault;
+use crate::reach::Reach;
+use crate::rows::decode_rows;
+use crate::sharing::decode_groups;
+use misp_elem::Row;
+use misp_levels::Groups;
+use misp_outside::{Keeper, KeeperFault, RawRow};
+use std::alloc::Global;
+
+// What is held within a reach.
+#[tactic(auto, unfolding(misp_outside::specs::Held::ascend))]
+fn held_within<K: Keeper>(
+    keeper: &mut K,
+    alloc: Global,
+    reach: &Reach,
+) -> Result<Vec<RawRow>, KeeperFault>
+    ensures found { IfOk result (λ found. IfSome (K.stock keeper.old).held
+        (λ held. found.items ≡ rows_within reach.now held.rows)) }
+    ensures order { IfOk result (λ found. IfSome (K.stock keeper.old).held
+        (λ _. IsTrue (ascend comes_before found.items))) }
+    ensures held { (K.stock keeper.new).held ≡ (K.stock keeper.old).held }
+    ensures cause { HasCause (K.stock keeper.old).faults (K.stock keeper.new).faults
+        (result ≡ Err KeeperFault.Failed) }
+    ensures unasked { reach.now ≡ Reach.Nothing → keeper.new ≡ keeper.old }
+{
+    match reach {
+        Reach::Nothing => Ok(Vec::new(alloc)),
+        Reach::Event(event) => keeper.load_event(alloc, event),
+        Reach::All => keeper.load_all(alloc),
+    }
+}
+
+/// The rows that the keeper holds within a reach.
+pub fn load<K: Keeper>(keeper: &mut K, alloc: Global, reach: &Reach) -> Result<Vec<Row>, LoadFault>
+    ensures found { IfOk result (λ found. IfSome (K.stock keeper.old).held
+        (λ held. (seen_in held).rows reach.now ≡ Ok found.items)) }
+    ensures table { IfOk result (λ found. IfSome (K.stock keeper.old).held
+        (λ _. IsTable found.items)) }
+    ensures bad { IfErr result (λ fault. IfSome (K.stock keeper.old).held
+        (λ held. NamesFault ((seen_in held).rows reach.now) fault)) }
+    ensures held { (K.stock keeper.new).held ≡ (K.stock keeper.old).held }
+    ensures cause { HasCause (K.stock keeper.old).faults (K.stock keeper.new).faults
+        (result ≡ Err LoadFault.KeeperFault) }
+
+    // Of nothing no keeper is asked.
+    ensures unasked { reach.now ≡ Reach.Nothing → keeper.new ≡ keeper.old }
+{
+    let held = held_within(keeper, alloc, reach)?;
+    Ok(decode_rows(alloc, &held)?)
+}
+
+/// The groups that the keeper holds.
+pub fn load_groups<K: Keeper>(keeper: &mut K, alloc: Global) -> Result<Groups, LoadFault>
+    ensures ok { IfOk result (HoldsGroups (K.stock keeper.old).held) }
+    ensures bad { IfErr result (λ fault.
+        IfSome (K.stock keeper.old).held (λ held. NamesFault (groups_in held.admin) fault)) }
+    ensures held { (K.stock keeper.new).held ≡ (K.stock keeper.old).held }
+    ensures cause { HasCause (K.stock keeper.old).faults (K.stock keeper.new).faults
+        (result ≡ Err LoadFault.KeeperFault) }
+{
+    let rows = keeper.load_admin(alloc)?;
+    Ok(decode_groups(alloc, &rows)?)
+}

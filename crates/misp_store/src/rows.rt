@@ -1,0 +1,125 @@
+//! Rows as a keeper holds them.
+
+ghost use Rattle.std.specs.Prelude.{◌≡◌, ◌&&◌, Some, None, Ok, map, [], IfOk, IfErr, IsErr, bytes_eq};
+ghost use Rattle.misp_elem.specs.Key.{IsKey};
+ghost use Rattle.misp_elem.specs.Row.{IsRow};
+ghost use Rattle.misp_elem.specs.Spelling as spelling;
+ghost use Rattle.misp_model.specs.Names.{same_event, event_of};
+ghost use Rattle.misp_store.specs.Raw.{IsNoRow, NamesBadRow, rows_in, row_in, raw_row, stands_under};
+
+use crate::fault::RowFault;
+use misp_elem::{
+    DecodeFault, Key, NoMemory, Row, compare_keys, decode, decode_key, encode, encode_name,
+};
+use misp_ids::{EventId, Items, OrgId};
+use misp_outside::RawRow;
+use std::alloc::Global;
+
+fn event_of(row: &Row) -> EventId
+    ensures { result ≡ event_of row.now.key }
+{
+    row.key.event()
+}
+
+// Whether the row is held under its own event.
+#[tactic(auto, unfolding(misp_model::specs::Names::same_event))]
+fn is_at_event(raw: &RawRow, row: &Row) -> bool
+    ensures { result ≡ same_event (event_of row.now.key) raw.now.event }
+{
+    event_of(row).0.0 == raw.event.0.0
+}
+
+// Whether the bytes spell the key.
+fn spells(bytes: &[u8], key: &Key) -> bool
+    requires { IsKey key.now }
+    ensures { result ≡ bytes_eq bytes.now (spelling.key key.now) }
+{
+    match decode_key(bytes) {
+        Ok(found) => compare_keys(&found, key).is_eq(),
+        Err(_) => false,
+    }
+}
+
+// Whether this is the name of the owner and the key.
+fn is_name(name: &[u8], owner: &OrgId, key: &Key) -> bool
+    requires { IsKey key.now }
+    ensures { result ≡ bytes_eq name.now (spelling.name owner.now key.now) }
+{
+    if name.len() < 16 {
+        return false;
+    }
+    let (front, rest) = name.split_at(16);
+    front == owner.0.0.to_be_bytes().as_slice() && spells(rest, key)
+}
+
+// Whether the row is held under its own event and name.
+#[tactic(auto, unfolding(crate::specs::Raw::stands_under, misp_model::specs::Machine::name_bytes))]
+fn stands_under(raw: &RawRow, row: &Row) -> bool
+    requires { IsRow row.now }
+    ensures { result ≡ stands_under raw.now row.now }
+{
+    is_at_event(raw, row) && is_name(raw.name.as_slice(), &row.owner, &row.key)
+}
+
+fn bad_row<T>(raw: &RawRow) -> Result<T, RowFault>
+    ensures fault { IfErr result (λ fault. row_in raw.now ≡ None → IsNoRow raw.now fault) }
+    ensures err { IsErr result }
+{
+    Err(RowFault::BadRow {
+        name: raw.name.clone()?,
+    })
+}
+
+// The row that is held there.
+#[tactic(auto, unfolding(crate::specs::Raw::row_in))]
+fn decode_row(alloc: Global, raw: &RawRow) -> Result<Row, RowFault>
+    ensures ok { IfOk result (λ row. row_in raw.now ≡ Some row) }
+    ensures bad { IfErr result (IsNoRow raw.now) }
+{
+    match decode(alloc, raw.bytes.as_slice()) {
+        Ok(row) => {
+            if stands_under(raw, &row) {
+                Ok(row)
+            } else {
+                bad_row(raw)
+            }
+        }
+        Err(DecodeFault::BadRow { .. }) => bad_row(raw),
+        Err(DecodeFault::NoMemory) => Err(RowFault::NoMemory),
+    }
+}
+
+/// The rows that are held there, or the first that is none.
+#[tactic(auto, unfolding(crate::specs::Raw::rows_in))]
+pub(crate) fn decode_rows(alloc: Global, raws: &[RawRow]) -> Result<Vec<Row>, RowFault>
+    ensures ok { IfOk result (λ rows. rows_in raws.now ≡ Ok rows.items) }
+    ensures bad { IfErr result (NamesBadRow (rows_in raws.now)) }
+{
+    let mut rows = Vec::with_capacity(alloc, raws.len())?;
+    for raw in raws {
+        rows.push(decode_row(alloc, raw)?)?;
+    }
+    Ok(rows)
+}
+
+#[tactic(auto, unfolding(crate::specs::Raw::raw_row, misp_model::specs::Machine::name_bytes))]
+fn raw_row(alloc: Global, row: &Row) -> Result<RawRow, NoMemory>
+    ensures { IfOk result (λ raw. raw ≡ raw_row row.now) }
+{
+    Ok(RawRow {
+        event: event_of(row),
+        name: Items::of(encode_name(alloc, &row.owner, &row.key)?),
+        bytes: Items::of(encode(alloc, row)?),
+    })
+}
+
+/// Rows as a keeper holds them.
+pub(crate) fn raw_rows(alloc: Global, rows: &[Row]) -> Result<Vec<RawRow>, NoMemory>
+    ensures { IfOk result (λ raws. raws.items ≡ map raw_row rows.now) }
+{
+    let mut raws = Vec::with_capacity(alloc, rows.len())?;
+    for row in rows {
+        raws.push(raw_row(alloc, row)?)?;
+    }
+    Ok(raws)
+}
