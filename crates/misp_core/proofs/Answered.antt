@@ -11,10 +11,9 @@ use Rattle.misp_store.specs.Loading.{NamesFault}
 use Rattle.misp_store.specs.Seen.{Seen, seen_in}
 use Rattle.misp_store.specs.declared.fault.LoadFault.{LoadFault}
 use Rattle.misp_store.specs.declared.fault.LoadFault.TheVariants as faults
-use Rattle.misp_core.specs.Permission.{is_permitted}
+use Rattle.misp_core.specs.Permission.{is_permitted, forbidden}
 use Rattle.misp_core.specs.Standing.{Standing}
 use Rattle.misp_core.specs.Answers.{Surroundings, reach_of, scene_at, site_at}
-use Rattle.misp_core.specs.Outcome.{forbidden}
 use Rattle.misp_core.specs.Effects.{refused, asked, asked_over, requested, Did, IsAnswered}
 use Rattle.misp_core.specs.Planning.{Plans, IsUnread, unplanned}
 use Rattle.misp_core.specs.declared.planning.Plan.{Plan}

@@ -16,9 +16,8 @@ use Rattle.misp_effects.specs.Effect.{Effect, effect, left}
 use Rattle.misp_effects.specs.Effect as effects
 use Rattle.misp_levels.specs.Groups.{put_groups}
 use Rattle.misp_store.specs.Sharing.{HoldsGroups, group_row, groups_in, AreStorable}
-use Rattle.misp_core.specs.Outcome.{ByKeeper, outcome_by, refused_by, rule_of_stop}
 use Rattle.misp_store.specs.Batches.{spelled}
-use Rattle.misp_core.specs.Effects.{Did}
+use Rattle.misp_core.specs.Effects.{refused_by, stop_in, by_keeper, rule_of_stop, Did}
 use Rattle.misp_core.specs.Planning.{batch_of, batches_of, rows_put, Plans, TellsNoStop, unplanned}
 use Rattle.misp_core.specs.declared.planning.Plan.{Plan}
 use Rattle.misp_core.specs.declared.planning.Batch.{Batch as Put}
@@ -62,7 +61,7 @@ stopped_did faults.NoMemory e (Some held) new same =
     record { outcome = effects.Stopped (stops.Memory Here) 0 false; agree = refl; reply_is = refl; held_is = same; fits = tt }
 
 -- a keeper that stopped by its fault failed
-pub stop_failed : (stop : KeeperFault) → outcome_by (rule_of_stop stop) ≡ ByKeeper → stop ≡ faults.Failed
+pub stop_failed : (stop : KeeperFault) → stop_in (refused_by (rule_of_stop stop)) ≡ by_keeper → stop ≡ faults.Failed
 stop_failed faults.Failed e = refl
 stop_failed faults.NoMemory e = absurd cc
 

@@ -1,21 +1,26 @@
 -- A request to an instance whose keeper holds the tables is an act of the history.
-use Rattle.std.proofs.Common.{◌≡◌, ℕ, List, [], Bool, true, false, ltb, refl, sym, ap, subst, ◌∙◌, map, cond, Ok, inl, inr}
+use Rattle.std.proofs.Common.{◌≡◌, ℕ, List, [], ◌∷◌, Bool, true, false, ltb, refl, sym, ap, subst, ◌∙◌, map, cond, Ok, inl, inr}
 use Rattle.std.specs.List.{list_all, AllByRecursion}
 use Rattle.std.specs.List.Sorted.{IsStrictlySortedBy}
 use Rattle.std.proofs.lemmas.Bool.{cases_Bool}
 use Rattle.misp_ids.specs.declared.uid.EventId.{EventId}
+use Rattle.misp_elem.specs.declared.row.RowFields.{RowFields as Row}
 use Rattle.misp_elem.specs.Row.{AreRows}
 use Rattle.misp_groups.specs.declared.group.GroupFields.{GroupFields as Group}
 use Rattle.misp_groups.specs.Group.{IsGroup}
 use Rattle.misp_requests.specs.declared.ask.Ask.{Ask}
-use Rattle.misp_outside.specs.Held.{Held, rows_of, put_rows}
+use Rattle.misp_orgs.specs.Admin.{AdminFields as Admin}
+use Rattle.misp_outside.specs.Held.{Held, rows_of, put_rows, put_admins, with_batch}
+use Rattle.misp_effects.specs.Batches.{put_batches, AreReadable}
+use Rattle.misp_effects.specs.Effect.{Effect, effect, left}
 use Rattle.misp_dates.specs.Dates.{date_of}
 use Rattle.misp_model.specs.Names.{Inst, same_inst}
 use Rattle.misp_model.specs.View.{known}
 use Rattle.misp_model.specs.History.{tables, fresh_row}
 use Rattle.misp_model.specs.Machine.{put_all, event_rows, hands_in}
 use Rattle.misp_model.specs.Asking.{Scene}
-use Rattle.misp_model.specs.Acts.{World, Net, scene, known_at, step, asked, brings, is_accepted}
+use Rattle.misp_model.specs.Acts.{World, Net, scene, known_at, step, brings, is_accepted}
+use Rattle.misp_model.specs.Acts as model
 use Rattle.misp_model.proofs.Steps.{step_accepted, step_refused}
 use Rattle.misp_model.proofs.Elsewhere.{tables_elsewhere}
 use Rattle.misp_model.proofs.Owners.{brings_here}
@@ -23,15 +28,17 @@ use Rattle.misp_model.proofs.Puts.{put_ask}
 use Rattle.misp_levels.specs.Groups.{by_name}
 use Rattle.misp_store.specs.Raw.{raw_row, rows_in}
 use Rattle.misp_store.specs.Sharing.{or_none, groups_of}
+use Rattle.misp_store.specs.Batches.{spelled}
 use Rattle.misp_store.specs.Seen.{seen_in}
 use Rattle.misp_store.specs.declared.reach.Reach.{Reach}
 use Rattle.misp_store.specs.declared.reach.Reach.TheVariants as reaches
-use Rattle.misp_core.specs.Answers.{Surroundings, IsBuilt, reach_of, scene_at, name_in, reply_in, writes_in, reply_over, writes_over}
-use Rattle.misp_core.specs.Outcome.{with_rows}
+use Rattle.misp_core.specs.Answers.{Surroundings, IsBuilt, reach_of, scene_at, name_in, writes_in}
+use Rattle.misp_core.specs.Effects.{row_batches, asked, asked_over}
 use Rattle.misp_core.specs.Keeping.{caller_at, act_at, Keeps}
 use Rattle.misp_store.proofs.HeldRows.{rows_again, rows_of_event, rows_kept, rows_put, rows_put_held}
+use Rattle.misp_core.specs.declared.reply.Reply.{Reply}
 use Rattle.misp_core.proofs.BuiltAsks.{of_built}
-use Rattle.misp_core.proofs.OwnRows.{table_within, own_alike}
+use Rattle.misp_core.proofs.OwnRows.{IsAlike, table_within, own_alike}
 
 module _ (here : Inst) (w : World) (held : Held) (keeps : Keeps here w held) where
   -- what is held of an event is that event's rows
@@ -66,27 +73,34 @@ scene_there n w at ask same = λ i. record {
   groups = same i;
 }
 
-module _ (n : ℕ) (w : World) (at : Surroundings) (ask : Ask) (held : Held) where
-  -- the reply is that of the history
-  pub replied_there : IsBuilt ask → at.groups ≡ groups_of held → Keeps at.here w held →
-      reply_over n at ask ((seen_in held).rows (reach_of ask)) ≡ reply_in at.admin (scene n w (act_at at ask) (caller_at at.admin at.caller)) ask
-  replied_there built same keeps =
-      ap (reply_over n at ask) (read_there at.here w held keeps (reach_of ask))
-      ∙ (own_alike at.admin (tables w.log at.here) (scene_at n at []) ask built).replies
-      ∙ ap (λ s. reply_in at.admin s ask) (scene_there n w at ask (same ∙ groups_there at.here w held keeps))
+asked_alike : (admin : Admin) (s t : Scene) (ask : Ask) → IsAlike admin s t ask → asked admin s ask ≡ asked admin t ask
+asked_alike admin s t ask same = λ i. effect (same.replies i) (row_batches (same.writes i))
 
-  -- what is written is what the history has as rows
-  written_there : IsBuilt ask → at.groups ≡ groups_of held → Keeps at.here w held →
-      writes_over n at ask ((seen_in held).rows (reach_of ask)) ≡ writes_in (scene n w (act_at at ask) (caller_at at.admin at.caller)) ask
-  written_there built same keeps =
-      ap (writes_over n at ask) (read_there at.here w held keeps (reach_of ask))
-      ∙ (own_alike at.admin (tables w.log at.here) (scene_at n at []) ask built).writes
-      ∙ ap (λ s. writes_in s ask) (scene_there n w at ask (same ∙ groups_there at.here w held keeps))
+module _ (n : ℕ) (w : World) (at : Surroundings) (ask : Ask) (held : Held) (built : IsBuilt ask) (keeps : Keeps at.here w held) where
+  -- what it comes to is what it comes to over all rows of the instance
+  pub over_all : asked_over n at ask ((seen_in held).rows (reach_of ask)) ≡ asked_over n at ask (Ok (tables w.log at.here))
+  over_all =
+      ap (asked_over n at ask) (read_there at.here w held keeps (reach_of ask))
+      ∙ asked_alike at.admin _ _ ask (own_alike at.admin (tables w.log at.here) (scene_at n at []) ask built)
+
+  -- and what the history says
+  pub told_there : at.groups ≡ groups_of held → asked_over n at ask ((seen_in held).rows (reach_of ask)) ≡ asked at.admin (scene n w (act_at at ask) (caller_at at.admin at.caller)) ask
+  told_there same = over_all ∙ ap (λ s. asked at.admin s ask) (scene_there n w at ask (same ∙ groups_there at.here w held keeps))
 
 -- no request that is built hands in a package
 built_alone : (a : Ask) → IsBuilt a → hands_in a ≡ false
 unfolding hands_in
 built_alone = of_built (λ a. hands_in a ≡ false) (λ event owner. refl) (λ b. refl) refl
+
+-- rows that are put in their batch
+rows_left : (rows : List Row) (held : Held) → put_batches (map spelled (row_batches rows)) held ≡ record held { rows = put_rows (map raw_row rows) held.rows }
+unfolding with_batch put_rows put_admins
+rows_left [] held = refl
+rows_left (row ∷ rows) held = refl
+
+rows_fit : (rows : List Row) → AreReadable (row_batches rows) → AreRows rows
+rows_fit [] fits = tt
+rows_fit (row ∷ rows) fits = fits.0.rows
 
 module _ (net : Net) (n : ℕ) (w : World) (at : Surroundings) where
   abbrev there : Ask → Scene
@@ -123,23 +137,31 @@ module _ (net : Net) (n : ℕ) (w : World) (at : Surroundings) where
 
   -- it changes no groups
   pub same_groups : (a : Ask) → (step net n w (act_at at a)).groups ≡ w.groups
-  unfolding step asked
+  unfolding step model.asked
   same_groups a = refl
 
-  -- and its keeper holds the tables after it
-  pub left_there : (a : Ask) (held : Held) → IsBuilt a → list_all (λ v. ltb v.act n) w.log ≡ true → at.groups ≡ groups_of held → Keeps at.here w held →
-      AreRows (writes_over n at a ((seen_in held).rows (reach_of a))) → Keeps at.here (step net n w (act_at at a)) (with_rows (writes_over n at a ((seen_in held).rows (reach_of a))) held)
-  left_there a held built older same keeps are =
-      let written : writes_over n at a ((seen_in held).rows (reach_of a)) ≡ writes_in (there a) a = written_there n w at a held built same keeps in
-      let left : tables (step net n w (act_at at a)).log at.here ≡ put_all (writes_over n at a ((seen_in held).rows (reach_of a))) (tables w.log at.here) =
-      tables_left a (built_alone a built) older ∙ sym (ap (λ rows. put_all rows (tables w.log at.here)) written) in
-      record {
+  -- the keeper holds the tables after it, where what is written is put
+  rows_there : (a : Ask) (held : Held) → IsBuilt a → list_all (λ v. ltb v.act n) w.log ≡ true → Keeps at.here w held → AreReadable (row_batches (writes_in (there a) a))
+      → Keeps at.here (step net n w (act_at at a)) (put_batches (map spelled (row_batches (writes_in (there a) a))) held)
+  rows_there a held built older keeps fits =
+      let rows : List Row = writes_in (there a) a in
+      let are : AreRows rows = rows_fit rows fits in
+      let after : tables (step net n w (act_at at a)).log at.here ≡ put_all rows (tables w.log at.here) = tables_left a (built_alone a built) older in
+      subst (Keeps at.here (step net n w (act_at at a))) (sym (rows_left rows held)) (record {
         rows =
-            ap (put_rows (map raw_row (writes_over n at a ((seen_in held).rows (reach_of a))))) keeps.rows
-            ∙ rows_put_held _ (tables w.log at.here) are keeps.are_rows
-            ∙ sym (ap (map raw_row) left);
-        are_rows = subst AreRows (sym left) (rows_put _ (tables w.log at.here) are keeps.are_rows);
+            ap (put_rows (map raw_row rows)) keeps.rows
+            ∙ rows_put_held rows (tables w.log at.here) are keeps.are_rows
+            ∙ sym (ap (map raw_row) after);
+        are_rows = subst AreRows (sym after) (rows_put rows (tables w.log at.here) are keeps.are_rows);
         groups = keeps.groups ∙ ap (λ (groups : Inst → List Group). Ok (groups at.here)) (sym (same_groups a));
         are_groups = subst (λ (groups : Inst → List Group). AllByRecursion IsGroup (groups at.here)) (sym (same_groups a)) keeps.are_groups;
         ascend = subst (λ (groups : Inst → List Group). IsStrictlySortedBy by_name (groups at.here)) (sym (same_groups a)) keeps.ascend;
-      }
+      })
+
+  -- and so where what the request comes to is left
+  pub left_there : (a : Ask) (held : Held) → IsBuilt a → list_all (λ v. ltb v.act n) w.log ≡ true → at.groups ≡ groups_of held → Keeps at.here w held
+      → AreReadable (asked_over n at a ((seen_in held).rows (reach_of a))).batches
+      → Keeps at.here (step net n w (act_at at a)) (left spelled (asked_over n at a ((seen_in held).rows (reach_of a))) held)
+  left_there a held built older same keeps =
+      subst (λ (e : Effect Reply). AreReadable e.batches → Keeps at.here (step net n w (act_at at a)) (left spelled e held))
+      (sym (told_there n w at a held built keeps same)) (rows_there a held built older keeps)

@@ -1,6 +1,6 @@
 -- An administration of an instance whose keeper holds its groups is an act of the history.
-use Rattle.std.proofs.Common.{◌≡◌, ℕ, ◌≤◌, List, [], ◌∷◌, Bool, true, false, refl, sym, ap, subst, ◌∙◌, map, cond, find, Option, Some, None, Ok, arith, inl, inr, is_some}
-use Rattle.std.specs.Prelude.{not, IfSome}
+use Rattle.std.proofs.Common.{◌≡◌, ℕ, List, [], ◌∷◌, Bool, true, false, refl, sym, ap, subst, ◌∙◌, map, cond, Option, Some, None, Ok, inl, inr, is_some}
+use Rattle.std.specs.Prelude.{not}
 use Rattle.std.specs.List.{filter, AllByRecursion}
 use Rattle.std.specs.List.Sorted.{IsStrictlySortedBy}
 use Rattle.std.specs.declared.cmp.Ordering.{Ordering}
@@ -10,31 +10,29 @@ use Rattle.std.proofs.lemmas.Bool.{cases_Bool}
 use Rattle.std.proofs.lemmas.List.Kept.{IsStrictlySortedBy-filter}
 use Rattle.std.proofs.lemmas.Slice.Eq.{bytes_eq-Decides}
 use Rattle.misp_ids.specs.declared.uid.OrgId.{OrgId}
-use Rattle.misp_ids.specs.declared.uid.GroupId.{GroupId}
-use Rattle.misp_ids.specs.declared.stamp.TheConstants.{LAST_SECOND}
 use Rattle.misp_groups.specs.declared.group.GroupFields.{GroupFields as Group}
 use Rattle.misp_groups.specs.Group.{IsGroup}
-use Rattle.misp_outside.specs.Held.{Held}
+use Rattle.misp_outside.specs.Held.{Held, put_rows, put_admins, with_batch}
+use Rattle.misp_effects.specs.Batches.{AreReadable}
+use Rattle.misp_effects.specs.Effect.{Effect, left}
 use Rattle.misp_model.specs.Names.{Inst, Stamp, same_inst, same_group, group_before}
 use Rattle.misp_model.specs.Order.{put}
-use Rattle.misp_model.specs.Audience.{known_group, is_known_group}
-use Rattle.misp_model.specs.Asking.{last_stamp, next_stamp}
 use Rattle.misp_model.specs.History.{tables}
-use Rattle.misp_model.specs.Acts.{World, Net, put_group, group_stamp, group_now, administered, administration_fails, step}
+use Rattle.misp_model.specs.Acts.{World, Net, put_group, group_now, administered, administration_fails, step}
 use Rattle.misp_model.proofs.Steps.{step_administers, with_groups_here, with_groups_elsewhere}
-use Rattle.misp_levels.specs.Groups.{by_id, by_name, why_kept}
+use Rattle.misp_levels.specs.Groups.{by_id, by_name}
 use Rattle.misp_levels.specs.declared.fault.GroupFault.{GroupFault}
-use Rattle.misp_levels.specs.declared.fault.GroupFault.TheVariants as causes
 use Rattle.misp_levels.proofs.Ids.{by_id_total, same_by_id, before_is}
-use Rattle.misp_levels.proofs.Changes.{known_where}
 use Rattle.misp_levels.proofs.Administered.{added_fails, edited_fails}
 use Rattle.misp_elem.specs.Row.{AreRows}
 use Rattle.misp_store.specs.Raw.{raw_row}
 use Rattle.misp_store.specs.Sharing.{groups_in, groups_of}
-use Rattle.misp_core.specs.Outcome.{Went, is_refused}
-use Rattle.misp_core.specs.Administering.{why_not, reply_by, administering_reply, with_group, held_by, administering_held}
+use Rattle.misp_store.specs.Batches.{spelled}
+use Rattle.misp_core.specs.Administering.{why_not, effect_by}
+use Rattle.misp_core.specs.Administering as core
 use Rattle.misp_core.specs.Keeping.{Keeps, act_of}
 use Rattle.misp_store.proofs.GroupRows.{AreReadBack, group_again, group_put}
+use Rattle.misp_core.specs.declared.reply.Reply.{Reply}
 use Rattle.misp_core.proofs.Keeping.{groups_there}
 
 -- ---- in order
@@ -117,62 +115,12 @@ module _ (g : Group) where
   unfolding put_group
   groups_put gs is are = groups_placed _ is (groups_filtered _ gs are)
 
--- ---- the group as it is now
-
-found_is : (q : Group → Bool) (gs : List Group) → AllByRecursion IsGroup gs → IfSome (find q gs) IsGroup
-found_is q [] are = tt
-found_is q (h ∷ hs) are = elim (cases_Bool (q h)) [
-  | inl hit ↦ rw hit are.0
-  | inr miss ↦ rw miss (found_is q hs are.1)
-]
-
-known_is : (gs : List Group) (id : GroupId) → AllByRecursion IsGroup gs → IfSome (known_group gs id) IsGroup
-unfolding known_group
-known_is gs id are = found_is (λ g. same_group g.id id) gs are
-
--- a later stamp than one that is not the last
-next_fits : (now : Stamp) (held : Group) → now ≤ LAST_SECOND → held.modified ≤ LAST_SECOND → why_kept (Some held) ≡ None → next_stamp now held.modified ≤ LAST_SECOND
-unfolding next_stamp last_stamp
-next_fits now held fits of_held free = grind (arith, fits, of_held, free)
-
--- nothing against it, so its stamp is one
-stamp_fits : (add own known : Bool) (now : Stamp) (k : Option Group) → known ≡ is_some k → now ≤ LAST_SECOND → IfSome k IsGroup
-    → cond add (cond (not own) (Some causes.NotCreator) (cond known (Some causes.GroupExists) None)) (cond (not own) (Some causes.NotCreator) (why_kept k)) ≡ None
-    → group_stamp now k ≤ LAST_SECOND
-unfolding group_stamp
-stamp_fits add own known now None is fits of_known free = fits
-stamp_fits true false known now (Some held) is fits of_known free = absurd cc
-stamp_fits true true true now (Some held) is fits of_known free = absurd cc
-stamp_fits true true false now (Some held) is fits of_known free = absurd cc
-stamp_fits false false known now (Some held) is fits of_known free = absurd cc
-stamp_fits false true known now (Some held) is fits of_known free = next_fits now held fits of_known.modified free
-
-now_is : (now : Stamp) (by : OrgId) (add : Bool) (g : Group) (gs : List Group) → IsGroup g → now ≤ LAST_SECOND → AllByRecursion IsGroup gs → why_not add gs by g.id ≡ None → IsGroup (group_now now g gs)
-unfolding group_now
-now_is now by add g gs is fits are free = record {
-  creator = is.creator;
-  uuid = is.uuid;
-  named = is.named;
-  name = is.name;
-  description = is.description;
-  releasability = is.releasability;
-  orgs = is.orgs;
-  orgs_ascend = is.orgs_ascend;
-  servers = is.servers;
-  servers_ascend = is.servers_ascend;
-  modified = stamp_fits add _ (is_known_group gs g.id) now (known_group gs g.id) (known_where gs g.id) fits (known_is gs g.id are) free;
-}
-
 -- ---- the history
 
 -- an administration fails where there is a cause against it
 fails_where : (add : Bool) (by : OrgId) (g : Group) (gs : List Group) → IsStrictlySortedBy by_name gs → is_some (why_not add gs by g.id) ≡ administration_fails by add g gs
 fails_where true by g gs up = added_fails gs by g
 fails_where false by g gs up = edited_fails gs by g up
-
-refused_where : (why : Option GroupFault) → is_refused (reply_by why) ≡ is_some why
-refused_where None = refl
-refused_where (Some cause) = refl
 
 same_apart : (i j : Inst) → same_inst i j ≡ false → same_inst j i ≡ false
 unfolding same_inst
@@ -186,14 +134,15 @@ same_apart i j apart = elim (cases_Bool (same_inst j i)) [
   | inr other ↦ other
 ]
 
-module _ (here : Inst) (w : World) (by : OrgId) (add : Bool) (g : Group) (held : Held) (keeps : Keeps here w held) where
-  -- the reply is that over the groups of the instance
-  pub administered_reply : administering_reply Went by add g (groups_of held) ≡ administering_reply Went by add g (w.groups here)
-  administered_reply = ap (administering_reply Went by add g) (groups_there here w held keeps)
+-- it comes to what it comes to over the groups of the instance
+pub administered_told : (here : Inst) (w : World) (now : Stamp) (by : OrgId) (add : Bool) (g : Group) (held : Held) → Keeps here w held
+    → core.administered now by add g (groups_of held) ≡ core.administered now by add g (w.groups here)
+administered_told here w now by add g held keeps = ap (core.administered now by add g) (groups_there here w held keeps)
 
-  -- it refuses where the history has a failure
-  pub reply_fails : is_refused (administering_reply Went by add g (groups_of held)) ≡ administration_fails by add g (w.groups here)
-  reply_fails = ap is_refused administered_reply ∙ refused_where (why_not add (w.groups here) by g.id) ∙ fails_where add by g (w.groups here) keeps.ascend
+-- there is a cause against it where the history has a failure
+pub fails_there : (here : Inst) (w : World) (by : OrgId) (add : Bool) (g : Group) (held : Held) → Keeps here w held
+    → is_some (why_not add (groups_of held) by g.id) ≡ administration_fails by add g (w.groups here)
+fails_there here w by add g held keeps = ap (λ gs. is_some (why_not add gs by g.id)) (groups_there here w held keeps) ∙ fails_where add by g (w.groups here) keeps.ascend
 
 -- the keeper holds these groups, and the tables as before
 keeps_groups : (here : Inst) (w v : World) (held : Held) (gs : List Group) → Keeps here w held → v.log ≡ w.log → v.groups here ≡ gs → AllByRecursion IsGroup gs → IsStrictlySortedBy by_name gs
@@ -231,20 +180,20 @@ module _ (net : Net) (n : ℕ) (here : Inst) (w : World) (now : Stamp) (by : Org
   unfolding administered
   left_where why up e = ap (λ b. cond b (w.groups here) (put_group (group_now now g (w.groups here)) (w.groups here))) (sym (fails_where add by g (w.groups here) up) ∙ ap is_some e)
 
-  module _ (back : AreReadBack) (held : Held) (is : IsGroup g) (fits : now ≤ LAST_SECOND) (keeps : Keeps here w held) where
-    by_cause : (why : Option GroupFault) → why_not add (w.groups here) by g.id ≡ why → Keeps here after (held_by why now g held)
-    by_cause (Some cause) e = keeps_groups here w after held (w.groups here) keeps same_log (groups_after ∙ left_where (Some cause) keeps.ascend e) keeps.are_groups keeps.ascend held refl keeps.groups
-    by_cause None e =
-        let is_now : IsGroup (group_now now g (w.groups here)) = now_is now by add g (w.groups here) is fits keeps.are_groups e in
-        let same : group_now now g (groups_of held) ≡ group_now now g (w.groups here) = ap (group_now now g) (groups_there here w held keeps) in
-        keeps_groups here w after held (put_group (group_now now g (w.groups here)) (w.groups here)) keeps same_log (groups_after ∙ left_where None keeps.ascend e)
-        (groups_put (group_now now g (w.groups here)) (w.groups here) is_now keeps.are_groups)
-        (sorted_put (group_now now g (w.groups here)) (w.groups here) keeps.ascend)
-        (with_group (group_now now g (groups_of held)) held) refl
-        (ap (λ h. groups_in (with_group h held).admin) same ∙ group_put (group_now now g (w.groups here)) (group_again back _ is_now) held.admin (w.groups here) keeps.groups)
+  module _ (back : AreReadBack) (held : Held) (keeps : Keeps here w held) where
+    by_cause : (why : Option GroupFault) → why_not add (w.groups here) by g.id ≡ why → AreReadable (effect_by why (group_now now g (w.groups here))).batches
+        → Keeps here after (left spelled (effect_by why (group_now now g (w.groups here))) held)
+    unfolding with_batch put_rows put_admins
+    by_cause (Some cause) e fits = keeps_groups here w after held (w.groups here) keeps same_log (groups_after ∙ left_where (Some cause) keeps.ascend e) keeps.are_groups keeps.ascend held refl keeps.groups
+    by_cause None e fits =
+        let h : Group = group_now now g (w.groups here) in
+        let is : IsGroup h = fits.0.groups.0 in
+        keeps_groups here w after held (put_group h (w.groups here)) keeps same_log (groups_after ∙ left_where None keeps.ascend e)
+        (groups_put h (w.groups here) is keeps.are_groups) (sorted_put h (w.groups here) keeps.ascend)
+        (left spelled (effect_by None h) held) refl (group_put h (group_again back h is) held.admin (w.groups here) keeps.groups)
 
     -- the keeper holds the groups after the act
-    pub administered_left : Keeps here after (administering_held Went now by add g held)
+    pub administered_left : AreReadable (core.administered now by add g (groups_of held)).batches → Keeps here after (left spelled (core.administered now by add g (groups_of held)) held)
     administered_left =
-        subst (λ why. Keeps here after (held_by why now g held)) (ap (λ gs. why_not add gs by g.id) (sym (groups_there here w held keeps)))
+        subst (λ (e : Effect Reply). AreReadable e.batches → Keeps here after (left spelled e held)) (sym (administered_told here w now by add g held keeps))
         (by_cause (why_not add (w.groups here) by g.id) refl)

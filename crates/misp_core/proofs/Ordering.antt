@@ -1,12 +1,11 @@
 -- A reply refuses by the first rule that refuses its request.
-use Rattle.std.proofs.Common.{◌≡◌, ℕ, eqb, List, [], ◌∷◌, Bool, true, false, refl, ap, sym, ◌∙◌, map, option_map, Option, Some, None, Result, Ok, Err}
+use Rattle.std.proofs.Common.{◌≡◌, ℕ, List, [], ◌∷◌, Bool, true, false, refl, ap, sym, ◌∙◌, map, option_map, Option, Some, None, Result, Ok, Err}
 use Rattle.std.specs.Prelude.{not, if◌then◌else◌, IfSome}
 use Rattle.misp_ids.specs.declared.uid.OrgId.{OrgId}
 use Rattle.misp_ids.specs.declared.uid.EventId.{EventId}
 use Rattle.misp_elem.specs.declared.row.RowFields.{RowFields as Row}
 use Rattle.misp_elem.specs.declared.visible.VisibleEvent.{VisibleEvent}
 use Rattle.misp_elem.specs.declared.refusal.RuleName.TheVariants as rules
-use Rattle.misp_elem.specs.Refusal.{rule_number}
 use Rattle.misp_elem.specs.Draft.{SubmissionFields as Submission}
 use Rattle.misp_requests.specs.declared.ask.Ask.{Ask}
 use Rattle.misp_requests.specs.declared.ask.Ask.TheVariants.{View}
@@ -14,8 +13,6 @@ use Rattle.misp_requests.specs.declared.ask.Ask.TheVariants as asks
 use Rattle.misp_requests.specs.declared.change.Change.TheVariants.{AddEvent}
 use Rattle.misp_orgs.specs.Admin.{AdminFields as Admin}
 use Rattle.misp_outside.specs.Held.{Held}
-use Rattle.misp_effects.specs.declared.stop.Stop.TheVariants as stops
-use Rattle.misp_effects.specs.declared.stop.Side.TheVariants.{Here}
 use Rattle.misp_effects.specs.Effect.{Effect, under, stop_of}
 use Rattle.misp_effects.specs.Effect as effects
 use Rattle.misp_model.specs.Asking.{Scene, Rule, first_rule, change_rules}
@@ -24,13 +21,11 @@ use Rattle.misp_model.specs.Shown.{shown}
 use Rattle.misp_model.specs.Acts.{answer, ok_answer, ask_rules, Refused, Seen}
 use Rattle.misp_model.specs.Acts as model
 use Rattle.misp_store.specs.Seen.{seen_in}
-use Rattle.misp_core.specs.Permission.{is_permitted}
+use Rattle.misp_core.specs.Permission.{is_permitted, forbidden}
 use Rattle.misp_core.specs.Answers.{Surroundings, IsBuilt, reach_of, reply_of, reply_in, named, scene_at}
-use Rattle.misp_core.specs.Outcome.{Went, ByKeeper, ByMemory, outcome_of, forbidden}
-use Rattle.misp_core.specs.Effects.{telling, stop_in, refused, asked_over, requested, IsAnswered}
+use Rattle.misp_core.specs.Effects.{telling, refused, asked_over, requested, IsAnswered}
 use Rattle.misp_core.specs.Order.{first_ground, rule_of, IsInOrder, ground_of, row_grounds, grounds}
 use Rattle.misp_core.specs.declared.reply.Reply.{Reply}
-use Rattle.misp_core.specs.declared.reply.Reply.TheVariants as replies
 use Rattle.misp_core.proofs.BuiltAsks.{of_built}
 
 -- the first of the named rules is the name of the first
@@ -72,17 +67,6 @@ by_rows n at ask false rows built = refl
 by_rows n at ask true (Err name) built = refl
 by_rows n at ask true (Ok rows) built = in_scene at.admin (scene_at n at rows) ask built
 
-none_told : (keeper memory : Bool) → (if keeper then ByKeeper else if memory then ByMemory else Went) ≡ Went
-    → (if keeper then Some (stops.Keeper Here) else if memory then Some (stops.Memory Here) else None) ≡ None
-none_told true memory e = absurd cc
-none_told false true e = absurd cc
-none_told false false e = refl
-
--- where all went, the reply tells no stop
-no_stop : (reply : Reply) → outcome_of reply ≡ Went → stop_in reply ≡ None
-no_stop (replies.Ok answer) e = refl
-no_stop (replies.Refused refusal) e = none_told (eqb (rule_number refusal.name) 26) (eqb (rule_number refusal.name) 27) e
-
 -- where nothing stopped it, the reply is that of the effect
 of_effect : (o : effects.Outcome) (e : Effect Reply) → stop_of o ≡ None → (under telling o e).reply ≡ e.reply
 of_effect effects.Went e none = refl
@@ -92,7 +76,7 @@ of_effect (effects.Stopped stop k lost) e none = absurd cc
 in_order : (n : ℕ) (at : Surroundings) (ask : Ask) (held : Held) (reply : Reply) (new : Option Held) → IsBuilt ask
     → IsAnswered n at ask held reply new → IsInOrder (grounds n at ask held) reply
 in_order n at ask held reply new built did went =
-    ap rule_of (did.reply_is ∙ of_effect did.outcome (requested n at ask (seen_in held)) (did.agree ∙ no_stop reply went))
+    ap rule_of (did.reply_is ∙ of_effect did.outcome (requested n at ask (seen_in held)) (did.agree ∙ went))
     ∙ by_rows n at ask (is_permitted at.caller ask) ((seen_in held).rows (reach_of ask)) built
 
 pub told_in_order : (n : ℕ) (at : Held → Surroundings) (ask : Ask) (old new : Option Held) (reply : Reply) → IsBuilt ask

@@ -1,4 +1,4 @@
--- What a request that is refused writes, and rows that are put.
+-- A request that is refused has no batch.
 use Rattle.std.proofs.Common.{◌≡◌, ℕ, List, [], refl, ap, sym, subst, Option, Some, None, Result, Ok, Err}
 use Rattle.std.specs.Prelude.{IfSome}
 use Rattle.misp_elem.specs.declared.row.RowFields.{RowFields as Row}
@@ -12,8 +12,8 @@ use Rattle.misp_outside.specs.Held.{Held}
 use Rattle.misp_model.specs.Asking.{Scene, Rule}
 use Rattle.misp_edit.specs.Adding.{refusing}
 use Rattle.misp_store.specs.Sharing.{HoldsGroups, or_none, groups_of}
-use Rattle.misp_core.specs.Answers.{Surroundings, IsBuilt, reply_of, reply_in, writes_in, reply_over, writes_over, scene_at}
-use Rattle.misp_core.specs.Outcome.{IsRefused}
+use Rattle.misp_core.specs.Answers.{Surroundings, IsBuilt, reply_of, reply_in, writes_in, scene_at}
+use Rattle.misp_core.specs.Effects.{IsRefused, row_batches, asked_over}
 use Rattle.misp_core.proofs.BuiltAsks.{of_built}
 use Rattle.misp_core.proofs.Decisions.{answered, unwritten, none_written, none_for_groups}
 
@@ -30,8 +30,8 @@ refused_writes admin s = of_built (λ ask. IsRefused (reply_in admin s ask) → 
     (λ refused. none_for_groups s admin)
 
 -- the same over what is read
-pub refused_over : (n : ℕ) (at : Surroundings) (ask : Ask) (read : Result (List Row) (List ℕ)) → IsBuilt ask → IsRefused (reply_over n at ask read) → writes_over n at ask read ≡ []
-refused_over n at ask (Ok rows) built refused = refused_writes at.admin (scene_at n at rows) ask built refused
+pub refused_over : (n : ℕ) (at : Surroundings) (ask : Ask) (read : Result (List Row) (List ℕ)) → IsBuilt ask → IsRefused (asked_over n at ask read).reply → (asked_over n at ask read).batches ≡ []
+refused_over n at ask (Ok rows) built refused = ap row_batches (refused_writes at.admin (scene_at n at rows) ask built refused)
 refused_over n at ask (Err name) built refused = refl
 
 -- where a keeper tells what it holds, the groups are those that are held

@@ -1,4 +1,4 @@
--- The administration of groups: why it is refused, what it is replied, and what it leaves.
+-- The administration of groups: why it is refused, and what it comes to.
 use Rattle.std.specs.Prelude.{Bool, List, [], ◌∷◌, if◌then◌else◌}
 use Rattle.std.specs.declared.option.Option.{Option}
 use Rattle.std.specs.declared.option.Option.TheVariants.{None, Some}
@@ -8,7 +8,7 @@ use Rattle.misp_elem.specs.declared.refusal.RuleName.{RuleName}
 use Rattle.misp_elem.specs.declared.refusal.RuleName.TheVariants as rules
 use Rattle.misp_groups.specs.declared.group.GroupFields.{GroupFields as Group}
 use Rattle.misp_elem.specs.Refusal.{bare}
-use Rattle.misp_outside.specs.Held.{Held, put_admin}
+use Rattle.misp_outside.specs.Held.{Held}
 use Rattle.misp_effects.specs.Batches.{batch}
 use Rattle.misp_effects.specs.Effect.{Effect, effect}
 use Rattle.misp_core.specs.Effects.{refused, Did}
@@ -17,8 +17,7 @@ use Rattle.misp_model.specs.Acts.{group_now}
 use Rattle.misp_levels.specs.Groups.{why_not_added, why_not_edited}
 use Rattle.misp_levels.specs.declared.fault.GroupFault.{GroupFault}
 use Rattle.misp_levels.specs.declared.fault.GroupFault.TheVariants as causes
-use Rattle.misp_store.specs.Sharing.{group_row, groups_of}
-use Rattle.misp_core.specs.Outcome.{Outcome, Went, ByKeeper, ByMemory, refused_by}
+use Rattle.misp_store.specs.Sharing.{groups_of}
 use Rattle.misp_core.specs.declared.reply.Answer.TheVariants as answers
 use Rattle.misp_core.specs.declared.reply.Reply.{Reply}
 use Rattle.misp_core.specs.declared.reply.Reply.TheVariants as replies
@@ -36,35 +35,6 @@ rule_by causes.NoGroup = rules.NoGroup
 rule_by causes.LockedGroup = rules.LockedGroup
 rule_by causes.TimeLimit = rules.TimeLimit
 rule_by causes.NoMemory = rules.NoMemory
-
--- the reply where this is the first cause, if there is one: else one group was taken
-abbrev pub reply_by : Option GroupFault → Reply
-reply_by None = replies.Ok (answers.Taken 1)
-reply_by (Some cause) = refused_by (rule_by cause)
-
--- the reply under this outcome, where these are the groups
-abbrev pub administering_reply : Outcome → OrgId → Bool → Group → List Group → Reply
-administering_reply Went by add g groups = reply_by (why_not add groups by g.id)
-administering_reply ByKeeper by add g groups = refused_by rules.KeeperFault
-administering_reply ByMemory by add g groups = refused_by rules.NoMemory
-
--- what is held with this group in its place
-abbrev pub with_group : Group → Held → Held
-with_group g held = record held { admin = put_admin (group_row g) held.admin }
-
--- what is held where this is the first cause, if there is one: else the group is put, as it is now
-abbrev pub held_by : Option GroupFault → Stamp → Group → Held → Held
-held_by None now g held = with_group (group_now now g (groups_of held)) held
-held_by (Some cause) now g held = held
-
--- what is held afterwards
-abbrev pub administering_held : Outcome → Stamp → OrgId → Bool → Group → Held → Held
-administering_held Went now by add g held =
-    held_by (why_not add (groups_of held) by g.id) now g held
-administering_held ByKeeper now by add g held = held
-administering_held ByMemory now by add g held = held
-
--- ---- as an effect
 
 -- the group is put, and one group was taken
 abbrev pub taken : Group → Effect Reply

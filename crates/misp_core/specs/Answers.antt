@@ -1,5 +1,5 @@
 -- What a request is answered where nothing stops it, and what it writes.
-use Rattle.std.specs.Prelude.{◌≡◌, ℕ, true, cond, is_some, List, [], map, length, fold, max, unwrap_or, Result, Ok, Err}
+use Rattle.std.specs.Prelude.{◌≡◌, ℕ, true, cond, is_some, List, [], map, length, fold, max, unwrap_or}
 use Rattle.std.specs.declared.option.Option.{Option}
 use Rattle.std.specs.declared.option.Option.TheVariants.{None, Some}
 use Rattle.hex.specs.Hex.{encode_lower}
@@ -178,16 +178,6 @@ reply_in admin s ask = reply_of admin s ask (answer s ask)
 -- the rows that it writes
 unfoldable pub writes_in : Scene → Ask → List Row
 writes_in s ask = cond (is_accepted s ask) (map fresh_row (brings s ask)) []
-
--- ---- over what is read
-
-abbrev pub reply_over : ℕ → Surroundings → Ask → Result (List Row) (List ℕ) → Reply
-reply_over n at ask (Ok rows) = reply_in at.admin (scene_at n at rows) ask
-reply_over n at ask (Err name) = replies.Refused (bad_row name)
-
-abbrev pub writes_over : ℕ → Surroundings → Ask → Result (List Row) (List ℕ) → List Row
-writes_over n at ask (Ok rows) = writes_in (scene_at n at rows) ask
-writes_over n at ask (Err name) = []
 
 -- ---- refusals of an addition
 

@@ -5,10 +5,12 @@ use Rattle.std.specs.declared.option.Option.TheVariants.{None, Some}
 use Rattle.misp_elem.specs.declared.refusal.Refusal.{Refusal}
 use Rattle.misp_elem.specs.declared.refusal.RuleName.{RuleName}
 use Rattle.misp_elem.specs.declared.refusal.RuleName.TheVariants as rules
-use Rattle.misp_elem.specs.Refusal.{rule_number}
+use Rattle.misp_elem.specs.Refusal.{rule_number, bare}
 use Rattle.misp_elem.specs.declared.row.RowFields.{RowFields as Row}
 use Rattle.misp_requests.specs.declared.ask.Ask.{Ask}
 use Rattle.misp_orgs.specs.Admin.{AdminFields as Admin}
+use Rattle.misp_outside.specs.declared.fault.KeeperFault.{KeeperFault}
+use Rattle.misp_outside.specs.declared.fault.KeeperFault.TheVariants as keepers
 use Rattle.misp_outside.specs.Held.{Held}
 use Rattle.misp_effects.specs.declared.stop.Stop.{Stop}
 use Rattle.misp_effects.specs.declared.stop.Stop.TheVariants as stops
@@ -18,11 +20,21 @@ use Rattle.misp_effects.specs.Effect.{Effect, effect, Telling, nothing_of, Does}
 use Rattle.misp_model.specs.Asking.{Scene}
 use Rattle.misp_store.specs.Batches.{spelled}
 use Rattle.misp_store.specs.Seen.{Seen, seen_in}
-use Rattle.misp_core.specs.Permission.{is_permitted}
+use Rattle.misp_core.specs.Permission.{is_permitted, forbidden}
 use Rattle.misp_core.specs.Answers.{Surroundings, reach_of, scene_at, reply_in, writes_in, bad_row}
-use Rattle.misp_core.specs.Outcome.{refused_by, forbidden}
 use Rattle.misp_core.specs.declared.reply.Reply.{Reply}
 use Rattle.misp_core.specs.declared.reply.Reply.TheVariants as replies
+
+-- ---- refusals
+
+-- the refusal by a rule that has no place
+abbrev pub refused_by : RuleName → Reply
+refused_by rule = replies.Refused (bare rule)
+
+-- the reply is a refusal
+abbrev pub IsRefused : Reply → Type 0
+IsRefused (replies.Refused refusal) = Unit {0}
+IsRefused (replies.Ok answer) = ⊥
 
 -- ---- stops
 
@@ -46,6 +58,15 @@ stop_by name =
 abbrev pub stop_in : Reply → Option Stop
 stop_in (replies.Ok answer) = None
 stop_in (replies.Refused refusal) = stop_by refusal.name
+
+-- the stop by the keeper of the instance
+abbrev pub by_keeper : Option Stop
+by_keeper = Some (stops.Keeper Here)
+
+-- the rule by which what a keeper stopped is refused
+abbrev pub rule_of_stop : KeeperFault → RuleName
+rule_of_stop keepers.Failed = rules.KeeperFault
+rule_of_stop keepers.NoMemory = rules.NoMemory
 
 -- ---- requests
 

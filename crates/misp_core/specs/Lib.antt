@@ -2,7 +2,6 @@ pub mod Standing
 pub mod Permission
 pub mod Naming
 pub mod Answers
-pub mod Outcome
 pub mod Effects
 pub mod Planning
 pub mod Administering

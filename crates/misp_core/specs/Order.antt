@@ -12,7 +12,7 @@ use Rattle.misp_model.specs.Acts.{ask_rules}
 use Rattle.misp_store.specs.Seen.{seen_in}
 use Rattle.misp_core.specs.Permission.{is_permitted}
 use Rattle.misp_core.specs.Answers.{Surroundings, reach_of, scene_at, named}
-use Rattle.misp_core.specs.Outcome.{Went, outcome_of}
+use Rattle.misp_core.specs.Effects.{stop_in}
 use Rattle.misp_core.specs.declared.reply.Reply.{Reply}
 use Rattle.misp_core.specs.declared.reply.Reply.TheVariants as replies
 
@@ -32,7 +32,7 @@ rule_of (replies.Refused refusal) = Some refusal.name
 -- a reply that nothing stopped refuses by the first of these rules that refuses, and is an answer
 -- where none does
 abbrev pub IsInOrder : List Ground → Reply → Type 0
-IsInOrder grounds reply = outcome_of reply ≡ Went → rule_of reply ≡ first_ground grounds
+IsInOrder grounds reply = stop_in reply ≡ None → rule_of reply ≡ first_ground grounds
 
 -- ---- the rules from the role of the caller on
 

@@ -34,3 +34,7 @@ is_permitted caller ask = permits caller.role (permission_of ask)
 -- the refusal of what a role does not permit
 abbrev pub no_permission : Perm → Refusal
 no_permission perm = record { name = rules.NoPermission; place = perm_name perm }
+
+-- the refusal of an ask that is not permitted
+abbrev pub forbidden : Ask → Refusal
+forbidden ask = no_permission (permission_of ask)

@@ -11,8 +11,7 @@ use Rattle.misp_elem.specs.declared.refusal.RuleName.TheVariants as rules
 use Rattle.misp_store.specs.declared.fault.LoadFault.{LoadFault}
 use Rattle.misp_store.specs.declared.fault.LoadFault.TheVariants as unread
 use Rattle.misp_core.specs.Answers.{bad_row}
-use Rattle.misp_core.specs.Outcome.{refused_by}
-use Rattle.misp_core.specs.Effects.{refused, stop_by}
+use Rattle.misp_core.specs.Effects.{refused, refused_by, stop_by}
 use Rattle.misp_core.specs.declared.planning.Plan.{Plan}
 use Rattle.misp_core.specs.declared.planning.Batch.{Batch as Planned}
 use Rattle.misp_core.specs.declared.planning.NoPlan.{NoPlan}

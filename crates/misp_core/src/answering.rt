@@ -6,8 +6,7 @@ ghost use Rattle.misp_effects.specs.Effect.{Effect};
 ghost use Rattle.misp_model.specs.Machine.{event_changed};
 ghost use Rattle.misp_core.specs.Answers.{reach_of, bad_row};
 ghost use Rattle.misp_core.specs.Permission.{no_permission};
-ghost use Rattle.misp_core.specs.Outcome.{ByKeeper, outcome_of};
-ghost use Rattle.misp_core.specs.Effects.{refused, Did};
+ghost use Rattle.misp_core.specs.Effects.{refused, Did, stop_in, by_keeper};
 ghost use Rattle.misp_core.specs.Planning.{Plans, IsUnread};
 ghost use Rattle.misp_core.specs.declared.reply.Reply.{Reply as Answered};
 
@@ -85,7 +84,7 @@ fn bad_row(alloc: Global, name: &[u8]) -> NoPlan
 pub(crate) fn unread(alloc: Global, fault: LoadFault) -> Reply
     ensures done { (e : Effect Answered) (held : Held) → IsUnread fault e →
         Did e held result (Some held) }
-    ensures cause { outcome_of result ≡ ByKeeper → fault ≡ LoadFault.KeeperFault }
+    ensures cause { stop_in result ≡ by_keeper → fault ≡ LoadFault.KeeperFault }
 {
     match fault {
         LoadFault::KeeperFault => Reply::refused_by(alloc, RuleName::KeeperFault),

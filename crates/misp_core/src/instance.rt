@@ -6,8 +6,7 @@ ghost use Rattle.misp_store.specs.Sharing.{groups_in};
 ghost use Rattle.misp_core.specs.Answers.{site_at, IsBuilt};
 ghost use Rattle.misp_core.specs.Standing.{standing};
 ghost use Rattle.misp_store.specs.Loading.{NamesFault};
-ghost use Rattle.misp_core.specs.Outcome.{ByKeeper, outcome_of, IsRefused};
-ghost use Rattle.misp_core.specs.Effects.{IsAnswered};
+ghost use Rattle.misp_core.specs.Effects.{IsAnswered, IsRefused, stop_in, by_keeper};
 ghost use Rattle.misp_core.specs.Order.{IsInOrder, grounds};
 ghost use Rattle.misp_core.specs.Administering.{IsAdministered};
 ghost use Rattle.misp_store.specs.declared.fault.LoadFault.TheVariants as faults;
@@ -125,7 +124,7 @@ impl<K: Keeper> Instance<K> {
 
         // A refused request changes nothing.
         ensures refused { IsRefused result → self.new.held ≡ self.old.held }
-        ensures cause { HasCause self.old.faults self.new.faults (outcome_of result ≡ ByKeeper) }
+        ensures cause { HasCause self.old.faults self.new.faults (stop_in result ≡ by_keeper) }
         ensures name { self.new.name ≡ self.old.name }
         ensures admin { self.new.admin ≡ self.old.admin }
     {
@@ -163,7 +162,7 @@ impl<K: Keeper> Instance<K> {
 
         // A refused administration changes nothing.
         ensures refused { IsRefused result → self.new.held ≡ self.old.held }
-        ensures cause { HasCause self.old.faults self.new.faults (outcome_of result ≡ ByKeeper) }
+        ensures cause { HasCause self.old.faults self.new.faults (stop_in result ≡ by_keeper) }
         ensures name { self.new.name ≡ self.old.name }
         ensures admin { self.new.admin ≡ self.old.admin }
     {

@@ -1,7 +1,7 @@
 //! What a request is answered.
 
 ghost use Rattle.std.specs.Prelude.{◌≡◌};
-ghost use Rattle.misp_core.specs.Outcome.{refused_by, rule_of_stop};
+ghost use Rattle.misp_core.specs.Effects.{refused_by, rule_of_stop};
 
 use misp_elem::{Refusal, RuleName, VisibleEvent};
 use misp_groups::Group;

@@ -7,9 +7,8 @@ ghost use Rattle.misp_outside.specs.Held.{with_batch};
 ghost use Rattle.misp_effects.specs.Effect.{Effect};
 ghost use Rattle.misp_levels.specs.Groups.{put_groups};
 ghost use Rattle.misp_store.specs.Sharing.{HoldsGroups, AreStorable};
-ghost use Rattle.misp_core.specs.Outcome.{ByKeeper, outcome_of, IsRefused};
 ghost use Rattle.misp_store.specs.Batches.{spelled};
-ghost use Rattle.misp_core.specs.Effects.{Did};
+ghost use Rattle.misp_core.specs.Effects.{Did, IsRefused, stop_in, by_keeper};
 ghost use Rattle.misp_core.specs.Planning.{batch_of, Plans, TellsNoStop, unplanned};
 ghost use Rattle.misp_core.specs.declared.reply.Reply.{Reply as Answered};
 
@@ -88,7 +87,7 @@ pub(crate) fn carry_out<K: Keeper>(
         HoldsGroups (K.stock keeper.new).held groups.new }
     ensures cause { TellsNoStop planned →
         HasCause (K.stock keeper.old).faults (K.stock keeper.new).faults
-        (outcome_of result ≡ ByKeeper) }
+        (stop_in result ≡ by_keeper) }
 {
     match planned {
         Err(why) => unplanned(alloc, why),

@@ -9,7 +9,7 @@ use Rattle.misp_script.specs.Step.{GroupData}
 use Rattle.misp_format.specs.GroupText.{group_in_text}
 use Rattle.misp_store.specs.Sharing.{groups_of}
 use Rattle.misp_core.specs.Administering.{IsAdministered}
-use Rattle.misp_core.specs.Outcome.{Went, ByKeeper, outcome_of}
+use Rattle.misp_core.specs.Effects.{stop_in, by_keeper}
 use Rattle.misp_core.specs.declared.reply.Reply.{Reply}
 use Rattle.misp_net.specs.declared.request.AskFault.{AskFault}
 use Rattle.misp_net.specs.declared.request.AskFault.TheVariants as stops
@@ -40,11 +40,11 @@ pub read_fits : (now : ℕ) (form : Reading Group) (g : Group) → form ≡ Ok g
 read_fits now form g is fits moment = subst (FormFits now) (sym is) (fits, moment)
 
 -- a text that is no group has none that does not fit
-pub unread_fits : (now : ℕ) (form : Reading Group) (fault : AskFault) → Gives (Err fault) form → outcome_of (fault_reply fault) ≡ Went → FormFits now form
+pub unread_fits : (now : ℕ) (form : Reading Group) (fault : AskFault) → Gives (Err fault) form → stop_in (fault_reply fault) ≡ None → FormFits now form
 unread_fits now form (stops.Refused refusal) given went = subst (FormFits now) (sym given) tt
 unread_fits now form stops.NoMemory given went = absurd cc
 
 -- no keeper failed where a text was not read
-pub no_keeper_read : (text : _) (fault : AskFault) → Gives (Err fault) (group_form text) → outcome_of (fault_reply fault) ≡ ByKeeper → ⊥
+pub no_keeper_read : (text : _) (fault : AskFault) → Gives (Err fault) (group_form text) → stop_in (fault_reply fault) ≡ by_keeper → ⊥
 no_keeper_read text (stops.Refused refusal) given = no_keeper_in refusal (subst ByForm given (text_by_form text))
 no_keeper_read text stops.NoMemory given = λ is. absurd cc

@@ -15,7 +15,7 @@ use Rattle.misp_script.specs.Step.{RequestData}
 use Rattle.misp_core.specs.Standing.{Standing}
 use Rattle.misp_core.specs.Answers.{site, site_at}
 use Rattle.misp_store.specs.Sharing.{groups_of}
-use Rattle.misp_core.specs.Outcome.{Went, outcome_of}
+use Rattle.misp_core.specs.Effects.{stop_in}
 use Rattle.misp_core.specs.Order.{Ground, first_ground, IsInOrder, grounds}
 use Rattle.misp_core.specs.declared.reply.Reply.{Reply}
 use Rattle.misp_core.specs.declared.reply.Reply.TheVariants as replies
@@ -39,7 +39,7 @@ by_name name =
 
 abbrev IsNamed : {A : Type 0} → Reading A → Type 0
 IsNamed (Ok x) = Unit {0}
-IsNamed (Err refusal) = outcome_of (replies.Refused refusal) ≡ Went → Some refusal.name ≡ first_ground (by_name refusal.name)
+IsNamed (Err refusal) = stop_in (replies.Refused refusal) ≡ None → Some refusal.name ≡ first_ground (by_name refusal.name)
 
 asked_named : (read : Result Submission FormatFault) → IsNamed (asked (formed read))
 unfolding first_ground
@@ -61,7 +61,7 @@ module _ (n : ℕ) (host : Host) (now : ℕ) (held : Held) where
   -- of what was read the first of these rules is the first of what is asked, and of what was not it is the refusal's
   abbrev IsFirst : Reading Asked → Option RuleName → Type 0
   IsFirst (Ok it) first = first ≡ first_ground (grounds n (site host.name host.admin (groups_of held) it.0 now) it.1 held)
-  IsFirst (Err refusal) first = outcome_of (replies.Refused refusal) ≡ Went → Some refusal.name ≡ first
+  IsFirst (Err refusal) first = stop_in (replies.Refused refusal) ≡ None → Some refusal.name ≡ first
 
   abbrev from_body : Reading Ask → List Ground → List Ground
   from_body ask rest =

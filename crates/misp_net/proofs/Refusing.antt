@@ -1,10 +1,8 @@
 -- What is refused changes nothing.
-use Rattle.std.proofs.Common.{◌≡◌, ℕ, List, [], map, Option, Some, None, Result, Ok, Err, refl, ◌∙◌, ap}
+use Rattle.std.proofs.Common.{◌≡◌, ℕ, List, [], map, Option, Some, None, Ok, Err, refl, ◌∙◌, ap}
 use Rattle.std.proofs.lemmas.List.{set-get_or}
 use Rattle.std.specs.Prelude.{slice_set}
-use Rattle.misp_elem.specs.declared.row.RowFields.{RowFields as Row}
 use Rattle.misp_outside.specs.Held.{Held, nothing_held}
-use Rattle.misp_requests.specs.declared.ask.Ask.{Ask}
 use Rattle.misp_groups.specs.declared.group.GroupFields.{GroupFields as Group}
 use Rattle.misp_levels.specs.declared.fault.GroupFault.{GroupFault}
 use Rattle.misp_effects.specs.Batches.{Batch, put_batches}
@@ -12,12 +10,11 @@ use Rattle.misp_effects.specs.Effect.{Outcome, Went, Stopped}
 use Rattle.misp_effects.specs.Stocks.{Tables, held_at}
 use Rattle.misp_script.specs.Step.{DeedData, GroupData}
 use Rattle.misp_script.specs.Step as deeds
-use Rattle.misp_core.specs.Answers.{Surroundings, site, IsBuilt}
+use Rattle.misp_core.specs.Answers.{site}
 use Rattle.misp_core.specs.Answers.{reach_of}
-use Rattle.misp_core.specs.Outcome.{IsRefused}
 use Rattle.misp_store.specs.Sharing.{groups_of}
 use Rattle.misp_store.specs.Batches.{spelled}
-use Rattle.misp_core.specs.Effects.{row_batches, asked_over}
+use Rattle.misp_core.specs.Effects.{IsRefused}
 use Rattle.misp_core.specs.Administering.{why_not, effect_by}
 use Rattle.misp_core.proofs.Serving.{refused_over}
 use Rattle.misp_net.specs.Hosts.{Host, host_at}
@@ -30,14 +27,10 @@ use Rattle.misp_net.specs.Run.{output_of, tables_after}
 use Rattle.misp_net.specs.Promise.{IsIdle}
 use Rattle.misp_net.proofs.Forms.{BuiltForm, form_built}
 
--- an ask that is refused has no batch
-asked_idle : (n : ℕ) (at : Surroundings) (ask : Ask) (read : Result (List Row) (List ℕ)) → IsBuilt ask → IsRefused (asked_over n at ask read).reply → (asked_over n at ask read).batches ≡ []
-asked_idle n at ask (Ok rows) built refused = ap row_batches (refused_over n at ask (Ok rows) built refused)
-asked_idle n at ask (Err name) built refused = refl
-
+-- a request that is refused has no batch
 request_idle : (n : ℕ) (host : Host) (now : ℕ) (form : Reading Asked) (held : Held) → BuiltForm form → IsRefused (replied n host now form (seen_in held)).reply
     → (replied n host now form (seen_in held)).batches ≡ []
-request_idle n host now (Ok asked) held built refused = asked_idle n (site host.name host.admin (groups_of held) asked.0 now) asked.1 ((seen_in held).rows (reach_of asked.1)) built refused
+request_idle n host now (Ok asked) held built refused = refused_over n (site host.name host.admin (groups_of held) asked.0 now) asked.1 ((seen_in held).rows (reach_of asked.1)) built refused
 request_idle n host now (Err refusal) held built refused = refl
 
 cause_idle : (cause : Option GroupFault) (g : Group) → IsRefused (effect_by cause g).reply → (effect_by cause g).batches ≡ []

@@ -1,10 +1,10 @@
 -- The reply to a request by its form.
-use Rattle.std.proofs.Common.{◌≡◌, ◌⊎◌, ℕ, eqb, Bool, true, false, List, refl, sym, subst, inl, inr, Option, Some, None, Result, Ok, Err}
+use Rattle.std.proofs.Common.{◌≡◌, ◌⊎◌, ℕ, Bool, true, false, List, refl, sym, ◌∙◌, subst, inl, inr, Option, Some, None, Result, Ok, Err}
 use Rattle.std.specs.Prelude.{IfSome, bytes_eq, if◌then◌else◌}
 use Rattle.misp_elem.specs.declared.refusal.Refusal.{Refusal}
 use Rattle.misp_elem.specs.declared.refusal.RuleName.{RuleName}
 use Rattle.misp_elem.specs.declared.refusal.RuleName.TheVariants as rules
-use Rattle.misp_elem.specs.Refusal.{bare, rule_number}
+use Rattle.misp_elem.specs.Refusal.{bare}
 use Rattle.misp_elem.specs.Draft.{SubmissionFields as Submission}
 use Rattle.misp_format.specs.declared.fault.FormatFault.{FormatFault}
 use Rattle.misp_format.specs.declared.fault.FormatFault.TheVariants as faults
@@ -18,12 +18,11 @@ use Rattle.misp_effects.specs.declared.stop.Stop.TheVariants as kinds
 use Rattle.misp_effects.specs.declared.stop.Side.TheVariants.{Here}
 use Rattle.misp_effects.specs.Effect.{Effect, Stopped}
 use Rattle.misp_effects.specs.Effect as effects
-use Rattle.misp_core.specs.Permission.{is_permitted}
+use Rattle.misp_core.specs.Permission.{is_permitted, forbidden}
 use Rattle.misp_store.specs.Sharing.{groups_of}
 use Rattle.misp_core.specs.Answers.{site, site_at}
 use Rattle.misp_core.specs.Answers.{reach_of}
-use Rattle.misp_core.specs.Outcome.{Went, ByKeeper, ByMemory, outcome_of, forbidden}
-use Rattle.misp_core.specs.Effects.{stop_in, refused, asked_over, Did, IsAnswered}
+use Rattle.misp_core.specs.Effects.{stop_in, by_keeper, refused, asked_over, Did, IsAnswered}
 use Rattle.misp_core.specs.declared.reply.Reply.{Reply}
 use Rattle.misp_core.specs.declared.reply.Reply.TheVariants as replies
 use Rattle.misp_net.specs.declared.route.Route.{Route}
@@ -135,18 +134,12 @@ refused_by_form n i now request word fault (Some held) given =
     by_fault (λ read. replied n (host_of i) now (permitted read) (seen_in held)) (λ refusal. refl)
     (read_of i.admin request word) fault held given (read_by_form i.admin request word)
 
-none_failed : (keeper memory : Bool) → (if keeper then Some (kinds.Keeper Here) else if memory then Some (kinds.Memory Here) else None) ≡ None
-    → (if keeper then ByKeeper else if memory then ByMemory else Went) ≡ ByKeeper → ⊥
-none_failed true memory none is = absurd cc
-none_failed false true none is = absurd cc
-none_failed false false none is = absurd cc
-
-pub no_keeper_in : (refusal : Refusal) → IsFormal refusal → outcome_of (replies.Refused refusal) ≡ ByKeeper → ⊥
-no_keeper_in refusal (inl none) is = none_failed (eqb (rule_number refusal.name) 26) (eqb (rule_number refusal.name) 27) none is
+pub no_keeper_in : (refusal : Refusal) → IsFormal refusal → stop_in (replies.Refused refusal) ≡ by_keeper → ⊥
+no_keeper_in refusal (inl none) is = let both : None ≡ by_keeper = sym none ∙ is in absurd cc
 no_keeper_in refusal (inr out) is = absurd cc
 
 -- no keeper failed where a request was not read
 pub no_keeper : (admin : Admin) (request : RequestData) (word : ℕ) (fault : AskFault) → Gives (Err fault) (read_of admin request word)
-    → outcome_of (fault_reply fault) ≡ ByKeeper → ⊥
+    → stop_in (fault_reply fault) ≡ by_keeper → ⊥
 no_keeper admin request word (stops.Refused refusal) given = no_keeper_in refusal (subst ByForm given (read_by_form admin request word))
 no_keeper admin request word stops.NoMemory given = λ is. absurd cc

@@ -18,9 +18,8 @@ use Rattle.misp_script.specs.declared.field.BadLine.{BadLine}
 use Rattle.misp_script.specs.Step.{StepData, RequestData, GroupData}
 use Rattle.misp_script.specs.Step as deeds
 use Rattle.misp_core.specs.Standing.{Standing}
-use Rattle.misp_core.specs.Outcome.{Went, ByKeeper, ByMemory, outcome_of, refused_by}
 use Rattle.misp_store.specs.Batches.{spelled}
-use Rattle.misp_core.specs.Effects.{rule_told, telling, Did}
+use Rattle.misp_core.specs.Effects.{refused_by, by_keeper, rule_told, telling, Did}
 use Rattle.misp_core.specs.Effects as core
 use Rattle.misp_core.specs.declared.reply.Reply.{Reply}
 use Rattle.misp_core.specs.declared.reply.Reply.TheVariants as replies
@@ -35,23 +34,12 @@ use Rattle.misp_net.specs.Run as lines
 
 -- ---- what stopped a reply
 
-keeper_by : (keeper memory : Bool) → (if keeper then Some (stops.Keeper Here) else if memory then Some (stops.Memory Here) else None) ≡ Some (stops.Keeper Here)
-    → (if keeper then ByKeeper else if memory then ByMemory else Went) ≡ ByKeeper
-keeper_by true memory is = refl
-keeper_by false true is = absurd cc
-keeper_by false false is = absurd cc
-
--- a reply that tells a keeper's stop tells the keeper
-keeper_told : (reply : Reply) → core.stop_in reply ≡ Some (stops.Keeper Here) → outcome_of reply ≡ ByKeeper
-keeper_told (replies.Ok answer) is = absurd cc
-keeper_told (replies.Refused refusal) is = keeper_by (eqb (rule_number refusal.name) 26) (eqb (rule_number refusal.name) 27) is
-
 none_there : (keeper memory : Bool) → (if keeper then Some (stops.Keeper Here) else if memory then Some (stops.Memory Here) else None) ≡ Some (stops.Keeper There) → ⊥
 none_there true memory is = cc
 none_there false true is = cc
 none_there false false is = cc
 
--- and none that of another
+-- a reply tells no stop of another keeper
 never_there : (reply : Reply) → core.stop_in reply ≡ Some (stops.Keeper There) → ⊥
 never_there (replies.Ok answer) is = cc
 never_there (replies.Refused refusal) is = none_there (eqb (rule_number refusal.name) 26) (eqb (rule_number refusal.name) 27) is
@@ -67,18 +55,18 @@ as_output comes (Some held) new reply did =
 -- what is replied at one keeper is an act among all
 stock_act : (at : ℕ) (comes : Seen → Effect Reply) (old : List Stock) (new none : Stock) (reply : Reply) → at < length old
     → IfSome (get_or old at none).held (λ held. Did (comes (seen_in held)) held reply new.held)
-    → HasCause (get_or old at none).faults new.faults (outcome_of reply ≡ ByKeeper)
+    → HasCause (get_or old at none).faults new.faults (core.stop_in reply ≡ by_keeper)
     → IsAct Seen Output seen_in spelled stop_in (asks at comes) old (set old at new) (Replied reply)
 stock_act at comes old new none reply lt did cause =
     one_act seen_in spelled stop_in (λ stop. Replied (refused_by (rule_told stop))) at (λ here. shown Replied (comes here)) old new none (Replied reply) lt
     (as_output comes (get_or old at none).held new.held reply did)
-    (record { later = cause.later; rose = λ is. cause.rose (keeper_told reply is) })
+    cause
     (never_there reply)
 
 -- and so is what one instance replies
 pub instance_act : (at : ℕ) (comes : Seen → Effect Reply) (old : List Standing) (new none : Standing) (reply : Reply) → at < length old
     → IfSome (get_or old at none).held (λ held. Did (comes (seen_in held)) held reply new.held)
-    → HasCause (get_or old at none).faults new.faults (outcome_of reply ≡ ByKeeper)
+    → HasCause (get_or old at none).faults new.faults (core.stop_in reply ≡ by_keeper)
     → IsAct Seen Output seen_in spelled stop_in (asks at comes) (stocks_of old) (stocks_of (set old at new)) (Replied reply)
 instance_act at comes old new none reply lt did cause =
     let stock : get_or (stocks_of old) at (stock_of none) ≡ stock_of (get_or old at none) = get_or-map stock_of old at none (stock_of none) lt in
@@ -86,7 +74,7 @@ instance_act at comes old new none reply lt did cause =
     subst (λ news. IsAct Seen Output seen_in spelled stop_in (asks at comes) (stocks_of old) news (Replied reply)) (sym (map-set stock_of old at new))
     (stock_act at comes (stocks_of old) (stock_of new) (stock_of none) reply long
     (subst (λ (s : Stock). IfSome s.held (λ held. Did (comes (seen_in held)) held reply new.held)) (sym stock) did)
-    (subst (λ (s : Stock). HasCause s.faults new.faults (outcome_of reply ≡ ByKeeper)) (sym stock) cause))
+    (subst (λ (s : Stock). HasCause s.faults new.faults (core.stop_in reply ≡ by_keeper)) (sym stock) cause))
 
 abbrev pub step_at : ℕ → ℕ → RequestData → StepData
 step_at time word r = record { time = time; word = word; deed = deeds.Request r }
@@ -97,7 +85,7 @@ group_step time word line = record { time = time; word = word; deed = deeds.Grou
 -- a request
 pub one_request : (n time word : ℕ) (r : RequestData) (old : List Standing) (new none : Standing) (reply : Reply) → r.at < length old
     → IfSome (get_or old r.at none).held (λ held. IsReplied n (host_of (get_or old r.at none)) time (form_of (get_or old r.at none).admin r word) held reply new.held)
-    → HasCause (get_or old r.at none).faults new.faults (outcome_of reply ≡ ByKeeper)
+    → HasCause (get_or old r.at none).faults new.faults (core.stop_in reply ≡ by_keeper)
     → lines.IsAct n (hosts_of old) (Ok (step_at time word r)) (stocks_of old) (stocks_of (set old r.at new)) (Replied reply)
 one_request n time word r old new none reply lt did cause =
     let host : host_at r.at (hosts_of old) ≡ host_of (get_or old r.at none) = get_or-map host_of old r.at none nobody lt in
@@ -108,7 +96,7 @@ one_request n time word r old new none reply lt did cause =
 -- a line of a group
 pub one_group : (n time word : ℕ) (line : GroupData) (old : List Standing) (new none : Standing) (reply : Reply) → line.at < length old
     → IfSome (get_or old line.at none).held (λ held. IsDone time line (group_form line.body) held reply new.held)
-    → HasCause (get_or old line.at none).faults new.faults (outcome_of reply ≡ ByKeeper)
+    → HasCause (get_or old line.at none).faults new.faults (core.stop_in reply ≡ by_keeper)
     → lines.IsAct n (hosts_of old) (Ok (group_step time word line)) (stocks_of old) (stocks_of (set old line.at new)) (Replied reply)
 one_group n time word line old new none reply lt did cause =
     instance_act line.at (λ here. grouped time line (group_form line.body) here.groups) old new none reply lt did cause

@@ -1,50 +1,41 @@
 -- One line over keepers that hold the tables of the history.
-use Rattle.std.proofs.Common.{◌≡◌, ◌≢◌, ℕ, zero, suc, ◌<◌, ◌≤◌, Bool, true, false, List, [], ◌∷◌, map, length, cond, Option, Some, None, Result, Ok, Err, refl, sym, ◌∙◌, ap, subst, inl, inr, arith, length-set}
+use Rattle.std.proofs.Common.{◌≡◌, ◌≢◌, ℕ, zero, suc, ◌<◌, Bool, true, false, List, [], map, length, Option, Some, None, Ok, Err, refl, sym, ◌∙◌, ap, subst, inl, inr, length-set}
 use Rattle.std.proofs.lemmas.Bool.{cases_eq, cases_Bool}
 use Rattle.std.proofs.lemmas.List.{get_or-set_same, get_or-set_other, set-get_or}
 use Rattle.std.specs.Prelude.{ltb, slice_set}
 use Rattle.std.specs.List.{list_all, AllByRecursion}
 use Rattle.std.specs.List.Sorted.{IsStrictlySortedBy}
-use Rattle.misp_ids.specs.declared.uid.OrgId.{OrgId}
-use Rattle.misp_ids.specs.declared.stamp.TheConstants.{LAST_SECOND}
-use Rattle.misp_elem.specs.declared.row.RowFields.{RowFields as Row}
 use Rattle.misp_elem.specs.Row.{AreRows}
 use Rattle.misp_orgs.specs.Keys.{CallerFields as Caller}
-use Rattle.misp_requests.specs.declared.ask.Ask.{Ask}
-use Rattle.misp_outside.specs.Held.{Held, nothing_held, with_batch, put_rows, put_admins}
+use Rattle.misp_outside.specs.Held.{Held, nothing_held}
 use Rattle.misp_groups.specs.declared.group.GroupFields.{GroupFields as Group}
 use Rattle.misp_groups.specs.Group.{IsGroup}
 use Rattle.misp_effects.specs.declared.stop.Stop.{Stop}
 use Rattle.misp_effects.specs.Batches.{put_batches, AreReadable}
-use Rattle.misp_effects.specs.Effect.{Outcome, Went, Stopped}
+use Rattle.misp_effects.specs.Effect.{Effect, Outcome, Went, Stopped}
 use Rattle.misp_effects.specs.Stocks.{Tables, held_at}
 use Rattle.misp_effects.specs.Run.{effect_in}
 use Rattle.misp_script.specs.Step.{DeedData, GroupData, IsPlaced}
 use Rattle.misp_script.specs.Step as deeds
 use Rattle.misp_model.specs.Names.{Inst, Stamp, same_inst}
-use Rattle.misp_model.specs.Asking.{next_stamp, last_stamp}
 use Rattle.misp_model.specs.History.{tables}
-use Rattle.misp_model.specs.Audience.{known_group}
-use Rattle.misp_model.specs.Acts.{World, Net, scene, known_at, step, group_stamp, group_now, administered, administration_fails}
+use Rattle.misp_model.specs.Acts.{World, step}
 use Rattle.misp_model.specs.Acts as model
 use Rattle.misp_model.specs.Outcomes.{Whole, step_partly}
 use Rattle.misp_model.specs.Outcomes as parts
-use Rattle.misp_model.proofs.Steps.{step_nothing, step_misfit, step_administers, with_groups_here}
+use Rattle.misp_model.proofs.Steps.{step_nothing, step_misfit}
 use Rattle.misp_model.proofs.Numbered.{step_below}
 use Rattle.misp_levels.specs.Groups.{by_name}
-use Rattle.misp_levels.specs.declared.fault.GroupFault.{GroupFault}
 use Rattle.misp_store.specs.Raw.{raw_row}
-use Rattle.misp_core.specs.Answers.{Surroundings, site, reply_in, reply_over, writes_over, scene_at, writes_in}
+use Rattle.misp_core.specs.Answers.{Surroundings, site}
+use Rattle.misp_core.specs.Effects.{asked_over}
 use Rattle.misp_store.specs.Sharing.{or_none, groups_of}
-use Rattle.misp_core.specs.Keeping.{Keeps, act_at, act_of, caller_at}
-use Rattle.misp_core.specs.Answers.{reach_of}
-use Rattle.misp_core.specs.Outcome.{with_rows, is_refused}
+use Rattle.misp_core.specs.Keeping.{Keeps, act_at, act_of}
 use Rattle.misp_store.specs.Batches.{spelled}
-use Rattle.misp_core.specs.Effects.{row_batches, asked_over}
-use Rattle.misp_core.specs.Administering.{why_not, reply_by, held_by, effect_by}
-use Rattle.misp_core.proofs.Keeping.{replied_there, same_elsewhere, same_groups, left_there}
+use Rattle.misp_core.specs.declared.reply.Reply.{Reply}
+use Rattle.misp_core.proofs.Keeping.{over_all, same_elsewhere, same_groups, left_there}
 use Rattle.misp_store.proofs.GroupRows.{AreReadBack}
-use Rattle.misp_core.proofs.KeepingGroups.{reply_fails, administered_left, same_log, groups_elsewhere}
+use Rattle.misp_core.proofs.KeepingGroups.{administered_left, same_log, groups_elsewhere}
 use Rattle.misp_net.specs.declared.line.Output.TheVariants.{Replied}
 use Rattle.misp_net.specs.Hosts.{Host, host_at}
 use Rattle.misp_net.specs.Lines.{Act, IsAmong}
@@ -78,38 +69,6 @@ world_still : (n : ℕ) (w : World) (act : model.Act) (stop : Stop) (k : ℕ) (l
 world_still n w act stop zero lost = deed_still n w act.at act.now act.deed false 0
 world_still n w act stop (suc k) lost = deed_still n w act.at act.now act.deed true k
 
--- ---- effects as replies and rows
-
-over_reply : (n : ℕ) (at : Surroundings) (ask : Ask) (read : Result (List Row) (List ℕ)) → (asked_over n at ask read).reply ≡ reply_over n at ask read
-over_reply n at ask (Ok rows) = refl
-over_reply n at ask (Err name) = refl
-
-rows_left : (rows : List Row) (held : Held) → put_batches (map spelled (row_batches rows)) held ≡ with_rows rows held
-unfolding with_batch put_rows put_admins
-rows_left [] held = refl
-rows_left (row ∷ rows) held = refl
-
-over_left : (n : ℕ) (at : Surroundings) (ask : Ask) (read : Result (List Row) (List ℕ)) (held : Held)
-    → put_batches (map spelled (asked_over n at ask read).batches) held ≡ with_rows (writes_over n at ask read) held
-unfolding put_rows
-over_left n at ask (Ok rows) held = rows_left (writes_in (scene_at n at rows) ask) held
-over_left n at ask (Err name) held = refl
-
-rows_fit : (rows : List Row) → AreReadable (row_batches rows) → AreRows rows
-rows_fit [] fits = tt
-rows_fit (row ∷ rows) fits = fits.0.rows
-
-over_fit : (n : ℕ) (at : Surroundings) (ask : Ask) (read : Result (List Row) (List ℕ)) → AreReadable (asked_over n at ask read).batches → AreRows (writes_over n at ask read)
-over_fit n at ask (Ok rows) fits = rows_fit (writes_in (scene_at n at rows) ask) fits
-over_fit n at ask (Err name) fits = tt
-
--- the scene over all rows that the history has of an instance is that of the act
-scene_shown : (n : ℕ) (w : World) (here : Inst) (host : Host) (caller : Caller) (now : ℕ) (ask : Ask)
-    → scene_at n (site here host.admin (w.groups here) caller now) (tables w.log here)
-    ≡ scene n w (act_at (site here host.admin (w.groups here) caller now) ask) (caller_at host.admin caller)
-unfolding scene known_at
-scene_shown n w here host caller now ask = refl
-
 -- what an instance has stays where the history of it does
 keeps_same : (j : Inst) (w next : World) (held : Held) → tables next.log j ≡ tables w.log j → next.groups j ≡ w.groups j → Keeps j w held → Keeps j next held
 keeps_same j w next held rows groups keeps = record {
@@ -119,63 +78,6 @@ keeps_same j w next held rows groups keeps = record {
   are_groups = subst (AllByRecursion IsGroup) (sym groups) keeps.are_groups;
   ascend = subst (IsStrictlySortedBy by_name) (sym groups) keeps.ascend;
 }
-
--- ---- groups
-
--- the stamp of a group that is changed now is no earlier
-stamp_later : (now : Stamp) (known : Option Group) → now ≤ group_stamp now known
-unfolding group_stamp next_stamp last_stamp
-stamp_later now None = omega arith
-stamp_later now (Some held) = grind arith
-
--- a group as it is now is not changed by becoming so again
-step_now : (n : ℕ) (here : Inst) (w : World) (now : Stamp) (by : OrgId) (add : Bool) (g : Group) (groups : List Group)
-    → step no_links n w (act_of here now by add (group_now now g groups)) ≡ step no_links n w (act_of here now by add g)
-unfolding step administered administration_fails group_now
-step_now n here w now by add g groups = refl
-
-module _ (back : AreReadBack) (n : ℕ) (here : Inst) (w : World) (now : Stamp) (by : OrgId) (add : Bool) (g : Group) (held : Held) (keeps : Keeps here w held) where
-  abbrev left_by : Option GroupFault → Held
-  left_by why = put_batches (map spelled (effect_by why (group_now now g (groups_of held))).batches) held
-
-  taken_left : (why : Option GroupFault) → why ≡ None → left_by why ≡ held_by why now (group_now now g (groups_of held)) held
-  unfolding with_batch put_rows put_admins group_now
-  taken_left None e = refl
-  taken_left (Some cause) e = refl
-
-  -- the group is put
-  put_left : why_not add (groups_of held) by g.id ≡ None → IsGroup (group_now now g (groups_of held))
-      → Keeps here (step no_links n w (act_of here now by add g)) (left_by (why_not add (groups_of held) by g.id))
-  unfolding group_now
-  put_left free is =
-      let moment : group_stamp now (known_group (groups_of held) g.id) ≤ LAST_SECOND = is.modified in
-      let so : now ≤ LAST_SECOND = omega (arith, moment, stamp_later now (known_group (groups_of held) g.id)) in
-      subst (λ (v : World). Keeps here v (left_by (why_not add (groups_of held) by g.id))) (step_now n here w now by add g (groups_of held))
-      (subst (λ h. Keeps here (step no_links n w (act_of here now by add (group_now now g (groups_of held)))) h) (sym (taken_left (why_not add (groups_of held) by g.id) free))
-      (administered_left no_links n here w now by add (group_now now g (groups_of held)) back held is so keeps))
-
-  -- a cause leaves all as it was
-  kept_groups : (cause : GroupFault) → why_not add (groups_of held) by g.id ≡ Some cause → (step no_links n w (act_of here now by add g)).groups here ≡ w.groups here
-  unfolding administered
-  kept_groups cause e =
-      let fails : administration_fails by add g (w.groups here) ≡ true = sym (reply_fails here w by add g held keeps) ∙ ap (λ why. is_refused (reply_by why)) e in
-      ap (λ (v : World). v.groups here) (step_administers no_links n w (act_of here now by add g) by add g refl)
-      ∙ with_groups_here w.groups here (administered now by add g (w.groups here))
-      ∙ ap (λ b. cond b (w.groups here) (model.put_group (group_now now g (w.groups here)) (w.groups here))) fails
-
-  none_left : (cause : GroupFault) → why_not add (groups_of held) by g.id ≡ Some cause → Keeps here (step no_links n w (act_of here now by add g)) held
-  none_left cause e =
-      keeps_same here w (step no_links n w (act_of here now by add g)) held (ap (λ log. tables log here) (same_log no_links n here w now by add g)) (kept_groups cause e) keeps
-
-  by_cause : (why : Option GroupFault) → why_not add (groups_of held) by g.id ≡ why → AreReadable (effect_by why (group_now now g (groups_of held))).batches
-      → Keeps here (step no_links n w (act_of here now by add g)) (left_by why)
-  by_cause None e fits = subst (λ why. Keeps here (step no_links n w (act_of here now by add g)) (left_by why)) e (put_left e fits.0.groups.0)
-  by_cause (Some cause) e fits = none_left cause e
-
-  -- a line of a group leaves what the act does
-  pub grouped_left : AreReadable (effect_by (why_not add (groups_of held) by g.id) (group_now now g (groups_of held))).batches
-      → Keeps here (step no_links n w (act_of here now by add g)) (left_by (why_not add (groups_of held) by g.id))
-  grouped_left fits = by_cause (why_not add (groups_of held) by g.id) refl fits
 
 module _ (hosts : List Host) (distinct : AreDistinct hosts) (n : ℕ) (w : World) (old : Tables) (told : IsHistory hosts n w old) where
   -- the groups that are held there are those of the history
@@ -188,9 +90,8 @@ module _ (hosts : List Host) (distinct : AreDistinct hosts) (n : ℕ) (w : World
       → (replied n (host_at at hosts) now form (seen_in (held_at at old))).reply ≡ (replied n (host_at at hosts) now form (seen_by hosts w at)).reply
   request_told at now (Ok asked) built lt =
       let host : Host = host_at at hosts in
-      over_reply n (site host.name host.admin (groups_of (held_at at old)) asked.0 now) asked.1 ((seen_in (held_at at old)).rows (reach_of asked.1))
-      ∙ replied_there n w (site host.name host.admin (groups_of (held_at at old)) asked.0 now) asked.1 (held_at at old) built refl (told.each at lt)
-      ∙ ap (λ s. reply_in host.admin s asked.1) (sym (scene_shown n w host.name host asked.0 now asked.1))
+      ap (λ (e : Effect Reply). e.reply) (over_all n w (site host.name host.admin (groups_of (held_at at old)) asked.0 now) asked.1 (held_at at old) built (told.each at lt))
+      ∙ ap (λ groups. (asked_over n (site host.name host.admin groups asked.0 now) asked.1 (Ok (tables w.log host.name))).reply) (groups_there at lt)
   request_told at now (Err refusal) built lt = refl
 
   deed_told : (outcome : Outcome) (step : deeds.StepData) → IsPlaced (length hosts) step.deed → output_of outcome n hosts (Ok step) old ≡ told_output outcome n hosts w (Ok step)
@@ -270,11 +171,10 @@ module _ (hosts : List Host) (distinct : AreDistinct hosts) (n : ℕ) (w : World
       let host : Host = host_at at hosts in
       let held : Held = held_at at old in
       let there : Surroundings = site host.name host.admin (groups_of held) asked.0 now in
-      subst (λ h. IsHistory hosts (suc n) (step no_links n w (act_at there asked.1)) (slice_set old at h)) (sym (over_left n there asked.1 ((seen_in held).rows (reach_of asked.1)) held))
-      (one_left at lt (step no_links n w (act_at there asked.1)) (with_rows (writes_over n there asked.1 ((seen_in held).rows (reach_of asked.1))) held)
-      (left_there no_links n w there asked.1 held built told.earlier refl (told.each at lt) (over_fit n there asked.1 ((seen_in held).rows (reach_of asked.1)) fits))
+      one_left at lt (step no_links n w (act_at there asked.1)) _
+      (left_there no_links n w there asked.1 held built told.earlier refl (told.each at lt) fits)
       (λ j other. (same_elsewhere no_links n w there asked.1 j other, ap (λ groups. groups j) (same_groups no_links n w there asked.1)))
-      (step_below no_links n w (act_at there asked.1) told.earlier))
+      (step_below no_links n w (act_at there asked.1) told.earlier)
   request_left at now (Err refusal) None built lt fits = as_before _ _ (step_nothing no_links n w _ refl) (still at)
   request_left at now (Err refusal) (Some caller) built lt fits = as_before _ _ (step_misfit no_links n w _ _ refl) (still at)
 
@@ -289,7 +189,7 @@ module _ (hosts : List Host) (distinct : AreDistinct hosts) (n : ℕ) (w : World
         let here : Inst = (host_at line.at hosts).name in
         let held : Held = held_at line.at old in
         one_left line.at lt (step no_links n w (act_of here now line.org line.add g)) _
-        (grouped_left back n here w now line.org line.add g held (told.each line.at lt) fits)
+        (administered_left no_links n here w now line.org line.add g back held (told.each line.at lt) fits)
         (λ j other. (
           ap (λ log. tables log j) (same_log no_links n here w now line.org line.add g),
           groups_elsewhere no_links n here w now line.org line.add g j other,

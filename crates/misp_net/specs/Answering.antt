@@ -13,8 +13,7 @@ use Rattle.misp_requests.specs.declared.ask.Ask.{Ask}
 use Rattle.misp_script.specs.Step.{RequestData}
 use Rattle.misp_core.specs.Permission.{permission_of, is_permitted, no_permission}
 use Rattle.misp_core.specs.Answers.{reach_of, site}
-use Rattle.misp_core.specs.Outcome.{refused_by}
-use Rattle.misp_core.specs.Effects.{refused, asked_over, Did}
+use Rattle.misp_core.specs.Effects.{refused, refused_by, asked_over, Did}
 use Rattle.misp_core.specs.declared.reply.Reply.{Reply}
 use Rattle.misp_core.specs.declared.reply.Reply.TheVariants as replies
 use Rattle.misp_net.specs.declared.route.Route.{Route}

@@ -10,8 +10,7 @@ use Rattle.misp_script.specs.Step.{DeedData, GroupData}
 use Rattle.misp_script.specs.Step as deeds
 use Rattle.misp_model.specs.Acts as model
 use Rattle.misp_core.specs.Keeping.{caller_at}
-use Rattle.misp_core.specs.Outcome.{refused_by}
-use Rattle.misp_core.specs.Effects.{rule_told}
+use Rattle.misp_core.specs.Effects.{refused_by, rule_told}
 use Rattle.misp_core.specs.Effects as replies
 use Rattle.misp_core.specs.declared.reply.Reply.{Reply}
 use Rattle.misp_net.specs.declared.line.Output.{Output}

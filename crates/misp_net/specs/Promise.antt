@@ -7,7 +7,7 @@ use Rattle.misp_effects.specs.Stocks.{Tables, Tell}
 use Rattle.misp_model.specs.Acts.{World, step}
 use Rattle.misp_model.specs.Acts as model
 use Rattle.misp_model.specs.Kept.{start, erased}
-use Rattle.misp_core.specs.Outcome.{IsRefused}
+use Rattle.misp_core.specs.Effects.{IsRefused}
 use Rattle.misp_net.specs.declared.line.Output.{Output}
 use Rattle.misp_net.specs.declared.line.Output.TheVariants.{Bad, Nothing, Replied}
 use Rattle.misp_net.specs.Hosts.{Host}

@@ -1,10 +1,10 @@
 //! Adds or edits a sharing group at an instance.
 
-ghost use Rattle.std.specs.Prelude.{◌≡◌, IfOk, IfSome};
+ghost use Rattle.std.specs.Prelude.{◌≡◌, None, IfOk, IfSome};
 ghost use Rattle.misp_groups.specs.Group.{IsGroup};
 ghost use Rattle.misp_outside.specs.Causes.{HasCause};
 ghost use Rattle.misp_script.specs.Step.{group_data};
-ghost use Rattle.misp_core.specs.Outcome.{Went, ByKeeper, outcome_of, IsRefused};
+ghost use Rattle.misp_core.specs.Effects.{stop_in, by_keeper, IsRefused};
 ghost use Rattle.misp_net.specs.Administering.{group_form, FormFits, IsDone};
 ghost use Rattle.misp_net.specs.Request.{Gives};
 
@@ -43,12 +43,12 @@ pub fn administer<K: Keeper>(
         held result instance.new.held) }
 
     // What is read and not stopped is a group, at a moment that has a stamp.
-    ensures fits { outcome_of result ≡ Went → FormFits now (group_form line.now.body.now) }
+    ensures fits { stop_in result ≡ None → FormFits now (group_form line.now.body.now) }
 
     // A refused line changes nothing.
     ensures refused { IsRefused result → instance.new.held ≡ instance.old.held }
     ensures cause { HasCause instance.old.faults instance.new.faults
-        (outcome_of result ≡ ByKeeper) }
+        (stop_in result ≡ by_keeper) }
     ensures name { instance.new.name ≡ instance.old.name }
     ensures admin { instance.new.admin ≡ instance.old.admin }
 {

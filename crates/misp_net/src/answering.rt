@@ -4,7 +4,7 @@ ghost use Rattle.std.specs.Prelude.{◌≡◌, ℕ, Err, IfOk, IfSome, option_ma
 ghost use Rattle.misp_outside.specs.Causes.{HasCause};
 ghost use Rattle.misp_script.specs.Step.{request_data};
 ghost use Rattle.misp_core.specs.Answers.{IsBuilt};
-ghost use Rattle.misp_core.specs.Outcome.{ByKeeper, outcome_of, IsRefused};
+ghost use Rattle.misp_core.specs.Effects.{stop_in, by_keeper, IsRefused};
 ghost use Rattle.misp_core.specs.Order.{IsInOrder};
 ghost use Rattle.misp_net.specs.Answering.{caller_in, read_of, form_of, fault_reply, IsReplied};
 ghost use Rattle.misp_net.specs.Order.{order};
@@ -84,7 +84,7 @@ pub fn answer<K: Keeper>(
     // A refused request changes nothing.
     ensures refused { IsRefused result → instance.new.held ≡ instance.old.held }
     ensures cause { HasCause instance.old.faults instance.new.faults
-        (outcome_of result ≡ ByKeeper) }
+        (stop_in result ≡ by_keeper) }
     ensures name { instance.new.name ≡ instance.old.name }
     ensures admin { instance.new.admin ≡ instance.old.admin }
 {

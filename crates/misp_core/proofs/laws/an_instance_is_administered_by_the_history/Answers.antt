@@ -1,12 +1,12 @@
 -- The laws are lemmas of proofs/KeepingGroups.antt.
-use Rattle.misp_core.proofs.KeepingGroups.{administered_reply, reply_fails, administered_left, same_log, groups_elsewhere}
+use Rattle.misp_core.proofs.KeepingGroups.{administered_told, fails_there, administered_left, same_log, groups_elsewhere}
 use Rattle.misp_core.proofs.laws.an_instance_is_administered_by_the_history.Goals as goal
 
 pub returns : goal.returns
 returns c = record {
-  reply = λ here w by add g held keeps. administered_reply here w by add g held keeps;
-  left = λ net n here w now by add g held is fits keeps. administered_left net n here w now by add g c.a_group_is_read_from_its_text.ensures held is fits keeps;
+  told = λ here w now by add g held keeps. administered_told here w now by add g held keeps;
+  left = λ net n here w now by add g held keeps fits. administered_left net n here w now by add g c.a_group_is_read_from_its_text.ensures held keeps fits;
   tables = λ net n here w now by add g. same_log net n here w now by add g;
   elsewhere = λ net n here w now by add g j apart. groups_elsewhere net n here w now by add g j apart;
-  fails = λ here w by add g held keeps. reply_fails here w by add g held keeps;
+  fails = λ here w by add g held keeps. fails_there here w by add g held keeps;
 }

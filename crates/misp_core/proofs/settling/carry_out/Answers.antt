@@ -1,5 +1,5 @@
 use Rattle.std.proofs.Common.{◌≡◌, Err, refl, ap, subst}
-use Rattle.misp_core.specs.Outcome.{ByKeeper, outcome_of}
+use Rattle.misp_core.specs.Effects.{stop_in, by_keeper}
 use Rattle.misp_core.specs.Planning.{Plans}
 use Rattle.misp_core.proofs.Carried.{refused_did, settled_did, stopped_did, stop_failed, groups_beside}
 use Rattle.misp_core.proofs.settling.carry_out.Goals as goal
@@ -23,5 +23,5 @@ returns-in-Err-settle-clause-done g c = λ e plans.
 pub returns-in-Err-settle-clause-cause : goal.returns-in-Err-settle-clause-cause
 returns-in-Err-settle-clause-cause g c = λ none. record {
   later = c.in-Err-settle.ensures.cause.later;
-  rose = λ is. c.in-Err-settle.ensures.cause.rose (ap Err (stop_failed c.in-Err-settle.stop (subst (λ r. outcome_of r ≡ ByKeeper) c.stopped_by.ensures is)));
+  rose = λ is. c.in-Err-settle.ensures.cause.rose (ap Err (stop_failed c.in-Err-settle.stop (subst (λ r. stop_in r ≡ by_keeper) c.stopped_by.ensures is)));
 }

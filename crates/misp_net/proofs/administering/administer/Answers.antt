@@ -1,8 +1,8 @@
 use native.Mathlib.Omega.{arith}
-use Rattle.std.proofs.Common.{◌≡◌, ◌≤◌, sym, subst}
+use Rattle.std.proofs.Common.{None, ◌≡◌, ◌≤◌, sym, subst}
 use Rattle.misp_ids.specs.declared.stamp.TheConstants.{LAST_SECOND}
 use Rattle.misp_script.specs.Step.{group_data}
-use Rattle.misp_core.specs.Outcome.{Went, ByKeeper, outcome_of}
+use Rattle.misp_core.specs.Effects.{stop_in, by_keeper}
 use Rattle.misp_net.specs.Administering.{group_form, FormFits}
 use Rattle.misp_net.proofs.GroupLines.{by_instance, by_text, read_fits, unread_fits, no_keeper_read}
 use Rattle.misp_net.proofs.administering.administer.Goals as goal
@@ -19,11 +19,11 @@ returns-in-Err-clause-replied g c =
 
 pub returns-in-Err-clause-fits : goal.returns-in-Err-clause-fits
 returns-in-Err-clause-fits g c =
-    subst (λ r. outcome_of r ≡ Went → FormFits c.args.now (group_form (group_data c.args.line.now).body)) (sym c.refused.ensures)
+    subst (λ r. stop_in r ≡ None → FormFits c.args.now (group_form (group_data c.args.line.now).body)) (sym c.refused.ensures)
     (unread_fits c.args.now (group_form (group_data c.args.line.now).body) c.in-Err.fault c.in-Err.ensures.read)
 
 pub returns-in-Err-clause-cause : goal.returns-in-Err-clause-cause
 returns-in-Err-clause-cause g c = record {
   later = omega arith;
-  rose = λ is. absurd (no_keeper_read (group_data c.args.line.now).body c.in-Err.fault c.in-Err.ensures.read (subst (λ r. outcome_of r ≡ ByKeeper) c.refused.ensures is));
+  rose = λ is. absurd (no_keeper_read (group_data c.args.line.now).body c.in-Err.fault c.in-Err.ensures.read (subst (λ r. stop_in r ≡ by_keeper) c.refused.ensures is));
 }

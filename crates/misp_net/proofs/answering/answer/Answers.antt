@@ -1,7 +1,7 @@
 use native.Mathlib.Omega.{arith}
 use Rattle.std.proofs.Common.{◌≡◌, subst}
 use Rattle.misp_script.specs.Step.{request_data}
-use Rattle.misp_core.specs.Outcome.{ByKeeper, outcome_of}
+use Rattle.misp_core.specs.Effects.{stop_in, by_keeper}
 use Rattle.misp_net.proofs.Replying.{by_step, refused_by_form, no_keeper}
 use Rattle.misp_net.proofs.Ordering.{order_by_step, order_by_fault}
 use Rattle.misp_net.proofs.answering.answer.Goals as goal
@@ -28,5 +28,5 @@ pub returns-in-Err-clause-cause : goal.returns-in-Err-clause-cause
 returns-in-Err-clause-cause g c = record {
   later = omega arith;
   rose = λ is. absurd (no_keeper c.args.instance.now.admin (request_data c.args.request.now) c.args.word c.in-Err.fault
-      c.in-Err.ensures.read (subst (λ r. outcome_of r ≡ ByKeeper) c.refused.ensures is));
+      c.in-Err.ensures.read (subst (λ r. stop_in r ≡ by_keeper) c.refused.ensures is));
 }
