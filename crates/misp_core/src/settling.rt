@@ -50,7 +50,7 @@ fn settle<K: Keeper>(
     let raw = spell(alloc, put.rows.as_slice(), put.groups.as_slice())?;
     let more = put.groups.into_vec();
     let mut room = groups.with_room(alloc, more.len())?;
-    match keeper.apply(&raw) {
+    match keeper.apply(raw) {
         Ok(()) => {
             put_all(&mut room, more);
             *groups = room.into_groups();

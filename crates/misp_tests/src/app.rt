@@ -30,7 +30,7 @@ fn first_keeper(alloc: Global, fails: u64, admin: Vec<AdminRow>) -> Result<MemKe
         rows: Items::of(vec![in alloc; row]?),
         admin: Items::of(admin),
     };
-    if first.apply(&batch).is_err() {
+    if first.apply(batch).is_err() {
         return Err(Fail::from("the row is not put"));
     }
     Ok(first)

@@ -65,9 +65,9 @@ fn rows_come_back_in_the_order_of_their_names(rt: HostRuntime) -> Result<(), Fai
     let alloc = rt.alloc();
     let mut keeper = SureKeeper::new(alloc);
     let first = [(7, "b", "1"), (4, "b", "2"), (7, "a", "3"), (7, "", "4")];
-    keeper.apply(&batch(alloc, &first)?).map_err(fault)?;
+    keeper.apply(batch(alloc, &first)?).map_err(fault)?;
     let second = [(7, "aa", "5"), (7, "b", "6")];
-    keeper.apply(&batch(alloc, &second)?).map_err(fault)?;
+    keeper.apply(batch(alloc, &second)?).map_err(fault)?;
     assert_eq!(rt;
         held(alloc, &mut keeper)?.as_str(),
         "4 b 2;7  4;7 a 3;7 aa 5;7 b 6;"
@@ -84,13 +84,13 @@ fn rows_come_back_in_the_order_of_their_names(rt: HostRuntime) -> Result<(), Fai
 fn a_failed_call_leaves_the_rows(rt: HostRuntime) -> Result<(), Fail> {
     let alloc = rt.alloc();
     let mut keeper = MemKeeper::new(alloc, vec![in alloc; 2u64, 4u64]?);
-    let one = batch(alloc, &[(1, "a", "x")])?;
-    let two = batch(alloc, &[(1, "a", "y"), (2, "b", "z")])?;
-    keeper.apply(&one).map_err(fault)?;
-    assert_eq!(rt; keeper.apply(&two), Err(KeeperFault::Failed));
+    let one = [(1, "a", "x")];
+    let two = [(1, "a", "y"), (2, "b", "z")];
+    keeper.apply(batch(alloc, &one)?).map_err(fault)?;
+    assert_eq!(rt; keeper.apply(batch(alloc, &two)?), Err(KeeperFault::Failed));
     assert_eq!(rt; held(alloc, &mut keeper)?.as_str(), "1 a x;");
     assert!(rt; matches!(keeper.load_admin(alloc), Err(KeeperFault::Failed)));
-    keeper.apply(&two).map_err(fault)?;
+    keeper.apply(batch(alloc, &two)?).map_err(fault)?;
     assert_eq!(rt; held(alloc, &mut keeper)?.as_str(), "1 a y;2 b z;");
     assert_eq!(rt; keeper.batches(), 2);
     Ok(())

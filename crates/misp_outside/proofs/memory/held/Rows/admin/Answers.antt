@@ -1,9 +1,9 @@
-use Rattle.std.proofs.Common.{◌≡◌, ap, sym, ◌∙◌, subst}
+use Rattle.std.proofs.Common.{◌≡◌, ap, sym, ◌∙◌, subst, rules}
 use Rattle.std.specs.Prelude.{IsTrue}
 use Rattle.misp_outside.specs.Held.{Held, ascend, admin_before}
 use Rattle.misp_outside.specs.Stored.{admin_rows}
 use Rattle.misp_outside.proofs.Lists.{more_found, all_found}
-use Rattle.misp_outside.proofs.Rows.{next_admin, no_admins}
+use Rattle.misp_outside.proofs.Rows.{next_admin, no_admins, admin_ascend}
 use Rattle.misp_outside.proofs.memory.held.Rows.admin.Goals as goal
 
 pub loop-key-preserved : goal.loop-key-preserved
@@ -20,4 +20,5 @@ pub returns-clause-found : goal.returns-clause-found
 returns-clause-found c = found_admin c ∙ ap (λ (held : Held). held.admin) c.self.view_is
 
 pub returns-clause-order : goal.returns-clause-order
-returns-clause-order c = subst (λ rows. IsTrue (ascend admin_before rows)) (sym (found_admin c)) c.self.invariant.1
+returns-clause-order c =
+    subst (λ rows. IsTrue (ascend admin_before rows)) (sym (found_admin c)) (admin_ascend c.self.inside.admin.entries (search rules))

@@ -1,9 +1,9 @@
-use Rattle.std.proofs.Common.{◌≡◌, ap, sym, ◌∙◌, subst}
+use Rattle.std.proofs.Common.{◌≡◌, ap, sym, ◌∙◌, subst, rules}
 use Rattle.std.specs.Prelude.{IsTrue}
 use Rattle.misp_outside.specs.Held.{Held, ascend, comes_before}
 use Rattle.misp_outside.specs.Stored.{raw_rows}
 use Rattle.misp_outside.proofs.Lists.{more_found, all_found}
-use Rattle.misp_outside.proofs.Rows.{next_row, no_rows}
+use Rattle.misp_outside.proofs.Rows.{next_row, no_rows, raw_ascend}
 use Rattle.misp_outside.proofs.memory.held.Rows.all.Goals as goal
 
 pub loop-key-preserved : goal.loop-key-preserved
@@ -20,4 +20,5 @@ pub returns-clause-found : goal.returns-clause-found
 returns-clause-found c = found_rows c ∙ ap (λ (held : Held). held.rows) c.self.view_is
 
 pub returns-clause-order : goal.returns-clause-order
-returns-clause-order c = subst (λ rows. IsTrue (ascend comes_before rows)) (sym (found_rows c)) c.self.invariant.0
+returns-clause-order c =
+    subst (λ rows. IsTrue (ascend comes_before rows)) (sym (found_rows c)) (raw_ascend c.self.inside.rows.entries (search rules))

@@ -3,7 +3,7 @@ use Rattle.std.specs.Prelude.{IsTrue}
 use Rattle.misp_outside.specs.Held.{Held, ascend, comes_before, rows_of}
 use Rattle.misp_outside.specs.Stored.{raw_rows}
 use Rattle.misp_outside.proofs.Lists.{more_found, all_found}
-use Rattle.misp_outside.proofs.Rows.{next_here, none_here, rows_between, ascend_rows_of}
+use Rattle.misp_outside.proofs.Rows.{next_here, none_here, rows_between, ascend_rows_of, raw_ascend}
 use Rattle.misp_outside.proofs.memory.held.Rows.event.Goals as goal
 
 pub loop-key-preserved-in-Continue-1 : goal.loop-key-preserved-in-Continue-1
@@ -21,4 +21,5 @@ pub returns-clause-found : goal.returns-clause-found
 returns-clause-found c = found_rows c ∙ ap (λ (held : Held). rows_of c.args.event.now held.rows) c.self.view_is
 
 pub returns-clause-order : goal.returns-clause-order
-returns-clause-order c = subst (λ rows. IsTrue (ascend comes_before rows)) (sym (found_rows c)) (ascend_rows_of c.args.event.now _ c.self.invariant.0)
+returns-clause-order c =
+    subst (λ rows. IsTrue (ascend comes_before rows)) (sym (found_rows c)) (ascend_rows_of c.args.event.now _ (raw_ascend c.self.inside.rows.entries c.range-key-items.ensures.ordered))

@@ -1,0 +1,11 @@
+use Rattle.std.proofs.Common.{◌≡◌, nat_cmp}
+use Rattle.misp_outside.specs.Held.{put_admins}
+use Rattle.misp_outside.specs.Stored.{admin_rows, key_order, undone}
+use Rattle.misp_outside.proofs.memory.held.put_admins.Given as goal
+
+-- what is left, put among what is there, and what is to be undone
+abbrev pub invariant-loop-row : goal.invariant-loop-row
+invariant-loop-row l = record {
+  put : put_admins l.row-iterator.rest.items (admin_rows l.table.entries) ≡ put_admins l.fn.rows.items (admin_rows l.fn.table.entries);
+  undo : undone (key_order nat_cmp) l.before.items l.table.entries ≡ undone (key_order nat_cmp) l.fn.before.items l.fn.table.entries;
+}

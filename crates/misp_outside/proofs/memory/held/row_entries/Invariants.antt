@@ -1,7 +1,0 @@
-use Rattle.std.proofs.Common.{◌≡◌, map, take}
-use Rattle.misp_outside.specs.Stored.{raw_row, named}
-use Rattle.misp_outside.proofs.memory.held.row_entries.Given as goal
-
--- the entries so far are those of the rows so far
-abbrev pub invariant-loop-row : goal.invariant-loop-row
-invariant-loop-row l = map raw_row (map (named (λ n. n)) l.entries.items) ≡ take l.row-index l.rows
