@@ -1,9 +1,15 @@
 -- How a run ends.
-use Rattle.std.specs.Prelude.{ℕ}
+use Rattle.std.specs.Prelude.{ℕ, List}
+use Rattle.std.specs.declared.option.Option.{Option}
+use Rattle.std.specs.declared.option.Option.TheVariants.{Some}
+use Rattle.std.specs.Io.KnownBytes.{Appends}
 use Rattle.misp_net.specs.declared.places.NetFault.{NetFault}
 use Rattle.misp_net.specs.declared.places.NetFault.TheVariants as faults
+use Rattle.misp_app.specs.declared.command.Command.{Command}
+use Rattle.misp_app.specs.declared.command.Command.TheVariants.{Net}
 use Rattle.misp_app.specs.declared.status.Status.{Status}
 use Rattle.misp_app.specs.declared.status.Status.TheVariants.{Done, Usage, ReadFault, WriteFault, BadDescription, OutOfMemory, TooMuch, KeeperFault, BadRow}
+use Rattle.misp_app.specs.Streams.{AppendsSome}
 
 -- how a run ends where the run of its script ends so
 abbrev pub status_after : NetFault → Status
@@ -25,53 +31,45 @@ status_code BadRow = 11
 
 -- the statuses with which reading ends
 abbrev pub IsReadEnd : Status → Type 0
-IsReadEnd Done = ⊥
-IsReadEnd Usage = ⊥
 IsReadEnd ReadFault = Unit {0}
-IsReadEnd WriteFault = ⊥
-IsReadEnd BadDescription = ⊥
 IsReadEnd OutOfMemory = Unit {0}
 IsReadEnd TooMuch = Unit {0}
-IsReadEnd KeeperFault = ⊥
-IsReadEnd BadRow = ⊥
+IsReadEnd status = ⊥
 
 -- nothing was written
 abbrev pub IsSilent : Status → Type 0
-IsSilent Done = ⊥
 IsSilent Usage = Unit {0}
 IsSilent ReadFault = Unit {0}
-IsSilent WriteFault = ⊥
-IsSilent BadDescription = ⊥
 IsSilent OutOfMemory = Unit {0}
 IsSilent TooMuch = Unit {0}
 IsSilent KeeperFault = Unit {0}
 IsSilent BadRow = Unit {0}
+IsSilent status = ⊥
 
--- the statuses with which writing ends that did not succeed
+-- something was written: all of a text, or some of it
+abbrev pub Writes : Status → Type 0
+Writes Done = Unit {0}
+Writes WriteFault = Unit {0}
+Writes status = ⊥
+
+-- the statuses with which writing ends
 abbrev pub IsPutEnd : Status → Type 0
-IsPutEnd Done = ⊥
-IsPutEnd Usage = ⊥
-IsPutEnd ReadFault = ⊥
-IsPutEnd WriteFault = Unit {0}
-IsPutEnd BadDescription = ⊥
 IsPutEnd OutOfMemory = Unit {0}
-IsPutEnd TooMuch = ⊥
-IsPutEnd KeeperFault = ⊥
-IsPutEnd BadRow = ⊥
+IsPutEnd status = Writes status
 
--- the statuses with which a run ends that has read its source
+-- the statuses with which the telling of a fault ends
+abbrev pub IsFaultEnd : Status → Type 0
+IsFaultEnd WriteFault = Unit {0}
+IsFaultEnd BadDescription = Unit {0}
+IsFaultEnd OutOfMemory = Unit {0}
+IsFaultEnd status = ⊥
+
+-- the statuses with which a check ends that has read its source
 abbrev pub IsSourceEnd : Status → Type 0
-IsSourceEnd Done = ⊥
-IsSourceEnd Usage = ⊥
-IsSourceEnd ReadFault = ⊥
-IsSourceEnd WriteFault = Unit {0}
-IsSourceEnd BadDescription = Unit {0}
-IsSourceEnd OutOfMemory = Unit {0}
-IsSourceEnd TooMuch = ⊥
-IsSourceEnd KeeperFault = ⊥
-IsSourceEnd BadRow = ⊥
+IsSourceEnd Done = Unit {0}
+IsSourceEnd status = IsFaultEnd status
 
--- the same where its script is run
+-- the same of a run
 abbrev pub IsRunEnd : Status → Type 0
 IsRunEnd KeeperFault = Unit {0}
 IsRunEnd BadRow = Unit {0}
@@ -85,24 +83,33 @@ IsUnopened status = ⊥
 
 -- no keeper was asked
 abbrev pub IsStill : Status → Type 0
-IsStill Done = ⊥
 IsStill Usage = Unit {0}
 IsStill ReadFault = Unit {0}
-IsStill WriteFault = ⊥
 IsStill BadDescription = Unit {0}
-IsStill OutOfMemory = ⊥
 IsStill TooMuch = Unit {0}
-IsStill KeeperFault = ⊥
-IsStill BadRow = ⊥
+IsStill status = ⊥
 
 -- a fault, a row that is none, or the want of memory stopped the run
 abbrev pub IsStopped : Status → Type 0
-IsStopped Done = ⊥
-IsStopped Usage = ⊥
 IsStopped ReadFault = Unit {0}
 IsStopped WriteFault = Unit {0}
-IsStopped BadDescription = ⊥
 IsStopped OutOfMemory = Unit {0}
-IsStopped TooMuch = ⊥
 IsStopped KeeperFault = Unit {0}
 IsStopped BadRow = Unit {0}
+IsStopped status = ⊥
+
+-- lines of a run were written
+abbrev pub HasLines : Option Command → Status → Type 0
+HasLines (Some Net) status = Writes status
+HasLines command status = ⊥
+
+-- the line of a fault was written, where the description has one
+abbrev pub TellsFault : Status → Type 0
+TellsFault BadDescription = Unit {0}
+TellsFault WriteFault = Unit {0}
+TellsFault status = ⊥
+
+-- this is what was written, all of it, or some where the sink failed
+abbrev pub Wrote : Status → Option (List ℕ) → Option (List ℕ) → List ℕ → Type 0
+Wrote WriteFault before after bytes = AppendsSome before after bytes
+Wrote status before after bytes = Appends before after bytes

@@ -1,14 +1,15 @@
 //! The top call.
 
-ghost use Rattle.std.specs.Prelude.{◌≡◌, ◌≤◌, ◌↔◌, ◌⊎◌, None, Some, IfErr, IfSome, OnOk, IsSome, ◌<◌, length, map, vec_len, string_bytes};
+ghost use Rattle.std.specs.Prelude.{◌≡◌, ◌≤◌, ◌↔◌, ◌⊎◌, None, Some, IfSome, IfOk, IsSome, ◌<◌, length, map, vec_len, string_bytes};
 ghost use Rattle.misp_outside.specs.Causes.{Rose};
 ghost use Rattle.std.specs.Io.KnownBytes.{Appends};
 ghost use Rattle.misp_effects.specs.Stocks.{told};
 ghost use Rattle.misp_net.specs.Opening.{OneFailed};
+ghost use Rattle.misp_net.specs.Promise.{IsPrivate, AreReplied, AreNewest};
 ghost use Rattle.misp_app.specs.Limits.{source_limit, least_keepers};
-ghost use Rattle.misp_app.specs.Source.{described, described_status, status_of, ok_line, IsTold, HasWritten, IsPartly, IsPartlyChecked, IsUnsound};
+ghost use Rattle.misp_app.specs.Source.{described, described_status, status_of, ok_line, IsTold, HasRun, IsSound, IsUnsound, HasFailed, OthersStay, HoldNothing};
 ghost use Rattle.misp_app.specs.Words.{command_of};
-ghost use Rattle.misp_app.specs.Status.{IsStopped, IsSilent, IsStill, IsRunEnd, IsUnopened};
+ghost use Rattle.misp_app.specs.Status.{IsStopped, IsSilent, IsStill, IsRunEnd, IsUnopened, HasLines, TellsFault, Wrote};
 
 use crate::checking::check_source;
 use crate::command::{Command, command_of};
@@ -35,10 +36,36 @@ pub fn run<S: Source, W: Sink, K: Keeper, C: Carry, D: Door, L: Dial, T: Clock>(
 ) -> Status
     requires { least_keepers ≤ vec_len keepers.old }
 
+    // What an organisation was never granted changes none of its replies.
+    ensures private { HasLines (command_of (map string_bytes words.now)) result →
+        IfSome (S.left source.old) (λ left. HasRun IsPrivate left
+        (map K.stock keepers.old.items) (map K.stock keepers.new.items)
+        (Wrote result (W.written sink.old) (W.written sink.new))) }
+
+    // Each reply is the stated function of its line, of what is held, and of what stopped the line.
+    ensures replied { HasLines (command_of (map string_bytes words.now)) result →
+        IfSome (S.left source.old) (λ left. HasRun AreReplied left
+        (map K.stock keepers.old.items) (map K.stock keepers.new.items)
+        (Wrote result (W.written sink.old) (W.written sink.new))) }
+
+    // Each keeper holds exactly the newest versions of what its instance was given.
+    ensures newest { HasLines (command_of (map string_bytes words.now)) result →
+        IfSome (S.left source.old) (λ left. HasRun AreNewest left
+        (map K.stock keepers.old.items) (map K.stock keepers.new.items)
+        (Wrote result (W.written sink.old) (W.written sink.new))) }
+
     // The words and the source decide how it ends, where no fault and no want of memory does.
     ensures usage { result ≡ Status.Usage ↔ command_of (map string_bytes words.now) ≡ None }
     ensures status { IsSome (command_of (map string_bytes words.now)) → IfSome (S.left source.old)
         (λ left. IsStopped result ⊎ (result ≡ status_of left)) }
+
+    // Over keepers that hold nothing, where nothing fails, only the want of memory stops a run.
+    ensures finished { command_of (map string_bytes words.now) ≡ Some Command.Net →
+        (Rose (S.faults source.old) (S.faults source.new) → ⊥) →
+        (Rose (W.faults sink.old) (W.faults sink.new) → ⊥) →
+        (OneFailed (map K.stock keepers.old.items) (map K.stock keepers.new.items) → ⊥) →
+        HoldNothing (map K.stock keepers.old.items) → IfSome (S.left source.old)
+        (λ left. (result ≡ Status.OutOfMemory) ⊎ (result ≡ status_of left)) }
 
     // A fault is answered only where a count rose.
     ensures read { result ≡ Status.ReadFault → Rose (S.faults source.old) (S.faults source.new) }
@@ -47,44 +74,35 @@ pub fn run<S: Source, W: Sink, K: Keeper, C: Carry, D: Door, L: Dial, T: Clock>(
         IfSome (S.left source.old) (λ left. source_limit < length left) }
     ensures silent { IsSilent result → W.written sink.new ≡ W.written sink.old }
 
-    // Where the instances do not open, a keeper failed, or holds a row of the administration that
-    // is none; and each holds what it held.
-    ensures keeper { result ≡ Status.KeeperFault → OneFailed
-        (map K.stock keepers.old.items) (map K.stock keepers.new.items) }
+    // Where the instances do not open, the keeper of one failed, or holds a row of the
+    // administration that is none; and each holds what it held. Else no such row is told.
+    ensures keeper { result ≡ Status.KeeperFault → IfSome (S.left source.old) (λ left. HasFailed
+        (described left) (map K.stock keepers.old.items) (map K.stock keepers.new.items)) }
     ensures bad_row { result ≡ Status.BadRow → IfSome (S.left source.old)
         (λ left. IsUnsound (described left) (map K.stock keepers.old.items)) }
-    ensures kept { IsUnopened result → told (map K.stock keepers.new.items)
-        ≡ told (map K.stock keepers.old.items) }
-    ensures opening { IsUnopened result →
-        command_of (map string_bytes words.now) ≡ Some Command.Net }
-
-    // The lines written and what is held follow from the source, and from what stopped each line;
-    // and what an organisation was never granted changes none of its replies.
-    ensures done { command_of (map string_bytes words.now) ≡ Some Command.Net →
-        result ≡ Status.Done → IfSome (S.left source.old) (λ left.
-        HasWritten left (map K.stock keepers.old.items)
-        (map K.stock keepers.new.items)
-        (Appends (W.written sink.old) (W.written sink.new))) }
-    ensures partly { command_of (map string_bytes words.now) ≡ Some Command.Net →
-        result ≡ Status.WriteFault → IfSome (S.left source.old) (λ left.
-        IsPartly (described left) left (map K.stock keepers.old.items)
-        (map K.stock keepers.new.items) (W.written sink.old) (W.written sink.new)) }
+    ensures unopened { IsUnopened result →
+        (command_of (map string_bytes words.now) ≡ Some Command.Net)
+        × (told (map K.stock keepers.new.items) ≡ told (map K.stock keepers.old.items)) }
+    ensures sound { HasLines (command_of (map string_bytes words.now)) result → IfSome
+        (S.left source.old) (λ left. IsSound (described left) (map K.stock keepers.old.items)) }
 
     // A check writes that the description is one, and asks no keeper.
     ensures checked { command_of (map string_bytes words.now) ≡ Some Command.Check →
         result ≡ Status.Done → Appends (W.written sink.old) (W.written sink.new) ok_line }
     ensures partly_checked { command_of (map string_bytes words.now) ≡ Some Command.Check →
-        result ≡ Status.WriteFault → IfSome (S.left source.old) (λ left.
-        IsPartlyChecked (described left) (W.written sink.old) (W.written sink.new)) }
+        result ≡ Status.WriteFault → IfSome (S.left source.old) (λ left. IfOk (described left)
+        (λ _. Wrote result (W.written sink.old) (W.written sink.new) ok_line)) }
     ensures still_checked { command_of (map string_bytes words.now) ≡ Some Command.Check →
         keepers.new.items ≡ keepers.old.items }
 
     // Of a description that is none the first fault is told.
-    ensures bad { result ≡ Status.BadDescription →
-        IfSome (S.left source.old) (λ left.
-        IsTold (described left) (W.written sink.old) (W.written sink.new)) }
+    ensures told { TellsFault result → IfSome (S.left source.old) (λ left. IsTold
+        (described left) (Wrote result (W.written sink.old) (W.written sink.new))) }
 
+    // Each keeper is in its place, and those behind the keepers of the instances are as they were.
     ensures places { vec_len keepers.new ≡ vec_len keepers.old }
+    ensures others { IfSome (S.left source.old) (λ left. OthersStay (described left)
+        (map K.stock keepers.old.items) (map K.stock keepers.new.items)) }
     ensures still { IsStill result → keepers.new.items ≡ keepers.old.items }
     ensures untouched { (carry.new ≡ carry.old) × (door.new ≡ door.old)
         × (dial.new ≡ dial.old) × (clock.new ≡ clock.old) }
@@ -99,13 +117,9 @@ pub fn run<S: Source, W: Sink, K: Keeper, C: Carry, D: Door, L: Dial, T: Clock>(
         Ok(bytes) => bytes,
         Err(status) => return status,
     };
-    let ended = match command {
+    match command {
         Command::Net => run_source(alloc, &bytes, sink, keepers),
         Command::Check => check_source(alloc, &bytes, sink),
-    };
-    match ended {
-        Ok(()) => Status::Done,
-        Err(status) => status,
     }
 }
 
@@ -116,43 +130,43 @@ fn run_source<W: Sink, K: Keeper>(
     bytes: &[u8],
     sink: &mut W,
     keepers: &mut Vec<K>,
-) -> Result<(), Status>
+) -> Status
     requires { least_keepers ≤ vec_len keepers.old }
-    ensures status { IfErr result (λ status.
-        IsStopped status ⊎ (status ≡ described_status (described bytes.now))) }
-    ensures described { OnOk result (described_status (described bytes.now) ≡ Status.Done) }
-    ensures write { result ≡ Err Status.WriteFault →
-        Rose (W.faults sink.old) (W.faults sink.new) }
-    ensures silent { IfErr result (λ status.
-        IsSilent status → W.written sink.new ≡ W.written sink.old) }
-    ensures others { IfErr result IsRunEnd }
-    ensures keeper { result ≡ Err Status.KeeperFault → OneFailed
+    ensures private { HasLines (Some Command.Net) result → HasRun IsPrivate bytes.now
+        (map K.stock keepers.old.items) (map K.stock keepers.new.items)
+        (Wrote result (W.written sink.old) (W.written sink.new)) }
+    ensures replied { HasLines (Some Command.Net) result → HasRun AreReplied bytes.now
+        (map K.stock keepers.old.items) (map K.stock keepers.new.items)
+        (Wrote result (W.written sink.old) (W.written sink.new)) }
+    ensures newest { HasLines (Some Command.Net) result → HasRun AreNewest bytes.now
+        (map K.stock keepers.old.items) (map K.stock keepers.new.items)
+        (Wrote result (W.written sink.old) (W.written sink.new)) }
+    ensures status { IsStopped result ⊎ (result ≡ described_status (described bytes.now)) }
+    ensures write { result ≡ Status.WriteFault → Rose (W.faults sink.old) (W.faults sink.new) }
+    ensures silent { IsSilent result → W.written sink.new ≡ W.written sink.old }
+    ensures ends { IsRunEnd result }
+    ensures keeper { result ≡ Status.KeeperFault → HasFailed (described bytes.now)
         (map K.stock keepers.old.items) (map K.stock keepers.new.items) }
-    ensures bad_row { result ≡ Err Status.BadRow →
+    ensures bad_row { result ≡ Status.BadRow →
         IsUnsound (described bytes.now) (map K.stock keepers.old.items) }
-    ensures kept { IfErr result (λ status. IsUnopened status →
-        told (map K.stock keepers.new.items)
-        ≡ told (map K.stock keepers.old.items)) }
-    ensures done { OnOk result
-        (HasWritten bytes.now (map K.stock keepers.old.items)
-        (map K.stock keepers.new.items)
-        (Appends (W.written sink.old) (W.written sink.new))) }
-    ensures partly { result ≡ Err Status.WriteFault →
-        IsPartly (described bytes.now) bytes.now (map K.stock keepers.old.items)
-        (map K.stock keepers.new.items) (W.written sink.old) (W.written sink.new) }
-    ensures bad { result ≡ Err Status.BadDescription →
-        IsTold (described bytes.now) (W.written sink.old) (W.written sink.new) }
+    ensures unopened { IsUnopened result →
+        told (map K.stock keepers.new.items) ≡ told (map K.stock keepers.old.items) }
+    ensures sound { HasLines (Some Command.Net) result →
+        IsSound (described bytes.now) (map K.stock keepers.old.items) }
+    ensures told { TellsFault result → IsTold (described bytes.now)
+        (Wrote result (W.written sink.old) (W.written sink.new)) }
     ensures places { vec_len keepers.new ≡ vec_len keepers.old }
-    ensures still { IfErr result (λ status.
-        IsStill status → keepers.new.items ≡ keepers.old.items) }
+    ensures others { OthersStay (described bytes.now)
+        (map K.stock keepers.old.items) (map K.stock keepers.new.items) }
+    ensures still { IsStill result → keepers.new.items ≡ keepers.old.items }
 {
     let (description, script) = split_source(bytes);
     match read_description(alloc, description) {
-        Ok(net) => {
-            let lines = run_net(alloc, net, keepers, script)?;
-            put(sink, &lines)
-        }
-        Err(DescFault::Bad { path, need }) => Err(tell_fault(alloc, sink, path.as_str(), need)),
-        Err(DescFault::NoMemory) => Err(Status::OutOfMemory),
+        Ok(net) => match run_net(alloc, net, keepers, script) {
+            Ok(lines) => put(sink, &lines),
+            Err(fault) => Status::from(fault),
+        },
+        Err(DescFault::Bad { path, need }) => tell_fault(alloc, sink, path.as_str(), need),
+        Err(DescFault::NoMemory) => Status::OutOfMemory,
     }
 }

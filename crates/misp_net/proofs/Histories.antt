@@ -6,6 +6,7 @@ use Rattle.misp_outside.specs.Held.{nothing_held}
 use Rattle.misp_outside.specs.Stock.{Stock}
 use Rattle.misp_effects.specs.Effect.{Outcome}
 use Rattle.misp_effects.specs.Stocks.{Tables, held_at, Tell}
+use Rattle.misp_effects.specs.Course.{AreDone}
 use Rattle.misp_effects.specs.Run.{outputs_of, tables_left, AreFit}
 use Rattle.misp_model.specs.History.{tables, newest, newest_from}
 use Rattle.misp_model.specs.Order.{in_order}
@@ -17,10 +18,10 @@ use Rattle.misp_store.proofs.GroupRows.{AreReadBack}
 use Rattle.misp_net.specs.declared.line.Output.{Output}
 use Rattle.misp_net.specs.Hosts.{Host}
 use Rattle.misp_net.specs.Lines.{Act, AreAmong}
-use Rattle.misp_store.specs.Seen.{seen_in}
-use Rattle.misp_net.specs.Meaning.{meanings_of}
+use Rattle.misp_store.specs.Seen.{Seen, seen_in}
+use Rattle.misp_net.specs.Meaning.{meanings_of, stop_in}
 use Rattle.misp_net.specs.Run.{tables_after, Ran}
-use Rattle.misp_net.specs.History.{world_after, world_left, told_output, told_outputs, AreDistinct, empty_tables, IsHistory, IsTold}
+use Rattle.misp_net.specs.History.{world_after, world_left, told_output, told_outputs, AreDistinct, empty_tables, IsHistory, AreTold, AreHeld}
 use Rattle.misp_net.proofs.Courses.{meanings_long}
 use Rattle.misp_net.proofs.Telling.{output_told, line_left}
 
@@ -59,19 +60,31 @@ module _ (back : AreReadBack) (hosts : List Host) (distinct : AreDistinct hosts)
         subst (λ k. IsHistory hosts k (world_left (suc n) hosts next acts outcomes) (tables_left seen_in spelled (meanings_of (suc n) hosts acts) outcomes after)) later rest.1,
       )
 
-  pub are_told : (acts : List Act) (old new : List Stock) (outputs : List Output) → AreAmong (length hosts) acts → Ran hosts acts old new outputs
-      → Tell old (empty_tables hosts) → IsTold hosts acts outputs new
-  are_told acts old new outputs among ran empty =
-      let done = ran.done (empty_tables hosts) empty in
-      let each : length done.outcomes ≡ length acts = done.each ∙ meanings_long 0 hosts acts in
-      let told = all_told 0 start acts done.outcomes (empty_tables hosts) each among (at_start hosts) done.fits in
-      let same : 0 + length acts ≡ length acts = omega arith in
-      record {
-        outcomes = done.outcomes;
-        each = each;
-        agree = done.agree;
-        outputs_are = done.outputs_are ∙ told.0;
-        tables = tables_left seen_in spelled (meanings_of 0 hosts acts) done.outcomes (empty_tables hosts);
-        tables_are = done.tables_are;
-        history = subst (λ k. IsHistory hosts k (world_left 0 hosts start acts done.outcomes) (tables_left seen_in spelled (meanings_of 0 hosts acts) done.outcomes (empty_tables hosts))) same told.1;
-      }
+  module _ (acts : List Act) (old new : List Stock) (outputs : List Output) (among : AreAmong (length hosts) acts) (ran : Ran hosts acts old new outputs)
+      (empty : Tell old (empty_tables hosts)) where
+    done : AreDone Seen Output seen_in spelled stop_in (meanings_of 0 hosts acts) (empty_tables hosts) outputs new
+    done = ran.done (empty_tables hosts) empty
+
+    each : length done.outcomes ≡ length acts
+    each = done.each ∙ meanings_long 0 hosts acts
+
+    pub are_told : AreTold hosts acts outputs
+    are_told = record {
+      outcomes = done.outcomes;
+      each = each;
+      agree = done.agree;
+      outputs_are = done.outputs_are ∙ (all_told 0 start acts done.outcomes (empty_tables hosts) each among (at_start hosts) done.fits).0;
+    }
+
+    pub are_held : AreHeld hosts acts outputs new
+    are_held =
+        let same : 0 + length acts ≡ length acts = omega arith in
+        record {
+          outcomes = done.outcomes;
+          each = each;
+          agree = done.agree;
+          tables = tables_left seen_in spelled (meanings_of 0 hosts acts) done.outcomes (empty_tables hosts);
+          tables_are = done.tables_are;
+          history = subst (λ k. IsHistory hosts k (world_left 0 hosts start acts done.outcomes) (tables_left seen_in spelled (meanings_of 0 hosts acts) done.outcomes (empty_tables hosts))) same
+              (all_told 0 start acts done.outcomes (empty_tables hosts) each among (at_start hosts) done.fits).1;
+        }

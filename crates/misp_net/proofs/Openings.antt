@@ -4,7 +4,9 @@ use Rattle.std.proofs.lemmas.Bool.{cases_Bool}
 use Rattle.std.specs.Prelude.{not, Result, Ok, Err, OnErr, IfErr}
 use Rattle.std.specs.List.{list_all}
 use Rattle.std.specs.Option.{option_map_or}
+use Rattle.misp_outside.specs.Held.{nothing_held}
 use Rattle.misp_outside.specs.Stock.{Stock}
+use Rattle.misp_store.specs.Sharing.{groups_in}
 use Rattle.misp_core.specs.Standing.{Standing}
 use Rattle.misp_effects.specs.Stocks.{told, Tables, Tell, count_at}
 use Rattle.misp_net.specs.Hosts.{stock_of, stocks_of}
@@ -160,6 +162,11 @@ one_of_all olds news zero failed = absurd failed
 one_of_all [] news (suc count) failed = absurd failed
 one_of_all (s ∷ olds) [] (suc count) failed = absurd failed
 one_of_all (s ∷ olds) (t ∷ news) (suc count) failed = elim failed [ inl rose ↦ inl rose | inr more ↦ inr (one_of_all olds news count more) ]
+
+-- who holds nothing holds no row of the administration that is none
+pub nothing_is_sound : is_sound nothing_held ≡ true
+unfolding nothing_held groups_in
+nothing_is_sound = refl
 
 -- ---- a keeper is put back
 

@@ -34,11 +34,11 @@ use Rattle.misp_net.specs.Request.{Reading}
 use Rattle.misp_net.specs.Answering.{Asked, caller_in, form_of, replied}
 use Rattle.misp_net.specs.Meaning.{deed_meaning, stop_in}
 use Rattle.misp_net.specs.Course.{HasRun}
-use Rattle.misp_net.specs.History.{act_in, acts_in, no_links, seen_by, told_output, told_outputs, AreDistinct, empty_tables, IsTold, is_asker, is_of}
-use Rattle.misp_net.specs.Promise.{ShowNoStop, outputs_over, replies_to, own_lines, IsPromised, IsPrivate}
+use Rattle.misp_net.specs.History.{act_in, acts_in, no_links, seen_by, told_output, told_outputs, AreDistinct, empty_tables, AreTold, is_asker, is_of}
+use Rattle.misp_net.specs.Promise.{ShowNoStop, outputs_over, replies_to, own_lines, AreReplied, AreNewest, IsPrivate}
 use Rattle.misp_net.proofs.Forms.{AskedBy, form_caller}
 use Rattle.misp_net.proofs.Telling.{world_whole}
-use Rattle.misp_net.proofs.Histories.{are_told}
+use Rattle.misp_net.proofs.Histories.{are_told, are_held}
 use Rattle.misp_net.proofs.Refusing.{idle_same}
 
 -- ---- over a set of keys that has all that the organisation knows
@@ -154,20 +154,27 @@ told_unstopped n hosts w (act ∷ acts) (Went ∷ outcomes) (output ∷ outputs)
 
 module _ (back : AreReadBack) (hosts : List Host) (acts : List Act) (old new : List Stock) (text : List ℕ) (run : HasRun hosts acts old new text)
     (distinct : AreDistinct hosts) (empty : Tell old (empty_tables hosts)) where
-  told : IsTold hosts acts run.outputs new
+  told : AreTold hosts acts run.outputs
   told = are_told back hosts distinct acts old new run.outputs run.among run.ran empty
 
   -- what was put out is what the history says of all acts
   told_whole : ShowNoStop run.outputs → run.outputs ≡ outputs_over 0 hosts start acts (acts_in hosts acts)
   told_whole none = told.outputs_are ∙ told_unstopped 0 hosts start acts told.outcomes run.outputs told.each told.agree none
 
-pub promised : AreReadBack → (hosts : List Host) (acts : List Act) (old new : List Stock) (text : List ℕ) → HasRun hosts acts old new text → IsPromised hosts acts old new text
-promised back hosts acts old new text run = record {
+pub are_replied : AreReadBack → (hosts : List Host) (acts : List Act) (old new : List Stock) (text : List ℕ) → HasRun hosts acts old new text → AreReplied hosts acts old new text
+are_replied back hosts acts old new text run = record {
   outputs = run.outputs;
   text_is = run.text_is;
   ran = run.ran;
   refused = λ outcome n act tables idle. idle_same outcome n hosts act tables idle;
   told = λ distinct empty. told back hosts acts old new text run distinct empty;
+}
+
+pub are_newest : AreReadBack → (hosts : List Host) (acts : List Act) (old new : List Stock) (text : List ℕ) → HasRun hosts acts old new text → AreNewest hosts acts old new text
+are_newest back hosts acts old new text run = record {
+  outputs = run.outputs;
+  text_is = run.text_is;
+  held = λ distinct empty. are_held back hosts distinct acts old new run.outputs run.among run.ran empty;
 }
 
 pub is_private : AreReadBack → (hosts : List Host) (acts : List Act) (old new : List Stock) (text : List ℕ) → HasRun hosts acts old new text → IsPrivate hosts acts old new text

@@ -92,14 +92,20 @@ pub record IsHistory (hosts : List Host) (n : ℕ) (w : World) (tables : Tables)
       → Keeps (host_at place hosts).name w (held_at place tables)
   pub earlier : list_all (λ v. ltb v.act n) w.log ≡ true
 
--- Under outcomes that the outputs tell, the outputs are those of the history, and each keeper holds
--- its tables.
-pub record IsTold (hosts : List Host) (acts : List Act)
-    (outputs : List Output) (new : List Stock) : Type 0 where
+-- Under outcomes that the outputs tell, the outputs are those of the history.
+pub record AreTold (hosts : List Host) (acts : List Act) (outputs : List Output) : Type 0 where
   pub outcomes : List Outcome
   pub each : length outcomes ≡ length acts
   pub agree : map stop_of outcomes ≡ map stop_in outputs
   pub outputs_are : outputs ≡ told_outputs 0 hosts start acts outcomes
+
+-- Under outcomes that the outputs tell, each keeper holds the tables and the groups of its instance
+-- after these lines, and nothing else.
+pub record AreHeld (hosts : List Host) (acts : List Act)
+    (outputs : List Output) (new : List Stock) : Type 0 where
+  pub outcomes : List Outcome
+  pub each : length outcomes ≡ length acts
+  pub agree : map stop_of outcomes ≡ map stop_in outputs
   pub tables : Tables
   pub tables_are : Tell new tables
   pub history : IsHistory hosts (length acts) (world_left 0 hosts start acts outcomes) tables

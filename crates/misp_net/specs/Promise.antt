@@ -15,7 +15,7 @@ use Rattle.misp_net.specs.Lines.{Act}
 use Rattle.misp_net.specs.Meaning.{stop_in}
 use Rattle.misp_net.specs.Run.{output_of, tables_after, Ran}
 use Rattle.misp_net.specs.Text.{text_from}
-use Rattle.misp_net.specs.History.{acts_in, no_links, told_output, AreDistinct, empty_tables, IsTold, is_of}
+use Rattle.misp_net.specs.History.{acts_in, no_links, told_output, AreDistinct, empty_tables, AreTold, AreHeld, is_of}
 
 -- nothing stopped any of the lines
 abbrev pub ShowNoStop : List Output → Type 0
@@ -47,19 +47,6 @@ IsIdle (Bad place) = Unit {0}
 IsIdle Nothing = Unit {0}
 IsIdle (Replied reply) = IsRefused reply
 
--- The lines put these outputs out, and wrote this text: one line for each. What is refused changes
--- nothing; and over keepers that held nothing the lines are those of the history, and each keeper
--- holds its tables.
-pub record IsPromised (hosts : List Host) (acts : List Act)
-    (old new : List Stock) (text : List ℕ) : Type 0 where
-  pub outputs : List Output
-  pub text_is : text ≡ text_from 1 outputs
-  pub ran : Ran hosts acts old new outputs
-  pub refused : (outcome : Outcome) (n : ℕ) (act : Act) (tables : Tables)
-      → IsIdle (output_of outcome n hosts act tables)
-      → tables_after outcome n hosts act tables ≡ tables
-  pub told : AreDistinct hosts → Tell old (empty_tables hosts) → IsTold hosts acts outputs new
-
 -- THE headline, of the outputs of these lines, of which this is the text, over keepers that held
 -- nothing.
 pub record IsPrivate (hosts : List Host) (acts : List Act)
@@ -80,3 +67,23 @@ pub record IsPrivate (hosts : List Host) (acts : List Act)
       → erased o no_links (acts_in hosts others) ≡ erased o no_links (acts_in hosts acts)
       → replies_to o hosts others (outputs_over 0 hosts start others (acts_in hosts others))
       ≡ replies_to o hosts acts outputs
+
+-- The lines put these outputs out, and wrote this text: one line for each. What is refused changes
+-- nothing; and over keepers that held nothing the outputs are those of the history.
+pub record AreReplied (hosts : List Host) (acts : List Act)
+    (old new : List Stock) (text : List ℕ) : Type 0 where
+  pub outputs : List Output
+  pub text_is : text ≡ text_from 1 outputs
+  pub ran : Ran hosts acts old new outputs
+  pub refused : (outcome : Outcome) (n : ℕ) (act : Act) (tables : Tables)
+      → IsIdle (output_of outcome n hosts act tables)
+      → tables_after outcome n hosts act tables ≡ tables
+  pub told : AreDistinct hosts → Tell old (empty_tables hosts) → AreTold hosts acts outputs
+
+-- Over keepers that held nothing, after the lines of this text each keeper holds the newest versions
+-- and the groups of its instance, and nothing else.
+pub record AreNewest (hosts : List Host) (acts : List Act)
+    (old new : List Stock) (text : List ℕ) : Type 0 where
+  pub outputs : List Output
+  pub text_is : text ≡ text_from 1 outputs
+  pub held : AreDistinct hosts → Tell old (empty_tables hosts) → AreHeld hosts acts outputs new

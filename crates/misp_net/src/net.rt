@@ -9,7 +9,7 @@ ghost use Rattle.misp_net.specs.Lines.{acts_of, IsAmong};
 ghost use Rattle.misp_net.specs.Opening.{may_be_sound, may_be_unsound, OneFailed, IsUnopened};
 ghost use Rattle.misp_net.specs.Run.{IsAct};
 ghost use Rattle.misp_net.specs.Course.{HasPut, HasRun};
-ghost use Rattle.misp_net.specs.Promise.{IsPromised, IsPrivate};
+ghost use Rattle.misp_net.specs.Promise.{IsPrivate, AreReplied, AreNewest};
 
 use crate::administering::administer;
 use crate::answering::answer;
@@ -112,9 +112,15 @@ pub fn run_net<K: Keeper>(
         (take (length net.instances) (map K.stock keepers.old.items))
         (take (length net.instances) (map K.stock keepers.new.items)) lines.items) }
 
-    // What was written and what is held follow from the script, and from what stopped each line.
-    ensures ran { IfOk result (λ lines.
-        IsPromised (described_hosts net) (acts_of (directory_of net) script.now)
+    // Each reply is the stated function of its line, of what is held, and of what stopped the line.
+    ensures replied { IfOk result (λ lines.
+        AreReplied (described_hosts net) (acts_of (directory_of net) script.now)
+        (take (length net.instances) (map K.stock keepers.old.items))
+        (take (length net.instances) (map K.stock keepers.new.items)) lines.items) }
+
+    // Each keeper holds exactly the newest versions of what its instance was given.
+    ensures newest { IfOk result (λ lines.
+        AreNewest (described_hosts net) (acts_of (directory_of net) script.now)
         (take (length net.instances) (map K.stock keepers.old.items))
         (take (length net.instances) (map K.stock keepers.new.items)) lines.items) }
 

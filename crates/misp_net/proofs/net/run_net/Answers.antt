@@ -3,22 +3,11 @@ use Rattle.std.proofs.lemmas.List.{length-map}
 use Rattle.misp_script.specs.Directory.{roster_of}
 use Rattle.misp_net.specs.Hosts.{stock_of, described_host, hosts_of, stocks_of}
 use Rattle.misp_net.proofs.Openings.{told_back, if_err}
-use Rattle.misp_net.proofs.Privacy.{promised, is_private}
+use Rattle.misp_net.proofs.Privacy.{is_private, are_replied, are_newest}
 use Rattle.misp_net.proofs.Fronts.{opened_long, run_in_front, others_kept}
 use Rattle.misp_net.proofs.net.run_net.Goals as goal
 
 -- the instances stand in front of the other keepers, before and after
-pub returns-clause-ran : goal.returns-clause-ran
-returns-clause-ran g c =
-    let entries = c.args.net.instances in
-    let opened = c.in_ok-instances.instances.items in
-    let count : vec_len c.into_vec.result ≡ length entries = c.into_vec.result.ok.0 ∙ ap length c.into_vec.ensures in
-    let hosts : hosts_of opened ≡ map described_host entries = c.in_ok-instances.ensures.hosts ∙ ap (map described_host) c.into_vec.ensures in
-    promised c.a_group_is_read_from_its_text.ensures _ _ _ _ _
-    (run_in_front (hosts_of opened) (map described_host entries) _ (stocks_of opened) (stocks_of c.run_lines-lines.new.instances.items)
-    (map g.K.Keeper.stock c.open_all.new.keepers.items) _ _ (length entries) _
-    hosts (opened_long opened entries hosts) (rw count at c.in_ok-instances.ensures.opened) c.close_all.ensures
-    (rw (← c.in_ok-directory.ensures) c.in_ok-lines.ensures.ran))
 
 pub returns-clause-private : goal.returns-clause-private
 returns-clause-private g c =
@@ -27,6 +16,30 @@ returns-clause-private g c =
     let count : vec_len c.into_vec.result ≡ length entries = c.into_vec.result.ok.0 ∙ ap length c.into_vec.ensures in
     let hosts : hosts_of opened ≡ map described_host entries = c.in_ok-instances.ensures.hosts ∙ ap (map described_host) c.into_vec.ensures in
     is_private c.a_group_is_read_from_its_text.ensures _ _ _ _ _
+    (run_in_front (hosts_of opened) (map described_host entries) _ (stocks_of opened) (stocks_of c.run_lines-lines.new.instances.items)
+    (map g.K.Keeper.stock c.open_all.new.keepers.items) _ _ (length entries) _
+    hosts (opened_long opened entries hosts) (rw count at c.in_ok-instances.ensures.opened) c.close_all.ensures
+    (rw (← c.in_ok-directory.ensures) c.in_ok-lines.ensures.ran))
+
+pub returns-clause-replied : goal.returns-clause-replied
+returns-clause-replied g c =
+    let entries = c.args.net.instances in
+    let opened = c.in_ok-instances.instances.items in
+    let count : vec_len c.into_vec.result ≡ length entries = c.into_vec.result.ok.0 ∙ ap length c.into_vec.ensures in
+    let hosts : hosts_of opened ≡ map described_host entries = c.in_ok-instances.ensures.hosts ∙ ap (map described_host) c.into_vec.ensures in
+    are_replied c.a_group_is_read_from_its_text.ensures _ _ _ _ _
+    (run_in_front (hosts_of opened) (map described_host entries) _ (stocks_of opened) (stocks_of c.run_lines-lines.new.instances.items)
+    (map g.K.Keeper.stock c.open_all.new.keepers.items) _ _ (length entries) _
+    hosts (opened_long opened entries hosts) (rw count at c.in_ok-instances.ensures.opened) c.close_all.ensures
+    (rw (← c.in_ok-directory.ensures) c.in_ok-lines.ensures.ran))
+
+pub returns-clause-newest : goal.returns-clause-newest
+returns-clause-newest g c =
+    let entries = c.args.net.instances in
+    let opened = c.in_ok-instances.instances.items in
+    let count : vec_len c.into_vec.result ≡ length entries = c.into_vec.result.ok.0 ∙ ap length c.into_vec.ensures in
+    let hosts : hosts_of opened ≡ map described_host entries = c.in_ok-instances.ensures.hosts ∙ ap (map described_host) c.into_vec.ensures in
+    are_newest c.a_group_is_read_from_its_text.ensures _ _ _ _ _
     (run_in_front (hosts_of opened) (map described_host entries) _ (stocks_of opened) (stocks_of c.run_lines-lines.new.instances.items)
     (map g.K.Keeper.stock c.open_all.new.keepers.items) _ _ (length entries) _
     hosts (opened_long opened entries hosts) (rw count at c.in_ok-instances.ensures.opened) c.close_all.ensures
