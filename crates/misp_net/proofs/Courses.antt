@@ -8,7 +8,7 @@ use Rattle.misp_effects.proofs.Courses.{no_lines}
 use Rattle.misp_effects.proofs.Courses as more
 use Rattle.misp_store.specs.Batches.{spelled}
 use Rattle.misp_net.specs.declared.line.Output.{Output}
-use Rattle.misp_net.specs.Hosts.{Host}
+use Rattle.misp_api.specs.Host.{Host}
 use Rattle.misp_net.specs.Lines.{Act, IsAmong, AreAmong}
 use Rattle.misp_store.specs.Seen.{Seen, seen_in}
 use Rattle.misp_net.specs.Meaning.{meaning, meanings_of, stop_in}

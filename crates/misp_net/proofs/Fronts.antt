@@ -5,7 +5,8 @@ use Rattle.misp_outside.specs.Causes.{RoseBy}
 use Rattle.misp_script.specs.declared.description.Entry.{Entry}
 use Rattle.misp_core.specs.Standing.{Standing}
 use Rattle.misp_outside.specs.Stock.{Stock}
-use Rattle.misp_net.specs.Hosts.{Host, host_of, described_host, hosts_of, stock_of, stocks_of}
+use Rattle.misp_api.specs.Host.{Host, host_of}
+use Rattle.misp_net.specs.Hosts.{described_host, hosts_of, stock_of, stocks_of}
 use Rattle.misp_net.specs.Opening.{AreKept}
 use Rattle.misp_net.specs.Lines.{Act}
 use Rattle.misp_net.specs.Course.{HasRun}

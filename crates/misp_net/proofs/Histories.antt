@@ -16,7 +16,7 @@ use Rattle.misp_store.specs.Sharing.{groups_in}
 use Rattle.misp_store.specs.Batches.{spelled}
 use Rattle.misp_store.proofs.GroupRows.{AreReadBack}
 use Rattle.misp_net.specs.declared.line.Output.{Output}
-use Rattle.misp_net.specs.Hosts.{Host}
+use Rattle.misp_api.specs.Host.{Host}
 use Rattle.misp_net.specs.Lines.{Act, AreAmong}
 use Rattle.misp_store.specs.Seen.{Seen, seen_in}
 use Rattle.misp_net.specs.Meaning.{meanings_of, stop_in}

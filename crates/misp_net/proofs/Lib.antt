@@ -1,10 +1,4 @@
 pub mod Kept
-pub mod Built
-pub mod Formed
-pub mod Forms
-pub mod Replying
-pub mod GroupLines
-pub mod Ordering
 pub mod Telling
 pub mod Histories
 pub mod Steps

@@ -28,15 +28,16 @@ use Rattle.misp_core.specs.Answers.{site, scene_with, reply_in}
 use Rattle.misp_store.proofs.GroupRows.{AreReadBack}
 use Rattle.misp_net.specs.declared.line.Output.{Output}
 use Rattle.misp_net.specs.declared.line.Output.TheVariants.{Replied}
-use Rattle.misp_net.specs.Hosts.{Host, host_at}
+use Rattle.misp_api.specs.Host.{Host}
+use Rattle.misp_net.specs.Hosts.{host_at}
 use Rattle.misp_net.specs.Lines.{Act}
-use Rattle.misp_net.specs.Request.{Reading}
-use Rattle.misp_net.specs.Answering.{Asked, caller_in, form_of, replied}
-use Rattle.misp_net.specs.Meaning.{deed_meaning, stop_in}
+use Rattle.misp_api.specs.Request.{Reading}
+use Rattle.misp_api.specs.Answering.{Asked, caller_in, form_of, replied}
+use Rattle.misp_net.specs.Meaning.{request_in, deed_meaning, stop_in}
 use Rattle.misp_net.specs.Course.{HasRun}
 use Rattle.misp_net.specs.History.{act_in, acts_in, no_links, seen_by, told_output, told_outputs, AreDistinct, empty_tables, AreTold, is_asker, is_of}
 use Rattle.misp_net.specs.Promise.{ShowNoStop, outputs_over, replies_to, own_lines, AreReplied, AreNewest, IsPrivate}
-use Rattle.misp_net.proofs.Forms.{AskedBy, form_caller}
+use Rattle.misp_api.proofs.Forms.{AskedBy, form_caller}
 use Rattle.misp_net.proofs.Telling.{world_whole}
 use Rattle.misp_net.proofs.Histories.{are_told, are_held}
 use Rattle.misp_net.proofs.Refusing.{idle_same}
@@ -67,8 +68,8 @@ module _ (keep : Key → Bool) (closed : IsClosed keep) (o : OrgId) (hosts : Lis
       → told_output Went n hosts (cut_world keep w) (Ok (record { time = time; word = word; deed = deed })) ≡ told_output Went n hosts w (Ok (record { time = time; word = word; deed = deed }))
   own_deed n w time word deeds.Nothing own has = refl
   own_deed n w time word (deeds.Request r) own has =
-      ap Replied (own_reply n w r.at time (form_of (host_at r.at hosts).admin r word) (caller_in (host_at r.at hosts).admin r.key)
-      (form_caller (host_at r.at hosts).admin r word) own has)
+      ap Replied (own_reply n w r.at time (form_of (host_at r.at hosts).admin (request_in word r)) (caller_in (host_at r.at hosts).admin r.key)
+      (form_caller (host_at r.at hosts).admin (request_in word r)) own has)
   own_deed n w time word (deeds.Group line) own has = absurd cc
 
   -- its own lines are told the same

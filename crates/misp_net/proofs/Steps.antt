@@ -25,11 +25,12 @@ use Rattle.misp_core.specs.declared.reply.Reply.{Reply}
 use Rattle.misp_core.specs.declared.reply.Reply.TheVariants as replies
 use Rattle.misp_net.specs.declared.line.Output.{Output}
 use Rattle.misp_net.specs.declared.line.Output.TheVariants.{Bad, Nothing, Replied}
-use Rattle.misp_net.specs.Hosts.{Host, nobody, host_of, hosts_of, host_at, stock_of, stocks_of}
+use Rattle.misp_api.specs.Host.{Host, host_of}
+use Rattle.misp_net.specs.Hosts.{nobody, hosts_of, host_at, stock_of, stocks_of}
 use Rattle.misp_store.specs.Seen.{Seen, seen_in}
-use Rattle.misp_net.specs.Answering.{form_of, replied, IsReplied}
-use Rattle.misp_net.specs.Administering.{group_form, grouped, IsDone}
-use Rattle.misp_net.specs.Meaning.{asks, silent, stop_in}
+use Rattle.misp_api.specs.Answering.{form_of, replied, IsReplied}
+use Rattle.misp_api.specs.Administering.{group_form, grouped, IsDone}
+use Rattle.misp_net.specs.Meaning.{request_in, asks, silent, stop_in}
 use Rattle.misp_net.specs.Run as lines
 
 -- ---- what stopped a reply
@@ -84,22 +85,22 @@ group_step time word line = record { time = time; word = word; deed = deeds.Grou
 
 -- a request
 pub one_request : (n time word : ℕ) (r : RequestData) (old : List Standing) (new none : Standing) (reply : Reply) → r.at < length old
-    → IfSome (get_or old r.at none).held (λ held. IsReplied n (host_of (get_or old r.at none)) time (form_of (get_or old r.at none).admin r word) held reply new.held)
+    → IfSome (get_or old r.at none).held (λ held. IsReplied n (host_of (get_or old r.at none)) time (form_of (get_or old r.at none).admin (request_in word r)) held reply new.held)
     → HasCause (get_or old r.at none).faults new.faults (core.stop_in reply ≡ by_keeper)
     → lines.IsAct n (hosts_of old) (Ok (step_at time word r)) (stocks_of old) (stocks_of (set old r.at new)) (Replied reply)
 one_request n time word r old new none reply lt did cause =
     let host : host_at r.at (hosts_of old) ≡ host_of (get_or old r.at none) = get_or-map host_of old r.at none nobody lt in
-    instance_act r.at (replied n (host_at r.at (hosts_of old)) time (form_of (host_at r.at (hosts_of old)).admin r word)) old new none reply lt
-    (subst (λ (h : Host). IfSome (get_or old r.at none).held (λ held. IsReplied n h time (form_of h.admin r word) held reply new.held)) (sym host) did)
+    instance_act r.at (replied n (host_at r.at (hosts_of old)) time (form_of (host_at r.at (hosts_of old)).admin (request_in word r))) old new none reply lt
+    (subst (λ (h : Host). IfSome (get_or old r.at none).held (λ held. IsReplied n h time (form_of h.admin (request_in word r)) held reply new.held)) (sym host) did)
     cause
 
 -- a line of a group
 pub one_group : (n time word : ℕ) (line : GroupData) (old : List Standing) (new none : Standing) (reply : Reply) → line.at < length old
-    → IfSome (get_or old line.at none).held (λ held. IsDone time line (group_form line.body) held reply new.held)
+    → IfSome (get_or old line.at none).held (λ held. IsDone time line.org line.add (group_form line.body) held reply new.held)
     → HasCause (get_or old line.at none).faults new.faults (core.stop_in reply ≡ by_keeper)
     → lines.IsAct n (hosts_of old) (Ok (group_step time word line)) (stocks_of old) (stocks_of (set old line.at new)) (Replied reply)
 one_group n time word line old new none reply lt did cause =
-    instance_act line.at (λ here. grouped time line (group_form line.body) here.groups) old new none reply lt did cause
+    instance_act line.at (λ here. grouped time line.org line.add (group_form line.body) here.groups) old new none reply lt did cause
 
 pub hosts_kept : (old : List Standing) (place : ℕ) (new none : Standing) → place < length old
     → new.name ≡ (get_or old place none).name → new.admin ≡ (get_or old place none).admin → hosts_of (set old place new) ≡ hosts_of old

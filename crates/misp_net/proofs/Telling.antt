@@ -37,16 +37,17 @@ use Rattle.misp_core.proofs.Keeping.{over_all, same_elsewhere, same_groups, left
 use Rattle.misp_store.proofs.GroupRows.{AreReadBack}
 use Rattle.misp_core.proofs.KeepingGroups.{administered_left, same_log, groups_elsewhere}
 use Rattle.misp_net.specs.declared.line.Output.TheVariants.{Replied}
-use Rattle.misp_net.specs.Hosts.{Host, host_at}
+use Rattle.misp_api.specs.Host.{Host}
+use Rattle.misp_net.specs.Hosts.{host_at}
 use Rattle.misp_net.specs.Lines.{Act, IsAmong}
-use Rattle.misp_net.specs.Request.{Reading}
+use Rattle.misp_api.specs.Request.{Reading}
 use Rattle.misp_store.specs.Seen.{seen_in}
-use Rattle.misp_net.specs.Answering.{Asked, caller_in, form_of, replied}
-use Rattle.misp_net.specs.Administering.{group_form, grouped}
-use Rattle.misp_net.specs.Meaning.{asking, administering, deed_meaning, meaning}
+use Rattle.misp_api.specs.Answering.{Asked, caller_in, form_of, replied}
+use Rattle.misp_api.specs.Administering.{group_form, grouped}
+use Rattle.misp_net.specs.Meaning.{request_in, asking, administering, deed_meaning, meaning}
 use Rattle.misp_net.specs.Run.{output_of, tables_after}
 use Rattle.misp_net.specs.History.{no_links, applied, world_after, seen_by, told_output, AreDistinct, IsHistory}
-use Rattle.misp_net.proofs.Forms.{BuiltForm, form_built}
+use Rattle.misp_api.proofs.Forms.{BuiltForm, form_built}
 
 -- ---- the model's step
 
@@ -102,10 +103,10 @@ module _ (hosts : List Host) (distinct : AreDistinct hosts) (n : ℕ) (w : World
       by_deed Went time word deeds.Nothing placed = refl
       by_deed (Stopped stop k lost) time word deeds.Nothing placed = refl
       by_deed Went time word (deeds.Request r) placed =
-          ap Replied (request_told r.at time (form_of (host_at r.at hosts).admin r word) (form_built (host_at r.at hosts).admin r word) placed)
+          ap Replied (request_told r.at time (form_of (host_at r.at hosts).admin (request_in word r)) (form_built (host_at r.at hosts).admin (request_in word r)) placed)
       by_deed (Stopped stop k lost) time word (deeds.Request r) placed = refl
       by_deed Went time word (deeds.Group line) placed =
-          ap (λ groups. Replied (grouped time line (group_form line.body) groups).reply) (groups_there line.at placed)
+          ap (λ groups. Replied (grouped time line.org line.add (group_form line.body) groups).reply) (groups_there line.at placed)
       by_deed (Stopped stop k lost) time word (deeds.Group line) placed = refl
 
   -- the line puts out what the history says
@@ -182,9 +183,9 @@ module _ (hosts : List Host) (distinct : AreDistinct hosts) (n : ℕ) (w : World
   module _ (back : AreReadBack) where
     -- a line of a group
     group_left : (now : ℕ) (line : GroupData) (form : Reading Group) → line.at < length hosts
-        → AreReadable (grouped now line form (groups_of (held_at line.at old))).batches
+        → AreReadable (grouped now line.org line.add form (groups_of (held_at line.at old))).batches
         → IsHistory hosts (suc n) (step no_links n w (record { at = (host_at line.at hosts).name; now = now; deed = administering form line }))
-        (slice_set old line.at (put_batches (map spelled (grouped now line form (groups_of (held_at line.at old))).batches) (held_at line.at old)))
+        (slice_set old line.at (put_batches (map spelled (grouped now line.org line.add form (groups_of (held_at line.at old))).batches) (held_at line.at old)))
     group_left now line (Ok g) lt fits =
         let here : Inst = (host_at line.at hosts).name in
         let held : Held = held_at line.at old in
@@ -204,8 +205,8 @@ module _ (hosts : List Host) (distinct : AreDistinct hosts) (n : ℕ) (w : World
         (tables_after Went n hosts (Ok (record { time = time; word = word; deed = deed })) old)
     deed_left time word deeds.Nothing placed fits = as_before _ _ (step_nothing no_links n w _ refl) (still 0)
     deed_left time word (deeds.Request r) placed fits =
-        request_left r.at time (form_of (host_at r.at hosts).admin r word) (caller_in (host_at r.at hosts).admin r.key)
-        (form_built (host_at r.at hosts).admin r word) placed fits
+        request_left r.at time (form_of (host_at r.at hosts).admin (request_in word r)) (caller_in (host_at r.at hosts).admin r.key)
+        (form_built (host_at r.at hosts).admin (request_in word r)) placed fits
     deed_left time word (deeds.Group line) placed fits = group_left time line (group_form line.body) placed fits
 
     -- what is stopped leaves all as it was

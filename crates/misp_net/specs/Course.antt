@@ -2,7 +2,7 @@
 use Rattle.std.specs.Prelude.{◌≡◌, ℕ, List, ◌++◌, length}
 use Rattle.misp_outside.specs.Stock.{Stock}
 use Rattle.misp_net.specs.declared.line.Output.{Output}
-use Rattle.misp_net.specs.Hosts.{Host}
+use Rattle.misp_api.specs.Host.{Host}
 use Rattle.misp_net.specs.Lines.{Act, IsAmong, AreAmong}
 use Rattle.misp_net.specs.Run.{IsAct, Ran}
 use Rattle.misp_net.specs.Text.{line_of, text_from}

@@ -16,7 +16,8 @@ use Rattle.misp_model.specs.Outcomes.{Whole, step_partly}
 use Rattle.misp_model.specs.Outcomes as parts
 use Rattle.misp_core.specs.Keeping.{Keeps}
 use Rattle.misp_net.specs.declared.line.Output.{Output}
-use Rattle.misp_net.specs.Hosts.{Host, host_at}
+use Rattle.misp_api.specs.Host.{Host}
+use Rattle.misp_net.specs.Hosts.{host_at}
 use Rattle.misp_net.specs.Lines.{Act}
 use Rattle.misp_store.specs.Seen.{Seen}
 use Rattle.misp_net.specs.Meaning.{meaning, stop_in}

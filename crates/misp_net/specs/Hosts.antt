@@ -1,18 +1,10 @@
 -- The instances of a network, and their keepers, as a run sees them.
 use Rattle.std.specs.Prelude.{ℕ, List, [], map, slice_index_or}
-use Rattle.misp_orgs.specs.Admin.{AdminFields as Admin}
 use Rattle.misp_outside.specs.Stock.{Stock, stock}
 use Rattle.misp_script.specs.declared.description.Description.{Description}
 use Rattle.misp_script.specs.declared.description.Entry.{Entry}
 use Rattle.misp_core.specs.Standing.{Standing}
-
--- who an instance is: its name, and what is set up there
-pub record Host : Type 0 where
-  pub name : List ℕ
-  pub admin : Admin
-
-abbrev pub host_of : Standing → Host
-host_of i = record { name = i.name; admin = i.admin }
+use Rattle.misp_api.specs.Host.{Host, host_of}
 
 abbrev pub hosts_of : List Standing → List Host
 hosts_of instances = map host_of instances

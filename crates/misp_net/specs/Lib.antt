@@ -1,11 +1,6 @@
 pub mod Hosts
-pub mod Route
-pub mod Request
 pub mod Lines
-pub mod Answering
-pub mod Administering
 pub mod Meaning
-pub mod Order
 pub mod Text
 pub mod Opening
 pub mod Run

@@ -16,11 +16,12 @@ use Rattle.misp_core.specs.declared.reply.Reply.{Reply}
 use Rattle.misp_net.specs.declared.line.Output.{Output}
 use Rattle.misp_net.specs.declared.line.Output.TheVariants.{Bad, Nothing, Replied}
 use Rattle.misp_net.specs.Lines.{Act}
-use Rattle.misp_net.specs.Hosts.{Host, host_at}
-use Rattle.misp_net.specs.Request.{Reading}
+use Rattle.misp_api.specs.Host.{Host}
+use Rattle.misp_net.specs.Hosts.{host_at}
+use Rattle.misp_api.specs.Request.{RequestData, Reading}
 use Rattle.misp_store.specs.Seen.{Seen}
-use Rattle.misp_net.specs.Answering.{Asked, caller_in, form_of, replied}
-use Rattle.misp_net.specs.Administering.{group_form, grouped}
+use Rattle.misp_api.specs.Answering.{Asked, caller_in, form_of, replied}
+use Rattle.misp_api.specs.Administering.{group_form, grouped}
 
 -- what a line is: as the n-th what it comes to among the instances, its act in the history, and
 -- the organisation that asks
@@ -69,30 +70,30 @@ administering (Err refusal) line = model.Nothing
 
 -- ---- lines
 
+-- the request of a line
+abbrev pub request_in : ℕ → deeds.RequestData → RequestData
+request_in word r =
+    record { key = r.key; method = r.method; target = r.target; body = r.body; word = word }
+
 -- by deed
 abbrev pub deed_meaning : List Host → ℕ → ℕ → DeedData → LineMeaning
 deed_meaning hosts time word deeds.Nothing = idle Nothing time
 deed_meaning hosts time word (deeds.Request r) =
     let host : Host = host_at r.at hosts in
     let caller : Option Caller = caller_in host.admin r.key in
+    let form : Reading Asked = form_of host.admin (request_in word r) in
     record {
-      means = λ n. asks r.at (replied n host time (form_of host.admin r word));
-      act = record {
-        at = host.name;
-        now = time;
-        deed = asking (form_of host.admin r word) host caller;
-      };
+      means = λ n. asks r.at (replied n host time form);
+      act = record { at = host.name; now = time; deed = asking form host caller };
       asker = option_map (λ c. c.org) caller;
     }
-deed_meaning hosts time word (deeds.Group line) = record {
-  means = λ n. asks line.at (λ here. grouped time line (group_form line.body) here.groups);
-  act = record {
-    at = (host_at line.at hosts).name;
-    now = time;
-    deed = administering (group_form line.body) line;
-  };
-  asker = None;
-}
+deed_meaning hosts time word (deeds.Group line) =
+    let form : Reading Group = group_form line.body in
+    record {
+      means = λ n. asks line.at (λ here. grouped time line.org line.add form here.groups);
+      act = record { at = (host_at line.at hosts).name; now = time; deed = administering form line };
+      asker = None;
+    }
 
 -- a line that is none does nothing
 abbrev pub meaning : List Host → Act → LineMeaning

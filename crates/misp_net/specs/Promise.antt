@@ -10,7 +10,7 @@ use Rattle.misp_model.specs.Kept.{start, erased}
 use Rattle.misp_core.specs.Effects.{IsRefused}
 use Rattle.misp_net.specs.declared.line.Output.{Output}
 use Rattle.misp_net.specs.declared.line.Output.TheVariants.{Bad, Nothing, Replied}
-use Rattle.misp_net.specs.Hosts.{Host}
+use Rattle.misp_api.specs.Host.{Host}
 use Rattle.misp_net.specs.Lines.{Act}
 use Rattle.misp_net.specs.Meaning.{stop_in}
 use Rattle.misp_net.specs.Run.{output_of, tables_after, Ran}

@@ -1,29 +1,8 @@
 -- What is written for the lines of a script.
 use Rattle.std.specs.Prelude.{ℕ, ◌+◌, List, [], ◌∷◌, ◌++◌, codes, decimal}
-use Rattle.serde_json.specs.Written.{compact_text}
-use Rattle.misp_elem.specs.Refusal.{rule_status}
-use Rattle.misp_format.specs.Replies.{saved_data, taken_data, refusal_data}
-use Rattle.misp_format.specs.Written.{body_data}
-use Rattle.misp_format.specs.WholeGroup.{groups_text}
-use Rattle.misp_core.specs.declared.reply.Answer.{Answer}
-use Rattle.misp_core.specs.declared.reply.Answer.TheVariants as answers
-use Rattle.misp_core.specs.declared.reply.Reply.{Reply}
-use Rattle.misp_core.specs.declared.reply.Reply.TheVariants as replies
+use Rattle.misp_api.specs.Text.{reply_text}
 use Rattle.misp_net.specs.declared.line.Output.{Output}
 use Rattle.misp_net.specs.declared.line.Output.TheVariants.{Bad, Nothing, Replied}
-
--- the body of an answer
-abbrev pub answer_text : Answer → List ℕ
-answer_text (answers.Saved elements event stamp) = compact_text (saved_data elements event stamp)
-answer_text (answers.Event event) = compact_text (body_data event)
-answer_text (answers.Groups groups) = groups_text groups
-answer_text (answers.Taken count) = compact_text (taken_data count)
-
--- the status of a reply, a space and its body
-abbrev pub reply_text : Reply → List ℕ
-reply_text (replies.Ok answer) = codes "200 " ++ answer_text answer
-reply_text (replies.Refused refusal) =
-    decimal (rule_status refusal.name) ++ 32 ∷ compact_text (refusal_data refusal)
 
 -- `bad` and the place of the first faulty field, `-` where nothing was asked, or the reply
 abbrev pub output_text : Output → List ℕ

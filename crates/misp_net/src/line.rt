@@ -1,13 +1,12 @@
 //! Writes what the lines of a script come to.
 
-ghost use Rattle.std.specs.Prelude.{◌≡◌, ◌++◌, OnOk, decimal, codes, string_bytes};
-ghost use Rattle.misp_net.specs.Text.{answer_text, reply_text, output_text, line_of};
+ghost use Rattle.std.specs.Prelude.{◌≡◌, ◌++◌, OnOk, codes, string_bytes};
+ghost use Rattle.misp_net.specs.Text.{output_text, line_of};
 
-use misp_core::{Answer, Reply};
-use misp_format::{put_event, put_groups, write_refusal, write_saved, write_taken};
+use misp_api::{put_number, put_reply, put_text};
+use misp_core::Reply;
 use misp_ids::NoMemory;
 use std::alloc::Global;
-use std::fmt::Write;
 
 /// What a line of a script comes to.
 #[derive(Debug, Drop)]
@@ -17,52 +16,6 @@ pub enum Output {
     /// Nothing was asked.
     Nothing,
     Replied(Reply),
-}
-
-fn put_text(lines: &mut Vec<u8>, text: &str) -> Result<(), NoMemory>
-    ensures { OnOk result (lines.new.items ≡ lines.old.items ++ text.now) }
-{
-    Ok(lines.extend_from_slice(text.as_bytes())?)
-}
-
-// A number in decimal digits.
-fn put_number(lines: &mut Vec<u8>, alloc: Global, number: usize) -> Result<(), NoMemory>
-    ensures { OnOk result (lines.new.items ≡ lines.old.items ++ decimal number) }
-{
-    let mut text = String::new(alloc);
-    write!(text, "{number}")?;
-    put_text(lines, text.as_str())
-}
-
-fn put_answer(lines: &mut Vec<u8>, alloc: Global, answer: &Answer) -> Result<(), NoMemory>
-    ensures { OnOk result (lines.new.items ≡ lines.old.items ++ answer_text answer.now) }
-{
-    match answer {
-        Answer::Saved {
-            elements,
-            event,
-            stamp,
-        } => Ok(lines.extend_from_slice(&write_saved(alloc, *elements, event, *stamp)?)?),
-        Answer::Event(event) => put_event(lines, alloc, event),
-        Answer::Groups(groups) => put_groups(lines, alloc, groups.as_slice()),
-        Answer::Taken(count) => Ok(lines.extend_from_slice(&write_taken(alloc, *count)?)?),
-    }
-}
-
-fn put_reply(lines: &mut Vec<u8>, alloc: Global, reply: &Reply) -> Result<(), NoMemory>
-    ensures { OnOk result (lines.new.items ≡ lines.old.items ++ reply_text reply.now) }
-{
-    match reply {
-        Reply::Ok(answer) => {
-            put_text(lines, "200 ")?;
-            put_answer(lines, alloc, answer)
-        }
-        Reply::Refused(refusal) => {
-            put_number(lines, alloc, usize::from(refusal.status()))?;
-            put_text(lines, " ")?;
-            Ok(lines.extend_from_slice(&write_refusal(alloc, refusal)?)?)
-        }
-    }
 }
 
 fn put_output(lines: &mut Vec<u8>, alloc: Global, output: &Output) -> Result<(), NoMemory>

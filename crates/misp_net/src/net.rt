@@ -3,6 +3,9 @@
 ghost use Rattle.std.specs.Prelude.{◌≡◌, ◌≤◌, ℕ, true, Err, IfOk, IfErr, OnOk, length, map, take, drop, vec_len};
 ghost use Rattle.misp_script.specs.Directory.{directory_of};
 ghost use Rattle.misp_script.specs.Step.{step_of};
+ghost use Rattle.misp_script.specs.Step as deeds;
+ghost use Rattle.misp_api.specs.Request as requests;
+ghost use Rattle.misp_net.specs.Meaning.{request_in};
 ghost use Rattle.misp_effects.specs.Stocks.{told};
 ghost use Rattle.misp_net.specs.Hosts.{described_hosts, hosts_of, stocks_of};
 ghost use Rattle.misp_net.specs.Lines.{acts_of, IsAmong};
@@ -11,16 +14,41 @@ ghost use Rattle.misp_net.specs.Run.{IsAct};
 ghost use Rattle.misp_net.specs.Course.{HasPut, HasRun};
 ghost use Rattle.misp_net.specs.Promise.{IsPrivate, AreReplied, AreNewest};
 
-use crate::administering::administer;
-use crate::answering::answer;
 use crate::line::{Output, write_line};
 use crate::places::{NetFault, close_all, open_all};
+use misp_api::{GroupRequest, Request, administer, answer};
 use misp_core::Instance;
 use misp_format::a_group_is_read_from_its_text;
 use misp_ids::NoMemory;
 use misp_outside::Keeper;
-use misp_script::{Deed, Description, Directory, read_line, split_line};
+use misp_script::{Deed, Description, Directory, GroupLine, RequestLine, read_line, split_line};
 use std::alloc::Global;
+
+// The request of a line, with the word of its step.
+fn request_in<'a>(word: u128, line: &RequestLine<'a>) -> Request<'a>
+    ensures { requests.request_data result ≡ request_in word (deeds.request_data line.now) }
+{
+    Request {
+        key: line.key,
+        method: line.method,
+        target: line.target,
+        body: line.body,
+        word,
+    }
+}
+
+// The adding or editing of a group by a line.
+fn group_in<'a>(line: &GroupLine<'a>) -> GroupRequest<'a>
+    ensures by { result.by ≡ line.now.org }
+    ensures add { result.add ≡ line.now.add }
+    ensures body { result.body.now ≡ line.now.body.now }
+{
+    GroupRequest {
+        by: line.org,
+        add: line.add,
+        body: line.body,
+    }
+}
 
 // Runs one line.
 fn run_line<K: Keeper>(
@@ -40,10 +68,12 @@ fn run_line<K: Keeper>(
             Deed::Nothing => Output::Nothing,
             Deed::Request(request) => {
                 let instance = &mut instances[request.at];
-                Output::Replied(answer(alloc, instance, step.time, step.word, &request))
+                let request = request_in(step.word, &request);
+                Output::Replied(answer(alloc, instance, step.time, &request))
             }
             Deed::Group(group) => {
                 let instance = &mut instances[group.at];
+                let group = group_in(&group);
                 Output::Replied(administer(alloc, instance, step.time, &group))
             }
         },

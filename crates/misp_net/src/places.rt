@@ -1,7 +1,8 @@
 //! Takes keepers out of their places, and puts them back.
 
 ghost use Rattle.std.specs.Prelude.{◌≡◌, ◌+◌, ◌<◌, ◌≤◌, [], ◌∷◌, ◌++◌, true, Err, IfOk, OnOk, OnErr, map, take, drop, vec_len, vec_capacity};
-ghost use Rattle.misp_net.specs.Hosts.{described_host, host_of, hosts_of, stock_of, stocks_of};
+ghost use Rattle.misp_api.specs.Host.{host_of};
+ghost use Rattle.misp_net.specs.Hosts.{described_host, hosts_of, stock_of, stocks_of};
 ghost use Rattle.misp_net.specs.Opening.{may_be_sound, may_be_unsound, AreKept, OneFailed, fault_of};
 
 use misp_core::{Instance, LoadFault};

@@ -1,7 +1,7 @@
 use Rattle.std.proofs.Common.{sym, ◌∙◌, subst}
 use Rattle.std.proofs.lemmas.List.{length-map}
 use Rattle.misp_script.specs.Step.{step_of}
-use Rattle.misp_net.specs.Hosts.{host_of}
+use Rattle.misp_api.specs.Host.{host_of}
 use Rattle.misp_net.specs.Lines.{IsAmong}
 use Rattle.misp_net.proofs.Courses.{where_ok}
 use Rattle.misp_net.proofs.net.put_line.Goals as goal

@@ -16,7 +16,7 @@ returns-in-Request-clause-act g c = λ n.
     let placed : request.at < length c.args.instances.now.items = omega (arith, inside, c.requires, c.args.instances.now.ok.0) in
     rw said
     (one_request n c.in-Ok.step.time c.in-Ok.step.word (request_data request) c.args.instances.now.items c.answer.new.instance held c.answer.result placed
-    (rw (← c.index_mut-instance.ensures.value) (c.answer.ensures.replied n))
+    (rw (← c.index_mut-instance.ensures.value) (rw c.request_in-request.ensures at (c.answer.ensures.replied n)))
     (rw (← c.index_mut-instance.ensures.value) c.answer.ensures.cause))
 
 pub returns-in-Request-clause-hosts : goal.returns-in-Request-clause-hosts
@@ -41,7 +41,7 @@ returns-in-Group-clause-act g c = λ n.
     let placed : line.at < length c.args.instances.now.items = omega (arith, inside, c.requires, c.args.instances.now.ok.0) in
     rw said
     (one_group n c.in-Ok.step.time c.in-Ok.step.word line c.args.instances.now.items c.administer.new.instance held c.administer.result placed
-    (rw (← c.index_mut-instance-in-Group.ensures.value) c.administer.ensures.replied)
+    (rw (← c.index_mut-instance-in-Group.ensures.value) (rw (c.group_in-group.ensures.by, c.group_in-group.ensures.add, c.group_in-group.ensures.body) at c.administer.ensures.replied))
     (rw (← c.index_mut-instance-in-Group.ensures.value) c.administer.ensures.cause))
 
 pub returns-in-Group-clause-hosts : goal.returns-in-Group-clause-hosts

@@ -3,7 +3,8 @@ use Rattle.std.proofs.lemmas.List.{length-map, map-append}
 use Rattle.std.proofs.lemmas.Iterator.Adapters.{YieldsList-from_vec}
 use Rattle.std.proofs.lemmas.Iterator.Consumers.{YieldsList-turn, YieldsList-end}
 use Rattle.misp_net.specs.declared.places.NetFault.TheVariants as faults
-use Rattle.misp_net.specs.Hosts.{described_host, host_of, hosts_of, stock_of, stocks_of}
+use Rattle.misp_api.specs.Host.{host_of}
+use Rattle.misp_net.specs.Hosts.{described_host, hosts_of, stock_of, stocks_of}
 use Rattle.misp_net.proofs.Openings.{all_kept, opens, more_left, closes, closes_others, closes_failed, closes_unsound, sound_kept, sound_more, on_err}
 use Rattle.misp_net.proofs.places.open_all.Given.{Over}
 use Rattle.misp_net.proofs.places.open_all.Goals as goal

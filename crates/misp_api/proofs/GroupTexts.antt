@@ -1,0 +1,50 @@
+-- The reply where a group is added or edited, by what its text is.
+use Rattle.std.proofs.Common.{◌≡◌, ℕ, ◌≤◌, Bool, List, refl, sym, subst, Option, Some, None, Ok, Err}
+use Rattle.std.specs.Prelude.{IfSome}
+use Rattle.misp_groups.specs.declared.group.GroupFields.{GroupFields as Group}
+use Rattle.misp_groups.specs.Group.{IsGroup}
+use Rattle.misp_ids.specs.declared.uid.OrgId.{OrgId}
+use Rattle.misp_ids.specs.declared.stamp.TheConstants.{LAST_SECOND}
+use Rattle.misp_outside.specs.Held.{Held}
+use Rattle.misp_format.specs.GroupText.{group_in_text}
+use Rattle.misp_store.specs.Sharing.{groups_of}
+use Rattle.misp_core.specs.Administering.{IsAdministered}
+use Rattle.misp_core.specs.Effects.{by_keeper, stop_in}
+use Rattle.misp_core.specs.declared.reply.Reply.{Reply}
+use Rattle.misp_api.specs.declared.request.AskFault.{AskFault}
+use Rattle.misp_api.specs.declared.request.AskFault.TheVariants as stops
+use Rattle.misp_api.specs.Request.{Reading, Gives}
+use Rattle.misp_api.specs.Answering.{fault_reply}
+use Rattle.misp_api.specs.Administering.{group_form, FormFits, grouped, IsDone}
+use Rattle.misp_api.proofs.Replying.{ByForm, formed_by_form, by_fault, no_keeper_in}
+
+-- a group is administered by the instance
+pub by_instance : (now : ℕ) (by : OrgId) (add : Bool) (form : Reading Group) (g : Group) (reply : Reply) (old new : Option Held) → form ≡ Ok g
+    → IfSome old (λ held. IsAdministered now by add g held reply new) → IfSome old (λ held. IsDone now by add form held reply new)
+by_instance now by add form g reply None new is done = tt
+by_instance now by add form g reply (Some held) new is done = subst (λ f. IsDone now by add f held reply new) (sym is) done
+
+text_by_form : (text : List ℕ) → ByForm (group_form text)
+unfolding group_form
+text_by_form text = formed_by_form (group_in_text text)
+
+-- the refusal of a text that is no group is the stated one
+pub by_text : (now : ℕ) (by : OrgId) (add : Bool) (text : List ℕ) (fault : AskFault) (old : Option Held) → Gives (Err fault) (group_form text)
+    → IfSome old (λ held. IsDone now by add (group_form text) held (fault_reply fault) old)
+by_text now by add text fault None given = tt
+by_text now by add text fault (Some held) given =
+    by_fault (λ form. grouped now by add form (groups_of held)) (λ refusal. refl) (group_form text) fault held given (text_by_form text)
+
+-- a group that is read fits, where the moment does
+pub read_fits : (now : ℕ) (form : Reading Group) (g : Group) → form ≡ Ok g → IsGroup g → now ≤ LAST_SECOND → FormFits now form
+read_fits now form g is fits moment = subst (FormFits now) (sym is) (fits, moment)
+
+-- a text that is no group has none that does not fit
+pub unread_fits : (now : ℕ) (form : Reading Group) (fault : AskFault) → Gives (Err fault) form → stop_in (fault_reply fault) ≡ None → FormFits now form
+unread_fits now form (stops.Refused refusal) given went = subst (FormFits now) (sym given) tt
+unread_fits now form stops.NoMemory given went = absurd cc
+
+-- no keeper failed where a text was not read
+pub no_keeper_read : (text : List ℕ) (fault : AskFault) → Gives (Err fault) (group_form text) → stop_in (fault_reply fault) ≡ by_keeper → ⊥
+no_keeper_read text (stops.Refused refusal) given = no_keeper_in refusal (subst ByForm given (text_by_form text))
+no_keeper_read text stops.NoMemory given = λ is. absurd cc

@@ -1,0 +1,79 @@
+-- What a request is by its form, and what it is replied.
+use Rattle.std.specs.Prelude.{ℕ, List, Option, Some, None, Result, Ok, Err, if◌then◌else◌}
+use Rattle.misp_ids.specs.Names.{is_api_key}
+use Rattle.misp_elem.specs.declared.refusal.RuleName.{RuleName}
+use Rattle.misp_elem.specs.declared.refusal.RuleName.TheVariants as rules
+use Rattle.misp_elem.specs.Refusal.{bare}
+use Rattle.misp_orgs.specs.Keys.{CallerFields as Caller}
+use Rattle.misp_orgs.specs.Admin.{AdminFields as Admin, who_of}
+use Rattle.misp_outside.specs.Held.{Held}
+use Rattle.misp_effects.specs.Effect.{Effect}
+use Rattle.misp_requests.specs.declared.ask.Ask.{Ask}
+use Rattle.misp_core.specs.Permission.{permission_of, is_permitted, no_permission}
+use Rattle.misp_core.specs.Answers.{reach_of, site}
+use Rattle.misp_core.specs.Effects.{refused, refused_by, asked_over, Did}
+use Rattle.misp_core.specs.declared.reply.Reply.{Reply}
+use Rattle.misp_core.specs.declared.reply.Reply.TheVariants as replies
+use Rattle.misp_api.specs.declared.route.Route.{Route}
+use Rattle.misp_api.specs.declared.request.AskFault.{AskFault}
+use Rattle.misp_api.specs.declared.request.AskFault.TheVariants as stops
+use Rattle.misp_api.specs.Host.{Host}
+use Rattle.misp_api.specs.Route.{route_of}
+use Rattle.misp_api.specs.Request.{RequestData, Reading, ask_of}
+use Rattle.misp_store.specs.Seen.{Seen, seen_in}
+
+-- who asks with a text as key, which may be none that a key could be
+abbrev pub caller_in : Admin → Option (List ℕ) → Option Caller
+caller_in admin None = None
+caller_in admin (Some text) = if is_api_key text then who_of admin text else None
+
+-- an ask, and whose it is
+abbrev pub Asked : Type 0
+Asked = Caller × Ask
+
+abbrev pub by_body : Caller → Reading Ask → Reading Asked
+by_body caller (Ok ask) = Ok (caller, ask)
+by_body caller (Err refusal) = Err refusal
+
+abbrev pub by_key : Option Caller → Route → List ℕ → ℕ → Reading Asked
+by_key None route body word = Err (bare rules.NoKey)
+by_key (Some caller) route body word = by_body caller (ask_of route body word)
+
+abbrev pub by_route : Result Route RuleName → Option Caller → List ℕ → ℕ → Reading Asked
+by_route (Err rule) caller body word = Err (bare rule)
+by_route (Ok route) caller body word = by_key caller route body word
+
+-- what a request asks, and whose it is: first its route must be one, then its key, then its body
+unfoldable pub read_of : Admin → RequestData → Reading Asked
+read_of admin request =
+    by_route (route_of request.method request.target) (caller_in admin request.key)
+    request.body request.word
+
+-- what is asked, where the role of the caller permits it
+abbrev pub permitted : Reading Asked → Reading Asked
+permitted (Ok asked) =
+    if is_permitted asked.0 asked.1 then Ok asked else Err (no_permission (permission_of asked.1))
+permitted (Err refusal) = Err refusal
+
+-- what a request is by its form and the role of its caller
+abbrev pub form_of : Admin → RequestData → Reading Asked
+form_of admin request = permitted (read_of admin request)
+
+-- the reply to a request that was not read
+abbrev pub fault_reply : AskFault → Reply
+fault_reply (stops.Refused refusal) = replies.Refused refusal
+fault_reply stops.NoMemory = refused_by rules.NoMemory
+
+-- ---- the n-th request, of this form
+
+-- what it comes to by what is seen
+abbrev pub replied : ℕ → Host → ℕ → Reading Asked → Seen → Effect Reply
+replied n host now (Ok asked) here =
+    asked_over n (site host.name host.admin here.groups asked.0 now) asked.1
+    (here.rows (reach_of asked.1))
+replied n host now (Err refusal) here = refused refusal
+
+-- it was replied so, and left this
+abbrev pub IsReplied : ℕ → Host → ℕ → Reading Asked → Held → Reply → Option Held → Type 0
+IsReplied n host now form held reply new =
+    Did (replied n host now form (seen_in held)) held reply new

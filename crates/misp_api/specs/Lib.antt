@@ -1,0 +1,7 @@
+pub mod Host
+pub mod Route
+pub mod Request
+pub mod Answering
+pub mod Administering
+pub mod Order
+pub mod Text

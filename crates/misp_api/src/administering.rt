@@ -1,0 +1,70 @@
+//! Adds or edits a sharing group at an instance.
+
+ghost use Rattle.std.specs.Prelude.{◌≡◌, None, IfOk, IfSome};
+ghost use Rattle.misp_groups.specs.Group.{IsGroup};
+ghost use Rattle.misp_outside.specs.Causes.{HasCause};
+ghost use Rattle.misp_core.specs.Effects.{by_keeper, stop_in, IsRefused};
+ghost use Rattle.misp_api.specs.Administering.{group_form, FormFits, IsDone};
+ghost use Rattle.misp_api.specs.Request.{Gives};
+
+use crate::answering::refused;
+use crate::request::{AskFault, fault};
+use misp_core::{Instance, Reply};
+use misp_format::read_group_text;
+use misp_groups::Group;
+use misp_ids::{OrgId, Stamp};
+use misp_outside::Keeper;
+use std::alloc::Global;
+
+/// What an organisation asks of a sharing group.
+#[derive(Clone, Copy, Debug, PartialEq, Eq)]
+pub struct GroupRequest<'a> {
+    /// By whom it is administered: an organisation that is known at the instance.
+    pub by: OrgId,
+    /// Whether the group is added; else it is edited.
+    pub add: bool,
+    /// The text of the group. It may be no JSON.
+    pub body: &'a [u8],
+}
+
+// The group that a text is.
+#[tactic(auto, unfolding(crate::specs::Administering::group_form))]
+fn group(alloc: Global, text: &[u8]) -> Result<Group, AskFault>
+    ensures read { Gives result (group_form text.now) }
+    ensures fits { IfOk result IsGroup }
+{
+    match read_group_text(alloc, text) {
+        Ok(group) => Ok(group),
+        Err(stopped) => Err(fault(alloc, stopped)),
+    }
+}
+
+/// Adds or edits a sharing group at this moment.
+pub fn administer<K: Keeper>(
+    alloc: Global,
+    instance: &mut Instance<K>,
+    now: Stamp,
+    request: &GroupRequest<'_>,
+) -> Reply
+    // Reply and groups are the stated functions of the request and of what is held.
+    ensures replied { IfSome instance.old.held (λ held.
+        IsDone now request.now.by request.now.add (group_form request.now.body.now)
+        held result instance.new.held) }
+
+    // What is read and not stopped is a group, at a moment that has a stamp.
+    ensures fits { stop_in result ≡ None → FormFits now (group_form request.now.body.now) }
+
+    // A refused request changes nothing.
+    ensures refused { IsRefused result → instance.new.held ≡ instance.old.held }
+    ensures cause { HasCause instance.old.faults instance.new.faults
+        (stop_in result ≡ by_keeper) }
+    ensures name { instance.new.name ≡ instance.old.name }
+    ensures admin { instance.new.admin ≡ instance.old.admin }
+{
+    // The moment of a stamp is within the years that a stamp has.
+    let _moment = now.get();
+    match group(alloc, request.body) {
+        Ok(group) => instance.admin_group(alloc, now, &request.by, group, request.add),
+        Err(fault) => refused(alloc, fault),
+    }
+}

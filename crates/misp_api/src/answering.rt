@@ -1,0 +1,91 @@
+//! Answers a request at an instance.
+
+ghost use Rattle.std.specs.Prelude.{◌≡◌, ℕ, Err, IfOk, IfSome, option_map};
+ghost use Rattle.misp_outside.specs.Causes.{HasCause};
+ghost use Rattle.misp_core.specs.Answers.{IsBuilt};
+ghost use Rattle.misp_core.specs.Effects.{stop_in, by_keeper, IsRefused};
+ghost use Rattle.misp_core.specs.Order.{IsInOrder};
+ghost use Rattle.misp_api.specs.Answering.{caller_in, read_of, form_of, fault_reply, IsReplied};
+ghost use Rattle.misp_api.specs.Order.{order};
+ghost use Rattle.misp_api.specs.Host.{host_of};
+ghost use Rattle.misp_api.specs.Request.{Gives, request_data};
+
+use crate::request::{AskFault, Request, read_ask};
+use crate::route::Route;
+use misp_core::{Instance, Reply};
+use misp_elem::{Refusal, RuleName};
+use misp_ids::{ApiKey, Stamp};
+use misp_orgs::Caller;
+use misp_outside::Keeper;
+use misp_requests::Ask;
+use std::alloc::Global;
+
+fn caller<K: Keeper>(instance: &Instance<K>, key: &Option<&str>) -> Option<Caller>
+    ensures { result ≡ caller_in instance.now.admin (option_map (λ text. text.now) key.now) }
+{
+    match key {
+        Some(text) => instance.who(&ApiKey::read(text)?),
+        None => None,
+    }
+}
+
+// The ask of a request, and whose it is: first its route must be one, then its key, then its body.
+#[tactic(auto, unfolding(crate::specs::Answering::read_of))]
+fn read<K: Keeper>(
+    alloc: Global,
+    instance: &Instance<K>,
+    request: &Request<'_>,
+) -> Result<(Caller, Ask), AskFault>
+    ensures read { Gives result (read_of instance.now.admin (request_data request.now)) }
+    ensures built { IfOk result (λ asked. IsBuilt asked.1) }
+{
+    let route = match Route::of(request.method, request.target) {
+        Ok(route) => route,
+        Err(rule) => return Err(AskFault::Refused(Refusal::bare(alloc, rule))),
+    };
+    let Some(caller) = caller(instance, &request.key) else {
+        return Err(AskFault::Refused(Refusal::bare(alloc, RuleName::NoKey)));
+    };
+    let ask = read_ask(alloc, route, request.body, request.word)?;
+    Ok((caller, ask))
+}
+
+/// The reply to what was not read.
+pub(crate) fn refused(alloc: Global, fault: AskFault) -> Reply
+    ensures { result ≡ fault_reply fault }
+{
+    match fault {
+        AskFault::Refused(refusal) => Reply::Refused(refusal),
+        AskFault::NoMemory => Reply::Refused(Refusal::bare(alloc, RuleName::NoMemory)),
+    }
+}
+
+/// Answers a request of this moment.
+pub fn answer<K: Keeper>(
+    alloc: Global,
+    instance: &mut Instance<K>,
+    now: Stamp,
+    request: &Request<'_>,
+) -> Reply
+    // Reply and rows are the stated functions of the request and of what is held.
+    ensures replied { (n : ℕ) → IfSome instance.old.held (λ held. IsReplied n
+        (host_of instance.old) now
+        (form_of instance.old.admin (request_data request.now))
+        held result instance.new.held) }
+
+    // Where several rules refuse the request, the first in the one order is answered.
+    ensures order { (n : ℕ) → IfSome instance.old.held (λ held. IsInOrder
+        (order n (host_of instance.old) now (request_data request.now) held) result) }
+
+    // A refused request changes nothing.
+    ensures refused { IsRefused result → instance.new.held ≡ instance.old.held }
+    ensures cause { HasCause instance.old.faults instance.new.faults
+        (stop_in result ≡ by_keeper) }
+    ensures name { instance.new.name ≡ instance.old.name }
+    ensures admin { instance.new.admin ≡ instance.old.admin }
+{
+    match read(alloc, instance, request) {
+        Ok((caller, ask)) => instance.step(alloc, now, &caller, ask),
+        Err(fault) => refused(alloc, fault),
+    }
+}

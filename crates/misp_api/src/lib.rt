@@ -1,0 +1,14 @@
+//! Reads requests, answers them at an instance, and writes the replies.
+#![tactic(auto)]
+
+mod administering;
+mod answering;
+mod reply;
+mod request;
+mod route;
+
+pub use administering::{GroupRequest, administer};
+pub use answering::answer;
+pub use reply::{put_number, put_reply, put_text};
+pub use request::{AskFault, Request, read_ask};
+pub use route::Route;

@@ -1,0 +1,58 @@
+//! Writes replies.
+
+ghost use Rattle.std.specs.Prelude.{◌≡◌, ◌++◌, OnOk, decimal, codes, string_bytes};
+ghost use Rattle.misp_api.specs.Text.{answer_text, reply_text};
+
+use misp_core::{Answer, Reply};
+use misp_format::{put_event, put_groups, write_refusal, write_saved, write_taken};
+use misp_ids::NoMemory;
+use std::alloc::Global;
+use std::fmt::Write;
+
+/// Writes a text at the end.
+pub fn put_text(out: &mut Vec<u8>, text: &str) -> Result<(), NoMemory>
+    ensures { OnOk result (out.new.items ≡ out.old.items ++ text.now) }
+{
+    Ok(out.extend_from_slice(text.as_bytes())?)
+}
+
+/// Writes a number in decimal digits.
+pub fn put_number(out: &mut Vec<u8>, alloc: Global, number: usize) -> Result<(), NoMemory>
+    ensures { OnOk result (out.new.items ≡ out.old.items ++ decimal number) }
+{
+    let mut text = String::new(alloc);
+    write!(text, "{number}")?;
+    put_text(out, text.as_str())
+}
+
+fn put_answer(out: &mut Vec<u8>, alloc: Global, answer: &Answer) -> Result<(), NoMemory>
+    ensures { OnOk result (out.new.items ≡ out.old.items ++ answer_text answer.now) }
+{
+    match answer {
+        Answer::Saved {
+            elements,
+            event,
+            stamp,
+        } => Ok(out.extend_from_slice(&write_saved(alloc, *elements, event, *stamp)?)?),
+        Answer::Event(event) => put_event(out, alloc, event),
+        Answer::Groups(groups) => put_groups(out, alloc, groups.as_slice()),
+        Answer::Taken(count) => Ok(out.extend_from_slice(&write_taken(alloc, *count)?)?),
+    }
+}
+
+/// Writes a reply: its status, a space and its body.
+pub fn put_reply(out: &mut Vec<u8>, alloc: Global, reply: &Reply) -> Result<(), NoMemory>
+    ensures { OnOk result (out.new.items ≡ out.old.items ++ reply_text reply.now) }
+{
+    match reply {
+        Reply::Ok(answer) => {
+            put_text(out, "200 ")?;
+            put_answer(out, alloc, answer)
+        }
+        Reply::Refused(refusal) => {
+            put_number(out, alloc, usize::from(refusal.status()))?;
+            put_text(out, " ")?;
+            Ok(out.extend_from_slice(&write_refusal(alloc, refusal)?)?)
+        }
+    }
+}
