@@ -24,7 +24,7 @@ pub by_instance : (now : ℕ) (by : OrgId) (add : Bool) (form : Reading Group) (
 by_instance now by add form g reply None new is done = tt
 by_instance now by add form g reply (Some held) new is done = subst (λ f. IsDone now by add f held reply new) (sym is) done
 
-text_by_form : (text : List ℕ) → ByForm (group_form text)
+pub text_by_form : (text : List ℕ) → ByForm (group_form text)
 unfolding group_form
 text_by_form text = formed_by_form (group_in_text text)
 

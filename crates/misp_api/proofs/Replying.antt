@@ -102,7 +102,7 @@ route_by_form (Err rule) caller body word formed = formed
 route_by_form (Ok route) None body word formed = inl refl
 route_by_form (Ok route) (Some caller) body word formed = body_by_form caller (ask_of route body word) (ask_by_form route body word)
 
-read_by_form : (admin : Admin) (request : RequestData) → ByForm (read_of admin request)
+pub read_by_form : (admin : Admin) (request : RequestData) → ByForm (read_of admin request)
 unfolding read_of
 read_by_form admin request = route_by_form (route_of request.method request.target) (caller_in admin request.key) request.body request.word (target_by_form request.method request.target)
 

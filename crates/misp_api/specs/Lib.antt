@@ -1,6 +1,7 @@
 pub mod Host
 pub mod Route
 pub mod Request
+pub mod Refusing
 pub mod Answering
 pub mod Administering
 pub mod Order

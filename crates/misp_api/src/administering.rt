@@ -6,6 +6,7 @@ ghost use Rattle.misp_outside.specs.Causes.{HasCause};
 ghost use Rattle.misp_core.specs.Effects.{by_keeper, stop_in, IsRefused};
 ghost use Rattle.misp_api.specs.Administering.{group_form, FormFits, IsDone};
 ghost use Rattle.misp_api.specs.Request.{Gives};
+ghost use Rattle.misp_api.specs.Refusing.{TurnsAway};
 
 use crate::answering::refused;
 use crate::request::{AskFault, fault};
@@ -53,6 +54,9 @@ pub fn administer<K: Keeper>(
 
     // What is read and not stopped is a group, at a moment that has a stamp.
     ensures fits { stop_in result ≡ None → FormFits now (group_form request.now.body.now) }
+
+    // A text that is no group is refused just so, and the keeper is as it was.
+    ensures formed { TurnsAway (group_form request.now.body.now) instance.old instance.new result }
 
     // A refused request changes nothing.
     ensures refused { IsRefused result → instance.new.held ≡ instance.old.held }

@@ -9,6 +9,7 @@ ghost use Rattle.misp_api.specs.Answering.{caller_in, read_of, form_of, fault_re
 ghost use Rattle.misp_api.specs.Order.{order};
 ghost use Rattle.misp_api.specs.Host.{host_of};
 ghost use Rattle.misp_api.specs.Request.{Gives, request_data};
+ghost use Rattle.misp_api.specs.Refusing.{TurnsAway};
 
 use crate::request::{AskFault, Request, read_ask};
 use crate::route::Route;
@@ -76,6 +77,11 @@ pub fn answer<K: Keeper>(
     // Where several rules refuse the request, the first in the one order is answered.
     ensures order { (n : ℕ) → IfSome instance.old.held (λ held. IsInOrder
         (order n (host_of instance.old) now (request_data request.now) held) result) }
+
+    // What the form of the request refuses, or the role of its caller, is refused just so, and the
+    // keeper is as it was.
+    ensures formed { TurnsAway (form_of instance.old.admin (request_data request.now))
+        instance.old instance.new result }
 
     // A refused request changes nothing.
     ensures refused { IsRefused result → instance.new.held ≡ instance.old.held }

@@ -1,5 +1,5 @@
 -- What a request over a keeper that may not tell what it holds is answered.
-use Rattle.std.proofs.Common.{◌≡◌, ℕ, List, true, false, if◌then◌else◌, refl, ap, sym, subst, ◌∙◌, Option, Some, None, Result, Ok, Err}
+use Rattle.std.proofs.Common.{◌≡◌, ℕ, List, Bool, true, false, if◌then◌else◌, refl, ap, sym, subst, inl, inr, ◌∙◌, Option, Some, None, Result, Ok, Err}
 use Rattle.std.specs.Prelude.{IfSome}
 use Rattle.misp_elem.specs.declared.row.RowFields.{RowFields as Row}
 use Rattle.misp_requests.specs.declared.ask.Ask.{Ask}
@@ -14,11 +14,14 @@ use Rattle.misp_store.specs.declared.fault.LoadFault.TheVariants as faults
 use Rattle.misp_core.specs.Permission.{is_permitted, forbidden}
 use Rattle.misp_core.specs.Standing.{Standing}
 use Rattle.misp_core.specs.Answers.{Surroundings, reach_of, scene_at, site_at}
-use Rattle.misp_core.specs.Effects.{refused, asked, asked_over, requested, Did, IsAnswered}
+use Rattle.misp_core.specs.Effects.{refused, asked, asked_over, requested, stop_in, by_keeper, Did, IsAnswered}
+use Rattle.misp_core.specs.Turned.{IsTurnedAway}
 use Rattle.misp_core.specs.Planning.{Plans, IsUnread, unplanned}
 use Rattle.misp_core.specs.declared.planning.Plan.{Plan}
 use Rattle.misp_core.specs.declared.planning.NoPlan.{NoPlan}
+use Rattle.misp_core.specs.declared.planning.NoPlan.TheVariants as why
 use Rattle.misp_core.specs.declared.reply.Reply.{Reply}
+use Rattle.misp_core.specs.declared.reply.Reply.TheVariants as replies
 use Rattle.misp_core.proofs.Carried.{DidThere, refused_did}
 
 -- what is not permitted comes to its refusal, and what is permitted to what the ask comes to
@@ -51,6 +54,21 @@ unread_there n i caller now ask fault None new reply may same names done = tt
 unread_there n i caller now ask fault (Some held) new reply may same names done =
     subst (λ (x : Option Held). IsAnswered n (site_at i held caller now) ask held reply x) (sym same)
     (done (requested n (site_at i held caller now) ask (seen_in held)) held (is_unread n (site_at i held caller now) ask (seen_in held) fault may names))
+
+not_forbidden : (ask : Ask) → stop_in (replies.Refused (forbidden ask)) ≡ by_keeper → ⊥
+not_forbidden ask is = absurd cc
+
+-- nothing is both permitted and not
+pub not_both : {P : Type 0} (may : Bool) → may ≡ true → may ≡ false → P
+not_both true yes_ no_ = absurd cc
+not_both false yes_ no_ = absurd cc
+
+-- just so, and the keeper is as it was
+pub just_turned : (i : Standing) (ask : Ask) (no : NoPlan) → Plans (Err no) (refused (forbidden ask)) → IsTurnedAway (forbidden ask) i i (unplanned no)
+just_turned i ask (why.Refused refusal) plans =
+    let just : replies.Refused refusal ≡ replies.Refused (forbidden ask) = sym (ap (λ (e : Effect Reply). e.reply) plans.is) in
+    record { just = inl just; no_fault = λ is. not_forbidden ask (subst (λ r. stop_in r ≡ by_keeper) just is); still = refl }
+just_turned i ask why.NoMemory plans = record { just = inr refl; no_fault = λ is. absurd cc; still = refl }
 
 -- an ask that is permitted was planned over the rows that it reads
 pub asked_there : (n : ℕ) (at : Surroundings) (ask : Ask) (rows : List Row) (planned : Result Plan NoPlan) (old mid new : Option Held) (reply : Reply) → is_permitted at.caller ask ≡ true → mid ≡ old

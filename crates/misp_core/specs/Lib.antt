@@ -2,6 +2,7 @@ pub mod Standing
 pub mod Permission
 pub mod Naming
 pub mod Answers
+pub mod Turned
 pub mod Effects
 pub mod Planning
 pub mod Administering

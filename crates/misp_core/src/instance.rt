@@ -1,11 +1,13 @@
 //! An instance over a keeper.
 
-ghost use Rattle.std.specs.Prelude.{◌≡◌, ◌≤◌, ℕ, IfOk, IfErr, IfSome, OnOk, IsOk, option_map};
+ghost use Rattle.std.specs.Prelude.{◌≡◌, ◌≤◌, ℕ, false, IfOk, IfErr, IfSome, OnOk, IsOk, option_map};
 ghost use Rattle.misp_outside.specs.Causes.{HasCause};
 ghost use Rattle.misp_store.specs.Sharing.{groups_in};
 ghost use Rattle.misp_core.specs.Answers.{site_at, IsBuilt};
 ghost use Rattle.misp_core.specs.Standing.{standing};
 ghost use Rattle.misp_store.specs.Loading.{NamesFault};
+ghost use Rattle.misp_core.specs.Permission.{is_permitted, forbidden};
+ghost use Rattle.misp_core.specs.Turned.{IsTurnedAway};
 ghost use Rattle.misp_core.specs.Effects.{IsAnswered, IsRefused, stop_in, by_keeper};
 ghost use Rattle.misp_core.specs.Order.{IsInOrder, grounds};
 ghost use Rattle.misp_core.specs.Administering.{IsAdministered};
@@ -121,6 +123,10 @@ impl<K: Keeper> Instance<K> {
         // Where several rules refuse it, the first in the one order is answered.
         ensures order { (n : ℕ) → IfSome self.old.held (λ held.
             IsInOrder (grounds n (site_at self.old held caller.now now) ask held) result) }
+
+        // What the role of the caller forbids is refused just so, and the keeper is as it was.
+        ensures forbidden { is_permitted caller.now ask ≡ false →
+            IsTurnedAway (forbidden ask) self.old self.new result }
 
         // A refused request changes nothing.
         ensures refused { IsRefused result → self.new.held ≡ self.old.held }

@@ -3,6 +3,7 @@ use Rattle.std.proofs.Common.{◌≡◌, subst}
 use Rattle.misp_api.specs.Request.{request_data}
 use Rattle.misp_core.specs.Effects.{by_keeper, stop_in}
 use Rattle.misp_api.proofs.Replying.{by_step, refused_by_form, no_keeper}
+use Rattle.misp_api.proofs.Turning.{turned_by_step, turned_unread}
 use Rattle.misp_api.proofs.Ordering.{order_by_step, order_by_fault}
 use Rattle.misp_api.proofs.answering.answer.Goals as goal
 
@@ -30,3 +31,9 @@ returns-in-Err-clause-cause g c = record {
   rose = λ is. absurd (no_keeper c.args.instance.now.admin (request_data c.args.request.now) c.in-Err.fault
       c.in-Err.ensures.read (subst (λ r. stop_in r ≡ by_keeper) c.refused.ensures is));
 }
+
+pub returns-in-Ok-clause-formed : goal.returns-in-Ok-clause-formed
+returns-in-Ok-clause-formed g c = turned_by_step c.args.instance.now _ (request_data c.args.request.now) _ c.step.result c.in-Ok.ensures.read c.step.ensures.forbidden
+
+pub returns-in-Err-clause-formed : goal.returns-in-Err-clause-formed
+returns-in-Err-clause-formed g c = rw (c.refused.ensures) (turned_unread c.args.instance.now (request_data c.args.request.now) c.in-Err.fault c.in-Err.ensures.read)

@@ -5,7 +5,7 @@ use Rattle.misp_core.specs.Standing.{standing}
 use Rattle.misp_core.specs.Permission.{no_permission}
 use Rattle.misp_core.specs.Effects.{refused, IsAnswered}
 use Rattle.misp_core.specs.Planning.{Plans}
-use Rattle.misp_core.proofs.Answered.{turned_away, unread_there, asked_there}
+use Rattle.misp_core.proofs.Answered.{turned_away, unread_there, just_turned, not_both, asked_there}
 use Rattle.misp_core.proofs.Serving.{at_groups}
 use Rattle.misp_core.proofs.Ordering.{told_in_order}
 use Rattle.misp_core.proofs.instance.Instance.step.Goals as goal
@@ -53,3 +53,19 @@ returns-clause-answered g c = λ n.
 pub returns-clause-order : goal.returns-clause-order
 returns-clause-order g c = λ n.
     told_in_order n (λ held. site_at c.args.self.now held c.args.caller.now c.args.now) _ _ _ _ c.requires (returns-clause-answered g c n)
+
+-- ---- what the role forbids
+
+pub returns-then-not-may-clause-forbidden : goal.returns-then-not-may-clause-forbidden
+returns-then-not-may-clause-forbidden g c = λ no.
+    rw c.unplanned.ensures
+    (just_turned _ c.args.ask c.forbidden.result
+    (subst (λ perm. Plans (Err c.forbidden.result) (refused (no_permission perm))) c.permission_for-perm.ensures c.forbidden.ensures))
+
+pub returns-in-Err-clause-forbidden : goal.returns-in-Err-clause-forbidden
+returns-in-Err-clause-forbidden g c = λ no.
+    not_both _ (rw (← c.caller.view_is, ← c.permission_for-perm.ensures) (sym c.if-not-may.ensures)) no
+
+pub returns-clause-forbidden : goal.returns-clause-forbidden
+returns-clause-forbidden g c = λ no.
+    not_both _ (rw (← c.caller.view_is, ← c.permission_for-perm.ensures) (sym c.if-not-may.ensures)) no

@@ -1,0 +1,51 @@
+-- What is refused by its form is refused just so.
+use Rattle.std.proofs.Common.{◌≡◌, Bool, true, false, refl, sym, ap, subst, inl, inr, Ok, Err}
+use Rattle.misp_orgs.specs.Admin.{AdminFields as Admin}
+use Rattle.misp_core.specs.Standing.{Standing}
+use Rattle.misp_core.specs.Permission.{is_permitted}
+use Rattle.misp_core.specs.Permission.{forbidden}
+use Rattle.misp_core.specs.Turned.{IsTurnedAway}
+use Rattle.misp_core.specs.declared.reply.Reply.{Reply}
+use Rattle.misp_api.specs.declared.request.AskFault.{AskFault}
+use Rattle.misp_api.specs.declared.request.AskFault.TheVariants as stops
+use Rattle.misp_api.specs.Request.{RequestData, Reading, Gives}
+use Rattle.misp_api.specs.Refusing.{TurnsAway}
+use Rattle.misp_api.specs.Answering.{Asked, read_of, permitted, form_of, fault_reply}
+use Rattle.misp_api.proofs.Forms.{allowed}
+use Rattle.misp_api.proofs.Replying.{ByForm, read_by_form, no_keeper_in}
+
+-- ---- what was not read
+
+-- memory may run out whatever the form
+out_of_memory : {A : Type 0} (i : Standing) (read : Reading A) → TurnsAway read i i (fault_reply stops.NoMemory)
+out_of_memory i (Ok x) = tt
+out_of_memory i (Err refusal) = record { just = inr refl; no_fault = λ is. absurd cc; still = refl }
+
+pub turned_by_fault : {A : Type 0} (i : Standing) (read : Reading A) (fault : AskFault) → Gives (Err fault) read → ByForm read → TurnsAway read i i (fault_reply fault)
+turned_by_fault i read (stops.Refused refusal) given formed =
+    subst (λ r. TurnsAway r i i (fault_reply (stops.Refused refusal))) (sym given)
+    (record { just = inl refl; no_fault = no_keeper_in refusal (subst ByForm given formed); still = refl })
+turned_by_fault i read stops.NoMemory given formed = out_of_memory i read
+
+-- what was not read is turned away by its form
+pub turned_unread : (i : Standing) (request : RequestData) (fault : AskFault) → Gives (Err fault) (read_of i.admin request)
+    → TurnsAway (form_of i.admin request) i i (fault_reply fault)
+turned_unread i request (stops.Refused refusal) given =
+    subst (λ read. TurnsAway (permitted read) i i (fault_reply (stops.Refused refusal))) (sym given)
+    (record { just = inl refl; no_fault = no_keeper_in refusal (subst ByForm given (read_by_form i.admin request)); still = refl })
+turned_unread i request stops.NoMemory given = out_of_memory i (form_of i.admin request)
+
+-- ---- what was read
+
+by_role : (may : Bool) (asked : Asked) (old new : Standing) (reply : Reply) → (may ≡ false → IsTurnedAway (forbidden asked.1) old new reply) → TurnsAway (allowed may asked) old new reply
+by_role true asked old new reply turned = tt
+by_role false asked old new reply turned = turned refl
+
+pub turned_by_step : (old new : Standing) (request : RequestData) (asked : Asked) (reply : Reply) → read_of old.admin request ≡ Ok asked
+    → (is_permitted asked.0 asked.1 ≡ false → IsTurnedAway (forbidden asked.1) old new reply) → TurnsAway (form_of old.admin request) old new reply
+turned_by_step old new request asked reply is turned =
+    subst (λ read. TurnsAway (permitted read) old new reply) (sym is) (by_role (is_permitted asked.0 asked.1) asked old new reply turned)
+
+-- what was read is not turned away
+pub not_turned : {A : Type 0} (old new : Standing) (read : Reading A) (x : A) (reply : Reply) → read ≡ Ok x → TurnsAway read old new reply
+not_turned old new read x reply is = subst (λ r. TurnsAway r old new reply) (sym is) tt
