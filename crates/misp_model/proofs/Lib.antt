@@ -60,3 +60,5 @@ pub mod ArrivedRows
 pub mod Partly
 pub mod Merging
 pub mod PassingHere
+pub mod Numbers
+pub mod NumberedWrites

@@ -13,3 +13,4 @@ pub mod Kept
 pub mod Outcomes
 pub mod Machine
 pub mod Merging
+pub mod Numbers

@@ -23,6 +23,7 @@ ghost use Rattle.misp_model.specs.View.{has_copy, has_home, has_gone};
 ghost use Rattle.misp_model.specs.History.{Version, Written, is_gone, is_published, is_event_of, has_come, same_cell, row_of, fresh_row, newest, spell, stands_before, tables};
 ghost use Rattle.misp_model.specs.Machine.{put_row, put_all, let_go, published_row, hands_in, event_number, name_bytes, raw_before};
 ghost use Rattle.misp_model.specs.Asking.{Scene, Rule, first_rule, own_row, change_writes};
+ghost use Rattle.misp_model.specs.Numbers.{scene_as, versions_as, reply_as};
 ghost use Rattle.misp_model.specs.Acts.{World, Act, Net, Caller, Asks, Misfits, Administers, Nothing, Refused, scene, ask_rules, brings, is_accepted, answer, ok_answer, with_groups, administered, step};
 
 /// No two keys have one spelling by numbers.
@@ -147,4 +148,18 @@ pub fn what_an_act_leaves()
     ensures numbers { (net : Net) (n : ℕ) (w : World) (act : Act) →
         list_all (λ v. ltb v.act n) w.log ≡ true →
         list_all (λ v. ltb v.act (suc n)) (step net n w act).log ≡ true }
+{}
+
+/// The number of an act is in the versions that its request writes, and nowhere else: the same
+/// request of another act is refused, accepted and answered alike, and writes the same rows.
+pub fn a_request_is_decided_without_its_number()
+    ensures rules { (n : ℕ) (s : Scene) (a : Ask) → ask_rules (scene_as n s) a ≡ ask_rules s a }
+    ensures accepted { (n : ℕ) (s : Scene) (a : Ask) →
+        is_accepted (scene_as n s) a ≡ is_accepted s a }
+    ensures answer { (n : ℕ) (s : Scene) (a : Ask) →
+        answer (scene_as n s) a ≡ reply_as n (answer s a) }
+    ensures versions { (n : ℕ) (s : Scene) (a : Ask) →
+        brings (scene_as n s) a ≡ versions_as n (brings s a) }
+    ensures rows { (n : ℕ) (s : Scene) (a : Ask) →
+        map fresh_row (brings (scene_as n s) a) ≡ map fresh_row (brings s a) }
 {}

@@ -10,8 +10,9 @@ mod synchronising;
 pub use known_rows::{known_rows_answer_as_all, tables_have_one_row_for_each_key};
 pub use laws::{
     a_copy_is_as_its_event_came, a_publishing_clears_the_holds_of_its_copy,
-    an_accepted_request_is_put_row_by_row, each_key_has_its_own_spelling, one_version_more,
-    rows_stand_in_the_order_of_their_bytes, the_first_rule_decides, what_an_act_leaves,
+    a_request_is_decided_without_its_number, an_accepted_request_is_put_row_by_row,
+    each_key_has_its_own_spelling, one_version_more, rows_stand_in_the_order_of_their_bytes,
+    the_first_rule_decides, what_an_act_leaves,
 };
 pub use one_event::{
     an_event_is_asked_from_its_own_rows, an_event_is_known_from_its_own_rows,

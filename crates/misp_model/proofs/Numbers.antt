@@ -1,0 +1,210 @@
+-- What a request is refused by does not depend on the number of its act.
+use Rattle.std.proofs.Common.{◌≡◌, ℕ, List, [], ◌∷◌, ◌++◌, Bool, true, false, refl, ap, map}
+use Rattle.std.specs.Prelude.{◌&&◌, ◌||◌, not, Option, Some, None, option_map}
+use Rattle.std.specs.List.{filter, list_any, list_all}
+use Rattle.misp_ids.specs.declared.uid.OrgId.{OrgId}
+use Rattle.misp_ids.specs.declared.uid.EventId.{EventId}
+use Rattle.misp_ids.specs.declared.uid.ElemId.{ElemId}
+use Rattle.misp_ids.specs.declared.label.Label.{Label}
+use Rattle.misp_ids.specs.declared.label.Label.TheVariants as label
+use Rattle.misp_elem.specs.declared.key.Place.{Place}
+use Rattle.misp_elem.specs.declared.key.Place.TheVariants as place
+use Rattle.misp_elem.specs.declared.key.KeyForm.{KeyForm as Key}
+use Rattle.misp_elem.specs.declared.key.KeyForm.TheVariants.{Element, Reference, Proposal, Verdict, Sighting}
+use Rattle.misp_elem.specs.declared.key.ProposalName.{ProposalName}
+use Rattle.misp_elem.specs.declared.content.Content.{Content}
+use Rattle.misp_elem.specs.declared.row.RowFields.{RowFields as Row}
+use Rattle.misp_elem.specs.Draft.{SubmissionFields as Submission}
+use Rattle.misp_requests.specs.declared.statement.ProposalDraft.{ProposalDraft}
+use Rattle.misp_requests.specs.declared.statement.SightingDraft.{SightingDraft}
+use Rattle.misp_requests.specs.declared.change.Change.{Change}
+use Rattle.misp_requests.specs.declared.change.Change.TheVariants.{AddEvent, AddParts, EditEvent, EditAttribute, EditObject, Delete, DeleteReference, DeleteEvent, Publish}
+use Rattle.misp_requests.specs.declared.change.Change.TheVariants as change
+use Rattle.misp_requests.specs.declared.ask.Ask.{Ask}
+use Rattle.misp_requests.specs.declared.ask.Ask.TheVariants.{View, Propose, Judge, Sight, Index, Groups, TakePart}
+use Rattle.misp_requests.specs.declared.ask.Ask.TheVariants as ask
+use Rattle.misp_model.specs.Names.{Stamp, event_key, event_of}
+use Rattle.misp_model.specs.View.{is_row_of}
+use Rattle.misp_model.specs.Shown.{shown, event_row, form_of, shown_attribute, shown_object, shown_at, sorted, is_shown, proposals_on, sightings_on, is_closed, is_object, is_reference_of, object_of, creator, index, is_chosen}
+use Rattle.misp_model.specs.Asking.{Scene, NotGranted, EventExists, EventGone, ElementExists, GroupNotUsable, OlderTime, TimeLimit, ElementFull, ProposalExists, first_rule, holds_home, holds_copy, holds_mark, sees, sees_live, own_row, own_live, is_usable, is_taken, target_in_copy, target_of, has_target, uuids_of, clashes, has_unusable, own_row_is, is_at_limit, wants_unusable, is_newer_than, is_too_long, bars, object_is_there, part_fits, reference_fits, fits_parts, own_reference, edit_rules, edited, edited_event, edited_object, at_event, at_attribute, at_object, at_tags, as_deleted, tagged, change_rules, proposal_key, sees_target, propose_rules, sighting_key, sight_rules, proposal_row, body_seen, can_judge, judge_rules}
+use Rattle.misp_model.specs.Acts.{ask_rules, is_accepted}
+use Rattle.misp_model.specs.Numbers.{scene_as}
+
+module _ (n : ℕ) (s : Scene) where
+  abbrev other : Scene
+  other = scene_as n s
+
+  -- ---- what is shown
+
+  reference_as : (w : OrgId) (e : EventId) (y : ElemId) (k : Key) → is_reference_of other w e y k ≡ is_reference_of s w e y k
+  unfolding is_reference_of is_shown
+  reference_as w e y (Reference f x t u) = refl
+  reference_as w e y (Element f p) = refl
+  reference_as w e y (Proposal f m) = refl
+  reference_as w e y (Verdict f m i o) = refl
+  reference_as w e y (Sighting f t i o u) = refl
+
+  shown_at_as : (w : OrgId) (test : Key → Bool) → shown_at other w test ≡ shown_at s w test
+  unfolding shown_at is_shown
+  shown_at_as w test = refl
+
+  attribute_as : (orgc : OrgId) (row : Row) → shown_attribute other orgc row ≡ shown_attribute s orgc row
+  unfolding shown_attribute proposals_on sightings_on is_closed
+  attribute_as orgc row = refl
+
+  object_as : (orgc w : OrgId) (e : EventId) (row : Row) → shown_object other orgc w e row ≡ shown_object s orgc w e row
+  unfolding shown_object shown_at is_shown shown_attribute proposals_on sightings_on is_closed
+  object_as orgc w e row = λ i. record (shown_object s orgc w e row) {
+    references = shown_at s w (λ k. reference_as w e (object_of row.key) k i);
+  }
+
+  form_as : (e : EventId) (row : Row) → form_of other e row ≡ form_of s e row
+  unfolding form_of shown_at is_shown shown_attribute proposals_on sightings_on is_closed
+  form_as e row = λ i. record (form_of s e row) {
+    objects = map (λ r. object_as (creator row) row.owner e r i) (shown_at s row.owner (is_object e));
+  }
+
+  event_row_as : (e : EventId) (owner : Option OrgId) → event_row other e owner ≡ event_row s e owner
+  unfolding event_row
+  event_row_as e None = refl
+  event_row_as e (Some w) = refl
+
+  -- an event is shown the same
+  pub shown_as : (e : EventId) (owner : Option OrgId) → shown other e owner ≡ shown s e owner
+  unfolding shown
+  shown_as e owner = λ i. option_map (λ row. form_as e row i) (event_row_as e owner i)
+
+  -- and so is the index
+  pub index_as : index other ≡ index s
+  unfolding index is_chosen
+  index_as = λ i. map (λ row. form_as (event_of row.key) row i) (sorted (filter (is_chosen s) s.rows))
+
+  -- ---- what refuses a change
+
+  usable_as : (l : Label) → is_usable other l ≡ is_usable s l
+  unfolding is_usable
+  usable_as (label.Group g) = refl
+  usable_as label.Own = refl
+  usable_as label.Community = refl
+  usable_as label.Connected = refl
+  usable_as label.All = refl
+  usable_as label.Inherit = refl
+
+  wants_as : (l : Option Label) → wants_unusable other l ≡ wants_unusable s l
+  unfolding wants_unusable
+  wants_as None = refl
+  wants_as (Some l) = ap not (usable_as l)
+
+  bars_as : (e : EventId) (here fits : Bool) → here ≡ fits → bars other e here ≡ bars s e fits
+  unfolding bars holds_copy holds_home sees
+  bars_as e here fits h = ap (bars s e) h
+
+  clashes_as : (b : Submission) → clashes other b ≡ clashes s b
+  unfolding clashes uuids_of has_target target_of target_in_copy is_taken
+  clashes_as b = refl
+
+  unusable_as : (b : Submission) → has_unusable other b ≡ has_unusable s b
+  unfolding has_unusable
+  unusable_as b = λ i. not (usable_as b.label i) || list_any (λ d. not (usable_as d.label i)) b.parts
+
+  part_as : (b : Submission) (p : Place) → part_fits other b p ≡ part_fits s b p
+  unfolding part_fits object_is_there own_live
+  part_as b place.Event = refl
+  part_as b (place.Object x) = refl
+  part_as b (place.Attribute a) = refl
+  part_as b (place.ObjectAttribute x a) = refl
+
+  fits_as : (b : Submission) → fits_parts other b ≡ fits_parts s b
+  unfolding fits_parts reference_fits own_live has_target target_of target_in_copy
+  fits_as b = λ i. list_all (λ d. part_as b d.place i) b.parts && list_all (reference_fits s b) b.references
+
+  -- an edit of a row
+  edit_as : (e : EventId) (k : Key) (here fits : Bool) (l : Option Label) (u : Option Stamp) (f : Content → Content) → here ≡ fits →
+      edit_rules other e k here l u f ≡ edit_rules s e k fits l u f
+  unfolding edit_rules own_row_is own_row is_at_limit
+  edit_as e k here fits l u f h = λ i.
+      bars_as e here fits h i
+      ++ (wants_as l i, GroupNotUsable) ∷ (own_row_is s k (is_newer_than u), OlderTime)
+      ∷ (is_at_limit s k, TimeLimit) ∷ (own_row_is s k (λ row. is_too_long (f row.content)), ElementFull) ∷ []
+
+  live_as : (k : Key) → own_live other k ≡ own_live s k
+  unfolding own_live
+  live_as k = refl
+
+  add_as : (b : Submission) → change_rules other (AddEvent b) ≡ change_rules s (AddEvent b)
+  unfolding change_rules holds_copy holds_mark
+  add_as b = λ i.
+      (holds_copy s b.event, EventExists) ∷ (holds_mark s b.event, EventGone)
+      ∷ (clashes_as b i, ElementExists) ∷ (unusable_as b i, GroupNotUsable) ∷ []
+
+  delete_reference_as : (e : EventId) (x u : ElemId) → change_rules other (DeleteReference e x u) ≡ change_rules s (DeleteReference e x u)
+  unfolding change_rules own_reference bars holds_copy holds_home sees
+  delete_reference_as e x u = refl
+
+  untag_as : (e : EventId) (p : Place) (name : List ℕ) → change_rules other (change.Untag e p name) ≡ change_rules s (change.Untag e p name)
+  unfolding change_rules own_live own_row_is own_row bars holds_copy holds_home sees
+  untag_as e p name = refl
+
+  delete_event_as : (e : EventId) → change_rules other (DeleteEvent e) ≡ change_rules s (DeleteEvent e)
+  unfolding change_rules holds_copy sees is_at_limit own_row_is own_row
+  delete_event_as e = refl
+
+  publish_as : (e : EventId) → change_rules other (Publish e) ≡ change_rules s (Publish e)
+  unfolding change_rules bars holds_copy holds_home sees is_at_limit own_row_is own_row
+  publish_as e = refl
+
+  change_as : (c : Change) → change_rules other c ≡ change_rules s c
+  unfolding change_rules
+  change_as (AddEvent b) = add_as b
+  change_as (AddParts e b) = λ i. bars_as b.event _ _ (fits_as b) i ++ (clashes_as b i, ElementExists) ∷ (unusable_as b i, GroupNotUsable) ∷ []
+  change_as (EditEvent e edit) = edit_as e (event_key e) true true edit.label edit.stamp (at_event (edited_event edit)) refl
+  change_as (EditAttribute e p edit) = edit_as e (Element e p) _ _ edit.label edit.stamp (at_attribute (edited edit)) (live_as (Element e p))
+  change_as (EditObject e x edit) = edit_as e (Element e (place.Object x)) _ _ edit.label edit.stamp (at_object (edited_object edit)) (live_as (Element e (place.Object x)))
+  change_as (Delete e p) = edit_as e (Element e p) _ _ None None as_deleted (live_as (Element e p))
+  change_as (DeleteReference e x u) = delete_reference_as e x u
+  change_as (change.Tag e p tag) = edit_as e (Element e p) _ _ None None (at_tags (tagged tag)) (live_as (Element e p))
+  change_as (change.Untag e p name) = untag_as e p name
+  change_as (DeleteEvent e) = delete_event_as e
+  change_as (Publish e) = publish_as e
+
+  -- ---- what refuses a statement
+
+  target_as : (e : EventId) (p : Place) → sees_target other e p ≡ sees_target s e p
+  unfolding sees_target sees sees_live
+  target_as e place.Event = refl
+  target_as e (place.Object x) = refl
+  target_as e (place.Attribute a) = refl
+  target_as e (place.ObjectAttribute x a) = refl
+
+  propose_as : (d : ProposalDraft) → propose_rules other d ≡ propose_rules s d
+  unfolding propose_rules holds_mark proposal_key
+  propose_as d = λ i.
+      (not (target_as d.event d.target i), NotGranted) ∷ (holds_mark s d.event, EventGone)
+      ∷ (list_any (is_row_of s.by (proposal_key s d)) s.rows, ProposalExists) ∷ []
+
+  sight_as : (e : EventId) (p : Place) (d : SightingDraft) → sight_rules other e p d ≡ sight_rules s e p d
+  unfolding sight_rules sees_live holds_mark sighting_key
+  sight_as e p d = refl
+
+  judge_as : (e : EventId) (m : ProposalName) (accept : Bool) → judge_rules other e m accept ≡ judge_rules s e m accept
+  unfolding judge_rules bars holds_copy holds_home sees can_judge own_live is_taken is_at_limit own_row_is own_row body_seen proposal_row
+  judge_as e m accept = refl
+
+  -- ---- any request
+
+  -- the rules are the same
+  pub rules_as : (a : Ask) → ask_rules other a ≡ ask_rules s a
+  unfolding ask_rules
+  rules_as (View e owner) = λ i. (elim (shown_as e owner i) as (λ x. Bool) [ None ↦ true | Some v ↦ false ], NotGranted) ∷ []
+  rules_as (ask.Change c) = change_as c
+  rules_as (Propose d) = propose_as d
+  rules_as (Judge e m accept) = judge_as e m accept
+  rules_as (Sight e p d) = sight_as e p d
+  rules_as Index = refl
+  rules_as Groups = refl
+  rules_as (TakePart p) = refl
+
+  -- one is accepted where the other is
+  pub accepted_as : (a : Ask) → is_accepted other a ≡ is_accepted s a
+  unfolding is_accepted
+  accepted_as a = λ i. elim (first_rule (rules_as a i)) as (λ x. Bool) [ None ↦ true | Some r ↦ false ]
