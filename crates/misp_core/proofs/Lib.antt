@@ -9,3 +9,4 @@ pub mod Keeping
 pub mod Ordering
 pub mod KeepingGroups
 pub mod NamedGroups
+pub mod Numbers

@@ -6,11 +6,14 @@ ghost use Rattle.misp_ids.specs.declared.uid.OrgId.{OrgId};
 ghost use Rattle.misp_groups.specs.declared.group.GroupFields.{GroupFields as Group};
 ghost use Rattle.misp_elem.specs.declared.row.RowFields.{RowFields as Row};
 ghost use Rattle.misp_requests.specs.declared.ask.Ask.{Ask};
+ghost use Rattle.misp_orgs.specs.Admin.{AdminFields as Admin};
 ghost use Rattle.misp_outside.specs.Held.{Held};
 ghost use Rattle.misp_effects.specs.Batches.{AreReadable};
 ghost use Rattle.misp_effects.specs.Effect.{left};
 ghost use Rattle.misp_model.specs.Names.{Inst, Stamp, same_inst};
 ghost use Rattle.misp_model.specs.History.{tables};
+ghost use Rattle.misp_model.specs.Asking.{Scene};
+ghost use Rattle.misp_model.specs.Numbers.{scene_as};
 ghost use Rattle.misp_model.specs.Acts.{World, Net, administration_fails, scene, step};
 ghost use Rattle.misp_store.specs.Batches.{spelled};
 ghost use Rattle.misp_store.specs.Seen.{seen_in};
@@ -21,6 +24,12 @@ ghost use Rattle.misp_core.specs.Administering.{why_not, administered};
 ghost use Rattle.misp_core.specs.Keeping.{Keeps, act_at, act_of, caller_at};
 
 use misp_format::a_group_is_read_from_its_text;
+
+/// What a request comes to does not depend on the number of its act.
+pub fn a_request_is_replied_without_its_number()
+    ensures same { (n : ℕ) (admin : Admin) (s : Scene) (ask : Ask) →
+        asked admin (scene_as n s) ask ≡ asked admin s ask }
+{}
 
 /// A request that is refused has no batch.
 pub fn a_refused_request_writes_nothing()

@@ -16,8 +16,8 @@ mod site;
 
 pub use instance::Instance;
 pub use laws::{
-    a_refused_request_writes_nothing, an_instance_answers_by_the_history,
-    an_instance_is_administered_by_the_history,
+    a_refused_request_writes_nothing, a_request_is_replied_without_its_number,
+    an_instance_answers_by_the_history, an_instance_is_administered_by_the_history,
 };
 pub use misp_store::LoadFault;
 pub use permission::permission_for;

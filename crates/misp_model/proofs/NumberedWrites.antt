@@ -36,7 +36,7 @@ use Rattle.misp_model.specs.History.{Version, fresh_row, is_statement, label_now
 use Rattle.misp_model.specs.Arrival.{counted, counts, is_welcome, has_event, handed_in}
 use Rattle.misp_model.specs.Shown.{shown}
 use Rattle.misp_model.specs.Asking.{Scene, Rule, first_rule, own_row, own_row_is, own_reference, changed, changed_row, written, given, new_event, part_version, reference_key, reference_version, target_of, target_in_copy, parts_written, event_written, edited, edited_event, edited_object, at_event, at_attribute, at_object, at_tags, at_publishing, as_deleted, tagged, untagged, has_tag, is_held_in, let_out_row, let_out, as_published, change_writes, proposal_key, propose_writes, sighting_key, sight_writes, proposal_row, body_seen, is_for_new, judged_place, accepted, made, acceptance, judge_writes}
-use Rattle.misp_model.specs.Acts.{Reply, Refused, Seen, Listed, Saved, Taken, Other, answer, ask_rules, brings, concerning, newer, ok_answer, taken_rows}
+use Rattle.misp_model.specs.Acts.{World, Act, Caller, scene, Reply, Refused, Seen, Listed, Saved, Taken, Other, answer, ask_rules, brings, concerning, newer, ok_answer, taken_rows}
 use Rattle.misp_model.specs.Numbers.{scene_as, version_as, versions_as, reply_as}
 use Rattle.misp_model.proofs.Lists.{filter-map}
 use Rattle.misp_model.proofs.Numbers.{index_as, rules_as, shown_as}
@@ -62,6 +62,11 @@ any_map f p (x ∷ xs) = ap (λ b. p (f x) || b) (any_map f p xs)
 
 both_map : {X Y : Type 0} (f : X → Y) (xs ys : List X) (us vs : List Y) → us ≡ map f xs → vs ≡ map f ys → us ++ vs ≡ map f (xs ++ ys)
 both_map f xs ys us vs h k = (λ i. h i ++ k i) ∙ sym (map-append f xs ys)
+
+-- the scene of an act has its number alone from it
+pub scene_is : (m n : ℕ) (w : World) (act : Act) (c : Caller) → scene n w act c ≡ scene_as n (scene m w act c)
+unfolding scene
+scene_is m n w act c = refl
 
 module _ (n : ℕ) (s : Scene) where
   abbrev other : Scene

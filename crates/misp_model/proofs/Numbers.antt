@@ -81,7 +81,8 @@ module _ (n : ℕ) (s : Scene) where
 
   -- ---- what refuses a change
 
-  usable_as : (l : Label) → is_usable other l ≡ is_usable s l
+  -- labels are usable by the groups alone
+  pub usable_as : (l : Label) → is_usable other l ≡ is_usable s l
   unfolding is_usable
   usable_as (label.Group g) = refl
   usable_as label.Own = refl

@@ -153,6 +153,8 @@ pub fn what_an_act_leaves()
 /// The number of an act is in the versions that its request writes, and nowhere else: the same
 /// request of another act is refused, accepted and answered alike, and writes the same rows.
 pub fn a_request_is_decided_without_its_number()
+    ensures scene { (m n : ℕ) (w : World) (act : Act) (c : Caller) →
+        scene n w act c ≡ scene_as n (scene m w act c) }
     ensures rules { (n : ℕ) (s : Scene) (a : Ask) → ask_rules (scene_as n s) a ≡ ask_rules s a }
     ensures accepted { (n : ℕ) (s : Scene) (a : Ask) →
         is_accepted (scene_as n s) a ≡ is_accepted s a }
