@@ -25,35 +25,35 @@ use Rattle.misp_core.specs.declared.reply.Reply.TheVariants as replies
 use Rattle.misp_core.proofs.Carried.{DidThere, refused_did}
 
 -- what is not permitted comes to its refusal, and what is permitted to what the ask comes to
-module _ (n : ℕ) (at : Surroundings) (ask : Ask) (seen : Seen) where
-  barred : is_permitted at.caller ask ≡ false → requested n at ask seen ≡ refused (forbidden ask)
-  barred may = ap (λ b. if b then asked_over n at ask (seen.rows (reach_of ask)) else refused (forbidden ask)) may
+module _ (at : Surroundings) (ask : Ask) (seen : Seen) where
+  barred : is_permitted at.caller ask ≡ false → requested at ask seen ≡ refused (forbidden ask)
+  barred may = ap (λ b. if b then asked_over at ask (seen.rows (reach_of ask)) else refused (forbidden ask)) may
 
-  let_in : is_permitted at.caller ask ≡ true → requested n at ask seen ≡ asked_over n at ask (seen.rows (reach_of ask))
-  let_in may = ap (λ b. if b then asked_over n at ask (seen.rows (reach_of ask)) else refused (forbidden ask)) may
+  let_in : is_permitted at.caller ask ≡ true → requested at ask seen ≡ asked_over at ask (seen.rows (reach_of ask))
+  let_in may = ap (λ b. if b then asked_over at ask (seen.rows (reach_of ask)) else refused (forbidden ask)) may
 
-  is_unread : (fault : LoadFault) → is_permitted at.caller ask ≡ true → NamesFault (seen.rows (reach_of ask)) fault → IsUnread fault (requested n at ask seen)
-  is_unread (faults.BadRow name) may names = let_in may ∙ ap (asked_over n at ask) names
+  is_unread : (fault : LoadFault) → is_permitted at.caller ask ≡ true → NamesFault (seen.rows (reach_of ask)) fault → IsUnread fault (requested at ask seen)
+  is_unread (faults.BadRow name) may names = let_in may ∙ ap (asked_over at ask) names
   is_unread faults.KeeperFault may names = tt
   is_unread faults.NoMemory may names = tt
 
 -- an ask that is not permitted is refused, and what is held stays
-pub turned_away : (n : ℕ) (i : Standing) (caller : Caller) (now : ℕ) (ask : Ask) (old : Option Held) (why : NoPlan) → is_permitted caller ask ≡ false → Plans (Err why) (refused (forbidden ask))
-    → IfSome old (λ held. IsAnswered n (site_at i held caller now) ask held (unplanned why) old)
-turned_away n i caller now ask None why may plans = tt
-turned_away n i caller now ask (Some held) why may plans =
-    refused_did why (requested n (site_at i held caller now) ask (seen_in held)) (Some held) (Some held)
-    (subst (λ (e : Effect Reply). Plans (Err why) e) (sym (barred n (site_at i held caller now) ask (seen_in held) may)) plans) refl
+pub turned_away : (i : Standing) (caller : Caller) (now : ℕ) (ask : Ask) (old : Option Held) (why : NoPlan) → is_permitted caller ask ≡ false → Plans (Err why) (refused (forbidden ask))
+    → IfSome old (λ held. IsAnswered (site_at i held caller now) ask held (unplanned why) old)
+turned_away i caller now ask None why may plans = tt
+turned_away i caller now ask (Some held) why may plans =
+    refused_did why (requested (site_at i held caller now) ask (seen_in held)) (Some held) (Some held)
+    (subst (λ (e : Effect Reply). Plans (Err why) e) (sym (barred (site_at i held caller now) ask (seen_in held) may)) plans) refl
 
 -- so is one that is permitted, of which the rows are not read
-pub unread_there : (n : ℕ) (i : Standing) (caller : Caller) (now : ℕ) (ask : Ask) (fault : LoadFault) (old new : Option Held) (reply : Reply) → is_permitted caller ask ≡ true → new ≡ old
+pub unread_there : (i : Standing) (caller : Caller) (now : ℕ) (ask : Ask) (fault : LoadFault) (old new : Option Held) (reply : Reply) → is_permitted caller ask ≡ true → new ≡ old
     → IfSome old (λ held. NamesFault ((seen_in held).rows (reach_of ask)) fault)
     → ((e : Effect Reply) (held : Held) → IsUnread fault e → Did e held reply (Some held))
-    → IfSome old (λ held. IsAnswered n (site_at i held caller now) ask held reply new)
-unread_there n i caller now ask fault None new reply may same names done = tt
-unread_there n i caller now ask fault (Some held) new reply may same names done =
-    subst (λ (x : Option Held). IsAnswered n (site_at i held caller now) ask held reply x) (sym same)
-    (done (requested n (site_at i held caller now) ask (seen_in held)) held (is_unread n (site_at i held caller now) ask (seen_in held) fault may names))
+    → IfSome old (λ held. IsAnswered (site_at i held caller now) ask held reply new)
+unread_there i caller now ask fault None new reply may same names done = tt
+unread_there i caller now ask fault (Some held) new reply may same names done =
+    subst (λ (x : Option Held). IsAnswered (site_at i held caller now) ask held reply x) (sym same)
+    (done (requested (site_at i held caller now) ask (seen_in held)) held (is_unread (site_at i held caller now) ask (seen_in held) fault may names))
 
 not_forbidden : (ask : Ask) → stop_in (replies.Refused (forbidden ask)) ≡ by_keeper → ⊥
 not_forbidden ask is = absurd cc
@@ -71,12 +71,12 @@ just_turned i ask (why.Refused refusal) plans =
 just_turned i ask why.NoMemory plans = record { just = inr refl; no_fault = λ is. absurd cc; still = refl }
 
 -- an ask that is permitted was planned over the rows that it reads
-pub asked_there : (n : ℕ) (at : Surroundings) (ask : Ask) (rows : List Row) (planned : Result Plan NoPlan) (old mid new : Option Held) (reply : Reply) → is_permitted at.caller ask ≡ true → mid ≡ old
+pub asked_there : (at : Surroundings) (ask : Ask) (rows : List Row) (planned : Result Plan NoPlan) (old mid new : Option Held) (reply : Reply) → is_permitted at.caller ask ≡ true → mid ≡ old
     → IfSome old (λ held. (seen_in held).rows (reach_of ask) ≡ Ok rows) → IfSome old (λ held. IsTable rows)
-    → (IsTable rows → Plans planned (asked at.admin (scene_at n at rows) ask))
-    → ((e : Effect Reply) → Plans planned e → DidThere e mid reply new) → IfSome old (λ held. IsAnswered n at ask held reply new)
-asked_there n at ask rows planned None mid new reply may same found table is done = tt
-asked_there n at ask rows planned (Some held) mid new reply may same found table is done =
-    let plans : Plans planned (requested n at ask (seen_in held)) =
-    subst (λ (e : Effect Reply). Plans planned e) (sym (let_in n at ask (seen_in held) may ∙ ap (asked_over n at ask) found)) (is table) in
-    subst (λ (m : Option Held). DidThere (requested n at ask (seen_in held)) m reply new) same (done (requested n at ask (seen_in held)) plans)
+    → (IsTable rows → Plans planned (asked at.admin (scene_at at rows) ask))
+    → ((e : Effect Reply) → Plans planned e → DidThere e mid reply new) → IfSome old (λ held. IsAnswered at ask held reply new)
+asked_there at ask rows planned None mid new reply may same found table is done = tt
+asked_there at ask rows planned (Some held) mid new reply may same found table is done =
+    let plans : Plans planned (requested at ask (seen_in held)) =
+    subst (λ (e : Effect Reply). Plans planned e) (sym (let_in at ask (seen_in held) may ∙ ap (asked_over at ask) found)) (is table) in
+    subst (λ (m : Option Held). DidThere (requested at ask (seen_in held)) m reply new) same (done (requested at ask (seen_in held)) plans)

@@ -38,6 +38,7 @@ use Rattle.misp_core.specs.Keeping.{caller_at, act_at, Keeps}
 use Rattle.misp_store.proofs.HeldRows.{rows_again, rows_of_event, rows_kept, rows_put, rows_put_held}
 use Rattle.misp_core.specs.declared.reply.Reply.{Reply}
 use Rattle.misp_core.proofs.BuiltAsks.{of_built}
+use Rattle.misp_core.proofs.Numbers.{asked_as}
 use Rattle.misp_core.proofs.OwnRows.{IsAlike, table_within, own_alike}
 
 module _ (here : Inst) (w : World) (held : Held) (keeps : Keeps here w held) where
@@ -59,11 +60,11 @@ module _ (here : Inst) (w : World) (held : Held) (keeps : Keeps here w held) whe
   read_there (reaches.Event e) = event_read e
   read_there reaches.All = ap rows_in keeps.rows ∙ rows_again _ keeps.are_rows
 
--- where the groups are those of the instance, the scene over the tables is that of the act
-scene_there : (n : ℕ) (w : World) (at : Surroundings) (ask : Ask) → at.groups ≡ w.groups at.here → scene_at n at (tables w.log at.here) ≡ scene n w (act_at at ask) (caller_at at.admin at.caller)
+-- where the groups are those of the instance, the scene over the tables is that of the act, but for its number
+scene_there : (w : World) (at : Surroundings) (ask : Ask) → at.groups ≡ w.groups at.here → scene_at at (tables w.log at.here) ≡ scene 0 w (act_at at ask) (caller_at at.admin at.caller)
 unfolding scene known_at
-scene_there n w at ask same = λ i. record {
-  act = n;
+scene_there w at ask same = λ i. record {
+  act = 0;
   at = at.here;
   by = at.caller.org;
   by_name = name_in at.admin at.caller.org;
@@ -76,16 +77,20 @@ scene_there n w at ask same = λ i. record {
 asked_alike : (admin : Admin) (s t : Scene) (ask : Ask) → IsAlike admin s t ask → asked admin s ask ≡ asked admin t ask
 asked_alike admin s t ask same = λ i. effect (same.replies i) (row_batches (same.writes i))
 
-module _ (n : ℕ) (w : World) (at : Surroundings) (ask : Ask) (held : Held) (built : IsBuilt ask) (keeps : Keeps at.here w held) where
+module _ (w : World) (at : Surroundings) (ask : Ask) (held : Held) (built : IsBuilt ask) (keeps : Keeps at.here w held) where
   -- what it comes to is what it comes to over all rows of the instance
-  pub over_all : asked_over n at ask ((seen_in held).rows (reach_of ask)) ≡ asked_over n at ask (Ok (tables w.log at.here))
+  pub over_all : asked_over at ask ((seen_in held).rows (reach_of ask)) ≡ asked_over at ask (Ok (tables w.log at.here))
   over_all =
-      ap (asked_over n at ask) (read_there at.here w held keeps (reach_of ask))
-      ∙ asked_alike at.admin _ _ ask (own_alike at.admin (tables w.log at.here) (scene_at n at []) ask built)
+      ap (asked_over at ask) (read_there at.here w held keeps (reach_of ask))
+      ∙ asked_alike at.admin _ _ ask (own_alike at.admin (tables w.log at.here) (scene_at at []) ask built)
 
-  -- and what the history says
-  pub told_there : at.groups ≡ groups_of held → asked_over n at ask ((seen_in held).rows (reach_of ask)) ≡ asked at.admin (scene n w (act_at at ask) (caller_at at.admin at.caller)) ask
-  told_there same = over_all ∙ ap (λ s. asked at.admin s ask) (scene_there n w at ask (same ∙ groups_there at.here w held keeps))
+  -- and what the history says, whatever the number of the act
+  pub told_there : (n : ℕ) → at.groups ≡ groups_of held → asked_over at ask ((seen_in held).rows (reach_of ask)) ≡ asked at.admin (scene n w (act_at at ask) (caller_at at.admin at.caller)) ask
+  unfolding scene
+  told_there n same =
+      over_all
+      ∙ ap (λ s. asked at.admin s ask) (scene_there w at ask (same ∙ groups_there at.here w held keeps))
+      ∙ sym (asked_as n (scene 0 w (act_at at ask) (caller_at at.admin at.caller)) at.admin ask)
 
 -- no request that is built hands in a package
 built_alone : (a : Ask) → IsBuilt a → hands_in a ≡ false
@@ -160,8 +165,8 @@ module _ (net : Net) (n : ℕ) (w : World) (at : Surroundings) where
 
   -- and so where what the request comes to is left
   pub left_there : (a : Ask) (held : Held) → IsBuilt a → list_all (λ v. ltb v.act n) w.log ≡ true → at.groups ≡ groups_of held → Keeps at.here w held
-      → AreReadable (asked_over n at a ((seen_in held).rows (reach_of a))).batches
-      → Keeps at.here (step net n w (act_at at a)) (left spelled (asked_over n at a ((seen_in held).rows (reach_of a))) held)
+      → AreReadable (asked_over at a ((seen_in held).rows (reach_of a))).batches
+      → Keeps at.here (step net n w (act_at at a)) (left spelled (asked_over at a ((seen_in held).rows (reach_of a))) held)
   left_there a held built older same keeps =
       subst (λ (e : Effect Reply). AreReadable e.batches → Keeps at.here (step net n w (act_at at a)) (left spelled e held))
-      (sym (told_there n w at a held built keeps same)) (rows_there a held built older keeps)
+      (sym (told_there w at a held built keeps n same)) (rows_there a held built older keeps)

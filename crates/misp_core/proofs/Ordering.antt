@@ -59,13 +59,13 @@ in_scene admin s = of_built (λ ask. rule_of (reply_in admin s ask) ≡ first_gr
     refl
 
 -- over the rows of the event, by whether the role permits the ask
-by_rows : (n : ℕ) (at : Surroundings) (ask : Ask) (may : Bool) (rows : Result (List Row) (List ℕ)) → IsBuilt ask
-    → rule_of (if may then asked_over n at ask rows else refused (forbidden ask)).reply
-    ≡ first_ground ((not may, rules.NoPermission) ∷ row_grounds n at ask rows)
+by_rows : (at : Surroundings) (ask : Ask) (may : Bool) (rows : Result (List Row) (List ℕ)) → IsBuilt ask
+    → rule_of (if may then asked_over at ask rows else refused (forbidden ask)).reply
+    ≡ first_ground ((not may, rules.NoPermission) ∷ row_grounds at ask rows)
 unfolding first_ground
-by_rows n at ask false rows built = refl
-by_rows n at ask true (Err name) built = refl
-by_rows n at ask true (Ok rows) built = in_scene at.admin (scene_at n at rows) ask built
+by_rows at ask false rows built = refl
+by_rows at ask true (Err name) built = refl
+by_rows at ask true (Ok rows) built = in_scene at.admin (scene_at at rows) ask built
 
 -- where nothing stopped it, the reply is that of the effect
 of_effect : (o : effects.Outcome) (e : Effect Reply) → stop_of o ≡ None → (under telling o e).reply ≡ e.reply
@@ -73,13 +73,13 @@ of_effect effects.Went e none = refl
 of_effect (effects.Stopped stop k lost) e none = absurd cc
 
 -- of an ask over what is held
-in_order : (n : ℕ) (at : Surroundings) (ask : Ask) (held : Held) (reply : Reply) (new : Option Held) → IsBuilt ask
-    → IsAnswered n at ask held reply new → IsInOrder (grounds n at ask held) reply
-in_order n at ask held reply new built did went =
-    ap rule_of (did.reply_is ∙ of_effect did.outcome (requested n at ask (seen_in held)) (did.agree ∙ went))
-    ∙ by_rows n at ask (is_permitted at.caller ask) ((seen_in held).rows (reach_of ask)) built
+in_order : (at : Surroundings) (ask : Ask) (held : Held) (reply : Reply) (new : Option Held) → IsBuilt ask
+    → IsAnswered at ask held reply new → IsInOrder (grounds at ask held) reply
+in_order at ask held reply new built did went =
+    ap rule_of (did.reply_is ∙ of_effect did.outcome (requested at ask (seen_in held)) (did.agree ∙ went))
+    ∙ by_rows at ask (is_permitted at.caller ask) ((seen_in held).rows (reach_of ask)) built
 
-pub told_in_order : (n : ℕ) (at : Held → Surroundings) (ask : Ask) (old new : Option Held) (reply : Reply) → IsBuilt ask
-    → IfSome old (λ held. IsAnswered n (at held) ask held reply new) → IfSome old (λ held. IsInOrder (grounds n (at held) ask held) reply)
-told_in_order n at ask None new reply built is = tt
-told_in_order n at ask (Some held) new reply built is = in_order n (at held) ask held reply new built is
+pub told_in_order : (at : Held → Surroundings) (ask : Ask) (old new : Option Held) (reply : Reply) → IsBuilt ask
+    → IfSome old (λ held. IsAnswered (at held) ask held reply new) → IfSome old (λ held. IsInOrder (grounds (at held) ask held) reply)
+told_in_order at ask None new reply built is = tt
+told_in_order at ask (Some held) new reply built is = in_order (at held) ask held reply new built is

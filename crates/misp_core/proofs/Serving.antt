@@ -30,9 +30,9 @@ refused_writes admin s = of_built (λ ask. IsRefused (reply_in admin s ask) → 
     (λ refused. none_for_groups s admin)
 
 -- the same over what is read
-pub refused_over : (n : ℕ) (at : Surroundings) (ask : Ask) (read : Result (List Row) (List ℕ)) → IsBuilt ask → IsRefused (asked_over n at ask read).reply → (asked_over n at ask read).batches ≡ []
-refused_over n at ask (Ok rows) built refused = ap row_batches (refused_writes at.admin (scene_at n at rows) ask built refused)
-refused_over n at ask (Err name) built refused = refl
+pub refused_over : (at : Surroundings) (ask : Ask) (read : Result (List Row) (List ℕ)) → IsBuilt ask → IsRefused (asked_over at ask read).reply → (asked_over at ask read).batches ≡ []
+refused_over at ask (Ok rows) built refused = ap row_batches (refused_writes at.admin (scene_at at rows) ask built refused)
+refused_over at ask (Err name) built refused = refl
 
 -- where a keeper tells what it holds, the groups are those that are held
 pub at_groups : (old : Option Held) (groups : List Group) (P : Held → List Group → Type 0) → HoldsGroups old groups → IfSome old (λ held. P held groups) → IfSome old (λ held. P held (groups_of held))

@@ -93,15 +93,16 @@ site_of s = site s.here.now s.admin.now s.groups.now s.caller.now s.moment
 abbrev pub site_at : Standing → Held → Caller → ℕ → Surroundings
 site_at i held caller now = site i.name i.admin (groups_of held) caller now
 
--- the scene of the n-th request, over what the caller knows
-abbrev pub scene_with : ℕ → Surroundings → List Row → Scene
-scene_with n at rows =
-    scene_of n at.here at.caller.org (name_in at.admin at.caller.org) at.now (date_of at.now)
+-- the scene of a request, over what the caller knows; the number of its act changes nothing, and
+-- is 0 here
+abbrev pub scene_with : Surroundings → List Row → Scene
+scene_with at rows =
+    scene_of 0 at.here at.caller.org (name_in at.admin at.caller.org) at.now (date_of at.now)
     at.groups rows
 
--- the scene of the n-th request, over these rows
-abbrev pub scene_at : ℕ → Surroundings → List Row → Scene
-scene_at n at rows = scene_with n at (known rows at.groups at.here at.caller.org)
+-- the scene of a request, over these rows
+abbrev pub scene_at : Surroundings → List Row → Scene
+scene_at at rows = scene_with at (known rows at.groups at.here at.caller.org)
 
 -- ---- refusals
 

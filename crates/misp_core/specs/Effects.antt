@@ -83,21 +83,21 @@ row_batches (row ∷ rows) = batch (row ∷ rows) [] ∷ []
 abbrev pub asked : Admin → Scene → Ask → Effect Reply
 asked admin s ask = effect (reply_in admin s ask) (row_batches (writes_in s ask))
 
--- the n-th ask over what is read for it
-abbrev pub asked_over : ℕ → Surroundings → Ask → Result (List Row) (List ℕ) → Effect Reply
-asked_over n at ask (Ok rows) = asked at.admin (scene_at n at rows) ask
-asked_over n at ask (Err name) = refused (bad_row name)
+-- an ask over what is read for it
+abbrev pub asked_over : Surroundings → Ask → Result (List Row) (List ℕ) → Effect Reply
+asked_over at ask (Ok rows) = asked at.admin (scene_at at rows) ask
+asked_over at ask (Err name) = refused (bad_row name)
 
--- the n-th request, where this is seen: the role of the caller must permit what it asks
-abbrev pub requested : ℕ → Surroundings → Ask → Seen → Effect Reply
-requested n at ask seen =
-    if is_permitted at.caller ask then asked_over n at ask (seen.rows (reach_of ask))
+-- a request, where this is seen: the role of the caller must permit what it asks
+abbrev pub requested : Surroundings → Ask → Seen → Effect Reply
+requested at ask seen =
+    if is_permitted at.caller ask then asked_over at ask (seen.rows (reach_of ask))
     else refused (forbidden ask)
 
 -- a call that was to have this effect did what it comes to under some outcome
 abbrev pub Did : Effect Reply → Held → Reply → Option Held → Type 0
 Did e held reply new = Does Reply spelled stop_in telling e held reply new
 
--- the n-th request was answered so, and left this
-abbrev pub IsAnswered : ℕ → Surroundings → Ask → Held → Reply → Option Held → Type 0
-IsAnswered n at ask held reply new = Did (requested n at ask (seen_in held)) held reply new
+-- a request was answered so, and left this
+abbrev pub IsAnswered : Surroundings → Ask → Held → Reply → Option Held → Type 0
+IsAnswered at ask held reply new = Did (requested at ask (seen_in held)) held reply new

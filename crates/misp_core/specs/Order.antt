@@ -40,12 +40,12 @@ abbrev pub ground_of : Bool × Rule → Ground
 ground_of g = (g.0, named g.1)
 
 -- a row of the event that is none, or else the rules of the ask in their order
-abbrev pub row_grounds : ℕ → Surroundings → Ask → Result (List Row) (List ℕ) → List Ground
-row_grounds n at ask (Ok rows) = map ground_of (ask_rules (scene_at n at rows) ask)
-row_grounds n at ask (Err name) = (true, rules.BadRow) ∷ []
+abbrev pub row_grounds : Surroundings → Ask → Result (List Row) (List ℕ) → List Ground
+row_grounds at ask (Ok rows) = map ground_of (ask_rules (scene_at at rows) ask)
+row_grounds at ask (Err name) = (true, rules.BadRow) ∷ []
 
 -- of an ask over what is held: first the role of the caller must permit it
-abbrev pub grounds : ℕ → Surroundings → Ask → Held → List Ground
-grounds n at ask held =
+abbrev pub grounds : Surroundings → Ask → Held → List Ground
+grounds at ask held =
     (not (is_permitted at.caller ask), rules.NoPermission)
-    ∷ row_grounds n at ask ((seen_in held).rows (reach_of ask))
+    ∷ row_grounds at ask ((seen_in held).rows (reach_of ask))

@@ -1,6 +1,6 @@
 //! What a request comes to over the rows of its event.
 
-ghost use Rattle.std.specs.Prelude.{◌≡◌, ◌≤◌, ℕ, List, None, IfOk, map, length};
+ghost use Rattle.std.specs.Prelude.{◌≡◌, ◌≤◌, List, None, IfOk, map, length};
 ghost use Rattle.misp_elem.specs.declared.row.RowFields.{RowFields};
 ghost use Rattle.misp_model.specs.View.{IsTable};
 ghost use Rattle.misp_requests.specs.declared.ask.Ask.TheVariants.{View};
@@ -125,8 +125,8 @@ fn event_in(submission: &Submission) -> EventId
 // Adds an event, over the rows that the caller knows of it.
 fn add(alloc: Global, site: &Site<'_>, submission: Submission, rows: &[Row]) -> Result<Plan, NoPlan>
     requires { IsAdded submission }
-    ensures { (n : ℕ) → Plans result (asked site.now.admin.now
-        (scene_with n (site_of site.now) rows.now) (asks.Change (AddEvent submission))) }
+    ensures { Plans result (asked site.now.admin.now
+        (scene_with (site_of site.now) rows.now) (asks.Change (AddEvent submission))) }
 {
     let org = asker(site.caller);
     let name = name_text(alloc, site.admin, &org)?;
@@ -177,8 +177,8 @@ fn add_known(
     rows: Vec<Row>,
 ) -> Result<Plan, NoPlan>
     requires { IsAdded submission }
-    ensures { (n : ℕ) → Plans result (asked site.now.admin.now
-        (scene_at n (site_of site.now) rows.items) (asks.Change (AddEvent submission))) }
+    ensures { Plans result (asked site.now.admin.now
+        (scene_at (site_of site.now) rows.items) (asks.Change (AddEvent submission))) }
 {
     let org = asker(site.caller);
     let rows = known(alloc, rows, site.groups, site.here, &org)?;
@@ -194,10 +194,10 @@ fn view(
     owner: Option<OrgId>,
     rows: &[Row],
 ) -> Result<Plan, NoPlan>
-    ensures all { (n : ℕ) → Plans result (asked site.now.admin.now
-        (scene_with n (site_of site.now) rows.now) (View event.now owner)) }
-    ensures known { (n : ℕ) → IsTable rows.now → Plans result (asked site.now.admin.now
-        (scene_at n (site_of site.now) rows.now) (View event.now owner)) }
+    ensures all { Plans result (asked site.now.admin.now
+        (scene_with (site_of site.now) rows.now) (View event.now owner)) }
+    ensures known { IsTable rows.now → Plans result (asked site.now.admin.now
+        (scene_at (site_of site.now) rows.now) (View event.now owner)) }
 {
     let org = asker(site.caller);
     match shown(alloc, rows, site.groups, site.here, &org, event, owner)? {
@@ -214,8 +214,8 @@ fn view(
 
 // Tells the groups that concern the caller.
 fn list(alloc: Global, site: &Site<'_>) -> Result<Plan, NoPlan>
-    ensures { (n : ℕ) (rows : List RowFields) → Plans result (asked site.now.admin.now
-        (scene_with n (site_of site.now) rows) asks.Groups) }
+    ensures { (rows : List RowFields) → Plans result (asked site.now.admin.now
+        (scene_with (site_of site.now) rows) asks.Groups) }
 {
     let org = asker(site.caller);
     let groups = concerning(alloc, site.groups, &org, site.here)?;
@@ -230,8 +230,8 @@ pub(crate) fn plan_request(
     rows: Vec<Row>,
 ) -> Result<Plan, NoPlan>
     requires { IsBuilt ask }
-    ensures plan { (n : ℕ) → IsTable rows.items → Plans result (asked site.now.admin.now
-        (scene_at n (site_of site.now) rows.items) ask) }
+    ensures plan { IsTable rows.items → Plans result (asked site.now.admin.now
+        (scene_at (site_of site.now) rows.items) ask) }
     ensures no_stop { TellsNoStop result }
 {
     match ask {

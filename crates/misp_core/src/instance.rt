@@ -1,6 +1,6 @@
 //! An instance over a keeper.
 
-ghost use Rattle.std.specs.Prelude.{◌≡◌, ◌≤◌, ℕ, false, IfOk, IfErr, IfSome, OnOk, IsOk, option_map};
+ghost use Rattle.std.specs.Prelude.{◌≡◌, ◌≤◌, false, IfOk, IfErr, IfSome, OnOk, IsOk, option_map};
 ghost use Rattle.misp_outside.specs.Causes.{HasCause};
 ghost use Rattle.misp_store.specs.Sharing.{groups_in};
 ghost use Rattle.misp_core.specs.Answers.{site_at, IsBuilt};
@@ -117,12 +117,12 @@ impl<K: Keeper> Instance<K> {
         requires { IsBuilt ask }
 
         // Reply and rows are the stated functions of what is held, and of what stopped the request.
-        ensures answered { (n : ℕ) → IfSome self.old.held (λ held.
-            IsAnswered n (site_at self.old held caller.now now) ask held result self.new.held) }
+        ensures answered { IfSome self.old.held (λ held.
+            IsAnswered (site_at self.old held caller.now now) ask held result self.new.held) }
 
         // Where several rules refuse it, the first in the one order is answered.
-        ensures order { (n : ℕ) → IfSome self.old.held (λ held.
-            IsInOrder (grounds n (site_at self.old held caller.now now) ask held) result) }
+        ensures order { IfSome self.old.held (λ held.
+            IsInOrder (grounds (site_at self.old held caller.now now) ask held) result) }
 
         // What the role of the caller forbids is refused just so, and the keeper is as it was.
         ensures forbidden { is_permitted caller.now ask ≡ false →

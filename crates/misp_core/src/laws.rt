@@ -33,9 +33,9 @@ pub fn a_request_is_replied_without_its_number()
 
 /// A request that is refused has no batch.
 pub fn a_refused_request_writes_nothing()
-    ensures writes { (n : ℕ) (at : Surroundings) (ask : Ask) (read : Result (List Row) (List ℕ)) →
-        IsBuilt ask → IsRefused (asked_over n at ask read).reply →
-        (asked_over n at ask read).batches ≡ [] }
+    ensures writes { (at : Surroundings) (ask : Ask) (read : Result (List Row) (List ℕ)) →
+        IsBuilt ask → IsRefused (asked_over at ask read).reply →
+        (asked_over at ask read).batches ≡ [] }
 {}
 
 /// Where a keeper holds the tables and groups of its instance, a request comes to what the history
@@ -44,14 +44,14 @@ pub fn a_refused_request_writes_nothing()
 pub fn an_instance_answers_by_the_history()
     ensures told { (n : ℕ) (w : World) (at : Surroundings) (ask : Ask) (held : Held) →
         IsBuilt ask → at.groups ≡ groups_of held → Keeps at.here w held →
-        asked_over n at ask ((seen_in held).rows (reach_of ask))
+        asked_over at ask ((seen_in held).rows (reach_of ask))
         ≡ asked at.admin (scene n w (act_at at ask) (caller_at at.admin at.caller)) ask }
     ensures left { (net : Net) (n : ℕ) (w : World) (at : Surroundings) (ask : Ask) (held : Held) →
         IsBuilt ask → list_all (λ v. ltb v.act n) w.log ≡ true →
         at.groups ≡ groups_of held → Keeps at.here w held →
-        AreReadable (asked_over n at ask ((seen_in held).rows (reach_of ask))).batches →
+        AreReadable (asked_over at ask ((seen_in held).rows (reach_of ask))).batches →
         Keeps at.here (step net n w (act_at at ask))
-        (left spelled (asked_over n at ask ((seen_in held).rows (reach_of ask))) held) }
+        (left spelled (asked_over at ask ((seen_in held).rows (reach_of ask))) held) }
     ensures elsewhere { (net : Net) (n : ℕ) (w : World) (at : Surroundings) (ask : Ask) (j : Inst) →
         IsBuilt ask → same_inst at.here j ≡ false →
         tables (step net n w (act_at at ask)).log j ≡ tables w.log j }

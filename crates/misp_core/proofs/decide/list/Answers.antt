@@ -4,6 +4,6 @@ use Rattle.misp_core.proofs.Planned.{planned}
 use Rattle.misp_core.proofs.decide.list.Goals as goal
 
 pub returns : goal.returns
-returns c = λ n rows.
+returns c = λ rows.
     rw (c.told.ensures, ← c.asker-org.ensures, c.of.ensures)
     (planned _ _ _ _ [] (listed _ _ _ c.in_ok-groups.ensures) refl refl)

@@ -6,20 +6,20 @@ use Rattle.misp_core.proofs.decide.view.Goals as goal
 
 pub returns-in_ok-seen-in-Some : goal.returns-in_ok-seen-in-Some
 returns-in_ok-seen-in-Some c = record {
-  all = λ n.
+  all =
       rw (c.told.ensures, c.in_ok-seen-in-Some.ensures, ← c.asker-org.ensures)
       (planned _ _ _ _ [] (sighted _ _ _ _ c.in-Some.seen (shown_in_scene _ _ _ ∙ sym c.in_ok-seen.ensures.seen ∙ c.in-Some.is)) refl refl);
-  known = λ n table.
+  known = λ table.
       rw (c.told.ensures, c.in_ok-seen-in-Some.ensures, ← c.asker-org.ensures)
       (planned _ _ _ _ [] (sighted _ _ _ _ c.in-Some.seen (shown_in_scene _ _ _ ∙ sym (c.in_ok-seen.ensures.known table) ∙ c.in-Some.is)) refl refl);
 }
 
 pub returns-in-None : goal.returns-in-None
 returns-in-None c = record {
-  all = λ n.
+  all =
       rw (c.bare-refusal.ensures, ← c.asker-org.ensures)
       (not_planned _ _ _ _ (unseen _ _ _ _ (shown_in_scene _ _ _ ∙ sym c.in_ok-seen.ensures.seen ∙ c.in-None.is)));
-  known = λ n table.
+  known = λ table.
       rw (c.bare-refusal.ensures, ← c.asker-org.ensures)
       (not_planned _ _ _ _ (unseen _ _ _ _ (shown_in_scene _ _ _ ∙ sym (c.in_ok-seen.ensures.known table) ∙ c.in-None.is)));
 }

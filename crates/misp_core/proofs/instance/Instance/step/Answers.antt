@@ -11,26 +11,26 @@ use Rattle.misp_core.proofs.Ordering.{told_in_order}
 use Rattle.misp_core.proofs.instance.Instance.step.Goals as goal
 
 pub returns-then-not-may-clause-answered : goal.returns-then-not-may-clause-answered
-returns-then-not-may-clause-answered g c = λ n.
+returns-then-not-may-clause-answered g c =
     rw c.unplanned.ensures
-    (turned_away n c.args.self.now c.args.caller.now c.args.now c.args.ask _ c.forbidden.result
+    (turned_away c.args.self.now c.args.caller.now c.args.now c.args.ask _ c.forbidden.result
     (rw (← c.caller.view_is, ← c.permission_for-perm.ensures) (sym c.if-not-may.ensures))
     (subst (λ perm. Plans (Err c.forbidden.result) (refused (no_permission perm))) c.permission_for-perm.ensures c.forbidden.ensures))
 
 pub returns-then-not-may-clause-order : goal.returns-then-not-may-clause-order
-returns-then-not-may-clause-order g c = λ n.
-    told_in_order n (λ held. site_at c.args.self.now held c.args.caller.now c.args.now) _ _ _ _ c.requires (returns-then-not-may-clause-answered g c n)
+returns-then-not-may-clause-order g c =
+    told_in_order (λ held. site_at c.args.self.now held c.args.caller.now c.args.now) _ _ _ _ c.requires (returns-then-not-may-clause-answered g c)
 
 pub returns-in-Err-clause-answered : goal.returns-in-Err-clause-answered
-returns-in-Err-clause-answered g c = λ n.
+returns-in-Err-clause-answered g c =
     rw (← c.self.view_is)
-    (unread_there n (standing c.self.inside.name c.self.inside.admin None 0) c.args.caller.now c.args.now c.args.ask c.in-Err.fault _ _ c.unread.result
+    (unread_there (standing c.self.inside.name c.self.inside.admin None 0) c.args.caller.now c.args.now c.args.ask c.in-Err.fault _ _ c.unread.result
     (rw (← c.caller.view_is, ← c.permission_for-perm.ensures) (sym c.if-not-may.ensures))
     c.in-Err.ensures.held (rw (← c.reach.ensures) c.in-Err.ensures.bad) c.unread.ensures.done)
 
 pub returns-in-Err-clause-order : goal.returns-in-Err-clause-order
-returns-in-Err-clause-order g c = λ n.
-    told_in_order n (λ held. site_at c.args.self.now held c.args.caller.now c.args.now) _ _ _ _ c.requires (returns-in-Err-clause-answered g c n)
+returns-in-Err-clause-order g c =
+    told_in_order (λ held. site_at c.args.self.now held c.args.caller.now c.args.now) _ _ _ _ c.requires (returns-in-Err-clause-answered g c)
 
 pub returns-in-Err-clause-cause : goal.returns-in-Err-clause-cause
 returns-in-Err-clause-cause g c =
@@ -41,18 +41,18 @@ returns-in-Err-clause-cause g c =
     })
 
 pub returns-clause-answered : goal.returns-clause-answered
-returns-clause-answered g c = λ n.
+returns-clause-answered g c =
     rw (← c.self.view_is)
     (at_groups _ c.self.inside.groups
-    (λ held groups. IsAnswered n (site c.self.inside.name c.self.inside.admin groups c.args.caller.now c.args.now) c.args.ask held c.carry_out.result (g.K.Keeper.stock c.carry_out.new.keeper).held)
+    (λ held groups. IsAnswered (site c.self.inside.name c.self.inside.admin groups c.args.caller.now c.args.now) c.args.ask held c.carry_out.result (g.K.Keeper.stock c.carry_out.new.keeper).held)
     c.self.invariant
-    (asked_there n (site c.self.inside.name c.self.inside.admin c.self.inside.groups c.args.caller.now c.args.now) c.args.ask c.in-Ok.rows.items c.plan_request-planned.result _ _ _ c.carry_out.result
+    (asked_there (site c.self.inside.name c.self.inside.admin c.self.inside.groups c.args.caller.now c.args.now) c.args.ask c.in-Ok.rows.items c.plan_request-planned.result _ _ _ c.carry_out.result
     (rw (← c.caller.view_is, ← c.permission_for-perm.ensures) (sym c.if-not-may.ensures))
-    c.in-Ok.ensures.held (rw (← c.reach.ensures) c.in-Ok.ensures.found) c.in-Ok.ensures.table (c.plan_request-planned.ensures.plan n) c.carry_out.ensures.done))
+    c.in-Ok.ensures.held (rw (← c.reach.ensures) c.in-Ok.ensures.found) c.in-Ok.ensures.table c.plan_request-planned.ensures.plan c.carry_out.ensures.done))
 
 pub returns-clause-order : goal.returns-clause-order
-returns-clause-order g c = λ n.
-    told_in_order n (λ held. site_at c.args.self.now held c.args.caller.now c.args.now) _ _ _ _ c.requires (returns-clause-answered g c n)
+returns-clause-order g c =
+    told_in_order (λ held. site_at c.args.self.now held c.args.caller.now c.args.now) _ _ _ _ c.requires (returns-clause-answered g c)
 
 -- ---- what the role forbids
 
