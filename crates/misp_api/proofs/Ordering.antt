@@ -56,10 +56,10 @@ ask_named Groups body word = tt
 
 -- ---- from the path on
 
-module _ (n : ℕ) (host : Host) (now : ℕ) (held : Held) where
+module _ (host : Host) (now : ℕ) (held : Held) where
   -- of what was read the first of these rules is the first of what is asked, and of what was not it is the refusal's
   abbrev IsFirst : Reading Asked → Option RuleName → Type 0
-  IsFirst (Ok it) first = first ≡ first_ground (grounds n (site host.name host.admin (groups_of held) it.0 now) it.1 held)
+  IsFirst (Ok it) first = first ≡ first_ground (grounds (site host.name host.admin (groups_of held) it.0 now) it.1 held)
   IsFirst (Err refusal) first = stop_in (replies.Refused refusal) ≡ None → Some refusal.name ≡ first
 
   abbrev from_body : Reading Ask → List Ground → List Ground
@@ -68,14 +68,14 @@ module _ (n : ℕ) (host : Host) (now : ℕ) (held : Held) where
       ∷ (is_refused_by rules.BadField ask, rules.BadField)
       ∷ (is_refused_by rules.BinaryType ask, rules.BinaryType) ∷ rest
 
-  by_ask : (caller : Caller) (ask : Reading Ask) → IsNamed ask → IsFirst (by_body caller ask) (first_ground (from_body ask (asked_grounds n host now (by_body caller ask) held)))
+  by_ask : (caller : Caller) (ask : Reading Ask) → IsNamed ask → IsFirst (by_body caller ask) (first_ground (from_body ask (asked_grounds host now (by_body caller ask) held)))
   unfolding first_ground
   by_ask caller (Ok ask) named = refl
   by_ask caller (Err refusal) named = named
 
   by_caller : (route : Route) (caller : Option Caller) (body : List ℕ) (word : ℕ)
       → IsFirst (by_key caller route body word)
-      (first_ground ((not (is_some caller), rules.NoKey) ∷ from_body (ask_of route body word) (asked_grounds n host now (by_key caller route body word) held)))
+      (first_ground ((not (is_some caller), rules.NoKey) ∷ from_body (ask_of route body word) (asked_grounds host now (by_key caller route body word) held)))
   unfolding first_ground
   by_caller route None body word = λ went. refl
   by_caller route (Some caller) body word = by_ask caller (ask_of route body word) (ask_named route body word)
@@ -86,7 +86,7 @@ module _ (n : ℕ) (host : Host) (now : ℕ) (held : Held) where
   by_verb : (same : Bool) (route : Route) (caller : Option Caller) (body : List ℕ) (word : ℕ)
       → IsFirst (by_same same route caller body word)
       (first_ground ((not same, rules.NoMethod) ∷ (not (is_some caller), rules.NoKey)
-      ∷ from_body (ask_of route body word) (asked_grounds n host now (by_same same route caller body word) held)))
+      ∷ from_body (ask_of route body word) (asked_grounds host now (by_same same route caller body word) held)))
   unfolding first_ground
   by_verb true route caller body word = by_caller route caller body word
   by_verb false route caller body word = λ went. refl
@@ -106,32 +106,32 @@ module _ (n : ℕ) (host : Host) (now : ℕ) (held : Held) where
   read_at route request = by_route (by_method request.method route) (caller_in host.admin request.key) request.body request.word
 
   by_path : (route : Option Route) (request : RequestData)
-      → IsFirst (read_at route request) (first_ground (from_path route request (asked_grounds n host now (read_at route request) held)))
+      → IsFirst (read_at route request) (first_ground (from_path route request (asked_grounds host now (read_at route request) held)))
   unfolding first_ground
   by_path None request = λ went. refl
   by_path (Some route) request =
       by_verb (bytes_eq request.method (method_of route)) route (caller_in host.admin request.key) request.body request.word
 
-  ordered : (request : RequestData) → IsFirst (read_of host.admin request) (first_ground (order n host now request held))
+  ordered : (request : RequestData) → IsFirst (read_of host.admin request) (first_ground (order host now request held))
   unfolding read_of route_of
   ordered request = by_path (route_asked request) request
 
 -- ---- of a reply
 
 -- what was read is answered by the instance in its order
-pub order_by_step : (n : ℕ) (i : Standing) (now : ℕ) (request : RequestData) (it : Asked) (reply : Reply) (old : Option Held)
-    → read_of i.admin request ≡ Ok it → IfSome old (λ held. IsInOrder (grounds n (site_at i held it.0 now) it.1 held) reply)
-    → IfSome old (λ held. IsInOrder (order n (host_of i) now request held) reply)
-order_by_step n i now request it reply None is answered = tt
-order_by_step n i now request it reply (Some held) is answered = λ went.
+pub order_by_step : (i : Standing) (now : ℕ) (request : RequestData) (it : Asked) (reply : Reply) (old : Option Held)
+    → read_of i.admin request ≡ Ok it → IfSome old (λ held. IsInOrder (grounds (site_at i held it.0 now) it.1 held) reply)
+    → IfSome old (λ held. IsInOrder (order (host_of i) now request held) reply)
+order_by_step i now request it reply None is answered = tt
+order_by_step i now request it reply (Some held) is answered = λ went.
     answered went
-    ∙ sym (subst (λ read. IsFirst n (host_of i) now held read (first_ground (order n (host_of i) now request held))) is (ordered n (host_of i) now held request))
+    ∙ sym (subst (λ read. IsFirst (host_of i) now held read (first_ground (order (host_of i) now request held))) is (ordered (host_of i) now held request))
 
 -- what was not read is refused by its first rule
-pub order_by_fault : (n : ℕ) (i : Standing) (now : ℕ) (request : RequestData) (fault : AskFault) (old : Option Held)
+pub order_by_fault : (i : Standing) (now : ℕ) (request : RequestData) (fault : AskFault) (old : Option Held)
     → Gives (Err fault) (read_of i.admin request)
-    → IfSome old (λ held. IsInOrder (order n (host_of i) now request held) (fault_reply fault))
-order_by_fault n i now request fault None given = tt
-order_by_fault n i now request (stops.Refused refusal) (Some held) given = λ went.
-    subst (λ read. IsFirst n (host_of i) now held read (first_ground (order n (host_of i) now request held))) given (ordered n (host_of i) now held request) went
-order_by_fault n i now request stops.NoMemory (Some held) given = λ went. absurd cc
+    → IfSome old (λ held. IsInOrder (order (host_of i) now request held) (fault_reply fault))
+order_by_fault i now request fault None given = tt
+order_by_fault i now request (stops.Refused refusal) (Some held) given = λ went.
+    subst (λ read. IsFirst (host_of i) now held read (first_ground (order (host_of i) now request held))) given (ordered (host_of i) now held request) went
+order_by_fault i now request stops.NoMemory (Some held) given = λ went. absurd cc

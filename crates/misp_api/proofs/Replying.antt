@@ -36,20 +36,20 @@ use Rattle.misp_store.specs.Seen.{seen_in}
 use Rattle.misp_api.specs.Answering.{Asked, caller_in, by_body, by_route, read_of, permitted, form_of, fault_reply, replied, IsReplied}
 
 -- what an instance comes to by an ask is what its form comes to, by whether the role permits the ask
-ask_replied : (n : ℕ) (host : Host) (now : ℕ) (asked : Asked) (may : Bool) (held : Held)
-    → replied n host now (allowed may asked) (seen_in held)
-    ≡ (if may then asked_over n (site host.name host.admin (groups_of held) asked.0 now) asked.1 ((seen_in held).rows (reach_of asked.1)) else refused (forbidden asked.1))
-ask_replied n host now asked true held = refl
-ask_replied n host now asked false held = refl
+ask_replied : (host : Host) (now : ℕ) (asked : Asked) (may : Bool) (held : Held)
+    → replied host now (allowed may asked) (seen_in held)
+    ≡ (if may then asked_over (site host.name host.admin (groups_of held) asked.0 now) asked.1 ((seen_in held).rows (reach_of asked.1)) else refused (forbidden asked.1))
+ask_replied host now asked true held = refl
+ask_replied host now asked false held = refl
 
 -- an ask is answered by the instance
-pub by_step : (n : ℕ) (i : Standing) (now : ℕ) (request : RequestData) (asked : Asked) (reply : Reply) (old new : Option Held)
-    → read_of i.admin request ≡ Ok asked → IfSome old (λ held. IsAnswered n (site_at i held asked.0 now) asked.1 held reply new)
-    → IfSome old (λ held. IsReplied n (host_of i) now (form_of i.admin request) held reply new)
-by_step n i now request asked reply None new is answered = tt
-by_step n i now request asked reply (Some held) new is answered =
-    subst (λ read. IsReplied n (host_of i) now (permitted read) held reply new) (sym is)
-    (subst (λ e. Did e held reply new) (sym (ask_replied n (host_of i) now asked (is_permitted asked.0 asked.1) held)) answered)
+pub by_step : (i : Standing) (now : ℕ) (request : RequestData) (asked : Asked) (reply : Reply) (old new : Option Held)
+    → read_of i.admin request ≡ Ok asked → IfSome old (λ held. IsAnswered (site_at i held asked.0 now) asked.1 held reply new)
+    → IfSome old (λ held. IsReplied (host_of i) now (form_of i.admin request) held reply new)
+by_step i now request asked reply None new is answered = tt
+by_step i now request asked reply (Some held) new is answered =
+    subst (λ read. IsReplied (host_of i) now (permitted read) held reply new) (sym is)
+    (subst (λ e. Did e held reply new) (sym (ask_replied (host_of i) now asked (is_permitted asked.0 asked.1) held)) answered)
 
 -- a refusal by the form of a request comes from no keeper, and from memory only where memory ran out
 abbrev pub IsFormal : Refusal → Type 0
@@ -125,12 +125,12 @@ by_fault comes refuses read (stops.Refused refusal) held given formed =
     (subst (λ e. Did e held (replies.Refused refusal) (Some held)) (sym (refuses refusal)) (formal_reply held refusal formal))
 by_fault comes refuses read stops.NoMemory held given formed = out_of_memory (comes read) held
 
-pub refused_by_form : (n : ℕ) (i : Standing) (now : ℕ) (request : RequestData) (fault : AskFault) (old : Option Held)
+pub refused_by_form : (i : Standing) (now : ℕ) (request : RequestData) (fault : AskFault) (old : Option Held)
     → Gives (Err fault) (read_of i.admin request)
-    → IfSome old (λ held. IsReplied n (host_of i) now (form_of i.admin request) held (fault_reply fault) old)
-refused_by_form n i now request fault None given = tt
-refused_by_form n i now request fault (Some held) given =
-    by_fault (λ read. replied n (host_of i) now (permitted read) (seen_in held)) (λ refusal. refl)
+    → IfSome old (λ held. IsReplied (host_of i) now (form_of i.admin request) held (fault_reply fault) old)
+refused_by_form i now request fault None given = tt
+refused_by_form i now request fault (Some held) given =
+    by_fault (λ read. replied (host_of i) now (permitted read) (seen_in held)) (λ refusal. refl)
     (read_of i.admin request) fault held given (read_by_form i.admin request)
 
 pub no_keeper_in : (refusal : Refusal) → IsFormal refusal → stop_in (replies.Refused refusal) ≡ by_keeper → ⊥

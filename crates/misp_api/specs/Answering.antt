@@ -64,16 +64,16 @@ abbrev pub fault_reply : AskFault → Reply
 fault_reply (stops.Refused refusal) = replies.Refused refusal
 fault_reply stops.NoMemory = refused_by rules.NoMemory
 
--- ---- the n-th request, of this form
+-- ---- a request of this form
 
 -- what it comes to by what is seen
-abbrev pub replied : ℕ → Host → ℕ → Reading Asked → Seen → Effect Reply
-replied n host now (Ok asked) here =
-    asked_over n (site host.name host.admin here.groups asked.0 now) asked.1
+abbrev pub replied : Host → ℕ → Reading Asked → Seen → Effect Reply
+replied host now (Ok asked) here =
+    asked_over (site host.name host.admin here.groups asked.0 now) asked.1
     (here.rows (reach_of asked.1))
-replied n host now (Err refusal) here = refused refusal
+replied host now (Err refusal) here = refused refusal
 
 -- it was replied so, and left this
-abbrev pub IsReplied : ℕ → Host → ℕ → Reading Asked → Held → Reply → Option Held → Type 0
-IsReplied n host now form held reply new =
-    Did (replied n host now form (seen_in held)) held reply new
+abbrev pub IsReplied : Host → ℕ → Reading Asked → Held → Reply → Option Held → Type 0
+IsReplied host now form held reply new =
+    Did (replied host now form (seen_in held)) held reply new

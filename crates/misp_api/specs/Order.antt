@@ -35,18 +35,18 @@ body_breaks rule request =
     (route_asked request) false
 
 -- the rules of what is asked, where it was read
-abbrev pub asked_grounds : ℕ → Host → ℕ → Reading Asked → Held → List Ground
-asked_grounds n host now (Ok asked) held =
-    grounds n (site host.name host.admin (groups_of held) asked.0 now) asked.1 held
-asked_grounds n host now (Err refusal) held = []
+abbrev pub asked_grounds : Host → ℕ → Reading Asked → Held → List Ground
+asked_grounds host now (Ok asked) held =
+    grounds (site host.name host.admin (groups_of held) asked.0 now) asked.1 held
+asked_grounds host now (Err refusal) held = []
 
--- of the n-th request, at this moment and over what is held
-abbrev pub order : ℕ → Host → ℕ → RequestData → Held → List Ground
-order n host now request held =
+-- of a request, at this moment and over what is held
+abbrev pub order : Host → ℕ → RequestData → Held → List Ground
+order host now request held =
     (not (is_some (route_asked request)), rules.NoRoute)
     ∷ (has_other_method request, rules.NoMethod)
     ∷ (not (is_some (caller_in host.admin request.key)), rules.NoKey)
     ∷ (body_breaks rules.BadJson request, rules.BadJson)
     ∷ (body_breaks rules.BadField request, rules.BadField)
     ∷ (body_breaks rules.BinaryType request, rules.BinaryType)
-    ∷ asked_grounds n host now (read_of host.admin request) held
+    ∷ asked_grounds host now (read_of host.admin request) held

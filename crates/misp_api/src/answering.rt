@@ -69,14 +69,14 @@ pub fn answer<K: Keeper>(
     request: &Request<'_>,
 ) -> Reply
     // Reply and rows are the stated functions of the request and of what is held.
-    ensures replied { (n : ℕ) → IfSome instance.old.held (λ held. IsReplied n
+    ensures replied { IfSome instance.old.held (λ held. IsReplied
         (host_of instance.old) now
         (form_of instance.old.admin (request_data request.now))
         held result instance.new.held) }
 
     // Where several rules refuse the request, the first in the one order is answered.
-    ensures order { (n : ℕ) → IfSome instance.old.held (λ held. IsInOrder
-        (order n (host_of instance.old) now (request_data request.now) held) result) }
+    ensures order { IfSome instance.old.held (λ held. IsInOrder
+        (order (host_of instance.old) now (request_data request.now) held) result) }
 
     // What the form of the request refuses, or the role of its caller, is refused just so, and the
     // keeper is as it was.

@@ -8,22 +8,22 @@ use Rattle.misp_api.proofs.Ordering.{order_by_step, order_by_fault}
 use Rattle.misp_api.proofs.answering.answer.Goals as goal
 
 pub returns-in-Ok-clause-replied : goal.returns-in-Ok-clause-replied
-returns-in-Ok-clause-replied g c = λ n. by_step n c.args.instance.now c.args.now (request_data c.args.request.now)
-    _ _ _ _ c.in-Ok.ensures.read (c.step.ensures.answered n)
+returns-in-Ok-clause-replied g c = by_step c.args.instance.now c.args.now (request_data c.args.request.now)
+    _ _ _ _ c.in-Ok.ensures.read c.step.ensures.answered
 
 pub returns-in-Ok-clause-order : goal.returns-in-Ok-clause-order
-returns-in-Ok-clause-order g c = λ n. order_by_step n c.args.instance.now c.args.now (request_data c.args.request.now)
-    _ c.step.result _ c.in-Ok.ensures.read (c.step.ensures.order n)
+returns-in-Ok-clause-order g c = order_by_step c.args.instance.now c.args.now (request_data c.args.request.now)
+    _ c.step.result _ c.in-Ok.ensures.read (c.step.ensures.order)
 
 pub returns-in-Err-clause-order : goal.returns-in-Err-clause-order
-returns-in-Err-clause-order g c = λ n.
+returns-in-Err-clause-order g c =
     rw (c.refused.ensures)
-    (order_by_fault n c.args.instance.now c.args.now (request_data c.args.request.now) c.in-Err.fault c.args.instance.now.held c.in-Err.ensures.read)
+    (order_by_fault c.args.instance.now c.args.now (request_data c.args.request.now) c.in-Err.fault c.args.instance.now.held c.in-Err.ensures.read)
 
 pub returns-in-Err-clause-replied : goal.returns-in-Err-clause-replied
-returns-in-Err-clause-replied g c = λ n.
+returns-in-Err-clause-replied g c =
     rw (c.refused.ensures)
-    (refused_by_form n c.args.instance.now c.args.now (request_data c.args.request.now) c.in-Err.fault c.args.instance.now.held c.in-Err.ensures.read)
+    (refused_by_form c.args.instance.now c.args.now (request_data c.args.request.now) c.in-Err.fault c.args.instance.now.held c.in-Err.ensures.read)
 
 pub returns-in-Err-clause-cause : goal.returns-in-Err-clause-cause
 returns-in-Err-clause-cause g c = record {
