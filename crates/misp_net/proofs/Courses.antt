@@ -1,6 +1,6 @@
 -- A course goes on by one line.
 use Rattle.std.proofs.Common.{◌≡◌, ℕ, suc, ◌+◌, List, [], ◌∷◌, ◌++◌, length, refl, sym, ◌∙◌, ap, subst, arith, append_assoc, append-nil}
-use Rattle.std.specs.Prelude.{Result, Ok, Err, OnOk}
+use Rattle.std.proofs.lemmas.List.{length-map, map-append}
 use Rattle.misp_outside.specs.Stock.{Stock}
 use Rattle.misp_effects.specs.Meanings.{Meaning}
 use Rattle.misp_effects.specs.Course as courses
@@ -14,18 +14,6 @@ use Rattle.misp_store.specs.Seen.{Seen, seen_in}
 use Rattle.misp_net.specs.Meaning.{meaning, meanings_of, stop_in}
 use Rattle.misp_net.specs.Text.{line_of, text_from}
 use Rattle.misp_net.specs.Course.{HasPut, HasRun}
-
-meanings_push : (n : ℕ) (hosts : List Host) (acts : List Act) (act : Act)
-    → meanings_of n hosts (acts ++ act ∷ []) ≡ meanings_of n hosts acts ++ (meaning hosts act).means (n + length acts) ∷ []
-meanings_push n hosts [] act = ap (λ k. (meaning hosts act).means k ∷ []) (omega arith)
-meanings_push n hosts (a ∷ acts) act =
-    let later : suc n + length acts ≡ n + suc (length acts) = omega arith in
-    ap (λ ms. (meaning hosts a).means n ∷ ms)
-    (meanings_push (suc n) hosts acts act ∙ ap (λ k. meanings_of (suc n) hosts acts ++ (meaning hosts act).means k ∷ []) later)
-
-pub meanings_long : (n : ℕ) (hosts : List Host) (acts : List Act) → length (meanings_of n hosts acts) ≡ length acts
-meanings_long n hosts [] = refl
-meanings_long n hosts (act ∷ acts) = ap suc (meanings_long (suc n) hosts acts)
 
 among_push : (count : ℕ) (acts : List Act) (act : Act) → AreAmong count acts → IsAmong count act → AreAmong count (acts ++ act ∷ [])
 among_push count [] act all is = (is, tt)
@@ -48,9 +36,9 @@ no_acts hosts old = record {
 }
 
 pub one_more : (hosts : List Host) (acts : List Act) (act : Act) (old mid new : List Stock) (before after : List ℕ)
-    → HasRun hosts acts old mid before → HasPut (0 + length acts) hosts act mid new (1 + length acts) before after → HasRun hosts (acts ++ act ∷ []) old new after
+    → HasRun hosts acts old mid before → HasPut hosts act mid new (1 + length acts) before after → HasRun hosts (acts ++ act ∷ []) old new after
 one_more hosts acts act old mid new before after run put =
-    let long : length run.outputs ≡ length acts = run.ran.each ∙ meanings_long 0 hosts acts in
+    let long : length run.outputs ≡ length acts = run.ran.each ∙ length-map acts (λ a. (meaning hosts a).means) in
     record {
       outputs = run.outputs ++ put.output ∷ [];
       text_is =
@@ -59,12 +47,7 @@ one_more hosts acts act old mid new before after run put =
           ∙ ap (λ n. text_from 1 run.outputs ++ line_of (1 + n) put.output) (sym long)
           ∙ sym (text_push 1 run.outputs put.output);
       ran =
-          subst (λ (ms : List (Meaning Seen Output)). courses.HasRun Seen Output seen_in spelled stop_in ms old new (run.outputs ++ put.output ∷ [])) (sym (meanings_push 0 hosts acts act))
-          (more.one_more Seen Output seen_in spelled stop_in (meanings_of 0 hosts acts) ((meaning hosts act).means (0 + length acts)) old mid new run.outputs put.output run.ran put.ran);
+          subst (λ (ms : List (Meaning Seen Output)). courses.HasRun Seen Output seen_in spelled stop_in ms old new (run.outputs ++ put.output ∷ [])) (sym (map-append (λ a. (meaning hosts a).means) acts (act ∷ [])))
+          (more.one_more Seen Output seen_in spelled stop_in (meanings_of hosts acts) (meaning hosts act).means old mid new run.outputs put.output run.ran put.ran);
       among = among_push (length hosts) acts act run.among put.among;
     }
-
--- what holds where all went well gives what follows from it
-pub where_ok : {A E : Type 0} {P Q : Type 0} (result : Result A E) → (P → Q) → OnOk result P → OnOk result Q
-where_ok (Ok x) follows holds = follows holds
-where_ok (Err fault) follows holds = tt

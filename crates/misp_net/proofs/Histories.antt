@@ -19,10 +19,9 @@ use Rattle.misp_net.specs.declared.line.Output.{Output}
 use Rattle.misp_api.specs.Host.{Host}
 use Rattle.misp_net.specs.Lines.{Act, AreAmong}
 use Rattle.misp_store.specs.Seen.{Seen, seen_in}
-use Rattle.misp_net.specs.Meaning.{meanings_of, stop_in}
+use Rattle.misp_net.specs.Meaning.{meaning, meanings_of, stop_in}
 use Rattle.misp_net.specs.Run.{tables_after, Ran}
 use Rattle.misp_net.specs.History.{world_after, world_left, told_output, told_outputs, AreDistinct, empty_tables, IsHistory, AreTold, AreHeld}
-use Rattle.misp_net.proofs.Courses.{meanings_long}
 use Rattle.misp_net.proofs.Telling.{output_told, line_left}
 
 empty_at : (place : ℕ) (hosts : List Host) → held_at place (empty_tables hosts) ≡ nothing_held
@@ -43,30 +42,30 @@ at_start hosts = record {
 module _ (back : AreReadBack) (hosts : List Host) (distinct : AreDistinct hosts) where
   -- what the lines put out and leave, the first being the n-th
   all_told : (n : ℕ) (w : World) (acts : List Act) (outcomes : List Outcome) (old : Tables) → length outcomes ≡ length acts
-      → AreAmong (length hosts) acts → IsHistory hosts n w old → AreFit seen_in spelled (meanings_of n hosts acts) outcomes old
-      → (outputs_of seen_in spelled (meanings_of n hosts acts) outcomes old ≡ told_outputs n hosts w acts outcomes)
-      × IsHistory hosts (n + length acts) (world_left n hosts w acts outcomes) (tables_left seen_in spelled (meanings_of n hosts acts) outcomes old)
+      → AreAmong (length hosts) acts → IsHistory hosts n w old → AreFit seen_in spelled (meanings_of hosts acts) outcomes old
+      → (outputs_of seen_in spelled (meanings_of hosts acts) outcomes old ≡ told_outputs n hosts w acts outcomes)
+      × IsHistory hosts (n + length acts) (world_left n hosts w acts outcomes) (tables_left seen_in spelled (meanings_of hosts acts) outcomes old)
   all_told n w [] outcomes old each among history fits =
       let same : n ≡ n + 0 = omega arith in (refl, subst (λ k. IsHistory hosts k w old) same history)
   all_told n w (act ∷ acts) [] old each among history fits = absurd (omega (arith, each))
   all_told n w (act ∷ acts) (outcome ∷ outcomes) old each among history fits =
-      let after : Tables = tables_after outcome n hosts act old in
+      let after : Tables = tables_after outcome hosts act old in
       let next : World = world_after outcome n hosts w act in
       let rest = all_told (suc n) next acts outcomes after (omega (arith, each)) among.1
       (line_left hosts distinct n w old history back outcome act among.0 fits.0) fits.1 in
       let later : suc n + length acts ≡ n + suc (length acts) = omega arith in (
-        ap (λ output. output ∷ outputs_of seen_in spelled (meanings_of (suc n) hosts acts) outcomes after) (output_told hosts distinct n w old history outcome act among.0)
-            ∙ ap (λ outputs. told_output outcome n hosts w act ∷ outputs) rest.0,
-        subst (λ k. IsHistory hosts k (world_left (suc n) hosts next acts outcomes) (tables_left seen_in spelled (meanings_of (suc n) hosts acts) outcomes after)) later rest.1,
+        ap (λ output. output ∷ outputs_of seen_in spelled (meanings_of hosts acts) outcomes after) (output_told hosts distinct n w old history outcome act among.0)
+            ∙ ap (λ outputs. told_output outcome hosts w act ∷ outputs) rest.0,
+        subst (λ k. IsHistory hosts k (world_left (suc n) hosts next acts outcomes) (tables_left seen_in spelled (meanings_of hosts acts) outcomes after)) later rest.1,
       )
 
   module _ (acts : List Act) (old new : List Stock) (outputs : List Output) (among : AreAmong (length hosts) acts) (ran : Ran hosts acts old new outputs)
       (empty : Tell old (empty_tables hosts)) where
-    done : AreDone Seen Output seen_in spelled stop_in (meanings_of 0 hosts acts) (empty_tables hosts) outputs new
+    done : AreDone Seen Output seen_in spelled stop_in (meanings_of hosts acts) (empty_tables hosts) outputs new
     done = ran.done (empty_tables hosts) empty
 
     each : length done.outcomes ≡ length acts
-    each = done.each ∙ meanings_long 0 hosts acts
+    each = done.each ∙ length-map acts (λ act. (meaning hosts act).means)
 
     pub are_told : AreTold hosts acts outputs
     are_told = record {
@@ -83,8 +82,8 @@ module _ (back : AreReadBack) (hosts : List Host) (distinct : AreDistinct hosts)
           outcomes = done.outcomes;
           each = each;
           agree = done.agree;
-          tables = tables_left seen_in spelled (meanings_of 0 hosts acts) done.outcomes (empty_tables hosts);
+          tables = tables_left seen_in spelled (meanings_of hosts acts) done.outcomes (empty_tables hosts);
           tables_are = done.tables_are;
-          history = subst (λ k. IsHistory hosts k (world_left 0 hosts start acts done.outcomes) (tables_left seen_in spelled (meanings_of 0 hosts acts) done.outcomes (empty_tables hosts))) same
+          history = subst (λ k. IsHistory hosts k (world_left 0 hosts start acts done.outcomes) (tables_left seen_in spelled (meanings_of hosts acts) done.outcomes (empty_tables hosts))) same
               (all_told 0 start acts done.outcomes (empty_tables hosts) each among (at_start hosts) done.fits).1;
         }

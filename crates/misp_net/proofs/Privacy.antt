@@ -55,28 +55,28 @@ module _ (keep : Key → Bool) (closed : IsClosed keep) (o : OrgId) (hosts : Lis
       ∙ known_cut keep closed (tables w.log i) (w.groups i) i org
       ∙ filter_all (λ row. keep row.key) (known (tables w.log i) (w.groups i) i org) granted
 
-  own_reply : (n : ℕ) (w : World) (at now : ℕ) (form : Reading Asked) (caller : Option Caller) → AskedBy caller form → is_asker o (option_map (λ c. c.org) caller) ≡ true → HasKnown o keep w
-      → (replied n (host_at at hosts) now form (seen_by hosts (cut_world keep w) at)).reply ≡ (replied n (host_at at hosts) now form (seen_by hosts w at)).reply
+  own_reply : (w : World) (at now : ℕ) (form : Reading Asked) (caller : Option Caller) → AskedBy caller form → is_asker o (option_map (λ c. c.org) caller) ≡ true → HasKnown o keep w
+      → (replied (host_at at hosts) now form (seen_by hosts (cut_world keep w) at)).reply ≡ (replied (host_at at hosts) now form (seen_by hosts w at)).reply
   unfolding cut_world
-  own_reply n w at now (Ok asked) caller by own has =
+  own_reply w at now (Ok asked) caller by own has =
       let host : Host = host_at at hosts in
       let same : same_org asked.0.org o ≡ true = subst (λ (c : Option Caller). is_asker o (option_map (λ (d : Caller). d.org) c) ≡ true) by own in
-      ap (λ rows. reply_in host.admin (scene_with n (site host.name host.admin (w.groups host.name) asked.0 now) rows) asked.1) (own_rows w host.name asked.0.org same has)
-  own_reply n w at now (Err refusal) caller by own has = refl
+      ap (λ rows. reply_in host.admin (scene_with (site host.name host.admin (w.groups host.name) asked.0 now) rows) asked.1) (own_rows w host.name asked.0.org same has)
+  own_reply w at now (Err refusal) caller by own has = refl
 
-  own_deed : (n : ℕ) (w : World) (time word : ℕ) (deed : DeedData) → is_asker o (deed_meaning hosts time word deed).asker ≡ true → HasKnown o keep w
-      → told_output Went n hosts (cut_world keep w) (Ok (record { time = time; word = word; deed = deed })) ≡ told_output Went n hosts w (Ok (record { time = time; word = word; deed = deed }))
-  own_deed n w time word deeds.Nothing own has = refl
-  own_deed n w time word (deeds.Request r) own has =
-      ap Replied (own_reply n w r.at time (form_of (host_at r.at hosts).admin (request_in word r)) (caller_in (host_at r.at hosts).admin r.key)
+  own_deed : (w : World) (time word : ℕ) (deed : DeedData) → is_asker o (deed_meaning hosts time word deed).asker ≡ true → HasKnown o keep w
+      → told_output Went hosts (cut_world keep w) (Ok (record { time = time; word = word; deed = deed })) ≡ told_output Went hosts w (Ok (record { time = time; word = word; deed = deed }))
+  own_deed w time word deeds.Nothing own has = refl
+  own_deed w time word (deeds.Request r) own has =
+      ap Replied (own_reply w r.at time (form_of (host_at r.at hosts).admin (request_in word r)) (caller_in (host_at r.at hosts).admin r.key)
       (form_caller (host_at r.at hosts).admin (request_in word r)) own has)
-  own_deed n w time word (deeds.Group line) own has = absurd cc
+  own_deed w time word (deeds.Group line) own has = absurd cc
 
   -- its own lines are told the same
-  own_line : (n : ℕ) (w : World) (act : Act) → is_of o hosts act ≡ true → HasKnown o keep w
-      → told_output Went n hosts (cut_world keep w) act ≡ told_output Went n hosts w act
-  own_line n w (Ok step) own has = own_deed n w step.time step.word step.deed own has
-  own_line n w (Err bad) own has = refl
+  own_line : (w : World) (act : Act) → is_of o hosts act ≡ true → HasKnown o keep w
+      → told_output Went hosts (cut_world keep w) act ≡ told_output Went hosts w act
+  own_line w (Ok step) own has = own_deed w step.time step.word step.deed own has
+  own_line w (Err bad) own has = refl
 
   known_first : (n : ℕ) (w : World) (acts : List model.Act) → IsKept o keep no_links n w acts → HasKnown o keep w
   unfolding IsKept
@@ -97,7 +97,7 @@ module _ (keep : Key → Bool) (closed : IsClosed keep) (o : OrgId) (hosts : Lis
       (step_cut keep closed o no_links n w a has.0 (known_first (suc n) after (acts_in hosts acts) has.2) has.1)
       ∙ kept_replies (suc n) after acts has.2 in
       elim (cases_Bool (is_of o hosts act)) [
-        | inl own ↦ rw (own, own_line n w act own has.0, rest) refl
+        | inl own ↦ rw (own, own_line w act own has.0, rest) refl
         | inr other ↦ rw other rest
       ]
 
@@ -131,7 +131,7 @@ same_lines o hosts n w (act ∷ acts) (other ∷ others) (a ∷ history) same =
       | inl its ↦ elim (cases_Bool (is_of o hosts act)) [
         | inl own ↦
             let one : other ≡ act = cc in
-            rw (its, own, more) (ap (λ x. told_output Went n hosts w x ∷ replies_to o hosts acts (outputs_over (suc n) hosts (step no_links n w a) acts history)) one)
+            rw (its, own, more) (ap (λ x. told_output Went hosts w x ∷ replies_to o hosts acts (outputs_over (suc n) hosts (step no_links n w a) acts history)) one)
         | inr none ↦ absurd cc
       ]
       | inr its ↦ elim (cases_Bool (is_of o hosts act)) [
@@ -150,8 +150,8 @@ told_unstopped n hosts w (act ∷ acts) (Stopped stop k lost ∷ outcomes) (outp
     let first : Some stop ≡ stop_in output = cc in absurd (let no_ : Some stop ≡ None = first ∙ none.0 in cc)
 told_unstopped n hosts w (act ∷ acts) (Went ∷ outcomes) (output ∷ outputs) each agree none =
     let rest : map stop_of outcomes ≡ map stop_in outputs = cc in
-    ap (λ v. told_output Went n hosts w act ∷ told_outputs (suc n) hosts v acts outcomes) (world_whole n w (act_in hosts act))
-    ∙ ap (λ os. told_output Went n hosts w act ∷ os) (told_unstopped (suc n) hosts (step no_links n w (act_in hosts act)) acts outcomes outputs (omega (arith, each)) rest none.1)
+    ap (λ v. told_output Went hosts w act ∷ told_outputs (suc n) hosts v acts outcomes) (world_whole n w (act_in hosts act))
+    ∙ ap (λ os. told_output Went hosts w act ∷ os) (told_unstopped (suc n) hosts (step no_links n w (act_in hosts act)) acts outcomes outputs (omega (arith, each)) rest none.1)
 
 module _ (back : AreReadBack) (hosts : List Host) (acts : List Act) (old new : List Stock) (text : List ℕ) (run : HasRun hosts acts old new text)
     (distinct : AreDistinct hosts) (empty : Tell old (empty_tables hosts)) where
@@ -167,7 +167,7 @@ are_replied back hosts acts old new text run = record {
   outputs = run.outputs;
   text_is = run.text_is;
   ran = run.ran;
-  refused = λ outcome n act tables idle. idle_same outcome n hosts act tables idle;
+  refused = λ outcome act tables idle. idle_same outcome hosts act tables idle;
   told = λ distinct empty. told back hosts acts old new text run distinct empty;
 }
 

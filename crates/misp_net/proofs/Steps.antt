@@ -84,22 +84,22 @@ abbrev pub group_step : ℕ → ℕ → GroupData → StepData
 group_step time word line = record { time = time; word = word; deed = deeds.Group line }
 
 -- a request
-pub one_request : (n time word : ℕ) (r : RequestData) (old : List Standing) (new none : Standing) (reply : Reply) → r.at < length old
-    → IfSome (get_or old r.at none).held (λ held. IsReplied n (host_of (get_or old r.at none)) time (form_of (get_or old r.at none).admin (request_in word r)) held reply new.held)
+pub one_request : (time word : ℕ) (r : RequestData) (old : List Standing) (new none : Standing) (reply : Reply) → r.at < length old
+    → IfSome (get_or old r.at none).held (λ held. IsReplied (host_of (get_or old r.at none)) time (form_of (get_or old r.at none).admin (request_in word r)) held reply new.held)
     → HasCause (get_or old r.at none).faults new.faults (core.stop_in reply ≡ by_keeper)
-    → lines.IsAct n (hosts_of old) (Ok (step_at time word r)) (stocks_of old) (stocks_of (set old r.at new)) (Replied reply)
-one_request n time word r old new none reply lt did cause =
+    → lines.IsAct (hosts_of old) (Ok (step_at time word r)) (stocks_of old) (stocks_of (set old r.at new)) (Replied reply)
+one_request time word r old new none reply lt did cause =
     let host : host_at r.at (hosts_of old) ≡ host_of (get_or old r.at none) = get_or-map host_of old r.at none nobody lt in
-    instance_act r.at (replied n (host_at r.at (hosts_of old)) time (form_of (host_at r.at (hosts_of old)).admin (request_in word r))) old new none reply lt
-    (subst (λ (h : Host). IfSome (get_or old r.at none).held (λ held. IsReplied n h time (form_of h.admin (request_in word r)) held reply new.held)) (sym host) did)
+    instance_act r.at (replied (host_at r.at (hosts_of old)) time (form_of (host_at r.at (hosts_of old)).admin (request_in word r))) old new none reply lt
+    (subst (λ (h : Host). IfSome (get_or old r.at none).held (λ held. IsReplied h time (form_of h.admin (request_in word r)) held reply new.held)) (sym host) did)
     cause
 
 -- a line of a group
-pub one_group : (n time word : ℕ) (line : GroupData) (old : List Standing) (new none : Standing) (reply : Reply) → line.at < length old
+pub one_group : (time word : ℕ) (line : GroupData) (old : List Standing) (new none : Standing) (reply : Reply) → line.at < length old
     → IfSome (get_or old line.at none).held (λ held. IsDone time line.org line.add (group_form line.body) held reply new.held)
     → HasCause (get_or old line.at none).faults new.faults (core.stop_in reply ≡ by_keeper)
-    → lines.IsAct n (hosts_of old) (Ok (group_step time word line)) (stocks_of old) (stocks_of (set old line.at new)) (Replied reply)
-one_group n time word line old new none reply lt did cause =
+    → lines.IsAct (hosts_of old) (Ok (group_step time word line)) (stocks_of old) (stocks_of (set old line.at new)) (Replied reply)
+one_group time word line old new none reply lt did cause =
     instance_act line.at (λ here. grouped time line.org line.add (group_form line.body) here.groups) old new none reply lt did cause
 
 pub hosts_kept : (old : List Standing) (place : ℕ) (new none : Standing) → place < length old
@@ -123,13 +123,6 @@ silent_act output old none = record {
     fits = tt;
   };
 }
-
-pub no_request : (n : ℕ) (hosts : List Host) (time word : ℕ) (old : List Stock)
-    → lines.IsAct n hosts (Ok (record { time = time; word = word; deed = deeds.Nothing })) old old Nothing
-no_request n hosts time word old = silent_act Nothing old refl
-
-pub no_step : (n : ℕ) (hosts : List Host) (bad : BadLine) (old : List Stock) → lines.IsAct n hosts (Err bad) old old (Bad bad.place)
-no_step n hosts bad old = silent_act (Bad bad.place) old refl
 
 -- there are as many instances as before
 pub hosts_long : (old new : List Standing) → hosts_of new ≡ hosts_of old → length new ≡ length old

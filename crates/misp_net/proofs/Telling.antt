@@ -88,30 +88,27 @@ module _ (hosts : List Host) (distinct : AreDistinct hosts) (n : ℕ) (w : World
   -- ---- what is put out
 
   request_told : (at now : ℕ) (form : Reading Asked) → BuiltForm form → at < length hosts
-      → (replied n (host_at at hosts) now form (seen_in (held_at at old))).reply ≡ (replied n (host_at at hosts) now form (seen_by hosts w at)).reply
+      → (replied (host_at at hosts) now form (seen_in (held_at at old))).reply ≡ (replied (host_at at hosts) now form (seen_by hosts w at)).reply
   request_told at now (Ok asked) built lt =
       let host : Host = host_at at hosts in
-      ap (λ (e : Effect Reply). e.reply) (over_all n w (site host.name host.admin (groups_of (held_at at old)) asked.0 now) asked.1 (held_at at old) built (told.each at lt))
-      ∙ ap (λ groups. (asked_over n (site host.name host.admin groups asked.0 now) asked.1 (Ok (tables w.log host.name))).reply) (groups_there at lt)
+      ap (λ (e : Effect Reply). e.reply) (over_all w (site host.name host.admin (groups_of (held_at at old)) asked.0 now) asked.1 (held_at at old) built (told.each at lt))
+      ∙ ap (λ groups. (asked_over (site host.name host.admin groups asked.0 now) asked.1 (Ok (tables w.log host.name))).reply) (groups_there at lt)
   request_told at now (Err refusal) built lt = refl
 
-  deed_told : (outcome : Outcome) (step : deeds.StepData) → IsPlaced (length hosts) step.deed → output_of outcome n hosts (Ok step) old ≡ told_output outcome n hosts w (Ok step)
-  deed_told outcome step placed = by_deed outcome step.time step.word step.deed placed
-    where
-      by_deed : (outcome : Outcome) (time word : ℕ) (deed : DeedData) → IsPlaced (length hosts) deed
-          → output_of outcome n hosts (Ok (record { time = time; word = word; deed = deed })) old ≡ told_output outcome n hosts w (Ok (record { time = time; word = word; deed = deed }))
-      by_deed Went time word deeds.Nothing placed = refl
-      by_deed (Stopped stop k lost) time word deeds.Nothing placed = refl
-      by_deed Went time word (deeds.Request r) placed =
-          ap Replied (request_told r.at time (form_of (host_at r.at hosts).admin (request_in word r)) (form_built (host_at r.at hosts).admin (request_in word r)) placed)
-      by_deed (Stopped stop k lost) time word (deeds.Request r) placed = refl
-      by_deed Went time word (deeds.Group line) placed =
-          ap (λ groups. Replied (grouped time line.org line.add (group_form line.body) groups).reply) (groups_there line.at placed)
-      by_deed (Stopped stop k lost) time word (deeds.Group line) placed = refl
+  deed_told : (outcome : Outcome) (time word : ℕ) (deed : DeedData) → IsPlaced (length hosts) deed
+      → output_of outcome hosts (Ok (record { time = time; word = word; deed = deed })) old ≡ told_output outcome hosts w (Ok (record { time = time; word = word; deed = deed }))
+  deed_told Went time word deeds.Nothing placed = refl
+  deed_told (Stopped stop k lost) time word deeds.Nothing placed = refl
+  deed_told Went time word (deeds.Request r) placed =
+      ap Replied (request_told r.at time (form_of (host_at r.at hosts).admin (request_in word r)) (form_built (host_at r.at hosts).admin (request_in word r)) placed)
+  deed_told (Stopped stop k lost) time word (deeds.Request r) placed = refl
+  deed_told Went time word (deeds.Group line) placed =
+      ap (λ groups. Replied (grouped time line.org line.add (group_form line.body) groups).reply) (groups_there line.at placed)
+  deed_told (Stopped stop k lost) time word (deeds.Group line) placed = refl
 
   -- the line puts out what the history says
-  pub output_told : (outcome : Outcome) (act : Act) → IsAmong (length hosts) act → output_of outcome n hosts act old ≡ told_output outcome n hosts w act
-  output_told outcome (Ok step) among = deed_told outcome step among
+  pub output_told : (outcome : Outcome) (act : Act) → IsAmong (length hosts) act → output_of outcome hosts act old ≡ told_output outcome hosts w act
+  output_told outcome (Ok step) among = deed_told outcome step.time step.word step.deed among
   output_told Went (Err bad) among = refl
   output_told (Stopped stop k lost) (Err bad) among = refl
 
@@ -165,9 +162,9 @@ module _ (hosts : List Host) (distinct : AreDistinct hosts) (n : ℕ) (w : World
 
   -- a request
   request_left : (at now : ℕ) (form : Reading Asked) (caller : Option Caller) → BuiltForm form → at < length hosts
-      → AreReadable (replied n (host_at at hosts) now form (seen_in (held_at at old))).batches
+      → AreReadable (replied (host_at at hosts) now form (seen_in (held_at at old))).batches
       → IsHistory hosts (suc n) (step no_links n w (record { at = (host_at at hosts).name; now = now; deed = asking form (host_at at hosts) caller }))
-      (slice_set old at (put_batches (map spelled (replied n (host_at at hosts) now form (seen_in (held_at at old))).batches) (held_at at old)))
+      (slice_set old at (put_batches (map spelled (replied (host_at at hosts) now form (seen_in (held_at at old))).batches) (held_at at old)))
   request_left at now (Ok asked) caller built lt fits =
       let host : Host = host_at at hosts in
       let held : Held = held_at at old in
@@ -200,9 +197,9 @@ module _ (hosts : List Host) (distinct : AreDistinct hosts) (n : ℕ) (w : World
 
     -- the law of each deed: what it puts is what its act brings
     deed_left : (time word : ℕ) (deed : DeedData) → IsPlaced (length hosts) deed
-        → AreReadable (effect_in seen_in Went ((deed_meaning hosts time word deed).means n) old).batches
+        → AreReadable (effect_in seen_in Went (deed_meaning hosts time word deed).means old).batches
         → IsHistory hosts (suc n) (step no_links n w (deed_meaning hosts time word deed).act)
-        (tables_after Went n hosts (Ok (record { time = time; word = word; deed = deed })) old)
+        (tables_after Went hosts (Ok (record { time = time; word = word; deed = deed })) old)
     deed_left time word deeds.Nothing placed fits = as_before _ _ (step_nothing no_links n w _ refl) (still 0)
     deed_left time word (deeds.Request r) placed fits =
         request_left r.at time (form_of (host_at r.at hosts).admin (request_in word r)) (caller_in (host_at r.at hosts).admin r.key)
@@ -212,16 +209,16 @@ module _ (hosts : List Host) (distinct : AreDistinct hosts) (n : ℕ) (w : World
     -- what is stopped leaves all as it was
     stopped_left : (stop : Stop) (k : ℕ) (lost : Bool) (time word : ℕ) (deed : DeedData)
         → IsHistory hosts (suc n) (world_after (Stopped stop k lost) n hosts w (Ok (record { time = time; word = word; deed = deed })))
-        (tables_after (Stopped stop k lost) n hosts (Ok (record { time = time; word = word; deed = deed })) old)
+        (tables_after (Stopped stop k lost) hosts (Ok (record { time = time; word = word; deed = deed })) old)
     stopped_left stop k lost time word deeds.Nothing = as_before _ _ (world_still n w _ stop k lost) (still 0)
     stopped_left stop k lost time word (deeds.Request r) = as_before _ _ (world_still n w _ stop k lost) (still r.at)
     stopped_left stop k lost time word (deeds.Group line) = as_before _ _ (world_still n w _ stop k lost) (still line.at)
 
     -- the keepers hold the tables of the history after the line
-    pub line_left : (outcome : Outcome) (act : Act) → IsAmong (length hosts) act → AreReadable (effect_in seen_in outcome ((meaning hosts act).means n) old).batches
-        → IsHistory hosts (suc n) (world_after outcome n hosts w act) (tables_after outcome n hosts act old)
+    pub line_left : (outcome : Outcome) (act : Act) → IsAmong (length hosts) act → AreReadable (effect_in seen_in outcome (meaning hosts act).means old).batches
+        → IsHistory hosts (suc n) (world_after outcome n hosts w act) (tables_after outcome hosts act old)
     line_left Went (Ok step_) among fits =
-        subst (λ v. IsHistory hosts (suc n) v (tables_after Went n hosts (Ok step_) old)) (sym (world_whole n w _)) (deed_left step_.time step_.word step_.deed among fits)
+        subst (λ v. IsHistory hosts (suc n) v (tables_after Went hosts (Ok step_) old)) (sym (world_whole n w _)) (deed_left step_.time step_.word step_.deed among fits)
     line_left (Stopped stop k lost) (Ok step_) among fits = stopped_left stop k lost step_.time step_.word step_.deed
     line_left Went (Err bad) among fits = as_before _ _ (world_whole n w _ ∙ step_nothing no_links n w _ refl) (still 0)
     line_left (Stopped stop k lost) (Err bad) among fits = as_before _ _ (world_still n w _ stop k lost) (still 0)

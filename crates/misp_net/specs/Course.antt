@@ -7,12 +7,12 @@ use Rattle.misp_net.specs.Lines.{Act, IsAmong, AreAmong}
 use Rattle.misp_net.specs.Run.{IsAct, Ran}
 use Rattle.misp_net.specs.Text.{line_of, text_from}
 
--- The n-th line took the keepers from old to new, and behind what was written before stands what it
--- put out, as the line of this number.
-pub record HasPut (n : ℕ) (hosts : List Host) (act : Act)
+-- The line took the keepers from old to new, and behind what was written before stands what it put
+-- out, as the line of this number.
+pub record HasPut (hosts : List Host) (act : Act)
     (old new : List Stock) (number : ℕ) (before after : List ℕ) : Type 0 where
   pub output : Output
-  pub ran : IsAct n hosts act old new output
+  pub ran : IsAct hosts act old new output
   pub among : IsAmong (length hosts) act
   pub text_is : after ≡ before ++ line_of number output
 

@@ -61,16 +61,16 @@ seen_by hosts w place = record {
   rows = λ reach. Ok (tables w.log (host_at place hosts).name);
 }
 
--- what the n-th line puts out
-abbrev pub told_output : Outcome → ℕ → List Host → World → Act → Output
-told_output outcome n hosts w act =
-    (effect_of outcome ((meaning hosts act).means n) (seen_by hosts w)).reply
+-- what a line puts out
+abbrev pub told_output : Outcome → List Host → World → Act → Output
+told_output outcome hosts w act =
+    (effect_of outcome (meaning hosts act).means (seen_by hosts w)).reply
 
 abbrev pub told_outputs : ℕ → List Host → World → List Act → List Outcome → List Output
 told_outputs n hosts w [] outcomes = []
 told_outputs n hosts w (act ∷ acts) [] = []
 told_outputs n hosts w (act ∷ acts) (outcome ∷ outcomes) =
-    told_output outcome n hosts w act
+    told_output outcome hosts w act
     ∷ told_outputs (suc n) hosts (world_after outcome n hosts w act) acts outcomes
 
 -- ---- what the keepers hold of it

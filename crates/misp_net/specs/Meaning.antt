@@ -1,5 +1,5 @@
 -- What each line means: THE definition by deed.
-use Rattle.std.specs.Prelude.{ℕ, suc, List, [], ◌∷◌, Option, Some, None, option_map, Ok, Err}
+use Rattle.std.specs.Prelude.{ℕ, List, [], map, Option, Some, None, option_map, Ok, Err}
 use Rattle.misp_ids.specs.declared.uid.OrgId.{OrgId}
 use Rattle.misp_groups.specs.declared.group.GroupFields.{GroupFields as Group}
 use Rattle.misp_orgs.specs.Keys.{CallerFields as Caller}
@@ -23,10 +23,10 @@ use Rattle.misp_store.specs.Seen.{Seen}
 use Rattle.misp_api.specs.Answering.{Asked, caller_in, form_of, replied}
 use Rattle.misp_api.specs.Administering.{group_form, grouped}
 
--- what a line is: as the n-th what it comes to among the instances, its act in the history, and
--- the organisation that asks
+-- what a line is: what it comes to among the instances, its act in the history, and the
+-- organisation that asks
 pub record LineMeaning : Type 0 where
-  pub means : ℕ → Meaning Seen Output
+  pub means : Meaning Seen Output
   pub act : model.Act
   pub asker : Option OrgId
 
@@ -50,7 +50,7 @@ silent output = record {
 -- a line that does nothing
 abbrev pub idle : Output → ℕ → LineMeaning
 idle output time = record {
-  means = λ n. silent output;
+  means = silent output;
   act = record { at = []; now = time; deed = model.Nothing };
   asker = None;
 }
@@ -83,14 +83,14 @@ deed_meaning hosts time word (deeds.Request r) =
     let caller : Option Caller = caller_in host.admin r.key in
     let form : Reading Asked = form_of host.admin (request_in word r) in
     record {
-      means = λ n. asks r.at (replied n host time form);
+      means = asks r.at (replied host time form);
       act = record { at = host.name; now = time; deed = asking form host caller };
       asker = option_map (λ c. c.org) caller;
     }
 deed_meaning hosts time word (deeds.Group line) =
     let form : Reading Group = group_form line.body in
     record {
-      means = λ n. asks line.at (λ here. grouped time line.org line.add form here.groups);
+      means = asks line.at (λ here. grouped time line.org line.add form here.groups);
       act = record { at = (host_at line.at hosts).name; now = time; deed = administering form line };
       asker = None;
     }
@@ -100,10 +100,9 @@ abbrev pub meaning : List Host → Act → LineMeaning
 meaning hosts (Ok step) = deed_meaning hosts step.time step.word step.deed
 meaning hosts (Err bad) = idle (Bad bad.place) 0
 
--- the meanings of lines, the first being the n-th
-abbrev pub meanings_of : ℕ → List Host → List Act → List (Meaning Seen Output)
-meanings_of n hosts [] = []
-meanings_of n hosts (act ∷ acts) = (meaning hosts act).means n ∷ meanings_of (suc n) hosts acts
+-- what lines come to
+abbrev pub meanings_of : List Host → List Act → List (Meaning Seen Output)
+meanings_of hosts acts = map (λ act. (meaning hosts act).means) acts
 
 -- ---- stops
 

@@ -27,7 +27,7 @@ abbrev pub outputs_over : ℕ → List Host → World → List Act → List mode
 outputs_over n hosts w [] history = []
 outputs_over n hosts w (act ∷ acts) [] = []
 outputs_over n hosts w (act ∷ acts) (a ∷ history) =
-    told_output Went n hosts w act ∷ outputs_over (suc n) hosts (step no_links n w a) acts history
+    told_output Went hosts w act ∷ outputs_over (suc n) hosts (step no_links n w a) acts history
 
 -- what the organisation is replied, in order
 abbrev pub replies_to : OrgId → List Host → List Act → List Output → List Output
@@ -75,9 +75,9 @@ pub record AreReplied (hosts : List Host) (acts : List Act)
   pub outputs : List Output
   pub text_is : text ≡ text_from 1 outputs
   pub ran : Ran hosts acts old new outputs
-  pub refused : (outcome : Outcome) (n : ℕ) (act : Act) (tables : Tables)
-      → IsIdle (output_of outcome n hosts act tables)
-      → tables_after outcome n hosts act tables ≡ tables
+  pub refused : (outcome : Outcome) (act : Act) (tables : Tables)
+      → IsIdle (output_of outcome hosts act tables)
+      → tables_after outcome hosts act tables ≡ tables
   pub told : AreDistinct hosts → Tell old (empty_tables hosts) → AreTold hosts acts outputs
 
 -- Over keepers that held nothing, after the lines of this text each keeper holds the newest versions

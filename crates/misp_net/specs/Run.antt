@@ -1,6 +1,6 @@
 -- The run of a script, given what stopped each of its lines: what is put out, and what is held in
 -- the end. The words of misp_effects, of the meanings of the lines.
-use Rattle.std.specs.Prelude.{ℕ, List}
+use Rattle.std.specs.Prelude.{List}
 use Rattle.misp_outside.specs.Stock.{Stock}
 use Rattle.misp_effects.specs.Effect.{Outcome}
 use Rattle.misp_effects.specs.Stocks.{Tables}
@@ -13,20 +13,20 @@ use Rattle.misp_net.specs.Lines.{Act}
 use Rattle.misp_store.specs.Seen.{Seen, seen_in}
 use Rattle.misp_net.specs.Meaning.{meaning, meanings_of, stop_in}
 
--- what the n-th line puts out
-abbrev pub output_of : Outcome → ℕ → List Host → Act → Tables → Output
-output_of outcome n hosts act tables =
-    runs.output_of seen_in outcome ((meaning hosts act).means n) tables
+-- what a line puts out
+abbrev pub output_of : Outcome → List Host → Act → Tables → Output
+output_of outcome hosts act tables =
+    runs.output_of seen_in outcome (meaning hosts act).means tables
 
 -- what it leaves
-abbrev pub tables_after : Outcome → ℕ → List Host → Act → Tables → Tables
-tables_after outcome n hosts act tables =
-    runs.tables_after seen_in spelled outcome ((meaning hosts act).means n) tables
+abbrev pub tables_after : Outcome → List Host → Act → Tables → Tables
+tables_after outcome hosts act tables =
+    runs.tables_after seen_in spelled outcome (meaning hosts act).means tables
 
--- The n-th line took the keepers from old to new, and put this out.
-abbrev pub IsAct : ℕ → List Host → Act → List Stock → List Stock → Output → Type 0
-IsAct n hosts act old new output =
-    courses.IsAct Seen Output seen_in spelled stop_in ((meaning hosts act).means n) old new output
+-- A line took the keepers from old to new, and put this out.
+abbrev pub IsAct : List Host → Act → List Stock → List Stock → Output → Type 0
+IsAct hosts act old new output =
+    courses.IsAct Seen Output seen_in spelled stop_in (meaning hosts act).means old new output
 
 -- The lines took the keepers from old to new, and put this out, one output for each. They name the
 -- fault of a keeper no more often than this keeper's count rose; and where all keepers tell what
@@ -34,4 +34,4 @@ IsAct n hosts act old new output =
 -- tells.
 abbrev pub Ran : List Host → List Act → List Stock → List Stock → List Output → Type 0
 Ran hosts acts old new outputs =
-    courses.HasRun Seen Output seen_in spelled stop_in (meanings_of 0 hosts acts) old new outputs
+    courses.HasRun Seen Output seen_in spelled stop_in (meanings_of hosts acts) old new outputs

@@ -1,6 +1,6 @@
 //! The run of a script.
 
-ghost use Rattle.std.specs.Prelude.{◌≡◌, ◌≤◌, ℕ, true, Err, IfOk, IfErr, OnOk, length, map, take, drop, vec_len};
+ghost use Rattle.std.specs.Prelude.{◌≡◌, ◌≤◌, true, Err, IfOk, IfErr, OnOk, length, map, take, drop, vec_len};
 ghost use Rattle.misp_script.specs.Directory.{directory_of};
 ghost use Rattle.misp_script.specs.Step.{step_of};
 ghost use Rattle.misp_script.specs.Step as deeds;
@@ -58,7 +58,7 @@ fn run_line<K: Keeper>(
     line: &[u8],
 ) -> Output
     requires { length directory.now ≡ vec_len instances.old }
-    ensures act { (n : ℕ) → IsAct n (hosts_of instances.old.items) (step_of directory.now line.now)
+    ensures act { IsAct (hosts_of instances.old.items) (step_of directory.now line.now)
         (stocks_of instances.old.items) (stocks_of instances.new.items) result }
     ensures among { IsAmong (length directory.now) (step_of directory.now line.now) }
     ensures hosts { hosts_of instances.new.items ≡ hosts_of instances.old.items }
@@ -91,8 +91,8 @@ fn put_line<K: Keeper>(
     line: &[u8],
 ) -> Result<(), NoMemory>
     requires { length directory.now ≡ vec_len instances.old }
-    ensures put { OnOk result ((n : ℕ) →
-        HasPut n (hosts_of instances.old.items) (step_of directory.now line.now)
+    ensures put { OnOk result (HasPut (hosts_of instances.old.items)
+        (step_of directory.now line.now)
         (stocks_of instances.old.items) (stocks_of instances.new.items)
         number lines.old.items lines.new.items) }
     ensures hosts { hosts_of instances.new.items ≡ hosts_of instances.old.items }

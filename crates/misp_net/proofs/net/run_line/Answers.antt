@@ -6,7 +6,7 @@ use Rattle.misp_net.proofs.net.run_line.Goals as goal
 
 -- the step of the line is this request
 pub returns-in-Request-clause-act : goal.returns-in-Request-clause-act
-returns-in-Request-clause-act g c = λ n.
+returns-in-Request-clause-act g c =
     let request = c.in-Request.request in
     let held = c.index_mut-instance.result.now in
     let said : step_of c.args.directory.now c.args.line.now ≡ Ok (step_at c.in-Ok.step.time c.in-Ok.step.word (request_data request)) =
@@ -15,8 +15,8 @@ returns-in-Request-clause-act g c = λ n.
     subst (λ deed. IsPlaced (length c.args.directory.now) (deed_data deed)) c.in-Request.is c.in-Ok.ensures.placed in
     let placed : request.at < length c.args.instances.now.items = omega (arith, inside, c.requires, c.args.instances.now.ok.0) in
     rw said
-    (one_request n c.in-Ok.step.time c.in-Ok.step.word (request_data request) c.args.instances.now.items c.answer.new.instance held c.answer.result placed
-    (rw (← c.index_mut-instance.ensures.value) (rw c.request_in-request.ensures at (c.answer.ensures.replied n)))
+    (one_request c.in-Ok.step.time c.in-Ok.step.word (request_data request) c.args.instances.now.items c.answer.new.instance held c.answer.result placed
+    (rw (← c.index_mut-instance.ensures.value) (rw c.request_in-request.ensures at c.answer.ensures.replied))
     (rw (← c.index_mut-instance.ensures.value) c.answer.ensures.cause))
 
 pub returns-in-Request-clause-hosts : goal.returns-in-Request-clause-hosts
@@ -31,7 +31,7 @@ returns-in-Request-clause-hosts g c =
 
 -- the step of the line is this group
 pub returns-in-Group-clause-act : goal.returns-in-Group-clause-act
-returns-in-Group-clause-act g c = λ n.
+returns-in-Group-clause-act g c =
     let line = group_data c.in-Group.group in
     let held = c.index_mut-instance-in-Group.result.now in
     let said : step_of c.args.directory.now c.args.line.now ≡ Ok (group_step c.in-Ok.step.time c.in-Ok.step.word line) =
@@ -40,7 +40,7 @@ returns-in-Group-clause-act g c = λ n.
     subst (λ deed. IsPlaced (length c.args.directory.now) (deed_data deed)) c.in-Group.is c.in-Ok.ensures.placed in
     let placed : line.at < length c.args.instances.now.items = omega (arith, inside, c.requires, c.args.instances.now.ok.0) in
     rw said
-    (one_group n c.in-Ok.step.time c.in-Ok.step.word line c.args.instances.now.items c.administer.new.instance held c.administer.result placed
+    (one_group c.in-Ok.step.time c.in-Ok.step.word line c.args.instances.now.items c.administer.new.instance held c.administer.result placed
     (rw (← c.index_mut-instance-in-Group.ensures.value) (rw (c.group_in-group.ensures.by, c.group_in-group.ensures.add, c.group_in-group.ensures.body) at c.administer.ensures.replied))
     (rw (← c.index_mut-instance-in-Group.ensures.value) c.administer.ensures.cause))
 

@@ -20,9 +20,9 @@ pub loop-rest-preserved : goal.loop-rest-preserved
 loop-rest-preserved g c =
     let so_far = c.loop-rest.invariant.run in
     let act : Act = step_of c.args.directory.now c.split_line.result.0.now in
-    let put : HasPut (0 + length so_far.0) (hosts_of c.args.instances.now.items) act (stocks_of c.loop-rest.instances.items) (stocks_of c.put_line.new.instances.items) c.loop-rest.number c.loop-rest.lines.items c.put_line.new.lines.items =
-    subst (λ hosts. HasPut (0 + length so_far.0) hosts act (stocks_of c.loop-rest.instances.items) (stocks_of c.put_line.new.instances.items) c.loop-rest.number c.loop-rest.lines.items c.put_line.new.lines.items)
-    c.loop-rest.invariant.hosts (c.in_ok-put_line.ensures.put (0 + length so_far.0)) in
+    let put : HasPut (hosts_of c.args.instances.now.items) act (stocks_of c.loop-rest.instances.items) (stocks_of c.put_line.new.instances.items) c.loop-rest.number c.loop-rest.lines.items c.put_line.new.lines.items =
+    subst (λ hosts. HasPut hosts act (stocks_of c.loop-rest.instances.items) (stocks_of c.put_line.new.instances.items) c.loop-rest.number c.loop-rest.lines.items c.put_line.new.lines.items)
+    c.loop-rest.invariant.hosts c.in_ok-put_line.ensures.put in
     record {
       run = (
         so_far.0 ++ act ∷ [],
