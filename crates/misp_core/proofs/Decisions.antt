@@ -18,13 +18,13 @@ use Rattle.misp_requests.specs.declared.ask.Ask.TheVariants as asks
 use Rattle.misp_requests.specs.declared.change.Change.TheVariants.{AddEvent}
 use Rattle.misp_orgs.specs.Admin.{AdminFields as Admin}
 use Rattle.misp_model.specs.History.{Version, fresh_row}
-use Rattle.misp_model.specs.Asking.{Scene, Rule, first_rule, event_written, change_rules, change_writes}
+use Rattle.misp_model.specs.Asking.{Scene, Rule, first_rule, event_written, change_writes}
 use Rattle.misp_model.specs.Asking as asking
 use Rattle.misp_model.specs.Machine.{event_changed}
 use Rattle.misp_model.specs.Shown.{shown}
 use Rattle.misp_model.specs.Acts.{answer, ok_answer, ask_rules, brings, is_accepted, concerns, concerning, Refused, Seen, Saved}
 use Rattle.misp_model.specs.Acts as model
-use Rattle.misp_edit.specs.Adding.{refusing, Refuses}
+use Rattle.misp_edit.specs.Adding.{refusing, Refuses, first_clash, first_unusable}
 use Rattle.misp_edit.specs.declared.fault.AddFault.{AddFault}
 use Rattle.misp_edit.specs.declared.fault.AddFault.TheVariants as faults
 use Rattle.misp_core.specs.Answers.{IsRefusal, reply_of, reply_in, writes_in, greatest, named, named_event, uuid_text, group_text, added_place}
@@ -74,7 +74,7 @@ module _ (s : Scene) (admin : Admin) (b : Submission) where
     are_rows = are;
   }
 
-  by_rule : (rule : Rule) (refusal : Refusal) → refusing s b ≡ Some rule → refusal ≡ record { name = named rule; place = added_place s b rule } →
+  by_rule : (rule : Rule) (refusal : Refusal) → refusing s b ≡ Some rule → refusal ≡ record { name = named rule; place = added_place (first_clash s b) (first_unusable s b) rule } →
       IsDecision s admin (asks.Change (AddEvent b)) (replies.Refused refusal) []
   unfolding reply_in
   by_rule rule refusal e is = record {

@@ -19,6 +19,7 @@ use Rattle.misp_model.specs.Names.{Inst, Stamp, same_inst, same_group, group_bef
 use Rattle.misp_model.specs.Order.{put}
 use Rattle.misp_model.specs.History.{tables}
 use Rattle.misp_model.specs.Acts.{World, Net, put_group, group_now, administered, administration_fails, step}
+use Rattle.misp_model.proofs.OneRow.{all_part}
 use Rattle.misp_model.proofs.Steps.{step_administers, with_groups_here, with_groups_elsewhere}
 use Rattle.misp_levels.specs.Groups.{by_id, by_name}
 use Rattle.misp_levels.specs.declared.fault.GroupFault.{GroupFault}
@@ -96,24 +97,10 @@ module _ (g : Group) where
   unfolding put_group
   sorted_put gs up = sorted_placed _ (apart_others gs) (IsStrictlySortedBy-filter by_name (λ h. not (same_group h.id g.id)) gs up)
 
-  -- ---- they stay groups
-
-  groups_chosen : (b : Bool) (gs hs : List Group) → AllByRecursion IsGroup gs → AllByRecursion IsGroup hs → AllByRecursion IsGroup (cond b gs hs)
-  groups_chosen true gs hs are of_others = are
-  groups_chosen false gs hs are of_others = of_others
-
-  groups_filtered : (q : Group → Bool) (gs : List Group) → AllByRecursion IsGroup gs → AllByRecursion IsGroup (filter q gs)
-  groups_filtered q [] are = tt
-  groups_filtered q (h ∷ hs) are = groups_chosen (q h) (h ∷ filter q hs) (filter q hs) (are.0, groups_filtered q hs are.1) (groups_filtered q hs are.1)
-
-  groups_placed : (gs : List Group) → IsGroup g → AllByRecursion IsGroup gs → AllByRecursion IsGroup (put (λ a b. group_before a.id b.id) g gs)
-  unfolding put
-  groups_placed [] is are = (is, tt)
-  groups_placed (h ∷ hs) is are = groups_chosen (group_before g.id h.id) (g ∷ h ∷ hs) (h ∷ put (λ a b. group_before a.id b.id) g hs) (is, are) (are.0, groups_placed hs is are.1)
-
+  -- and they stay groups
   pub groups_put : (gs : List Group) → IsGroup g → AllByRecursion IsGroup gs → AllByRecursion IsGroup (put_group g gs)
   unfolding put_group
-  groups_put gs is are = groups_placed _ is (groups_filtered _ gs are)
+  groups_put gs is are = all_placed IsGroup is _ (all_part IsGroup _ gs are)
 
 -- ---- the history
 

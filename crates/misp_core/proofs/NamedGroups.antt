@@ -1,6 +1,6 @@
 -- The groups that labels name, as a set has them.
 use Rattle.std.proofs.Common.{◌≡◌, ℕ, Bool, true, false, refl, ap, ◌∙◌, eqb, cond, List, map}
-use Rattle.std.specs.Prelude.{◌&&◌, ◌||◌, IfOk, OnOk, Result, Ok, Err}
+use Rattle.std.specs.Prelude.{◌&&◌, ◌||◌}
 use Rattle.std.specs.List.{list_any, filter}
 use Rattle.std.specs.BTreeSet.{BTreeSet, IsEmpty, contains}
 use Rattle.std.specs.BTreeMap.{is_at}
@@ -38,14 +38,6 @@ unfolding group_names
 names_are ids groups v h = λ i. map with_name (filter (λ g. h g.id i) groups)
 
 -- ---- one step after another
-
-pub on_ok : {A E : Type 0} (r : Result A E) {P Q : Type 0} → (P → Q) → OnOk r P → OnOk r Q
-on_ok (Ok x) f p = f p
-on_ok (Err e) f p = tt
-
-pub if_ok : {A E : Type 0} (r : Result A E) {P Q : A → Type 0} → ((x : A) → P x → Q x) → IfOk r P → IfOk r Q
-if_ok (Ok x) f p = f x p
-if_ok (Err e) f p = tt
 
 pub two_more : (old next new a b : Bool) → next ≡ (old || a) → new ≡ (next || b) → new ≡ (old || (a || b))
 two_more old next new a b h k = k ∙ ap (λ t. t || b) h ∙ one old

@@ -6,15 +6,10 @@ use Rattle.std.proofs.lemmas.List.{length-map}
 use Rattle.std.proofs.lemmas.Simd.{map-map}
 use Rattle.misp_elem.specs.Draft.{SubmissionFields as Submission}
 use Rattle.misp_requests.specs.declared.ask.Ask.{Ask}
-use Rattle.misp_requests.specs.declared.ask.Ask.TheVariants.{View}
-use Rattle.misp_requests.specs.declared.ask.Ask.TheVariants as asks
-use Rattle.misp_requests.specs.declared.change.Change.TheVariants.{AddEvent}
-use Rattle.misp_requests.specs.declared.change.Change.TheVariants as changes
 use Rattle.misp_orgs.specs.Admin.{AdminFields as Admin}
 use Rattle.misp_effects.specs.Effect.{effect}
 use Rattle.misp_model.specs.History.{Version}
 use Rattle.misp_model.specs.Asking.{Scene, Rule, has_target, is_taken, target_of, target_in_copy}
-use Rattle.misp_model.specs.Asking as asking
 use Rattle.misp_model.specs.Acts.{answer}
 use Rattle.misp_model.specs.Acts as model
 use Rattle.misp_model.specs.Numbers.{scene_as, version_as, versions_as, reply_as}
@@ -23,7 +18,7 @@ use Rattle.misp_model.proofs.NumberedWrites.{answer_as, fresh_as}
 use Rattle.misp_edit.specs.Adding.{first_clash, first_unusable, is_clash, labels_of, numbered_uuids, read_uuids}
 use Rattle.misp_store.specs.declared.reach.Reach.{Reach}
 use Rattle.misp_store.specs.declared.reach.Reach.TheVariants as reaches
-use Rattle.misp_core.specs.Answers.{added_place, greatest, group_text, named, place_of, reach_of, reply_in, reply_of, saved, uuid_text, writes_in}
+use Rattle.misp_core.specs.Answers.{greatest, named, place_of, reach_of, reply_in, reply_of, saved, writes_in}
 use Rattle.misp_core.specs.Effects.{asked, row_batches}
 use Rattle.misp_core.specs.declared.reply.Answer.TheVariants as answers
 use Rattle.misp_core.specs.declared.reply.Reply.TheVariants as replies
@@ -47,40 +42,9 @@ module _ (n : ℕ) (s : Scene) where
   unfolding first_unusable
   unusable_as b = λ i. find (λ l. not (usable_as n s l i)) (labels_of b)
 
-  added_as : (b : Submission) (rule : Rule) → added_place other b rule ≡ added_place s b rule
-  added_as b asking.ElementExists = ap uuid_text (clash_as b)
-  added_as b asking.GroupNotUsable = ap group_text (unusable_as b)
-  added_as b asking.NotGranted = refl
-  added_as b asking.NotOwner = refl
-  added_as b asking.LockedCopy = refl
-  added_as b asking.EventExists = refl
-  added_as b asking.EventGone = refl
-  added_as b asking.OlderTime = refl
-  added_as b asking.TimeLimit = refl
-  added_as b asking.ProposalExists = refl
-  added_as b asking.ProposalClosed = refl
-  added_as b asking.ElementFull = refl
-
   -- a refusal shows the same place
-  place_as : (ask : Ask) (rule : Rule) → place_of other ask rule ≡ place_of s ask rule
-  place_as (asks.Change (AddEvent b)) rule = added_as b rule
-  place_as (asks.Change (changes.AddParts e b)) rule = refl
-  place_as (asks.Change (changes.EditEvent e edit)) rule = refl
-  place_as (asks.Change (changes.EditAttribute e p edit)) rule = refl
-  place_as (asks.Change (changes.EditObject e x edit)) rule = refl
-  place_as (asks.Change (changes.Delete e p)) rule = refl
-  place_as (asks.Change (changes.DeleteReference e x u)) rule = refl
-  place_as (asks.Change (changes.Tag e p t)) rule = refl
-  place_as (asks.Change (changes.Untag e p t)) rule = refl
-  place_as (asks.Change (changes.DeleteEvent e)) rule = refl
-  place_as (asks.Change (changes.Publish e)) rule = refl
-  place_as (View e owner) rule = refl
-  place_as (asks.Propose d) rule = refl
-  place_as (asks.Judge e m accept) rule = refl
-  place_as (asks.Sight e t d) rule = refl
-  place_as asks.Index rule = refl
-  place_as asks.Groups rule = refl
-  place_as (asks.TakePart p) rule = refl
+  place_as : (ask : Ask) (rule : Rule) → place_of (first_clash other) (first_unusable other) ask rule ≡ place_of (first_clash s) (first_unusable s) ask rule
+  place_as ask rule = λ i. place_of (λ b. clash_as b i) (λ b. unusable_as b i) ask rule
 
   of_as : (admin : Admin) (ask : Ask) (r : model.Reply) → reply_of admin other ask (reply_as n r) ≡ reply_of admin s ask r
   unfolding reply_as

@@ -16,9 +16,8 @@ use Rattle.misp_orgs.specs.Admin.{AdminFields as Admin}
 use Rattle.misp_model.specs.Names.{same_org, same_event, event_of}
 use Rattle.misp_model.specs.View.{known}
 use Rattle.misp_model.specs.History.{fresh_row}
-use Rattle.misp_model.specs.Asking.{Scene, Rule, takes_uuid, is_taken, is_usable, has_target, uuid_at}
+use Rattle.misp_model.specs.Asking.{Scene, Rule, takes_uuid, is_taken, is_usable, uuid_at}
 use Rattle.misp_model.specs.Order.{in_order}
-use Rattle.misp_model.specs.Asking as asking
 use Rattle.misp_model.specs.Acts.{ask_rules, answer, ok_answer, brings, is_accepted, concerning}
 use Rattle.misp_model.specs.Acts as model
 use Rattle.misp_model.specs.Machine.{event_rows, seeing, event_changed}
@@ -32,9 +31,13 @@ use Rattle.misp_core.specs.declared.reply.Reply.TheVariants as replies
 use Rattle.misp_store.specs.declared.reach.Reach.{Reach}
 use Rattle.misp_store.specs.declared.reach.Reach.TheVariants as reaches
 use Rattle.misp_core.proofs.BuiltAsks.{of_built}
-use Rattle.misp_core.specs.Answers.{reach_of, IsBuilt, named, named_event, added_place, place_of, uuid_text, group_text, reply_of, reply_in, writes_in}
+use Rattle.misp_core.specs.Answers.{reach_of, IsBuilt, named, named_event, added_place, place_of, reply_of, reply_in, writes_in}
 
 -- ---- places
+
+-- the place that a refusal shows in a scene
+abbrev place_in : Scene → Ask → Rule → List ℕ
+place_in s ask rule = place_of (first_clash s) (first_unusable s) ask rule
 
 module _ (e : EventId) (rows : List Row) (s : Scene) where
   abbrev own : Scene
@@ -79,19 +82,8 @@ module _ (b : Submission) (rows : List Row) (s : Scene) where
   unfolding first_unusable
   unusable_own = λ i. find (λ l. not (usable_own b.event rows s l i)) (labels_of b)
 
-  added_place_own : (rule : Rule) → added_place here b rule ≡ added_place there b rule
-  added_place_own asking.ElementExists = ap uuid_text clash_own
-  added_place_own asking.GroupNotUsable = ap group_text unusable_own
-  added_place_own asking.NotGranted = refl
-  added_place_own asking.NotOwner = refl
-  added_place_own asking.LockedCopy = refl
-  added_place_own asking.EventExists = refl
-  added_place_own asking.EventGone = refl
-  added_place_own asking.OlderTime = refl
-  added_place_own asking.TimeLimit = refl
-  added_place_own asking.ProposalExists = refl
-  added_place_own asking.ProposalClosed = refl
-  added_place_own asking.ElementFull = refl
+  added_own : (rule : Rule) → place_in here (asks.Change (AddEvent b)) rule ≡ place_in there (asks.Change (AddEvent b)) rule
+  added_own rule = λ i. added_place (clash_own i) (unusable_own i) rule
 
 -- ---- replies and writes
 
@@ -100,7 +92,7 @@ pub record IsAlike (admin : Admin) (s t : Scene) (ask : Ask) : Type 0 where
   pub replies : reply_in admin s ask ≡ reply_in admin t ask
   pub writes : writes_in s ask ≡ writes_in t ask
 
-reply_alike : (admin : Admin) (s t : Scene) (ask : Ask) → s.groups ≡ t.groups → ((rule : Rule) → place_of s ask rule ≡ place_of t ask rule) → (r : model.Reply) → reply_of admin s ask r ≡ reply_of admin t ask r
+reply_alike : (admin : Admin) (s t : Scene) (ask : Ask) → s.groups ≡ t.groups → ((rule : Rule) → place_in s ask rule ≡ place_in t ask rule) → (r : model.Reply) → reply_of admin s ask r ≡ reply_of admin t ask r
 reply_alike admin s t ask g h (model.Refused rule) = λ i. replies.Refused (record { name = named rule; place = h rule i })
 reply_alike admin s t ask g h (model.Seen v) = ap (λ groups. replies.Ok (answers.Event (named_event admin groups v))) g
 reply_alike admin s t ask g h (model.Saved vs) = refl
@@ -109,7 +101,7 @@ reply_alike admin s t ask g h (model.Listed vs) = refl
 reply_alike admin s t ask g h (model.Taken n) = refl
 reply_alike admin s t ask g h model.Other = refl
 
-alike : (admin : Admin) (s t : Scene) (ask : Ask) → s.groups ≡ t.groups → ((rule : Rule) → place_of s ask rule ≡ place_of t ask rule) → IsSame s t ask → IsAlike admin s t ask
+alike : (admin : Admin) (s t : Scene) (ask : Ask) → s.groups ≡ t.groups → ((rule : Rule) → place_in s ask rule ≡ place_in t ask rule) → IsSame s t ask → IsAlike admin s t ask
 unfolding reply_in writes_in
 alike admin s t ask g h same = record {
   replies = reply_alike admin s t ask g h (answer s ask) ∙ ap (reply_of admin t ask) same.answers;
@@ -132,5 +124,5 @@ pub own_alike : (admin : Admin) (rows : List Row) (s : Scene) (ask : Ask) → Is
 unfolding event_about event_changed
 own_alike admin rows s = of_built (λ ask. IsAlike admin (seeing s (table_within (reach_of ask) rows)) (seeing s rows) ask)
     (λ e owner. alike admin _ _ (View e owner) refl (λ rule. refl) (ask_of_event e rows s (View e owner) refl))
-    (λ b. alike admin _ _ (asks.Change (AddEvent b)) refl (added_place_own b rows s) (ask_of_event b.event rows s (asks.Change (AddEvent b)) refl))
+    (λ b. alike admin _ _ (asks.Change (AddEvent b)) refl (added_own b rows s) (ask_of_event b.event rows s (asks.Change (AddEvent b)) refl))
     (alike admin _ _ asks.Groups refl (λ rule. refl) (groups_of_any s [] rows))

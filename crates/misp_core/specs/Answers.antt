@@ -129,17 +129,17 @@ abbrev pub group_text : Option Label → List ℕ
 group_text (Some (labels.Group g)) = text_of g.uuid
 group_text label = []
 
--- of a body that brings a uuid again the first such uuid, of one with a label that is not usable
--- the first such group
-abbrev pub added_place : Scene → Submission → Rule → List ℕ
-added_place s b asking.ElementExists = uuid_text (first_clash s b)
-added_place s b asking.GroupNotUsable = group_text (first_unusable s b)
-added_place s b rule = []
+-- of a body that brings a uuid again that uuid, of one with a label that is not usable its group
+abbrev pub added_place : Option ℕ → Option Label → Rule → List ℕ
+added_place clash unusable asking.ElementExists = uuid_text clash
+added_place clash unusable asking.GroupNotUsable = group_text unusable
+added_place clash unusable rule = []
 
--- the place that a refusal shows
-abbrev pub place_of : Scene → Ask → Rule → List ℕ
-place_of s (asks.Change (AddEvent b)) rule = added_place s b rule
-place_of s ask rule = []
+-- the place that a refusal shows, by the first uuid and the first label of a body that are so
+abbrev pub place_of :
+    (Submission → Option ℕ) → (Submission → Option Label) → Ask → Rule → List ℕ
+place_of clash unusable (asks.Change (AddEvent b)) rule = added_place (clash b) (unusable b) rule
+place_of clash unusable ask rule = []
 
 -- the refusal that names a row which does not decode
 abbrev pub bad_row : List ℕ → Refusal
@@ -165,7 +165,10 @@ named_event admin groups v =
 -- a reply of the definitions, as it is given
 abbrev pub reply_of : Admin → Scene → Ask → model.Reply → Reply
 reply_of admin s ask (model.Refused rule) =
-    replies.Refused (record { name = named rule; place = place_of s ask rule })
+    replies.Refused (record {
+      name = named rule;
+      place = place_of (first_clash s) (first_unusable s) ask rule;
+    })
 reply_of admin s ask (model.Seen v) =
     replies.Ok (answers.Event (named_event admin s.groups v))
 reply_of admin s ask (model.Shares groups) = replies.Ok (answers.Groups groups)
