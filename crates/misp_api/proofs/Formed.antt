@@ -3,7 +3,6 @@ use Rattle.std.proofs.Common.{Err, sym, ◌∙◌, ap}
 use Rattle.misp_elem.specs.Draft.{SubmissionFields as Submission}
 use Rattle.misp_format.specs.declared.fault.FormatFault.{FormatFault}
 use Rattle.misp_format.specs.declared.fault.FormatFault.TheVariants as faults
-use Rattle.misp_format.specs.Rows.{◌>>=◌}
 use Rattle.misp_format.specs.Rows as rows
 use Rattle.misp_api.specs.declared.request.AskFault.{AskFault}
 use Rattle.misp_api.specs.declared.request.AskFault.TheVariants as stops
@@ -26,10 +25,3 @@ asked_err stops.NoMemory read given = tt
 
 pub refused_event : (fault : FormatFault) (stopped : AskFault) (read : rows.Reading Submission) → rows.Fails fault read → Refuses fault stopped → Gives (Err stopped) (asked (formed read))
 refused_event fault stopped read fails refuses = asked_err stopped (formed read) (refused_form fault stopped read fails refuses)
-
--- what is wrong with a value is wrong with what follows from it
-pub fails_then : {A B : Type 0} (fault : FormatFault) (read : rows.Reading A) (f : A → rows.Reading B) → rows.Fails fault read → rows.Fails fault (read >>= f)
-fails_then faults.NoJson read f fails = ap (λ r. r >>= f) fails
-fails_then (faults.BadField path need) read f fails = ap (λ r. r >>= f) fails
-fails_then (faults.BinaryType path) read f fails = ap (λ r. r >>= f) fails
-fails_then faults.NoMemory read f fails = tt

@@ -1,9 +1,7 @@
 -- What is refused by its form is refused just so.
-use Rattle.std.proofs.Common.{◌≡◌, Bool, true, false, refl, sym, ap, subst, inl, inr, Ok, Err}
-use Rattle.misp_orgs.specs.Admin.{AdminFields as Admin}
+use Rattle.std.proofs.Common.{◌≡◌, Bool, true, false, refl, sym, subst, inl, inr, Ok, Err}
 use Rattle.misp_core.specs.Standing.{Standing}
-use Rattle.misp_core.specs.Permission.{is_permitted}
-use Rattle.misp_core.specs.Permission.{forbidden}
+use Rattle.misp_core.specs.Permission.{is_permitted, forbidden}
 use Rattle.misp_core.specs.Turned.{IsTurnedAway}
 use Rattle.misp_core.specs.declared.reply.Reply.{Reply}
 use Rattle.misp_api.specs.declared.request.AskFault.{AskFault}

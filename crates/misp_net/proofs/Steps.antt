@@ -1,5 +1,5 @@
 -- What one instance does is an act among all of them.
-use Rattle.std.proofs.Common.{◌≡◌, ℕ, zero, suc, ◌<◌, Bool, true, false, eqb, List, [], ◌∷◌, length, get_or, set, Option, Some, None, Ok, Err, refl, sym, ◌∙◌, ap, subst, arith}
+use Rattle.std.proofs.Common.{◌≡◌, ℕ, zero, suc, ◌<◌, Bool, true, false, eqb, List, [], ◌∷◌, length, get_or, set, Option, Some, None, Ok, refl, sym, ◌∙◌, ap, subst, arith}
 use Rattle.std.proofs.lemmas.List.{length-map, map-set, get_or-map, set-get_or}
 use Rattle.std.specs.Prelude.{IfSome, if◌then◌else◌}
 use Rattle.misp_elem.specs.Refusal.{rule_number}
@@ -14,7 +14,6 @@ use Rattle.misp_effects.specs.Stocks.{Tell}
 use Rattle.misp_effects.specs.Course.{IsAct}
 use Rattle.misp_effects.proofs.Acting.{one_act}
 use Rattle.misp_effects.proofs.Showing.{does_shown}
-use Rattle.misp_script.specs.declared.field.BadLine.{BadLine}
 use Rattle.misp_script.specs.Step.{StepData, RequestData, GroupData}
 use Rattle.misp_script.specs.Step as deeds
 use Rattle.misp_core.specs.Standing.{Standing}
@@ -24,7 +23,7 @@ use Rattle.misp_core.specs.Effects as core
 use Rattle.misp_core.specs.declared.reply.Reply.{Reply}
 use Rattle.misp_core.specs.declared.reply.Reply.TheVariants as replies
 use Rattle.misp_net.specs.declared.line.Output.{Output}
-use Rattle.misp_net.specs.declared.line.Output.TheVariants.{Bad, Nothing, Replied}
+use Rattle.misp_net.specs.declared.line.Output.TheVariants.{Replied}
 use Rattle.misp_api.specs.Host.{Host, host_of}
 use Rattle.misp_net.specs.Hosts.{nobody, hosts_of, host_at, stock_of, stocks_of}
 use Rattle.misp_store.specs.Seen.{Seen, seen_in}
