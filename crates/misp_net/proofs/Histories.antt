@@ -22,7 +22,7 @@ use Rattle.misp_store.specs.Seen.{Seen, seen_in}
 use Rattle.misp_net.specs.Meaning.{meaning, meanings_of, stop_in}
 use Rattle.misp_net.specs.Run.{tables_after, Ran}
 use Rattle.misp_net.specs.History.{world_after, world_left, told_output, told_outputs, AreDistinct, empty_tables, IsHistory, AreTold, AreHeld}
-use Rattle.misp_net.proofs.Telling.{output_told, line_left}
+use Rattle.misp_net.proofs.Deeds.{output_told, line_left}
 
 empty_at : (place : ℕ) (hosts : List Host) → held_at place (empty_tables hosts) ≡ nothing_held
 empty_at zero [] = refl

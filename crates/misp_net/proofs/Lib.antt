@@ -1,9 +1,10 @@
 pub mod Kept
 pub mod Telling
+pub mod Owning
+pub mod Deeds
 pub mod Histories
 pub mod Steps
 pub mod Courses
-pub mod Refusing
 pub mod Privacy
 pub mod Openings
 pub mod Fronts

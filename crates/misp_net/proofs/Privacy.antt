@@ -1,82 +1,38 @@
 -- What an organisation was never granted changes none of its replies.
-use Rattle.std.proofs.Common.{◌≡◌, ℕ, suc, Bool, true, List, [], ◌∷◌, length, map, Option, Some, None, Ok, Err, refl, sym, ◌∙◌, ap, subst, inl, inr, arith}
+use Rattle.std.proofs.Common.{◌≡◌, ℕ, suc, Bool, true, List, [], ◌∷◌, length, map, Some, None, refl, sym, ◌∙◌, ap, inl, inr, arith}
 use Rattle.std.proofs.lemmas.Bool.{cases_Bool}
-use Rattle.std.specs.Prelude.{if◌then◌else◌, option_map}
-use Rattle.std.specs.List.{list_all}
+use Rattle.std.specs.Prelude.{if◌then◌else◌}
 use Rattle.misp_ids.specs.declared.uid.OrgId.{OrgId}
 use Rattle.misp_elem.specs.declared.key.KeyForm.{KeyForm as Key}
-use Rattle.misp_orgs.specs.Keys.{CallerFields as Caller}
 use Rattle.misp_outside.specs.Stock.{Stock}
 use Rattle.misp_effects.specs.Effect.{Outcome, Went, Stopped, stop_of}
 use Rattle.misp_effects.specs.Stocks.{Tell}
-use Rattle.misp_script.specs.Step.{DeedData}
-use Rattle.misp_script.specs.Step as deeds
-use Rattle.misp_model.specs.Names.{Inst, same_org}
-use Rattle.misp_model.specs.View.{known}
 use Rattle.misp_model.specs.History.{tables}
-use Rattle.misp_model.specs.Acts.{World, known_at, step}
+use Rattle.misp_model.specs.Acts.{World, step}
 use Rattle.misp_model.specs.Acts as model
-use Rattle.misp_model.specs.Erasure.{cut, cut_rows, cut_world, IsClosed, HasKnown, IsKept, erased_act, erase}
+use Rattle.misp_model.specs.Erasure.{cut, cut_world, IsClosed, HasKnown, IsKept, erased_act, erase}
 use Rattle.misp_model.specs.Kept.{kept, start, erased}
-use Rattle.misp_model.proofs.Same.{same_org-sound}
-use Rattle.misp_model.proofs.Lists.{filter_all}
-use Rattle.misp_model.proofs.Knowing.{known_cut}
-use Rattle.misp_model.proofs.Tables.{tables_cut}
 use Rattle.misp_model.proofs.Erasing.{step_cut}
 use Rattle.misp_model.proofs.Headline.{kept_is_closed, kept_has}
-use Rattle.misp_core.specs.Answers.{site, scene_with, reply_in}
 use Rattle.misp_store.proofs.GroupRows.{AreReadBack}
 use Rattle.misp_net.specs.declared.line.Output.{Output}
-use Rattle.misp_net.specs.declared.line.Output.TheVariants.{Replied}
 use Rattle.misp_api.specs.Host.{Host}
-use Rattle.misp_net.specs.Hosts.{host_at}
 use Rattle.misp_net.specs.Lines.{Act}
-use Rattle.misp_api.specs.Request.{Reading}
-use Rattle.misp_api.specs.Answering.{Asked, caller_in, form_of, replied}
-use Rattle.misp_net.specs.Meaning.{request_in, deed_meaning, stop_in}
+use Rattle.misp_net.specs.Meaning.{stop_in}
 use Rattle.misp_net.specs.Course.{HasRun}
-use Rattle.misp_net.specs.History.{act_in, acts_in, no_links, seen_by, told_output, told_outputs, AreDistinct, empty_tables, AreTold, is_asker, is_of}
+use Rattle.misp_net.specs.History.{act_in, acts_in, no_links, told_output, told_outputs, AreDistinct, empty_tables, AreTold, is_of}
 use Rattle.misp_net.specs.Promise.{ShowNoStop, outputs_over, replies_to, own_lines, AreReplied, AreNewest, IsPrivate}
-use Rattle.misp_api.proofs.Forms.{AskedBy, form_caller}
 use Rattle.misp_net.proofs.Telling.{world_whole}
 use Rattle.misp_net.proofs.Histories.{are_told, are_held}
-use Rattle.misp_net.proofs.Refusing.{idle_same}
+use Rattle.misp_net.proofs.Deeds.{line_law, idle_same}
 
 -- ---- over a set of keys that has all that the organisation knows
 
 module _ (keep : Key → Bool) (closed : IsClosed keep) (o : OrgId) (hosts : List Host) where
-  -- it knows the same over the history without the others
-  own_rows : (w : World) (i : Inst) (org : OrgId) → same_org org o ≡ true → HasKnown o keep w → known (tables (cut keep w.log) i) (w.groups i) i org ≡ known (tables w.log i) (w.groups i) i org
-  unfolding known_at cut_rows
-  own_rows w i org same has =
-      let granted : list_all (λ row. keep row.key) (known (tables w.log i) (w.groups i) i org) ≡ true =
-      ap (λ x. list_all (λ row. keep row.key) (known (tables w.log i) (w.groups i) i x)) (same_org-sound org o same) ∙ has.granted i in
-      ap (λ rows. known rows (w.groups i) i org) (tables_cut keep closed w.log i)
-      ∙ known_cut keep closed (tables w.log i) (w.groups i) i org
-      ∙ filter_all (λ row. keep row.key) (known (tables w.log i) (w.groups i) i org) granted
-
-  own_reply : (w : World) (at now : ℕ) (form : Reading Asked) (caller : Option Caller) → AskedBy caller form → is_asker o (option_map (λ c. c.org) caller) ≡ true → HasKnown o keep w
-      → (replied (host_at at hosts) now form (seen_by hosts (cut_world keep w) at)).reply ≡ (replied (host_at at hosts) now form (seen_by hosts w at)).reply
-  unfolding cut_world
-  own_reply w at now (Ok asked) caller by own has =
-      let host : Host = host_at at hosts in
-      let same : same_org asked.0.org o ≡ true = subst (λ (c : Option Caller). is_asker o (option_map (λ (d : Caller). d.org) c) ≡ true) by own in
-      ap (λ rows. reply_in host.admin (scene_with (site host.name host.admin (w.groups host.name) asked.0 now) rows) asked.1) (own_rows w host.name asked.0.org same has)
-  own_reply w at now (Err refusal) caller by own has = refl
-
-  own_deed : (w : World) (time word : ℕ) (deed : DeedData) → is_asker o (deed_meaning hosts time word deed).asker ≡ true → HasKnown o keep w
-      → told_output Went hosts (cut_world keep w) (Ok (record { time = time; word = word; deed = deed })) ≡ told_output Went hosts w (Ok (record { time = time; word = word; deed = deed }))
-  own_deed w time word deeds.Nothing own has = refl
-  own_deed w time word (deeds.Request r) own has =
-      ap Replied (own_reply w r.at time (form_of (host_at r.at hosts).admin (request_in word r)) (caller_in (host_at r.at hosts).admin r.key)
-      (form_caller (host_at r.at hosts).admin (request_in word r)) own has)
-  own_deed w time word (deeds.Group line) own has = absurd cc
-
   -- its own lines are told the same
   own_line : (w : World) (act : Act) → is_of o hosts act ≡ true → HasKnown o keep w
       → told_output Went hosts (cut_world keep w) act ≡ told_output Went hosts w act
-  own_line w (Ok step) own has = own_deed w step.time step.word step.deed own has
-  own_line w (Err bad) own has = refl
+  own_line w act own has = (line_law hosts act).own keep closed o w own has
 
   known_first : (n : ℕ) (w : World) (acts : List model.Act) → IsKept o keep no_links n w acts → HasKnown o keep w
   unfolding IsKept

@@ -1,4 +1,4 @@
--- One line over keepers that hold the tables of the history.
+-- A request, and a line of a group, over keepers that hold the tables of the history.
 use Rattle.std.proofs.Common.{◌≡◌, ◌≢◌, ℕ, zero, suc, ◌<◌, Bool, true, false, List, [], map, length, Option, Some, None, Ok, Err, refl, sym, ◌∙◌, ap, subst, inl, inr, length-set}
 use Rattle.std.proofs.lemmas.Bool.{cases_eq, cases_Bool}
 use Rattle.std.proofs.lemmas.List.{get_or-set_same, get_or-set_other, set-get_or}
@@ -12,11 +12,9 @@ use Rattle.misp_groups.specs.declared.group.GroupFields.{GroupFields as Group}
 use Rattle.misp_groups.specs.Group.{IsGroup}
 use Rattle.misp_effects.specs.declared.stop.Stop.{Stop}
 use Rattle.misp_effects.specs.Batches.{put_batches, AreReadable}
-use Rattle.misp_effects.specs.Effect.{Effect, Outcome, Went, Stopped}
+use Rattle.misp_effects.specs.Effect.{Effect, Stopped}
 use Rattle.misp_effects.specs.Stocks.{Tables, held_at}
-use Rattle.misp_effects.specs.Run.{effect_in}
-use Rattle.misp_script.specs.Step.{DeedData, GroupData, IsPlaced}
-use Rattle.misp_script.specs.Step as deeds
+use Rattle.misp_script.specs.Step.{GroupData}
 use Rattle.misp_model.specs.Names.{Inst, Stamp, same_inst}
 use Rattle.misp_model.specs.History.{tables}
 use Rattle.misp_model.specs.Acts.{World, step}
@@ -36,18 +34,15 @@ use Rattle.misp_core.specs.declared.reply.Reply.{Reply}
 use Rattle.misp_core.proofs.Keeping.{over_all, same_elsewhere, same_groups, left_there}
 use Rattle.misp_store.proofs.GroupRows.{AreReadBack}
 use Rattle.misp_core.proofs.KeepingGroups.{administered_left, same_log, groups_elsewhere}
-use Rattle.misp_net.specs.declared.line.Output.TheVariants.{Replied}
 use Rattle.misp_api.specs.Host.{Host}
 use Rattle.misp_net.specs.Hosts.{host_at}
-use Rattle.misp_net.specs.Lines.{Act, IsAmong}
 use Rattle.misp_api.specs.Request.{Reading}
 use Rattle.misp_store.specs.Seen.{seen_in}
-use Rattle.misp_api.specs.Answering.{Asked, caller_in, form_of, replied}
-use Rattle.misp_api.specs.Administering.{group_form, grouped}
-use Rattle.misp_net.specs.Meaning.{request_in, asking, administering, deed_meaning, meaning}
-use Rattle.misp_net.specs.Run.{output_of, tables_after}
-use Rattle.misp_net.specs.History.{no_links, applied, world_after, seen_by, told_output, AreDistinct, IsHistory}
-use Rattle.misp_api.proofs.Forms.{BuiltForm, form_built}
+use Rattle.misp_api.specs.Answering.{Asked, replied}
+use Rattle.misp_api.specs.Administering.{grouped}
+use Rattle.misp_net.specs.Meaning.{asking, administering}
+use Rattle.misp_net.specs.History.{no_links, applied, seen_by, AreDistinct, IsHistory}
+use Rattle.misp_api.proofs.Forms.{BuiltForm}
 
 -- ---- the model's step
 
@@ -66,7 +61,7 @@ deed_still n w at now (model.Administers o add g) groups packages = refl
 deed_still n w at now model.Nothing groups packages = refl
 
 -- where no instance pulls from another, of an act that was stopped nothing is applied
-world_still : (n : ℕ) (w : World) (act : model.Act) (stop : Stop) (k : ℕ) (lost : Bool) → step_partly no_links n w act (applied (Stopped stop k lost)) ≡ w
+pub world_still : (n : ℕ) (w : World) (act : model.Act) (stop : Stop) (k : ℕ) (lost : Bool) → step_partly no_links n w act (applied (Stopped stop k lost)) ≡ w
 world_still n w act stop zero lost = deed_still n w act.at act.now act.deed false 0
 world_still n w act stop (suc k) lost = deed_still n w act.at act.now act.deed true k
 
@@ -82,35 +77,18 @@ keeps_same j w next held rows groups keeps = record {
 
 module _ (hosts : List Host) (distinct : AreDistinct hosts) (n : ℕ) (w : World) (old : Tables) (told : IsHistory hosts n w old) where
   -- the groups that are held there are those of the history
-  groups_there : (at : ℕ) → at < length hosts → groups_of (held_at at old) ≡ w.groups (host_at at hosts).name
+  pub groups_there : (at : ℕ) → at < length hosts → groups_of (held_at at old) ≡ w.groups (host_at at hosts).name
   groups_there at lt = ap or_none (told.each at lt).groups
 
   -- ---- what is put out
 
-  request_told : (at now : ℕ) (form : Reading Asked) → BuiltForm form → at < length hosts
+  pub request_told : (at now : ℕ) (form : Reading Asked) → BuiltForm form → at < length hosts
       → (replied (host_at at hosts) now form (seen_in (held_at at old))).reply ≡ (replied (host_at at hosts) now form (seen_by hosts w at)).reply
   request_told at now (Ok asked) built lt =
       let host : Host = host_at at hosts in
       ap (λ (e : Effect Reply). e.reply) (over_all w (site host.name host.admin (groups_of (held_at at old)) asked.0 now) asked.1 (held_at at old) built (told.each at lt))
       ∙ ap (λ groups. (asked_over (site host.name host.admin groups asked.0 now) asked.1 (Ok (tables w.log host.name))).reply) (groups_there at lt)
   request_told at now (Err refusal) built lt = refl
-
-  deed_told : (outcome : Outcome) (time word : ℕ) (deed : DeedData) → IsPlaced (length hosts) deed
-      → output_of outcome hosts (Ok (record { time = time; word = word; deed = deed })) old ≡ told_output outcome hosts w (Ok (record { time = time; word = word; deed = deed }))
-  deed_told Went time word deeds.Nothing placed = refl
-  deed_told (Stopped stop k lost) time word deeds.Nothing placed = refl
-  deed_told Went time word (deeds.Request r) placed =
-      ap Replied (request_told r.at time (form_of (host_at r.at hosts).admin (request_in word r)) (form_built (host_at r.at hosts).admin (request_in word r)) placed)
-  deed_told (Stopped stop k lost) time word (deeds.Request r) placed = refl
-  deed_told Went time word (deeds.Group line) placed =
-      ap (λ groups. Replied (grouped time line.org line.add (group_form line.body) groups).reply) (groups_there line.at placed)
-  deed_told (Stopped stop k lost) time word (deeds.Group line) placed = refl
-
-  -- the line puts out what the history says
-  pub output_told : (outcome : Outcome) (act : Act) → IsAmong (length hosts) act → output_of outcome hosts act old ≡ told_output outcome hosts w act
-  output_told outcome (Ok step) among = deed_told outcome step.time step.word step.deed among
-  output_told Went (Err bad) among = refl
-  output_told (Stopped stop k lost) (Err bad) among = refl
 
   -- ---- what is left
 
@@ -126,10 +104,10 @@ module _ (hosts : List Host) (distinct : AreDistinct hosts) (n : ℕ) (w : World
         (step_below no_links n w no_deed told.earlier);
   }
 
-  as_before : (v : World) (new : Tables) → v ≡ w → new ≡ old → IsHistory hosts (suc n) v new
+  pub as_before : (v : World) (new : Tables) → v ≡ w → new ≡ old → IsHistory hosts (suc n) v new
   as_before v new world is = subst (λ v. IsHistory hosts (suc n) v new) (sym world) (subst (λ t. IsHistory hosts (suc n) w t) (sym is) later)
 
-  still : (at : ℕ) → slice_set old at (held_at at old) ≡ old
+  pub still : (at : ℕ) → slice_set old at (held_at at old) ≡ old
   still at = set-get_or old at nothing_held
 
   -- where one keeper holds what its instance has after an act, and the others have what they had
@@ -161,7 +139,7 @@ module _ (hosts : List Host) (distinct : AreDistinct hosts) (n : ℕ) (w : World
     }
 
   -- a request
-  request_left : (at now : ℕ) (form : Reading Asked) (caller : Option Caller) → BuiltForm form → at < length hosts
+  pub request_left : (at now : ℕ) (form : Reading Asked) (caller : Option Caller) → BuiltForm form → at < length hosts
       → AreReadable (replied (host_at at hosts) now form (seen_in (held_at at old))).batches
       → IsHistory hosts (suc n) (step no_links n w (record { at = (host_at at hosts).name; now = now; deed = asking form (host_at at hosts) caller }))
       (slice_set old at (put_batches (map spelled (replied (host_at at hosts) now form (seen_in (held_at at old))).batches) (held_at at old)))
@@ -179,7 +157,7 @@ module _ (hosts : List Host) (distinct : AreDistinct hosts) (n : ℕ) (w : World
   -- where a group that is kept is read again
   module _ (back : AreReadBack) where
     -- a line of a group
-    group_left : (now : ℕ) (line : GroupData) (form : Reading Group) → line.at < length hosts
+    pub group_left : (now : ℕ) (line : GroupData) (form : Reading Group) → line.at < length hosts
         → AreReadable (grouped now line.org line.add form (groups_of (held_at line.at old))).batches
         → IsHistory hosts (suc n) (step no_links n w (record { at = (host_at line.at hosts).name; now = now; deed = administering form line }))
         (slice_set old line.at (put_batches (map spelled (grouped now line.org line.add form (groups_of (held_at line.at old))).batches) (held_at line.at old)))
@@ -194,31 +172,3 @@ module _ (hosts : List Host) (distinct : AreDistinct hosts) (n : ℕ) (w : World
         ))
         (step_below no_links n w (act_of here now line.org line.add g) told.earlier)
     group_left now line (Err refusal) lt fits = as_before _ _ (step_nothing no_links n w _ refl) (still line.at)
-
-    -- the law of each deed: what it puts is what its act brings
-    deed_left : (time word : ℕ) (deed : DeedData) → IsPlaced (length hosts) deed
-        → AreReadable (effect_in seen_in Went (deed_meaning hosts time word deed).means old).batches
-        → IsHistory hosts (suc n) (step no_links n w (deed_meaning hosts time word deed).act)
-        (tables_after Went hosts (Ok (record { time = time; word = word; deed = deed })) old)
-    deed_left time word deeds.Nothing placed fits = as_before _ _ (step_nothing no_links n w _ refl) (still 0)
-    deed_left time word (deeds.Request r) placed fits =
-        request_left r.at time (form_of (host_at r.at hosts).admin (request_in word r)) (caller_in (host_at r.at hosts).admin r.key)
-        (form_built (host_at r.at hosts).admin (request_in word r)) placed fits
-    deed_left time word (deeds.Group line) placed fits = group_left time line (group_form line.body) placed fits
-
-    -- what is stopped leaves all as it was
-    stopped_left : (stop : Stop) (k : ℕ) (lost : Bool) (time word : ℕ) (deed : DeedData)
-        → IsHistory hosts (suc n) (world_after (Stopped stop k lost) n hosts w (Ok (record { time = time; word = word; deed = deed })))
-        (tables_after (Stopped stop k lost) hosts (Ok (record { time = time; word = word; deed = deed })) old)
-    stopped_left stop k lost time word deeds.Nothing = as_before _ _ (world_still n w _ stop k lost) (still 0)
-    stopped_left stop k lost time word (deeds.Request r) = as_before _ _ (world_still n w _ stop k lost) (still r.at)
-    stopped_left stop k lost time word (deeds.Group line) = as_before _ _ (world_still n w _ stop k lost) (still line.at)
-
-    -- the keepers hold the tables of the history after the line
-    pub line_left : (outcome : Outcome) (act : Act) → IsAmong (length hosts) act → AreReadable (effect_in seen_in outcome (meaning hosts act).means old).batches
-        → IsHistory hosts (suc n) (world_after outcome n hosts w act) (tables_after outcome hosts act old)
-    line_left Went (Ok step_) among fits =
-        subst (λ v. IsHistory hosts (suc n) v (tables_after Went hosts (Ok step_) old)) (sym (world_whole n w _)) (deed_left step_.time step_.word step_.deed among fits)
-    line_left (Stopped stop k lost) (Ok step_) among fits = stopped_left stop k lost step_.time step_.word step_.deed
-    line_left Went (Err bad) among fits = as_before _ _ (world_whole n w _ ∙ step_nothing no_links n w _ refl) (still 0)
-    line_left (Stopped stop k lost) (Err bad) among fits = as_before _ _ (world_still n w _ stop k lost) (still 0)

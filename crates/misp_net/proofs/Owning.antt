@@ -1,0 +1,44 @@
+-- A request is told the same over the history without what its organisation was never granted.
+use Rattle.std.proofs.Common.{◌≡◌, ℕ, Bool, true, List, Option, Ok, Err, refl, ◌∙◌, ap, subst}
+use Rattle.std.specs.Prelude.{option_map}
+use Rattle.std.specs.List.{list_all}
+use Rattle.misp_ids.specs.declared.uid.OrgId.{OrgId}
+use Rattle.misp_elem.specs.declared.key.KeyForm.{KeyForm as Key}
+use Rattle.misp_orgs.specs.Keys.{CallerFields as Caller}
+use Rattle.misp_model.specs.Names.{Inst, same_org}
+use Rattle.misp_model.specs.View.{known}
+use Rattle.misp_model.specs.History.{tables}
+use Rattle.misp_model.specs.Acts.{World, known_at}
+use Rattle.misp_model.specs.Erasure.{cut, cut_rows, cut_world, IsClosed, HasKnown}
+use Rattle.misp_model.proofs.Same.{same_org-sound}
+use Rattle.misp_model.proofs.Lists.{filter_all}
+use Rattle.misp_model.proofs.Knowing.{known_cut}
+use Rattle.misp_model.proofs.Tables.{tables_cut}
+use Rattle.misp_core.specs.Answers.{site, scene_with, reply_in}
+use Rattle.misp_api.specs.Host.{Host}
+use Rattle.misp_net.specs.Hosts.{host_at}
+use Rattle.misp_api.specs.Request.{Reading}
+use Rattle.misp_api.specs.Answering.{Asked, replied}
+use Rattle.misp_net.specs.History.{seen_by, is_asker}
+use Rattle.misp_api.proofs.Forms.{AskedBy}
+
+-- over a set of keys that has all that the organisation knows
+module _ (keep : Key → Bool) (closed : IsClosed keep) (o : OrgId) (hosts : List Host) where
+  -- it knows the same over the history without the others
+  own_rows : (w : World) (i : Inst) (org : OrgId) → same_org org o ≡ true → HasKnown o keep w → known (tables (cut keep w.log) i) (w.groups i) i org ≡ known (tables w.log i) (w.groups i) i org
+  unfolding known_at cut_rows
+  own_rows w i org same has =
+      let granted : list_all (λ row. keep row.key) (known (tables w.log i) (w.groups i) i org) ≡ true =
+      ap (λ x. list_all (λ row. keep row.key) (known (tables w.log i) (w.groups i) i x)) (same_org-sound org o same) ∙ has.granted i in
+      ap (λ rows. known rows (w.groups i) i org) (tables_cut keep closed w.log i)
+      ∙ known_cut keep closed (tables w.log i) (w.groups i) i org
+      ∙ filter_all (λ row. keep row.key) (known (tables w.log i) (w.groups i) i org) granted
+
+  pub own_reply : (w : World) (at now : ℕ) (form : Reading Asked) (caller : Option Caller) → AskedBy caller form → is_asker o (option_map (λ c. c.org) caller) ≡ true → HasKnown o keep w
+      → (replied (host_at at hosts) now form (seen_by hosts (cut_world keep w) at)).reply ≡ (replied (host_at at hosts) now form (seen_by hosts w at)).reply
+  unfolding cut_world
+  own_reply w at now (Ok asked) caller by own has =
+      let host : Host = host_at at hosts in
+      let same : same_org asked.0.org o ≡ true = subst (λ (c : Option Caller). is_asker o (option_map (λ (d : Caller). d.org) c) ≡ true) by own in
+      ap (λ rows. reply_in host.admin (scene_with (site host.name host.admin (w.groups host.name) asked.0 now) rows) asked.1) (own_rows w host.name asked.0.org same has)
+  own_reply w at now (Err refusal) caller by own has = refl
