@@ -7,7 +7,6 @@ use Rattle.misp_elem.specs.declared.key.KeyForm.{KeyForm as Key}
 use Rattle.misp_outside.specs.Stock.{Stock}
 use Rattle.misp_effects.specs.Effect.{Outcome, Went, Stopped, stop_of}
 use Rattle.misp_effects.specs.Stocks.{Tell}
-use Rattle.misp_model.specs.History.{tables}
 use Rattle.misp_model.specs.Acts.{World, step}
 use Rattle.misp_model.specs.Acts as model
 use Rattle.misp_model.specs.Erasure.{cut, cut_world, IsClosed, HasKnown, IsKept, erased_act, erase}
