@@ -162,7 +162,7 @@ module _ (event : EventId) where
 
 -- ---- the keys of one event
 
-le_then : (o p : Ordering) → o ≡ Equal → is_le p ≡ true → is_le (ordering_then o p) ≡ true
+pub le_then : (o p : Ordering) → o ≡ Equal → is_le p ≡ true → is_le (ordering_then o p) ≡ true
 le_then Less p same least = refl
 le_then Equal p same least = least
 le_then Greater p same least = absurd cc
@@ -182,7 +182,7 @@ no_bytes_first [] [] none = refl
 no_bytes_first [] (y ∷ ys) none = refl
 no_bytes_first (x ∷ xs) ys none = absurd (omega (arith, ap length none))
 
-same_number : (m n : ℕ) → m ≡ n → nat_cmp m n ≡ Equal
+pub same_number : (m n : ℕ) → m ≡ n → nat_cmp m n ≡ Equal
 same_number m n same = grind (arith, nat_tests)
 
 more_number : (m n : ℕ) → n < m → nat_cmp m n ≡ Greater

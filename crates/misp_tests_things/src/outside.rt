@@ -53,6 +53,15 @@ fn held<K: Keeper>(alloc: Global, keeper: &mut K) -> Result<String, Fail> {
     shown(alloc, &all)
 }
 
+// The names and bytes of the rows of event 7 whose names begin so.
+fn named<K: Keeper>(alloc: Global, keeper: &mut K, front: &str) -> Result<String, Fail> {
+    let event = EventId(Uid(7));
+    let rows = keeper
+        .load_named(alloc, &event, front.as_bytes())
+        .map_err(fault)?;
+    shown(alloc, &rows)
+}
+
 fn fault(fault: KeeperFault) -> Fail {
     match fault {
         KeeperFault::Failed => Fail::from("the keeper failed"),
@@ -77,6 +86,34 @@ fn rows_come_back_in_the_order_of_their_names(rt: HostRuntime) -> Result<(), Fai
     let admin = keeper.load_admin(alloc).map_err(fault)?;
     assert_eq!(rt; admin.len(), 4);
     assert_eq!(rt; admin[3].bytes.as_slice(), b"6".as_slice());
+    Ok(())
+}
+
+#[test]
+fn rows_of_an_event_come_back_by_the_front_of_their_names(rt: HostRuntime) -> Result<(), Fail> {
+    let alloc = rt.alloc();
+    let mut keeper = MemKeeper::new(alloc, vec![in alloc; 3u64]?);
+    let first = [
+        (7, "bb", "1"),
+        (7, "ab", "2"),
+        (7, "aa", "3"),
+        (7, "a", "4"),
+    ];
+    keeper.apply(batch(alloc, &first)?).map_err(fault)?;
+    let second = [(6, "ab", "5"), (8, "a", "6"), (7, "abc", "7")];
+    keeper.apply(batch(alloc, &second)?).map_err(fault)?;
+    let failed = keeper.load_named(alloc, &EventId(Uid(7)), b"a");
+    assert!(rt; matches!(failed, Err(KeeperFault::Failed)));
+    for (front, want) in [
+        ("a", "7 a 4;7 aa 3;7 ab 2;7 abc 7;"),
+        ("ab", "7 ab 2;7 abc 7;"),
+        ("abcd", ""),
+        ("b", "7 bb 1;"),
+        ("c", ""),
+        ("", "7 a 4;7 aa 3;7 ab 2;7 abc 7;7 bb 1;"),
+    ] {
+        assert_eq!(rt; named(alloc, &mut keeper, front)?.as_str(), want);
+    }
     Ok(())
 }
 
