@@ -73,7 +73,7 @@ rows_chosen : (b : Bool) (rows others : List Row) → AreRows rows → AreRows o
 rows_chosen true rows others are of_others = are
 rows_chosen false rows others are of_others = of_others
 
-rows_filtered : (q : Row → Bool) (rows : List Row) → AreRows rows → AreRows (filter q rows)
+pub rows_filtered : (q : Row → Bool) (rows : List Row) → AreRows rows → AreRows (filter q rows)
 rows_filtered q [] are = tt
 rows_filtered q (r ∷ rs) are = rows_chosen (q r) (r ∷ filter q rs) (filter q rs) (are.0, rows_filtered q rs are.1) (rows_filtered q rs are.1)
 

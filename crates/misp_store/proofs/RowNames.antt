@@ -29,7 +29,7 @@ both_parts [] b (y ∷ c) d e = absurd (omega arith)
 both_parts (x ∷ a) b [] d e = absurd (omega arith)
 both_parts (x ∷ a) b (y ∷ c) d e = grind (arith, both_parts a b c d)
 
-uid_length : (u : Uid) → length (uid u) ≡ 16
+pub uid_length : (u : Uid) → length (uid u) ≡ 16
 unfolding uid
 uid_length u = refl
 

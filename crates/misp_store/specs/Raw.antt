@@ -1,11 +1,13 @@
 -- Rows as a keeper holds them.
-use Rattle.std.specs.Prelude.{◌≡◌, ℕ, Bool, ◌&&◌, cond, List, [], ◌∷◌, ◌++◌, Result, Ok, Err, bytes_eq}
+use Rattle.std.specs.Prelude.{◌≡◌, ℕ, Bool, ◌&&◌, cond, List, [], ◌∷◌, ◌++◌, filter, Result, Ok, Err, bytes_eq}
 use Rattle.std.specs.declared.option.Option.{Option}
 use Rattle.std.specs.declared.option.Option.TheVariants.{None, Some}
+use Rattle.misp_ids.specs.declared.uid.OrgId.{OrgId}
+use Rattle.misp_ids.specs.declared.uid.EventId.{EventId}
 use Rattle.misp_elem.specs.declared.row.RowFields.{RowFields as Row}
 use Rattle.misp_elem.specs.Spelling as spelling
 use Rattle.misp_elem.specs.RowReading.{row_of}
-use Rattle.misp_model.specs.Names.{same_event, event_of}
+use Rattle.misp_model.specs.Names.{same_org, same_event, event_of}
 use Rattle.misp_model.specs.Machine.{name_bytes}
 use Rattle.misp_outside.specs.declared.row.RawRow.{RawRow}
 use Rattle.misp_store.specs.declared.fault.RowFault.{RowFault}
@@ -14,6 +16,10 @@ use Rattle.misp_store.specs.declared.fault.RowFault.TheVariants as faults
 -- a row as a keeper holds it: spelled, under its event and its name
 unfoldable pub raw_row : Row → RawRow
 raw_row r = record { event = event_of r.key; name = name_bytes r; bytes = spelling.row r }
+
+-- the rows that one organisation has of one event
+abbrev pub owner_rows : OrgId → EventId → List Row → List Row
+owner_rows o e rows = filter (λ r. same_org r.owner o && same_event (event_of r.key) e) rows
 
 -- the row is held under its own event and name
 unfoldable pub stands_under : RawRow → Row → Bool

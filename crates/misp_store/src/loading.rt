@@ -18,7 +18,7 @@ use misp_outside::{Keeper, KeeperFault, RawRow};
 use std::alloc::Global;
 
 // What is held within a reach.
-#[tactic(auto, unfolding(misp_outside::specs::Held::ascend))]
+#[tactic(auto, unfolding(misp_outside::specs::Held::ascend, misp_elem::specs::Spelling::uid))]
 fn held_within<K: Keeper>(
     keeper: &mut K,
     alloc: Global,
@@ -35,6 +35,7 @@ fn held_within<K: Keeper>(
 {
     match reach {
         Reach::Nothing => Ok(Vec::new(alloc)),
+        Reach::Own(org, event) => keeper.load_named(alloc, event, org.0.0.to_be_bytes().as_slice()),
         Reach::Event(event) => keeper.load_event(alloc, event),
         Reach::All => keeper.load_all(alloc),
     }
