@@ -3,14 +3,17 @@ use Rattle.std.proofs.Common.{◌≡◌, ℕ, List, [], ◌∷◌, Bool, true, f
 use Rattle.std.specs.List.{list_all, AllByRecursion}
 use Rattle.std.specs.List.Sorted.{IsStrictlySortedBy}
 use Rattle.std.proofs.lemmas.Bool.{cases_Bool}
+use Rattle.misp_ids.specs.Uid.{IsUid}
+use Rattle.misp_ids.specs.declared.uid.OrgId.{OrgId}
 use Rattle.misp_ids.specs.declared.uid.EventId.{EventId}
 use Rattle.misp_elem.specs.declared.row.RowFields.{RowFields as Row}
 use Rattle.misp_elem.specs.Row.{AreRows}
+use Rattle.misp_elem.specs.Spelling.{uid}
 use Rattle.misp_groups.specs.declared.group.GroupFields.{GroupFields as Group}
 use Rattle.misp_groups.specs.Group.{IsGroup}
 use Rattle.misp_requests.specs.declared.ask.Ask.{Ask}
 use Rattle.misp_orgs.specs.Admin.{AdminFields as Admin}
-use Rattle.misp_outside.specs.Held.{Held, rows_of, put_rows, put_admins, with_batch}
+use Rattle.misp_outside.specs.Held.{Held, rows_of, rows_named, put_rows, put_admins, with_batch}
 use Rattle.misp_effects.specs.Batches.{put_batches, AreReadable}
 use Rattle.misp_effects.specs.Effect.{Effect, effect, left}
 use Rattle.misp_dates.specs.Dates.{date_of}
@@ -26,7 +29,7 @@ use Rattle.misp_model.proofs.Elsewhere.{tables_elsewhere}
 use Rattle.misp_model.proofs.Owners.{brings_here}
 use Rattle.misp_model.proofs.Puts.{put_ask}
 use Rattle.misp_levels.specs.Groups.{by_name}
-use Rattle.misp_store.specs.Raw.{raw_row, rows_in}
+use Rattle.misp_store.specs.Raw.{raw_row, rows_in, owner_rows}
 use Rattle.misp_store.specs.Sharing.{or_none, groups_of}
 use Rattle.misp_store.specs.Batches.{spelled}
 use Rattle.misp_store.specs.Seen.{seen_in}
@@ -36,12 +39,25 @@ use Rattle.misp_core.specs.Answers.{Surroundings, IsBuilt, reach_of, scene_at, n
 use Rattle.misp_core.specs.Effects.{row_batches, asked, asked_over}
 use Rattle.misp_core.specs.Keeping.{caller_at, act_at, Keeps}
 use Rattle.misp_store.proofs.HeldRows.{rows_again, rows_of_event, rows_kept, rows_put, rows_put_held}
+use Rattle.misp_store.proofs.OwnerRows.{rows_of_owner, owner_rows_kept}
 use Rattle.misp_core.specs.declared.reply.Reply.{Reply}
 use Rattle.misp_core.proofs.BuiltAsks.{of_built}
 use Rattle.misp_core.proofs.Numbers.{asked_as}
 use Rattle.misp_core.proofs.OwnRows.{IsAlike, table_within, own_alike}
 
+-- the organisation that a reach names, where it names one, has sixteen bytes
+abbrev IsReached : Reach → Type 0
+IsReached (reaches.Own o e) = IsUid o.0
+IsReached reach = Unit {0}
+
 module _ (here : Inst) (w : World) (held : Held) (keeps : Keeps here w held) where
+  -- what is held of an event by an organisation is what it has of it
+  own_read : (o : OrgId) (e : EventId) → IsUid o.0 → rows_in (rows_named e (uid o.0) held.rows) ≡ Ok (owner_rows o e (tables w.log here))
+  own_read o e is =
+      ap (λ raws. rows_in (rows_named e (uid o.0) raws)) keeps.rows
+      ∙ ap rows_in (rows_of_owner o e (tables w.log here) is keeps.are_rows)
+      ∙ rows_again _ (owner_rows_kept o e (tables w.log here) keeps.are_rows)
+
   -- what is held of an event is that event's rows
   event_read : (e : EventId) → rows_in (rows_of e held.rows) ≡ Ok (event_rows e (tables w.log here))
   event_read e =
@@ -54,11 +70,12 @@ module _ (here : Inst) (w : World) (held : Held) (keeps : Keeps here w held) whe
   groups_there = ap or_none keeps.groups
 
   -- what is read within a reach is what the tables have there
-  read_there : (reach : Reach) → (seen_in held).rows reach ≡ Ok (table_within reach (tables w.log here))
+  read_there : (reach : Reach) → IsReached reach → (seen_in held).rows reach ≡ Ok (table_within reach (tables w.log here))
   unfolding rows_in
-  read_there reaches.Nothing = refl
-  read_there (reaches.Event e) = event_read e
-  read_there reaches.All = ap rows_in keeps.rows ∙ rows_again _ keeps.are_rows
+  read_there reaches.Nothing is = refl
+  read_there (reaches.Own o e) is = own_read o e is
+  read_there (reaches.Event e) is = event_read e
+  read_there reaches.All is = ap rows_in keeps.rows ∙ rows_again _ keeps.are_rows
 
 -- where the groups are those of the instance, the scene over the tables is that of the act, but for its number
 scene_there : (w : World) (at : Surroundings) (ask : Ask) → at.groups ≡ w.groups at.here → scene_at at (tables w.log at.here) ≡ scene 0 w (act_at at ask) (caller_at at.admin at.caller)
@@ -81,7 +98,7 @@ module _ (w : World) (at : Surroundings) (ask : Ask) (held : Held) (built : IsBu
   -- what it comes to is what it comes to over all rows of the instance
   pub over_all : asked_over at ask ((seen_in held).rows (reach_of ask)) ≡ asked_over at ask (Ok (tables w.log at.here))
   over_all =
-      ap (asked_over at ask) (read_there at.here w held keeps (reach_of ask))
+      ap (asked_over at ask) (read_there at.here w held keeps (reach_of ask) (of_built (λ a. IsReached (reach_of a)) (λ event owner. tt) (λ b. tt) tt ask built))
       ∙ asked_alike at.admin _ _ ask (own_alike at.admin (tables w.log at.here) (scene_at at []) ask built)
 
   -- and what the history says, whatever the number of the act

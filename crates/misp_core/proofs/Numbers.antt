@@ -28,6 +28,7 @@ saved_as : (n : ℕ) (reach : Reach) (vs : List Version) → saved reach (versio
 saved_as n (reaches.Event event) vs = λ i.
     replies.Ok (answers.Saved (length-map vs (version_as n) i) event (greatest (map-map (λ (v : Version). v.stamp) (version_as n) vs i)))
 saved_as n reaches.Nothing vs = refl
+saved_as n (reaches.Own org event) vs = refl
 saved_as n reaches.All vs = refl
 
 module _ (n : ℕ) (s : Scene) where

@@ -28,6 +28,7 @@ use Rattle.misp_model.proofs.OneEventChanges.{ask_of_event}
 use Rattle.misp_edit.specs.Adding.{numbered_uuids, is_read_before, read_uuids, with_those_before, is_clash, first_clash, labels_of, first_unusable}
 use Rattle.misp_core.specs.declared.reply.Answer.TheVariants as answers
 use Rattle.misp_core.specs.declared.reply.Reply.TheVariants as replies
+use Rattle.misp_store.specs.Raw.{owner_rows}
 use Rattle.misp_store.specs.declared.reach.Reach.{Reach}
 use Rattle.misp_store.specs.declared.reach.Reach.TheVariants as reaches
 use Rattle.misp_core.proofs.BuiltAsks.{of_built}
@@ -111,6 +112,7 @@ alike admin s t ask g h same = record {
 -- of a table the rows within a reach
 abbrev pub table_within : Reach → List Row → List Row
 table_within reaches.Nothing rows = []
+table_within (reaches.Own o e) rows = owner_rows o e rows
 table_within (reaches.Event e) rows = event_rows e rows
 table_within reaches.All rows = rows
 

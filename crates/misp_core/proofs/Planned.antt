@@ -38,6 +38,7 @@ rule_tells_none asking.ElementFull = refl
 
 saved_tells_none : (reach : Reach) (vs : List Version) → stop_in (saved reach vs) ≡ None
 saved_tells_none reaches.Nothing vs = refl
+saved_tells_none (reaches.Own org event) vs = refl
 saved_tells_none (reaches.Event event) vs = refl
 saved_tells_none reaches.All vs = refl
 
