@@ -82,6 +82,7 @@ module _ (back : AreReadBack) (hosts : List Host) (distinct : AreDistinct hosts)
           outcomes = done.outcomes;
           each = each;
           agree = done.agree;
+          outputs_are = done.outputs_are ∙ (all_told 0 start acts done.outcomes (empty_tables hosts) each among (at_start hosts) done.fits).0;
           tables = tables_left seen_in spelled (meanings_of hosts acts) done.outcomes (empty_tables hosts);
           tables_are = done.tables_are;
           history = subst (λ k. IsHistory hosts k (world_left 0 hosts start acts done.outcomes) (tables_left seen_in spelled (meanings_of hosts acts) done.outcomes (empty_tables hosts))) same
