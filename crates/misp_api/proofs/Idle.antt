@@ -19,7 +19,7 @@ use Rattle.misp_api.proofs.Forms.{BuiltForm}
 -- a request that is refused has no batch
 pub request_idle : (host : Host) (now : ℕ) (form : Reading Asked) (held : Held) → BuiltForm form → IsRefused (replied host now form (seen_in held)).reply
     → (replied host now form (seen_in held)).batches ≡ []
-request_idle host now (Ok asked) held built refused = refused_over (site host.name host.admin (groups_of held) asked.0 now) asked.1 ((seen_in held).rows (reach_of asked.1)) built refused
+request_idle host now (Ok asked) held built refused = refused_over (site host.name host.admin (groups_of held) asked.0 now) asked.1 ((seen_in held).rows (reach_of asked.0.org asked.1)) built refused
 request_idle host now (Err refusal) held built refused = refl
 
 cause_idle : (cause : Option GroupFault) (g : Group) → IsRefused (effect_by cause g).reply → (effect_by cause g).batches ≡ []

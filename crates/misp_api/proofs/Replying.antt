@@ -38,7 +38,7 @@ use Rattle.misp_api.specs.Answering.{Asked, caller_in, by_body, by_route, read_o
 -- what an instance comes to by an ask is what its form comes to, by whether the role permits the ask
 ask_replied : (host : Host) (now : ℕ) (asked : Asked) (may : Bool) (held : Held)
     → replied host now (allowed may asked) (seen_in held)
-    ≡ (if may then asked_over (site host.name host.admin (groups_of held) asked.0 now) asked.1 ((seen_in held).rows (reach_of asked.1)) else refused (forbidden asked.1))
+    ≡ (if may then asked_over (site host.name host.admin (groups_of held) asked.0 now) asked.1 ((seen_in held).rows (reach_of asked.0.org asked.1)) else refused (forbidden asked.1))
 ask_replied host now asked true held = refl
 ask_replied host now asked false held = refl
 

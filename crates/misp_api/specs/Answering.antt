@@ -70,7 +70,7 @@ fault_reply stops.NoMemory = refused_by rules.NoMemory
 abbrev pub replied : Host → ℕ → Reading Asked → Seen → Effect Reply
 replied host now (Ok asked) here =
     asked_over (site host.name host.admin here.groups asked.0 now) asked.1
-    (here.rows (reach_of asked.1))
+    (here.rows (reach_of asked.0.org asked.1))
 replied host now (Err refusal) here = refused refusal
 
 -- it was replied so, and left this

@@ -27,12 +27,12 @@ use Rattle.misp_core.proofs.Carried.{DidThere, refused_did}
 -- what is not permitted comes to its refusal, and what is permitted to what the ask comes to
 module _ (at : Surroundings) (ask : Ask) (seen : Seen) where
   barred : is_permitted at.caller ask ≡ false → requested at ask seen ≡ refused (forbidden ask)
-  barred may = ap (λ b. if b then asked_over at ask (seen.rows (reach_of ask)) else refused (forbidden ask)) may
+  barred may = ap (λ b. if b then asked_over at ask (seen.rows (reach_of at.caller.org ask)) else refused (forbidden ask)) may
 
-  let_in : is_permitted at.caller ask ≡ true → requested at ask seen ≡ asked_over at ask (seen.rows (reach_of ask))
-  let_in may = ap (λ b. if b then asked_over at ask (seen.rows (reach_of ask)) else refused (forbidden ask)) may
+  let_in : is_permitted at.caller ask ≡ true → requested at ask seen ≡ asked_over at ask (seen.rows (reach_of at.caller.org ask))
+  let_in may = ap (λ b. if b then asked_over at ask (seen.rows (reach_of at.caller.org ask)) else refused (forbidden ask)) may
 
-  is_unread : (fault : LoadFault) → is_permitted at.caller ask ≡ true → NamesFault (seen.rows (reach_of ask)) fault → IsUnread fault (requested at ask seen)
+  is_unread : (fault : LoadFault) → is_permitted at.caller ask ≡ true → NamesFault (seen.rows (reach_of at.caller.org ask)) fault → IsUnread fault (requested at ask seen)
   is_unread (faults.BadRow name) may names = let_in may ∙ ap (asked_over at ask) names
   is_unread faults.KeeperFault may names = tt
   is_unread faults.NoMemory may names = tt
@@ -47,7 +47,7 @@ turned_away i caller now ask (Some held) why may plans =
 
 -- so is one that is permitted, of which the rows are not read
 pub unread_there : (i : Standing) (caller : Caller) (now : ℕ) (ask : Ask) (fault : LoadFault) (old new : Option Held) (reply : Reply) → is_permitted caller ask ≡ true → new ≡ old
-    → IfSome old (λ held. NamesFault ((seen_in held).rows (reach_of ask)) fault)
+    → IfSome old (λ held. NamesFault ((seen_in held).rows (reach_of caller.org ask)) fault)
     → ((e : Effect Reply) (held : Held) → IsUnread fault e → Did e held reply (Some held))
     → IfSome old (λ held. IsAnswered (site_at i held caller now) ask held reply new)
 unread_there i caller now ask fault None new reply may same names done = tt
@@ -72,7 +72,7 @@ just_turned i ask why.NoMemory plans = record { just = inr refl; no_fault = λ i
 
 -- an ask that is permitted was planned over the rows that it reads
 pub asked_there : (at : Surroundings) (ask : Ask) (rows : List Row) (planned : Result Plan NoPlan) (old mid new : Option Held) (reply : Reply) → is_permitted at.caller ask ≡ true → mid ≡ old
-    → IfSome old (λ held. (seen_in held).rows (reach_of ask) ≡ Ok rows) → IfSome old (λ held. IsTable rows)
+    → IfSome old (λ held. (seen_in held).rows (reach_of at.caller.org ask) ≡ Ok rows) → IfSome old (λ held. IsTable rows)
     → (IsTable rows → Plans planned (asked at.admin (scene_at at rows) ask))
     → ((e : Effect Reply) → Plans planned e → DidThere e mid reply new) → IfSome old (λ held. IsAnswered at ask held reply new)
 asked_there at ask rows planned None mid new reply may same found table is done = tt

@@ -3,7 +3,6 @@ use Rattle.std.proofs.Common.{◌≡◌, ℕ, List, [], ◌∷◌, Bool, true, f
 use Rattle.std.specs.List.{list_all, AllByRecursion}
 use Rattle.std.specs.List.Sorted.{IsStrictlySortedBy}
 use Rattle.std.proofs.lemmas.Bool.{cases_Bool}
-use Rattle.misp_ids.specs.Uid.{IsUid}
 use Rattle.misp_ids.specs.declared.uid.OrgId.{OrgId}
 use Rattle.misp_ids.specs.declared.uid.EventId.{EventId}
 use Rattle.misp_elem.specs.declared.row.RowFields.{RowFields as Row}
@@ -29,7 +28,7 @@ use Rattle.misp_model.proofs.Elsewhere.{tables_elsewhere}
 use Rattle.misp_model.proofs.Owners.{brings_here}
 use Rattle.misp_model.proofs.Puts.{put_ask}
 use Rattle.misp_levels.specs.Groups.{by_name}
-use Rattle.misp_store.specs.Raw.{raw_row, rows_in, owner_rows}
+use Rattle.misp_store.specs.Raw.{raw_row, rows_in}
 use Rattle.misp_store.specs.Sharing.{or_none, groups_of}
 use Rattle.misp_store.specs.Batches.{spelled}
 use Rattle.misp_store.specs.Seen.{seen_in}
@@ -39,24 +38,19 @@ use Rattle.misp_core.specs.Answers.{Surroundings, IsBuilt, reach_of, scene_at, n
 use Rattle.misp_core.specs.Effects.{row_batches, asked, asked_over}
 use Rattle.misp_core.specs.Keeping.{caller_at, act_at, Keeps}
 use Rattle.misp_store.proofs.HeldRows.{rows_again, rows_of_event, rows_kept, rows_put, rows_put_held}
-use Rattle.misp_store.proofs.OwnerRows.{rows_of_owner, owner_rows_kept}
+use Rattle.misp_core.proofs.NamedRows.{named_rows, rows_of_name, named_rows_kept}
 use Rattle.misp_core.specs.declared.reply.Reply.{Reply}
 use Rattle.misp_core.proofs.BuiltAsks.{of_built}
 use Rattle.misp_core.proofs.Numbers.{asked_as}
 use Rattle.misp_core.proofs.OwnRows.{IsAlike, table_within, own_alike}
 
--- the organisation that a reach names, where it names one, has sixteen bytes
-abbrev IsReached : Reach → Type 0
-IsReached (reaches.Own o e) = IsUid o.0
-IsReached reach = Unit {0}
-
 module _ (here : Inst) (w : World) (held : Held) (keeps : Keeps here w held) where
-  -- what is held of an event by an organisation is what it has of it
-  own_read : (o : OrgId) (e : EventId) → IsUid o.0 → rows_in (rows_named e (uid o.0) held.rows) ≡ Ok (owner_rows o e (tables w.log here))
-  own_read o e is =
+  -- what is held of an event under the bytes of an organisation is the rows so named
+  own_read : (o : OrgId) (e : EventId) → rows_in (rows_named e (uid o.0) held.rows) ≡ Ok (named_rows o e (tables w.log here))
+  own_read o e =
       ap (λ raws. rows_in (rows_named e (uid o.0) raws)) keeps.rows
-      ∙ ap rows_in (rows_of_owner o e (tables w.log here) is keeps.are_rows)
-      ∙ rows_again _ (owner_rows_kept o e (tables w.log here) keeps.are_rows)
+      ∙ ap rows_in (rows_of_name o e (tables w.log here))
+      ∙ rows_again _ (named_rows_kept o e (tables w.log here) keeps.are_rows)
 
   -- what is held of an event is that event's rows
   event_read : (e : EventId) → rows_in (rows_of e held.rows) ≡ Ok (event_rows e (tables w.log here))
@@ -70,12 +64,12 @@ module _ (here : Inst) (w : World) (held : Held) (keeps : Keeps here w held) whe
   groups_there = ap or_none keeps.groups
 
   -- what is read within a reach is what the tables have there
-  read_there : (reach : Reach) → IsReached reach → (seen_in held).rows reach ≡ Ok (table_within reach (tables w.log here))
+  read_there : (reach : Reach) → (seen_in held).rows reach ≡ Ok (table_within reach (tables w.log here))
   unfolding rows_in
-  read_there reaches.Nothing is = refl
-  read_there (reaches.Own o e) is = own_read o e is
-  read_there (reaches.Event e) is = event_read e
-  read_there reaches.All is = ap rows_in keeps.rows ∙ rows_again _ keeps.are_rows
+  read_there reaches.Nothing = refl
+  read_there (reaches.Own o e) = own_read o e
+  read_there (reaches.Event e) = event_read e
+  read_there reaches.All = ap rows_in keeps.rows ∙ rows_again _ keeps.are_rows
 
 -- where the groups are those of the instance, the scene over the tables is that of the act, but for its number
 scene_there : (w : World) (at : Surroundings) (ask : Ask) → at.groups ≡ w.groups at.here → scene_at at (tables w.log at.here) ≡ scene 0 w (act_at at ask) (caller_at at.admin at.caller)
@@ -96,13 +90,13 @@ asked_alike admin s t ask same = λ i. effect (same.replies i) (row_batches (sam
 
 module _ (w : World) (at : Surroundings) (ask : Ask) (held : Held) (built : IsBuilt ask) (keeps : Keeps at.here w held) where
   -- what it comes to is what it comes to over all rows of the instance
-  pub over_all : asked_over at ask ((seen_in held).rows (reach_of ask)) ≡ asked_over at ask (Ok (tables w.log at.here))
+  pub over_all : asked_over at ask ((seen_in held).rows (reach_of at.caller.org ask)) ≡ asked_over at ask (Ok (tables w.log at.here))
   over_all =
-      ap (asked_over at ask) (read_there at.here w held keeps (reach_of ask) (of_built (λ a. IsReached (reach_of a)) (λ event owner. tt) (λ b. tt) tt ask built))
+      ap (asked_over at ask) (read_there at.here w held keeps (reach_of at.caller.org ask))
       ∙ asked_alike at.admin _ _ ask (own_alike at.admin (tables w.log at.here) (scene_at at []) ask built)
 
   -- and what the history says, whatever the number of the act
-  pub told_there : (n : ℕ) → at.groups ≡ groups_of held → asked_over at ask ((seen_in held).rows (reach_of ask)) ≡ asked at.admin (scene n w (act_at at ask) (caller_at at.admin at.caller)) ask
+  pub told_there : (n : ℕ) → at.groups ≡ groups_of held → asked_over at ask ((seen_in held).rows (reach_of at.caller.org ask)) ≡ asked at.admin (scene n w (act_at at ask) (caller_at at.admin at.caller)) ask
   unfolding scene
   told_there n same =
       over_all
@@ -182,8 +176,8 @@ module _ (net : Net) (n : ℕ) (w : World) (at : Surroundings) where
 
   -- and so where what the request comes to is left
   pub left_there : (a : Ask) (held : Held) → IsBuilt a → list_all (λ v. ltb v.act n) w.log ≡ true → at.groups ≡ groups_of held → Keeps at.here w held
-      → AreReadable (asked_over at a ((seen_in held).rows (reach_of a))).batches
-      → Keeps at.here (step net n w (act_at at a)) (left spelled (asked_over at a ((seen_in held).rows (reach_of a))) held)
+      → AreReadable (asked_over at a ((seen_in held).rows (reach_of at.caller.org a))).batches
+      → Keeps at.here (step net n w (act_at at a)) (left spelled (asked_over at a ((seen_in held).rows (reach_of at.caller.org a))) held)
   left_there a held built older same keeps =
       subst (λ (e : Effect Reply). AreReadable e.batches → Keeps at.here (step net n w (act_at at a)) (left spelled e held))
       (sym (told_there w at a held built keeps n same)) (rows_there a held built older keeps)

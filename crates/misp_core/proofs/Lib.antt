@@ -4,6 +4,8 @@ pub mod Planned
 pub mod Carried
 pub mod Answered
 pub mod Serving
+pub mod OwnCopy
+pub mod NamedRows
 pub mod OwnRows
 pub mod Keeping
 pub mod Ordering

@@ -4,6 +4,7 @@ use Rattle.std.specs.Prelude.{not}
 use Rattle.std.specs.List.{find}
 use Rattle.std.proofs.lemmas.List.{length-map}
 use Rattle.std.proofs.lemmas.Simd.{map-map}
+use Rattle.misp_ids.specs.declared.uid.EventId.{EventId}
 use Rattle.misp_elem.specs.Draft.{SubmissionFields as Submission}
 use Rattle.misp_requests.specs.declared.ask.Ask.{Ask}
 use Rattle.misp_orgs.specs.Admin.{AdminFields as Admin}
@@ -18,17 +19,20 @@ use Rattle.misp_model.proofs.NumberedWrites.{answer_as, fresh_as}
 use Rattle.misp_edit.specs.Adding.{first_clash, first_unusable, is_clash, labels_of, numbered_uuids, read_uuids}
 use Rattle.misp_store.specs.declared.reach.Reach.{Reach}
 use Rattle.misp_store.specs.declared.reach.Reach.TheVariants as reaches
-use Rattle.misp_core.specs.Answers.{greatest, named, place_of, reach_of, reply_in, reply_of, saved, writes_in}
+use Rattle.misp_core.specs.Answers.{event_saved, greatest, named, place_of, reach_of, reply_in, reply_of, saved, writes_in}
 use Rattle.misp_core.specs.Effects.{asked, row_batches}
 use Rattle.misp_core.specs.declared.reply.Answer.TheVariants as answers
 use Rattle.misp_core.specs.declared.reply.Reply.TheVariants as replies
 
 -- as many versions, of the same stamps
-saved_as : (n : ℕ) (reach : Reach) (vs : List Version) → saved reach (versions_as n vs) ≡ saved reach vs
-saved_as n (reaches.Event event) vs = λ i.
+event_saved_as : (n : ℕ) (event : EventId) (vs : List Version) → event_saved event (versions_as n vs) ≡ event_saved event vs
+event_saved_as n event vs = λ i.
     replies.Ok (answers.Saved (length-map vs (version_as n) i) event (greatest (map-map (λ (v : Version). v.stamp) (version_as n) vs i)))
+
+saved_as : (n : ℕ) (reach : Reach) (vs : List Version) → saved reach (versions_as n vs) ≡ saved reach vs
+saved_as n (reaches.Event event) vs = event_saved_as n event vs
 saved_as n reaches.Nothing vs = refl
-saved_as n (reaches.Own org event) vs = refl
+saved_as n (reaches.Own org event) vs = event_saved_as n event vs
 saved_as n reaches.All vs = refl
 
 module _ (n : ℕ) (s : Scene) where
@@ -50,7 +54,7 @@ module _ (n : ℕ) (s : Scene) where
   of_as : (admin : Admin) (ask : Ask) (r : model.Reply) → reply_of admin other ask (reply_as n r) ≡ reply_of admin s ask r
   unfolding reply_as
   of_as admin ask (model.Refused rule) = ap (λ place. replies.Refused (record { name = named rule; place = place })) (place_as ask rule)
-  of_as admin ask (model.Saved vs) = saved_as n (reach_of ask) vs
+  of_as admin ask (model.Saved vs) = saved_as n (reach_of s.by ask) vs
   of_as admin ask (model.Seen v) = refl
   of_as admin ask (model.Shares groups) = refl
   of_as admin ask (model.Listed vs) = refl

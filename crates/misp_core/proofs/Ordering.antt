@@ -77,7 +77,7 @@ in_order : (at : Surroundings) (ask : Ask) (held : Held) (reply : Reply) (new : 
     → IsAnswered at ask held reply new → IsInOrder (grounds at ask held) reply
 in_order at ask held reply new built did went =
     ap rule_of (did.reply_is ∙ of_effect did.outcome (requested at ask (seen_in held)) (did.agree ∙ went))
-    ∙ by_rows at ask (is_permitted at.caller ask) ((seen_in held).rows (reach_of ask)) built
+    ∙ by_rows at ask (is_permitted at.caller ask) ((seen_in held).rows (reach_of at.caller.org ask)) built
 
 pub told_in_order : (at : Held → Surroundings) (ask : Ask) (old new : Option Held) (reply : Reply) → IsBuilt ask
     → IfSome old (λ held. IsAnswered (at held) ask held reply new) → IfSome old (λ held. IsInOrder (grounds (at held) ask held) reply)

@@ -45,7 +45,7 @@ saved_tells_none reaches.All vs = refl
 reply_tells_none : (admin : Admin) (s : Scene) (ask : Ask) (r : model.Reply) → stop_in (reply_of admin s ask r) ≡ None
 reply_tells_none admin s ask (model.Refused rule) = rule_tells_none rule
 reply_tells_none admin s ask (model.Seen v) = refl
-reply_tells_none admin s ask (model.Saved vs) = saved_tells_none (reach_of ask) vs
+reply_tells_none admin s ask (model.Saved vs) = saved_tells_none (reach_of s.by ask) vs
 reply_tells_none admin s ask (model.Shares groups) = refl
 reply_tells_none admin s ask (model.Listed vs) = refl
 reply_tells_none admin s ask (model.Taken n) = refl

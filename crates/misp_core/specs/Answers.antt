@@ -4,6 +4,7 @@ use Rattle.std.specs.declared.option.Option.{Option}
 use Rattle.std.specs.declared.option.Option.TheVariants.{None, Some}
 use Rattle.hex.specs.Hex.{encode_lower}
 use Rattle.misp_ids.specs.declared.uid.OrgId.{OrgId}
+use Rattle.misp_ids.specs.declared.uid.EventId.{EventId}
 use Rattle.misp_ids.specs.declared.label.Label.{Label}
 use Rattle.misp_ids.specs.declared.label.Label.TheVariants as labels
 use Rattle.misp_ids.specs.Uid.{text_of}
@@ -18,6 +19,7 @@ use Rattle.misp_groups.specs.declared.group.GroupFields.{GroupFields as Group}
 use Rattle.misp_requests.specs.declared.ask.Ask.{Ask}
 use Rattle.misp_requests.specs.declared.ask.Ask.TheVariants.{View}
 use Rattle.misp_requests.specs.declared.ask.Ask.TheVariants as asks
+use Rattle.misp_requests.specs.declared.change.Change.{Change}
 use Rattle.misp_requests.specs.declared.change.Change.TheVariants.{AddEvent}
 use Rattle.misp_orgs.specs.Admin.{AdminFields as Admin}
 use Rattle.misp_orgs.specs.Keys.{CallerFields as Caller}
@@ -57,16 +59,22 @@ IsBuilt asks.Groups = Unit {0}
 IsBuilt (asks.Change (AddEvent b)) = IsAdded b
 IsBuilt ask = ⊥
 
--- how much of what is held an ask reads: the rows of its event, all rows, or none
-abbrev pub reach_of : Ask → Reach
-reach_of (View event owner) = reaches.Event event
-reach_of (asks.Change change) = reaches.Event (event_changed change)
-reach_of (asks.Propose draft) = reaches.Event draft.event
-reach_of (asks.Judge event proposal accept) = reaches.Event event
-reach_of (asks.Sight event target draft) = reaches.Event event
-reach_of asks.Index = reaches.All
-reach_of asks.Groups = reaches.Nothing
-reach_of (asks.TakePart part) = reaches.Event part.event
+-- how much of what is held a change by an organisation reads: the rows of its event, of an event
+-- that is added those of the organisation alone
+abbrev pub change_reach : OrgId → Change → Reach
+change_reach by (AddEvent b) = reaches.Own by b.event
+change_reach by change = reaches.Event (event_changed change)
+
+-- how much an ask of an organisation reads: rows of its event, all rows, or none
+abbrev pub reach_of : OrgId → Ask → Reach
+reach_of by (View event owner) = reaches.Event event
+reach_of by (asks.Change change) = change_reach by change
+reach_of by (asks.Propose draft) = reaches.Event draft.event
+reach_of by (asks.Judge event proposal accept) = reaches.Event event
+reach_of by (asks.Sight event target draft) = reaches.Event event
+reach_of by asks.Index = reaches.All
+reach_of by asks.Groups = reaches.Nothing
+reach_of by (asks.TakePart part) = reaches.Event part.event
 
 -- ---- surroundings
 
@@ -152,9 +160,14 @@ unfoldable pub greatest : List ℕ → ℕ
 greatest stamps = fold max 0 stamps
 
 -- how many rows were written, of which event, and the greatest of their stamps
-abbrev pub saved : Reach → List Version → Reply
-saved (reaches.Event event) vs =
+abbrev pub event_saved : EventId → List Version → Reply
+event_saved event vs =
     replies.Ok (answers.Saved (length vs) event (greatest (map (λ v. v.stamp) vs)))
+
+-- of what was read the event
+abbrev pub saved : Reach → List Version → Reply
+saved (reaches.Event event) vs = event_saved event vs
+saved (reaches.Own org event) vs = event_saved event vs
 saved reach vs = replies.Refused (bare rules.NoRoute)
 
 -- the event with the name of its holder, and with those of the groups that its labels name
@@ -172,7 +185,7 @@ reply_of admin s ask (model.Refused rule) =
 reply_of admin s ask (model.Seen v) =
     replies.Ok (answers.Event (named_event admin s.groups v))
 reply_of admin s ask (model.Shares groups) = replies.Ok (answers.Groups groups)
-reply_of admin s ask (model.Saved vs) = saved (reach_of ask) vs
+reply_of admin s ask (model.Saved vs) = saved (reach_of s.by ask) vs
 reply_of admin s ask _ = replies.Refused (bare rules.NoRoute)
 
 -- the reply to an ask in these surroundings

@@ -91,7 +91,8 @@ asked_over at ask (Err name) = refused (bad_row name)
 -- a request, where this is seen: the role of the caller must permit what it asks
 abbrev pub requested : Surroundings → Ask → Seen → Effect Reply
 requested at ask seen =
-    if is_permitted at.caller ask then asked_over at ask (seen.rows (reach_of ask))
+    if is_permitted at.caller ask
+    then asked_over at ask (seen.rows (reach_of at.caller.org ask))
     else refused (forbidden ask)
 
 -- a call that was to have this effect did what it comes to under some outcome

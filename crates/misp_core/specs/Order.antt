@@ -39,7 +39,7 @@ IsInOrder grounds reply = stop_in reply ≡ None → rule_of reply ≡ first_gro
 abbrev pub ground_of : Bool × Rule → Ground
 ground_of g = (g.0, named g.1)
 
--- a row of the event that is none, or else the rules of the ask in their order
+-- a row that is read and is none, or else the rules of the ask in their order
 abbrev pub row_grounds : Surroundings → Ask → Result (List Row) (List ℕ) → List Ground
 row_grounds at ask (Ok rows) = map ground_of (ask_rules (scene_at at rows) ask)
 row_grounds at ask (Err name) = (true, rules.BadRow) ∷ []
@@ -48,4 +48,4 @@ row_grounds at ask (Err name) = (true, rules.BadRow) ∷ []
 abbrev pub grounds : Surroundings → Ask → Held → List Ground
 grounds at ask held =
     (not (is_permitted at.caller ask), rules.NoPermission)
-    ∷ row_grounds at ask ((seen_in held).rows (reach_of ask))
+    ∷ row_grounds at ask ((seen_in held).rows (reach_of at.caller.org ask))

@@ -4,7 +4,7 @@ ghost use Rattle.std.specs.Prelude.{◌≡◌, Err, Some};
 ghost use Rattle.misp_outside.specs.Held.{Held};
 ghost use Rattle.misp_effects.specs.Effect.{Effect};
 ghost use Rattle.misp_model.specs.Machine.{event_changed};
-ghost use Rattle.misp_core.specs.Answers.{reach_of, bad_row};
+ghost use Rattle.misp_core.specs.Answers.{change_reach, reach_of, bad_row};
 ghost use Rattle.misp_core.specs.Permission.{no_permission};
 ghost use Rattle.misp_core.specs.Effects.{refused, Did, stop_in, by_keeper};
 ghost use Rattle.misp_core.specs.Planning.{Plans, IsUnread};
@@ -15,8 +15,8 @@ use crate::planning::NoPlan;
 use crate::reply::Reply;
 use crate::settling::unplanned;
 use misp_elem::{NoMemory, Refusal, RuleName};
-use misp_ids::{EventId, Text};
-use misp_orgs::Perm;
+use misp_ids::{EventId, OrgId, Text};
+use misp_orgs::{Caller, Perm};
 use misp_requests::{Ask, Change};
 use misp_store::{LoadFault, Reach};
 use std::alloc::Global;
@@ -51,15 +51,25 @@ fn event_changed(change: &Change) -> EventId
     }
 }
 
-/// How much of what is held an ask reads.
-pub(crate) fn reach(ask: &Ask) -> Reach
-    ensures { result ≡ reach_of ask.now }
+// How much of what is held a change by an organisation reads.
+fn change_reach(by: &OrgId, change: &Change) -> Reach
+    ensures { result ≡ change_reach by.now change.now }
+{
+    match change {
+        Change::AddEvent(submission) => Reach::Own(*by, submission.event),
+        _ => Reach::Event(event_changed(change)),
+    }
+}
+
+/// How much of what is held an ask of this caller reads.
+pub(crate) fn reach(caller: &Caller, ask: &Ask) -> Reach
+    ensures { result ≡ reach_of caller.now.org ask.now }
 {
     match ask {
         Ask::View { event, .. } | Ask::Judge { event, .. } | Ask::Sight { event, .. } => {
             Reach::Event(*event)
         }
-        Ask::Change(change) => Reach::Event(event_changed(change)),
+        Ask::Change(change) => change_reach(&caller.org, change),
         Ask::Propose(draft) => Reach::Event(draft.event),
         Ask::Index => Reach::All,
         Ask::Groups => Reach::Nothing,

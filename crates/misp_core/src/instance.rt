@@ -138,7 +138,7 @@ impl<K: Keeper> Instance<K> {
         if !may(caller.role, perm) {
             return unplanned(alloc, forbidden(alloc, perm));
         }
-        let rows = match load(&mut self.keeper, alloc, &reach(&ask)) {
+        let rows = match load(&mut self.keeper, alloc, &reach(caller, &ask)) {
             Ok(rows) => rows,
             Err(fault) => return unread(alloc, fault),
         };

@@ -44,14 +44,16 @@ pub fn a_refused_request_writes_nothing()
 pub fn an_instance_answers_by_the_history()
     ensures told { (n : ℕ) (w : World) (at : Surroundings) (ask : Ask) (held : Held) →
         IsBuilt ask → at.groups ≡ groups_of held → Keeps at.here w held →
-        asked_over at ask ((seen_in held).rows (reach_of ask))
+        asked_over at ask ((seen_in held).rows (reach_of at.caller.org ask))
         ≡ asked at.admin (scene n w (act_at at ask) (caller_at at.admin at.caller)) ask }
     ensures left { (net : Net) (n : ℕ) (w : World) (at : Surroundings) (ask : Ask) (held : Held) →
         IsBuilt ask → list_all (λ v. ltb v.act n) w.log ≡ true →
         at.groups ≡ groups_of held → Keeps at.here w held →
-        AreReadable (asked_over at ask ((seen_in held).rows (reach_of ask))).batches →
+        AreReadable
+        (asked_over at ask ((seen_in held).rows (reach_of at.caller.org ask))).batches →
         Keeps at.here (step net n w (act_at at ask))
-        (left spelled (asked_over at ask ((seen_in held).rows (reach_of ask))) held) }
+        (left spelled
+        (asked_over at ask ((seen_in held).rows (reach_of at.caller.org ask))) held) }
     ensures elsewhere { (net : Net) (n : ℕ) (w : World) (at : Surroundings) (ask : Ask) (j : Inst) →
         IsBuilt ask → same_inst at.here j ≡ false →
         tables (step net n w (act_at at ask)).log j ≡ tables w.log j }
