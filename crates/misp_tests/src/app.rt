@@ -17,13 +17,14 @@ fn named(alloc: Global, text: &str) -> Result<String, Fail> {
     misp_samples::filled(alloc, &NAMES, text)
 }
 
-// A keeper that holds a row without bytes and these rows of the administration, and whose call of
-// this number fails.
+// A keeper that holds a row without bytes under the name of A and these rows of the administration,
+// and whose call of this number fails.
 fn first_keeper(alloc: Global, fails: u64, admin: Vec<AdminRow>) -> Result<MemKeeper, Fail> {
     let mut first = MemKeeper::new(alloc, vec![in alloc; fails]?);
+    let owner: u128 = 0xaaaa_aaaa_0000_4000_8000_0000_0000_0001;
     let row = RawRow {
         event: EventId(Uid(0xe100_0000_0000_4000_8000_0000_0000_0009)),
-        name: Items::of(b"name".to_vec(alloc)?),
+        name: Items::of(owner.to_be_bytes().as_slice().to_vec(alloc)?),
         bytes: Items::of(Vec::new(alloc)),
     };
     let batch = RawBatch {

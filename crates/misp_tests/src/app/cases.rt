@@ -105,7 +105,7 @@ pub(super) const NAMES: [(&str, &str); 45] = [
     ),
     (
         "{no row}",
-        "500 {'name':'BadRow','place':'6e616d65','rule':28}",
+        "500 {'name':'BadRow','place':'aaaaaaaa000040008000000000000001','rule':28}",
     ),
     (
         "{not creator}",
@@ -391,16 +391,17 @@ pub(super) const CASES: [Case<'static>; 26] = [
                   4 {shown shared}\n5 {hidden}\n",
         batches: 3,
     },
-    // The row that the keeper holds is none.
+    // The row that the keeper holds under the name of A is none. An addition by B doesn't read it.
     Case {
         words: "net",
         source: "{net}---\n{B views}{e9}\n{A adds} {'uuid':'{e9}','info':'x','date':'2023-11-14'}\n\
-                 {B views}{e2}\n",
+                 {B views}{e2}\n{B adds} {'uuid':'{e9}','info':'x','date':'2023-11-14'}\n",
         len: 0,
         fails: NONE,
         status: Status::Done,
-        written: "1 {no row}\n2 {no row}\n3 {hidden}\n",
-        batches: 1,
+        written: "1 {no row}\n2 {no row}\n3 {hidden}\n\
+                  4 200 {'elements':1,'event':'{e9}','timestamp':'1700000000'}\n",
+        batches: 2,
     },
     // One byte too many.
     Case {
