@@ -6,3 +6,4 @@ pub mod Turning
 pub mod GroupTexts
 pub mod Ordering
 pub mod Idle
+pub mod Told

@@ -1,19 +1,21 @@
 //! Adds or edits a sharing group at an instance.
 
-ghost use Rattle.std.specs.Prelude.{◌≡◌, None, IfOk, IfSome};
+ghost use Rattle.std.specs.Prelude.{◌≡◌, ◌<◌, ◌++◌, None, IfOk, IsOkAnd, IfSome, OnOk, OnErr, vec_len, vec_capacity};
 ghost use Rattle.misp_groups.specs.Group.{IsGroup};
 ghost use Rattle.misp_outside.specs.Causes.{HasCause};
 ghost use Rattle.misp_core.specs.Effects.{by_keeper, stop_in, IsRefused};
 ghost use Rattle.misp_api.specs.Administering.{group_form, FormFits, IsDone};
 ghost use Rattle.misp_api.specs.Request.{Gives};
 ghost use Rattle.misp_api.specs.Refusing.{TurnsAway};
+ghost use Rattle.misp_api.specs.Text.{reply_text};
 
 use crate::answering::refused;
 use crate::request::{AskFault, fault};
+use crate::telling::{tell, told};
 use misp_core::{Instance, Reply};
 use misp_format::read_group_text;
 use misp_groups::Group;
-use misp_ids::{OrgId, Stamp};
+use misp_ids::{NoMemory, OrgId, Stamp};
 use misp_outside::Keeper;
 use std::alloc::Global;
 
@@ -40,35 +42,50 @@ fn group(alloc: Global, text: &[u8]) -> Result<Group, AskFault>
     }
 }
 
-/// Adds or edits a sharing group at this moment.
+/// Adds or edits a sharing group at this moment, and writes the reply. The text is written before
+/// anything is put.
 pub fn administer<K: Keeper>(
+    text: &mut Vec<u8>,
     alloc: Global,
     instance: &mut Instance<K>,
     now: Stamp,
     request: &GroupRequest<'_>,
-) -> Reply
+) -> Result<Reply, NoMemory>
+    // The text of the reply stands behind what stood there, with room for one byte behind it.
+    ensures text { IfOk result (λ reply. text.new.items ≡ text.old.items ++ reply_text reply) }
+    ensures room { OnOk result (vec_len text.new < vec_capacity text.new) }
+
+    // Where memory runs out for the text, nothing is put.
+    ensures kept { OnErr result (instance.new.held ≡ instance.old.held) }
+
     // Reply and groups are the stated functions of the request and of what is held.
-    ensures replied { IfSome instance.old.held (λ held.
+    ensures replied { IfOk result (λ reply. IfSome instance.old.held (λ held.
         IsDone now request.now.by request.now.add (group_form request.now.body.now)
-        held result instance.new.held) }
+        held reply instance.new.held)) }
 
     // What is read and not stopped is a group, at a moment that has a stamp.
-    ensures fits { stop_in result ≡ None → FormFits now (group_form request.now.body.now) }
+    ensures fits { IfOk result (λ reply.
+        stop_in reply ≡ None → FormFits now (group_form request.now.body.now)) }
 
     // A text that is no group is refused just so, and the keeper is as it was.
-    ensures formed { TurnsAway (group_form request.now.body.now) instance.old instance.new result }
+    ensures formed { IfOk result (λ reply.
+        TurnsAway (group_form request.now.body.now) instance.old instance.new reply) }
 
     // A refused request changes nothing.
-    ensures refused { IsRefused result → instance.new.held ≡ instance.old.held }
+    ensures refused { IfOk result (λ reply.
+        IsRefused reply → instance.new.held ≡ instance.old.held) }
     ensures cause { HasCause instance.old.faults instance.new.faults
-        (stop_in result ≡ by_keeper) }
+        (IsOkAnd result (λ reply. stop_in reply ≡ by_keeper)) }
     ensures name { instance.new.name ≡ instance.old.name }
     ensures admin { instance.new.admin ≡ instance.old.admin }
 {
     // The moment of a stamp is within the years that a stamp has.
     let _moment = now.get();
     match group(alloc, request.body) {
-        Ok(group) => instance.admin_group(alloc, now, &request.by, group, request.add),
-        Err(fault) => refused(alloc, fault),
+        Ok(group) => {
+            let planned = instance.plan_group(alloc, now, &request.by, group, request.add);
+            tell(text, alloc, instance, planned)
+        }
+        Err(fault) => told(text, alloc, refused(alloc, fault)),
     }
 }

@@ -1,6 +1,6 @@
 //! Answers a request at an instance.
 
-ghost use Rattle.std.specs.Prelude.{◌≡◌, Err, IfOk, IfSome, option_map};
+ghost use Rattle.std.specs.Prelude.{◌≡◌, ◌<◌, ◌++◌, Err, IfOk, IsOkAnd, IfSome, OnOk, OnErr, option_map, vec_len, vec_capacity};
 ghost use Rattle.misp_outside.specs.Causes.{HasCause};
 ghost use Rattle.misp_core.specs.Answers.{IsBuilt};
 ghost use Rattle.misp_core.specs.Effects.{stop_in, by_keeper, IsRefused};
@@ -10,12 +10,14 @@ ghost use Rattle.misp_api.specs.Order.{order};
 ghost use Rattle.misp_api.specs.Host.{host_of};
 ghost use Rattle.misp_api.specs.Request.{Gives, request_data};
 ghost use Rattle.misp_api.specs.Refusing.{TurnsAway};
+ghost use Rattle.misp_api.specs.Text.{reply_text};
 
 use crate::request::{AskFault, Request, read_ask};
 use crate::route::Route;
+use crate::telling::{tell, told};
 use misp_core::{Instance, Reply};
 use misp_elem::{Refusal, RuleName};
-use misp_ids::{ApiKey, Stamp};
+use misp_ids::{ApiKey, NoMemory, Stamp};
 use misp_orgs::Caller;
 use misp_outside::Keeper;
 use misp_requests::Ask;
@@ -61,37 +63,51 @@ pub(crate) fn refused(alloc: Global, fault: AskFault) -> Reply
     }
 }
 
-/// Answers a request of this moment.
+/// Answers a request of this moment, and writes the reply. The text is written before anything is
+/// put.
 pub fn answer<K: Keeper>(
+    text: &mut Vec<u8>,
     alloc: Global,
     instance: &mut Instance<K>,
     now: Stamp,
     request: &Request<'_>,
-) -> Reply
+) -> Result<Reply, NoMemory>
+    // The text of the reply stands behind what stood there, with room for one byte behind it.
+    ensures text { IfOk result (λ reply. text.new.items ≡ text.old.items ++ reply_text reply) }
+    ensures room { OnOk result (vec_len text.new < vec_capacity text.new) }
+
+    // Where memory runs out for the text, nothing is put.
+    ensures kept { OnErr result (instance.new.held ≡ instance.old.held) }
+
     // Reply and rows are the stated functions of the request and of what is held.
-    ensures replied { IfSome instance.old.held (λ held. IsReplied
+    ensures replied { IfOk result (λ reply. IfSome instance.old.held (λ held. IsReplied
         (host_of instance.old) now
         (form_of instance.old.admin (request_data request.now))
-        held result instance.new.held) }
+        held reply instance.new.held)) }
 
     // Where several rules refuse the request, the first in the one order is answered.
-    ensures order { IfSome instance.old.held (λ held. IsInOrder
-        (order (host_of instance.old) now (request_data request.now) held) result) }
+    ensures order { IfOk result (λ reply. IfSome instance.old.held (λ held. IsInOrder
+        (order (host_of instance.old) now (request_data request.now) held) reply)) }
 
     // What the form of the request refuses, or the role of its caller, is refused just so, and the
     // keeper is as it was.
-    ensures formed { TurnsAway (form_of instance.old.admin (request_data request.now))
-        instance.old instance.new result }
+    ensures formed { IfOk result (λ reply.
+        TurnsAway (form_of instance.old.admin (request_data request.now))
+        instance.old instance.new reply) }
 
     // A refused request changes nothing.
-    ensures refused { IsRefused result → instance.new.held ≡ instance.old.held }
+    ensures refused { IfOk result (λ reply.
+        IsRefused reply → instance.new.held ≡ instance.old.held) }
     ensures cause { HasCause instance.old.faults instance.new.faults
-        (stop_in result ≡ by_keeper) }
+        (IsOkAnd result (λ reply. stop_in reply ≡ by_keeper)) }
     ensures name { instance.new.name ≡ instance.old.name }
     ensures admin { instance.new.admin ≡ instance.old.admin }
 {
     match read(alloc, instance, request) {
-        Ok((caller, ask)) => instance.step(alloc, now, &caller, ask),
-        Err(fault) => refused(alloc, fault),
+        Ok((caller, ask)) => {
+            let planned = instance.plan(alloc, now, &caller, ask);
+            tell(text, alloc, instance, planned)
+        }
+        Err(fault) => told(text, alloc, refused(alloc, fault)),
     }
 }

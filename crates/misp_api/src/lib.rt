@@ -1,4 +1,4 @@
-//! Reads requests, answers them at an instance, and writes the replies.
+//! Reads requests, answers them at an instance, and writes the replies before anything is put.
 #![tactic(auto)]
 
 mod administering;
@@ -6,6 +6,7 @@ mod answering;
 mod reply;
 mod request;
 mod route;
+mod telling;
 
 pub use administering::{GroupRequest, administer};
 pub use answering::answer;

@@ -10,3 +10,9 @@ pub by_keeper : (fault : NetFault) → status_after fault ≡ ends.KeeperFault �
 by_keeper faults.KeeperFault is = refl
 by_keeper faults.BadRow is = absurd cc
 by_keeper faults.NoMemory is = absurd cc
+
+-- only the want of memory is told as one
+pub by_memory : (fault : NetFault) → status_after fault ≡ ends.OutOfMemory → fault ≡ faults.NoMemory
+by_memory faults.KeeperFault is = absurd cc
+by_memory faults.BadRow is = absurd cc
+by_memory faults.NoMemory is = refl

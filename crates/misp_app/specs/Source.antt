@@ -15,6 +15,7 @@ use Rattle.misp_net.specs.Hosts.{described_hosts}
 use Rattle.misp_net.specs.Opening.{may_be_sound, may_be_unsound, OneFailed}
 use Rattle.misp_net.specs.Lines.{Act, acts_of}
 use Rattle.misp_net.specs.History.{AreDistinct}
+use Rattle.misp_net.specs.Promise.{IsCut}
 use Rattle.misp_app.specs.declared.status.Status.{Status}
 use Rattle.misp_app.specs.declared.status.Status.TheVariants.{Done, BadDescription, TooMuch}
 use Rattle.misp_app.specs.Limits.{source_limit}
@@ -55,6 +56,14 @@ abbrev pub HasRun : (List Host → List Act → List Stock → List Stock → Li
     → List ℕ → List Stock → List Stock → (List ℕ → Type 0) → Type 0
 HasRun Says source old new Writes =
     IfOk (described source) (λ net. HasWritten Says net (script_part source) old new Writes)
+
+-- where the source describes a network, the run of its script was cut short: the keepers of the
+-- instances are as some first lines left them
+abbrev pub IsCutShort : List ℕ → List Stock → List Stock → Type 0
+IsCutShort source old new =
+    IfOk (described source) (λ net.
+    IsCut (described_hosts net) (acts_of (directory_of net) (script_part source))
+    (take (length net.instances) old) (take (length net.instances) new))
 
 -- as far as the keepers of its instances tell, every row of the administration is a group
 abbrev pub IsSound : Reading Description → List Stock → Type 0

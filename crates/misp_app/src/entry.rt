@@ -7,7 +7,7 @@ ghost use Rattle.misp_effects.specs.Stocks.{told};
 ghost use Rattle.misp_net.specs.Opening.{OneFailed};
 ghost use Rattle.misp_net.specs.Promise.{IsPrivate, AreReplied, AreNewest};
 ghost use Rattle.misp_app.specs.Limits.{source_limit, least_keepers};
-ghost use Rattle.misp_app.specs.Source.{described, described_status, status_of, ok_line, IsTold, HasRun, IsSound, IsUnsound, HasFailed, OthersStay, HoldNothing};
+ghost use Rattle.misp_app.specs.Source.{described, described_status, status_of, ok_line, IsTold, HasRun, IsCutShort, IsSound, IsUnsound, HasFailed, OthersStay, HoldNothing};
 ghost use Rattle.misp_app.specs.Words.{command_of};
 ghost use Rattle.misp_app.specs.Status.{IsStopped, IsSilent, IsStill, IsRunEnd, IsUnopened, HasLines, TellsFault, Wrote};
 
@@ -66,6 +66,11 @@ pub fn run<S: Source, W: Sink, K: Keeper, C: Carry, D: Door, L: Dial, T: Clock>(
         (OneFailed (map K.stock keepers.old.items) (map K.stock keepers.new.items) → ⊥) →
         HoldNothing (map K.stock keepers.old.items) → IfSome (S.left source.old)
         (λ left. (result ≡ Status.OutOfMemory) ⊎ (result ≡ status_of left)) }
+
+    // Where memory runs out, some first lines were run, and no other did anything.
+    ensures cut { command_of (map string_bytes words.now) ≡ Some Command.Net →
+        result ≡ Status.OutOfMemory → IfSome (S.left source.old) (λ left. IsCutShort left
+        (map K.stock keepers.old.items) (map K.stock keepers.new.items)) }
 
     // A fault is answered only where a count rose.
     ensures read { result ≡ Status.ReadFault → Rose (S.faults source.old) (S.faults source.new) }
@@ -153,6 +158,8 @@ fn run_source<W: Sink, K: Keeper>(
         told (map K.stock keepers.new.items) ≡ told (map K.stock keepers.old.items) }
     ensures sound { HasLines (Some Command.Net) result →
         IsSound (described bytes.now) (map K.stock keepers.old.items) }
+    ensures cut { result ≡ Status.OutOfMemory → IsCutShort bytes.now
+        (map K.stock keepers.old.items) (map K.stock keepers.new.items) }
     ensures told { TellsFault result → IsTold (described bytes.now)
         (Wrote result (W.written sink.old) (W.written sink.new)) }
     ensures places { vec_len keepers.new ≡ vec_len keepers.old }

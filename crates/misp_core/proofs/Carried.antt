@@ -1,6 +1,6 @@
--- What carrying a plan out did.
+-- What is done where a plan is carried out.
 use Rattle.std.proofs.Common.{◌≡◌, false, List, [], ◌∷◌, refl, ap, sym, subst, ◌∙◌, map, option_map, Option, Some, None, Result, Ok, Err}
-use Rattle.std.specs.Prelude.{IfSome}
+use Rattle.std.specs.Prelude.{IfSome, OnOk, OnErr}
 use Rattle.std.specs.List.{AllByRecursion}
 use Rattle.misp_elem.specs.Row.{AreRows}
 use Rattle.misp_groups.specs.declared.group.GroupFields.{GroupFields as Group}
@@ -18,7 +18,7 @@ use Rattle.misp_levels.specs.Groups.{put_groups}
 use Rattle.misp_store.specs.Sharing.{HoldsGroups, group_row, groups_in, AreStorable}
 use Rattle.misp_store.specs.Batches.{spelled}
 use Rattle.misp_core.specs.Effects.{refused_by, stop_in, by_keeper, rule_of_stop, Did}
-use Rattle.misp_core.specs.Planning.{batch_of, batches_of, rows_put, Plans, TellsNoStop, unplanned}
+use Rattle.misp_core.specs.Planning.{batch_of, batches_of, rows_put, Plans, IsPlanned, TellsNoStop, unplanned, stop_planned}
 use Rattle.misp_core.specs.declared.planning.Plan.{Plan}
 use Rattle.misp_core.specs.declared.planning.Batch.{Batch as Put}
 use Rattle.misp_core.specs.declared.planning.NoPlan.{NoPlan}
@@ -34,7 +34,7 @@ DidThere e old reply new = IfSome old (λ held. Did e held reply new)
 
 -- ---- nothing is planned
 
-pub refused_did : (why : NoPlan) (e : Effect Reply) (old new : Option Held) → Plans (Err why) e → new ≡ old → DidThere e old (unplanned why) new
+pub refused_did : (why : NoPlan) (e : Effect Reply) (old new : Option Held) → IsPlanned (Err why) e → new ≡ old → DidThere e old (unplanned why) new
 refused_did why e None new plans same = tt
 refused_did (no.Refused refusal) e (Some held) new plans same = record {
   outcome = effects.Went;
@@ -43,13 +43,30 @@ refused_did (no.Refused refusal) e (Some held) new plans same = record {
   held_is = same ∙ sym (ap (λ (x : Effect Reply). Some (left spelled x held)) plans.is);
   fits = subst (λ (x : Effect Reply). AreReadable x.batches) (sym plans.is) tt;
 }
+refused_did no.KeeperFault e (Some held) new plans same =
+    record { outcome = effects.Stopped (stops.Keeper Here) 0 false; agree = refl; reply_is = refl; held_is = same; fits = tt }
 refused_did no.NoMemory e (Some held) new plans same =
     record { outcome = effects.Stopped (stops.Memory Here) 0 false; agree = refl; reply_is = refl; held_is = same; fits = tt }
 
 pub no_stop : (planned : Result Plan NoPlan) (e : Effect Reply) → Plans planned e → TellsNoStop planned
 no_stop (Ok p) e plans = tt
 no_stop (Err (no.Refused refusal)) e plans = plans.no_stop
+no_stop (Err no.KeeperFault) e plans = plans
 no_stop (Err no.NoMemory) e plans = tt
+
+-- what asks no keeper is planned
+pub is_planned : (planned : Result Plan NoPlan) (e : Effect Reply) → Plans planned e → IsPlanned planned e
+is_planned (Ok p) e plans = plans
+is_planned (Err (no.Refused refusal)) e plans = plans
+is_planned (Err no.KeeperFault) e plans = tt
+is_planned (Err no.NoMemory) e plans = tt
+
+-- and it tells no fault of a keeper
+pub asks_none : (planned : Result Plan NoPlan) → TellsNoStop planned → stop_planned planned ≡ by_keeper → ⊥
+asks_none (Ok p) none is = absurd cc
+asks_none (Err (no.Refused refusal)) none is = let both : None ≡ by_keeper = sym none ∙ is in absurd cc
+asks_none (Err no.KeeperFault) none is = none
+asks_none (Err no.NoMemory) none is = absurd cc
 
 -- ---- the keeper stopped
 
@@ -86,7 +103,7 @@ are_groups : (gs : List Group) → AreStorable gs → AllByRecursion IsGroup gs
 are_groups [] are = tt
 are_groups (g ∷ gs) are = (are.0.is_group, are_groups gs are.1)
 
-pub settled_did : (p : Plan) (put : Put) (e : Effect Reply) (old new : Option Held) → Plans (Ok p) e → p.batch ≡ Some put → AreStorable put.groups
+pub settled_did : (p : Plan) (put : Put) (e : Effect Reply) (old new : Option Held) → IsPlanned (Ok p) e → p.batch ≡ Some put → AreStorable put.groups
     → new ≡ option_map (with_batch (spelled (batch_of put))) old → DidThere e old (replies.Ok p.answer) new
 settled_did p put e old new plans some are is =
     went_did e p.answer (batch_of put ∷ []) old new (plans.is ∙ ap (λ (b : Option Put). effect (replies.Ok p.answer) (batches_of b)) some)
@@ -108,3 +125,11 @@ groups_beside put None new groups kept are is same holds = subst (λ (h : Option
 groups_beside put (Some held) new groups kept are is same holds =
     subst (λ (h : Option Held). HoldsGroups h kept) (sym is)
     (subst (λ gs. groups_in (put_admins (map group_row put.groups) held.admin) ≡ Ok gs) (sym same) (groups_put put.groups are held.admin groups holds))
+
+-- they are beside whether the batch was put or not
+pub still_beside : {E : Type 0} (result : Result (Unit {0}) E) (put : Put) (old new : Option Held) (groups kept : List Group) → OnOk result (AreStorable put.groups)
+    → OnOk result (new ≡ option_map (with_batch (spelled (batch_of put))) old) → OnOk result (kept ≡ put_groups groups put.groups)
+    → OnErr result (new ≡ old) → OnErr result (kept ≡ groups) → HoldsGroups old groups → HoldsGroups new kept
+still_beside (Ok done) put old new groups kept are is same none none_ holds = groups_beside put old new groups kept are is same holds
+still_beside (Err stop) put old new groups kept are is same none none_ holds =
+    subst (λ (h : Option Held). HoldsGroups h kept) (sym none) (subst (HoldsGroups old) (sym none_) holds)

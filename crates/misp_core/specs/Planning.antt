@@ -6,12 +6,13 @@ use Rattle.misp_elem.specs.declared.refusal.Refusal.{Refusal}
 use Rattle.misp_elem.specs.declared.row.RowFields.{RowFields as Row}
 use Rattle.misp_elem.specs.Row.{AreRows}
 use Rattle.misp_effects.specs.Batches.{Batch, batch}
+use Rattle.misp_effects.specs.declared.stop.Stop.{Stop}
 use Rattle.misp_effects.specs.Effect.{Effect, effect}
 use Rattle.misp_elem.specs.declared.refusal.RuleName.TheVariants as rules
 use Rattle.misp_store.specs.declared.fault.LoadFault.{LoadFault}
 use Rattle.misp_store.specs.declared.fault.LoadFault.TheVariants as unread
 use Rattle.misp_core.specs.Answers.{bad_row}
-use Rattle.misp_core.specs.Effects.{refused, refused_by, stop_by}
+use Rattle.misp_core.specs.Effects.{refused, refused_by, stop_by, stop_in}
 use Rattle.misp_core.specs.declared.planning.Plan.{Plan}
 use Rattle.misp_core.specs.declared.planning.Batch.{Batch as Planned}
 use Rattle.misp_core.specs.declared.planning.NoPlan.{NoPlan}
@@ -47,16 +48,25 @@ pub record Refuses (refusal : Refusal) (e : Effect Reply) : Type 0 where
   pub is : e ≡ refused refusal
   pub no_stop : stop_by refusal.name ≡ None
 
--- the plan of this effect, or its refusal; the want of memory says nothing
+-- the plan of this effect, or its refusal; the want of memory says nothing, and no keeper is asked
 abbrev pub Plans : Result Plan NoPlan → Effect Reply → Type 0
 Plans (Ok p) e = IsPlan p e
 Plans (Err (why.Refused refusal)) e = Refuses refusal e
+Plans (Err why.KeeperFault) e = ⊥
 Plans (Err why.NoMemory) e = Unit {0}
+
+-- the same where a keeper may have been asked, whose fault says nothing
+abbrev pub IsPlanned : Result Plan NoPlan → Effect Reply → Type 0
+IsPlanned (Ok p) e = IsPlan p e
+IsPlanned (Err (why.Refused refusal)) e = Refuses refusal e
+IsPlanned (Err why.KeeperFault) e = Unit {0}
+IsPlanned (Err why.NoMemory) e = Unit {0}
 
 -- where nothing is planned, no stop is told but the want of memory
 abbrev pub TellsNoStop : Result Plan NoPlan → Type 0
 TellsNoStop (Ok p) = Unit {0}
 TellsNoStop (Err (why.Refused refusal)) = stop_by refusal.name ≡ None
+TellsNoStop (Err why.KeeperFault) = ⊥
 TellsNoStop (Err why.NoMemory) = Unit {0}
 
 -- the effect is that of rows which are not read: a row that does not decode is refused
@@ -68,4 +78,10 @@ IsUnread unread.NoMemory e = Unit {0}
 -- what is replied where nothing is planned
 abbrev pub unplanned : NoPlan → Reply
 unplanned (why.Refused refusal) = replies.Refused refusal
+unplanned why.KeeperFault = refused_by rules.KeeperFault
 unplanned why.NoMemory = refused_by rules.NoMemory
+
+-- the stop that is told where nothing is planned
+abbrev pub stop_planned : Result Plan NoPlan → Option Stop
+stop_planned (Ok p) = None
+stop_planned (Err why) = stop_in (unplanned why)

@@ -1,19 +1,16 @@
-//! What a request reads, and what is answered where it is not permitted or nothing is read.
+//! What a request reads, and why nothing is planned where it is not permitted or nothing is read.
 
-ghost use Rattle.std.specs.Prelude.{◌≡◌, Err, Some};
-ghost use Rattle.misp_outside.specs.Held.{Held};
+ghost use Rattle.std.specs.Prelude.{◌≡◌, Err};
 ghost use Rattle.misp_effects.specs.Effect.{Effect};
 ghost use Rattle.misp_model.specs.Machine.{event_changed};
 ghost use Rattle.misp_core.specs.Answers.{change_reach, reach_of, bad_row};
 ghost use Rattle.misp_core.specs.Permission.{no_permission};
-ghost use Rattle.misp_core.specs.Effects.{refused, Did, stop_in, by_keeper};
-ghost use Rattle.misp_core.specs.Planning.{Plans, IsUnread};
+ghost use Rattle.misp_core.specs.Effects.{refused, by_keeper};
+ghost use Rattle.misp_core.specs.Planning.{Plans, IsPlanned, IsUnread, stop_planned};
 ghost use Rattle.misp_core.specs.declared.reply.Reply.{Reply as Answered};
 
 use crate::permission::no_permission;
 use crate::planning::NoPlan;
-use crate::reply::Reply;
-use crate::settling::unplanned;
 use misp_elem::{NoMemory, Refusal, RuleName};
 use misp_ids::{EventId, OrgId, Text};
 use misp_orgs::{Caller, Perm};
@@ -90,15 +87,14 @@ fn bad_row(alloc: Global, name: &[u8]) -> NoPlan
     }
 }
 
-/// What is replied where the rows were not read.
-pub(crate) fn unread(alloc: Global, fault: LoadFault) -> Reply
-    ensures done { (e : Effect Answered) (held : Held) → IsUnread fault e →
-        Did e held result (Some held) }
-    ensures cause { stop_in result ≡ by_keeper → fault ≡ LoadFault.KeeperFault }
+/// Why nothing is planned where the rows were not read.
+pub(crate) fn unread(alloc: Global, fault: LoadFault) -> NoPlan
+    ensures plans { (e : Effect Answered) → IsUnread fault e → IsPlanned (Err result) e }
+    ensures cause { stop_planned (Err result) ≡ by_keeper → fault ≡ LoadFault.KeeperFault }
 {
     match fault {
-        LoadFault::KeeperFault => Reply::refused_by(alloc, RuleName::KeeperFault),
-        LoadFault::BadRow { name } => unplanned(alloc, bad_row(alloc, name.as_slice())),
-        LoadFault::NoMemory => Reply::refused_by(alloc, RuleName::NoMemory),
+        LoadFault::KeeperFault => NoPlan::KeeperFault,
+        LoadFault::BadRow { name } => bad_row(alloc, name.as_slice()),
+        LoadFault::NoMemory => NoPlan::NoMemory,
     }
 }

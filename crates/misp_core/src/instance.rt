@@ -1,16 +1,19 @@
 //! An instance over a keeper.
 
-ghost use Rattle.std.specs.Prelude.{◌≡◌, ◌≤◌, false, IfOk, IfErr, IfSome, OnOk, IsOk, option_map};
+ghost use Rattle.std.specs.Prelude.{◌≡◌, ◌≤◌, false, Err, IfOk, IfErr, IfSome, OnOk, OnErr, IsOk, option_map};
 ghost use Rattle.misp_outside.specs.Causes.{HasCause};
-ghost use Rattle.misp_store.specs.Sharing.{groups_in};
+ghost use Rattle.misp_outside.specs.Held.{with_batch};
+ghost use Rattle.misp_store.specs.Sharing.{groups_in, groups_of, AreStorable};
+ghost use Rattle.misp_store.specs.Batches.{spelled};
+ghost use Rattle.misp_store.specs.Seen.{seen_in};
 ghost use Rattle.misp_core.specs.Answers.{site_at, IsBuilt};
 ghost use Rattle.misp_core.specs.Standing.{standing};
 ghost use Rattle.misp_store.specs.Loading.{NamesFault};
 ghost use Rattle.misp_core.specs.Permission.{is_permitted, forbidden};
-ghost use Rattle.misp_core.specs.Turned.{IsTurnedAway};
-ghost use Rattle.misp_core.specs.Effects.{IsAnswered, IsRefused, stop_in, by_keeper};
-ghost use Rattle.misp_core.specs.Order.{IsInOrder, grounds};
-ghost use Rattle.misp_core.specs.Administering.{IsAdministered};
+ghost use Rattle.misp_core.specs.Turned.{IsBarred};
+ghost use Rattle.misp_core.specs.Effects.{requested, by_keeper};
+ghost use Rattle.misp_core.specs.Planning.{Plans, IsPlanned, TellsNoStop, batch_of, stop_planned};
+ghost use Rattle.misp_core.specs.Administering.{administered};
 ghost use Rattle.misp_store.specs.declared.fault.LoadFault.TheVariants as faults;
 ghost use Rattle.misp_orgs.specs.Admin.{who_of, link_of};
 
@@ -18,14 +21,14 @@ use crate::administering::plan_group;
 use crate::answering::{forbidden, reach, unread};
 use crate::decide::plan_request;
 use crate::permission::permission_for;
-use crate::reply::Reply;
-use crate::settling::{carry_out, unplanned};
+use crate::planning::{Batch, NoPlan, Plan};
+use crate::settling::settle;
 use crate::site::Site;
 use misp_groups::Group;
 use misp_ids::{ApiKey, InstId, OrgId, Stamp};
 use misp_levels::Groups;
 use misp_orgs::{Admin, Caller, Link, may};
-use misp_outside::Keeper;
+use misp_outside::{Keeper, KeeperFault};
 use misp_requests::Ask;
 use misp_store::{LoadFault, load, load_groups};
 use std::alloc::Global;
@@ -112,35 +115,38 @@ impl<K: Keeper> Instance<K> {
         self.admin.link(name)
     }
 
-    /// Answers a request at this moment.
-    pub fn step(&mut self, alloc: Global, now: Stamp, caller: &Caller, ask: Ask) -> Reply
+    /// Plans what a request of this moment comes to. Nothing is put.
+    pub fn plan(
+        &mut self,
+        alloc: Global,
+        now: Stamp,
+        caller: &Caller,
+        ask: Ask,
+    ) -> Result<Plan, NoPlan>
         requires { IsBuilt ask }
 
-        // Reply and rows are the stated functions of what is held, and of what stopped the request.
-        ensures answered { IfSome self.old.held (λ held.
-            IsAnswered (site_at self.old held caller.now now) ask held result self.new.held) }
-
-        // Where several rules refuse it, the first in the one order is answered.
-        ensures order { IfSome self.old.held (λ held.
-            IsInOrder (grounds (site_at self.old held caller.now now) ask held) result) }
+        // The plan is the stated function of what is held, and of what stopped the reading of it.
+        ensures planned { IfSome self.old.held (λ held. IsPlanned result
+            (requested (site_at self.old held caller.now now) ask (seen_in held))) }
 
         // What the role of the caller forbids is refused just so, and the keeper is as it was.
         ensures forbidden { is_permitted caller.now ask ≡ false →
-            IsTurnedAway (forbidden ask) self.old self.new result }
+            IsBarred (forbidden ask) self.old self.new result }
 
-        // A refused request changes nothing.
-        ensures refused { IsRefused result → self.new.held ≡ self.old.held }
-        ensures cause { HasCause self.old.faults self.new.faults (stop_in result ≡ by_keeper) }
+        // What is held stays.
+        ensures held { self.new.held ≡ self.old.held }
+        ensures cause { HasCause self.old.faults self.new.faults
+            (stop_planned result ≡ by_keeper) }
         ensures name { self.new.name ≡ self.old.name }
         ensures admin { self.new.admin ≡ self.old.admin }
     {
         let perm = permission_for(&ask);
         if !may(caller.role, perm) {
-            return unplanned(alloc, forbidden(alloc, perm));
+            return Err(forbidden(alloc, perm));
         }
         let rows = match load(&mut self.keeper, alloc, &reach(caller, &ask)) {
             Ok(rows) => rows,
-            Err(fault) => return unread(alloc, fault),
+            Err(fault) => return Err(unread(alloc, fault)),
         };
         let site = Site {
             here: &self.name,
@@ -149,30 +155,38 @@ impl<K: Keeper> Instance<K> {
             caller,
             moment: now,
         };
-        let planned = plan_request(alloc, &site, ask, rows);
-        carry_out(&mut self.keeper, &mut self.groups, alloc, planned)
+        plan_request(alloc, &site, ask, rows)
     }
 
-    /// Adds a group at this moment, or edits the one of its name, which the organisation does.
-    pub fn admin_group(
-        &mut self,
+    /// Plans what it comes to that an organisation adds a group at this moment, or edits the one of
+    /// its name.
+    pub fn plan_group(
+        &self,
         alloc: Global,
         now: Stamp,
         by: &OrgId,
         group: Group,
         add: bool,
-    ) -> Reply
-        // The reply names the first cause against it, and where there is none, the group is put.
-        ensures answered { IfSome self.old.held (λ held.
-            IsAdministered now by.now add group held result self.new.held) }
+    ) -> Result<Plan, NoPlan>
+        // The refusal names the first cause against it, and where there is none, the group is put.
+        ensures planned { IfSome self.now.held (λ held.
+            Plans result (administered now by.now add group (groups_of held))) }
+        ensures no_stop { TellsNoStop result }
+    {
+        plan_group(alloc, &self.groups, now, by, group, add)
+    }
 
-        // A refused administration changes nothing.
-        ensures refused { IsRefused result → self.new.held ≡ self.old.held }
-        ensures cause { HasCause self.old.faults self.new.faults (stop_in result ≡ by_keeper) }
+    /// Takes all memory for a batch, and puts it; or puts nothing.
+    pub fn settle(&mut self, alloc: Global, put: Batch) -> Result<(), KeeperFault>
+        ensures put { OnOk result
+            (self.new.held ≡ option_map (with_batch (spelled (batch_of put))) self.old.held) }
+        ensures storable { OnOk result (AreStorable put.groups) }
+        ensures err { OnErr result (self.new.held ≡ self.old.held) }
+        ensures cause { HasCause self.old.faults self.new.faults
+            (result ≡ Err KeeperFault.Failed) }
         ensures name { self.new.name ≡ self.old.name }
         ensures admin { self.new.admin ≡ self.old.admin }
     {
-        let planned = plan_group(alloc, &self.groups, now, by, group, add);
-        carry_out(&mut self.keeper, &mut self.groups, alloc, planned)
+        settle(&mut self.keeper, &mut self.groups, alloc, put)
     }
 }

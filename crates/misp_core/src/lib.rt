@@ -1,4 +1,5 @@
-//! An instance: it answers requests over the rows of its keeper, by what is known to the caller.
+//! An instance: it plans requests over the rows of its keeper, by what is known to the caller, and
+//! puts what is planned.
 #![tactic(auto)]
 
 mod administering;
@@ -21,4 +22,5 @@ pub use laws::{
 };
 pub use misp_store::LoadFault;
 pub use permission::permission_for;
+pub use planning::{Batch, NoPlan, Plan};
 pub use reply::{Answer, Reply};

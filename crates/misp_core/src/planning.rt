@@ -1,5 +1,7 @@
 //! What a command is planned to do.
 
+ghost use Rattle.std.specs.Prelude.{◌≡◌};
+
 use crate::reply::Answer;
 use misp_elem::{NoMemory, Refusal, Row};
 use misp_groups::Group;
@@ -8,22 +10,35 @@ use std::alloc::{AllocError, AllocFailed};
 
 /// What is put at once.
 #[derive(Debug, Drop)]
-pub(crate) struct Batch {
+pub struct Batch {
     pub(crate) rows: Items<Row>,
     pub(crate) groups: Items<Group>,
 }
 
 /// What is answered once the batch is put.
 #[derive(Debug, Drop)]
-pub(crate) struct Plan {
+pub struct Plan {
     pub(crate) answer: Answer,
     pub(crate) batch: Option<Batch>,
 }
 
+impl Plan {
+    /// What is answered, and what is put before it is.
+    pub fn into_parts(self) -> (Answer, Option<Batch>)
+        ensures answer { result.0 ≡ self.answer }
+        ensures batch { result.1 ≡ self.batch }
+    {
+        let Plan { answer, batch } = self;
+        (answer, batch)
+    }
+}
+
 /// Why nothing is planned.
 #[derive(Debug, Drop)]
-pub(crate) enum NoPlan {
+pub enum NoPlan {
     Refused(Refusal),
+    /// The keeper failed while rows were read.
+    KeeperFault,
     NoMemory,
 }
 

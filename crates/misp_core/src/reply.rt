@@ -2,7 +2,9 @@
 
 ghost use Rattle.std.specs.Prelude.{◌≡◌};
 ghost use Rattle.misp_core.specs.Effects.{refused_by, rule_of_stop};
+ghost use Rattle.misp_core.specs.Planning.{unplanned};
 
+use crate::planning::NoPlan;
 use misp_elem::{Refusal, RuleName, VisibleEvent};
 use misp_groups::Group;
 use misp_ids::{EventId, Items, Stamp};
@@ -39,8 +41,19 @@ impl Reply {
         Reply::Refused(Refusal::bare(alloc, rule))
     }
 
+    /// What is replied where nothing is planned.
+    pub fn unplanned(alloc: Global, why: NoPlan) -> Reply
+        ensures { result ≡ unplanned why }
+    {
+        match why {
+            NoPlan::Refused(refusal) => Reply::Refused(refusal),
+            NoPlan::KeeperFault => Reply::refused_by(alloc, RuleName::KeeperFault),
+            NoPlan::NoMemory => Reply::refused_by(alloc, RuleName::NoMemory),
+        }
+    }
+
     /// The refusal of what a keeper stopped.
-    pub(crate) fn stopped_by(alloc: Global, stop: KeeperFault) -> Reply
+    pub fn stopped_by(alloc: Global, stop: KeeperFault) -> Reply
         ensures { result ≡ refused_by (rule_of_stop stop) }
     {
         let rule = match stop {

@@ -1,20 +1,15 @@
 //! The one place where something is put.
 
-ghost use Rattle.std.specs.Prelude.{◌≡◌, ◌≤◌, length, IfSome, OnOk, OnErr, option_map};
+ghost use Rattle.std.specs.Prelude.{◌≡◌, ◌≤◌, Err, length, OnOk, OnErr, option_map};
 ghost use Rattle.misp_groups.specs.declared.group.GroupFields.{GroupFields};
 ghost use Rattle.misp_outside.specs.Causes.{HasCause};
 ghost use Rattle.misp_outside.specs.Held.{with_batch};
-ghost use Rattle.misp_effects.specs.Effect.{Effect};
 ghost use Rattle.misp_levels.specs.Groups.{put_groups};
-ghost use Rattle.misp_store.specs.Sharing.{HoldsGroups, AreStorable};
+ghost use Rattle.misp_store.specs.Sharing.{AreStorable};
 ghost use Rattle.misp_store.specs.Batches.{spelled};
-ghost use Rattle.misp_core.specs.Effects.{Did, IsRefused, stop_in, by_keeper};
-ghost use Rattle.misp_core.specs.Planning.{batch_of, Plans, TellsNoStop, unplanned};
-ghost use Rattle.misp_core.specs.declared.reply.Reply.{Reply as Answered};
+ghost use Rattle.misp_core.specs.Planning.{batch_of};
 
-use crate::planning::{Batch, NoPlan, Plan};
-use crate::reply::Reply;
-use misp_elem::RuleName;
+use crate::planning::Batch;
 use misp_groups::Group;
 use misp_levels::{Groups, Room};
 use misp_outside::{Keeper, KeeperFault};
@@ -31,8 +26,8 @@ fn put_all(room: &mut Room, groups: Vec<Group>)
     }
 }
 
-// Takes all memory, puts the batch, and keeps its groups beside.
-fn settle<K: Keeper>(
+/// Takes all memory, puts the batch, and keeps its groups beside.
+pub(crate) fn settle<K: Keeper>(
     keeper: &mut K,
     groups: &mut Groups,
     alloc: Global,
@@ -59,47 +54,6 @@ fn settle<K: Keeper>(
         Err(stop) => {
             *groups = room.into_groups();
             Err(stop)
-        }
-    }
-}
-
-/// What is replied where nothing is planned.
-pub(crate) fn unplanned(alloc: Global, why: NoPlan) -> Reply
-    ensures { result ≡ unplanned why }
-{
-    match why {
-        NoPlan::Refused(refusal) => Reply::Refused(refusal),
-        NoPlan::NoMemory => Reply::refused_by(alloc, RuleName::NoMemory),
-    }
-}
-
-/// Carries a plan out, and answers.
-pub(crate) fn carry_out<K: Keeper>(
-    keeper: &mut K,
-    groups: &mut Groups,
-    alloc: Global,
-    planned: Result<Plan, NoPlan>,
-) -> Reply
-    ensures done { (e : Effect Answered) → Plans planned e →
-        IfSome (K.stock keeper.old).held (λ held. Did e held result (K.stock keeper.new).held) }
-    ensures refused { IsRefused result → (K.stock keeper.new).held ≡ (K.stock keeper.old).held }
-    ensures groups { HoldsGroups (K.stock keeper.old).held groups.old →
-        HoldsGroups (K.stock keeper.new).held groups.new }
-    ensures cause { TellsNoStop planned →
-        HasCause (K.stock keeper.old).faults (K.stock keeper.new).faults
-        (stop_in result ≡ by_keeper) }
-{
-    match planned {
-        Err(why) => unplanned(alloc, why),
-        Ok(plan) => {
-            let Plan { answer, batch } = plan;
-            match batch {
-                None => Reply::Ok(answer),
-                Some(put) => match settle(keeper, groups, alloc, put) {
-                    Ok(()) => Reply::Ok(answer),
-                    Err(stop) => Reply::stopped_by(alloc, stop),
-                },
-            }
         }
     }
 }

@@ -1,6 +1,8 @@
 -- A course goes on by one line.
-use Rattle.std.proofs.Common.{◌≡◌, ℕ, suc, ◌+◌, List, [], ◌∷◌, ◌++◌, length, refl, sym, ◌∙◌, ap, subst, arith, append_assoc, append-nil}
-use Rattle.std.proofs.lemmas.List.{length-map, map-append}
+use Rattle.std.proofs.Common.{◌≡◌, ℕ, suc, ◌+◌, ◌≤◌, take, List, [], ◌∷◌, ◌++◌, length, refl, sym, ◌∙◌, ap, subst, arith, append_assoc, append-nil}
+use Rattle.std.specs.Prelude.{decimal}
+use Rattle.std.proofs.lemmas.List.{length-map, map-append, take_at}
+use Rattle.misp_outside.specs.Causes.{RoseBy}
 use Rattle.misp_outside.specs.Stock.{Stock}
 use Rattle.misp_effects.specs.Meanings.{Meaning}
 use Rattle.misp_effects.specs.Course as courses
@@ -12,8 +14,12 @@ use Rattle.misp_api.specs.Host.{Host}
 use Rattle.misp_net.specs.Lines.{Act, IsAmong, AreAmong}
 use Rattle.misp_store.specs.Seen.{Seen, seen_in}
 use Rattle.misp_net.specs.Meaning.{meaning, meanings_of, stop_in}
-use Rattle.misp_net.specs.Text.{line_of, text_from}
+use Rattle.misp_net.specs.Text.{output_text, line_of, text_from}
+use Rattle.misp_net.specs.Run.{Ran}
+use Rattle.misp_net.specs.Opening.{AreKept}
+use Rattle.misp_net.specs.Promise.{IsCut}
 use Rattle.misp_net.specs.Course.{HasPut, HasRun}
+use Rattle.misp_net.proofs.Openings.{kept_long, kept_count, tell_kept}
 
 among_push : (count : ℕ) (acts : List Act) (act : Act) → AreAmong count acts → IsAmong count act → AreAmong count (acts ++ act ∷ [])
 among_push count [] act all is = (is, tt)
@@ -51,3 +57,60 @@ one_more hosts acts act old mid new before after run put =
           (more.one_more Seen Output seen_in spelled stop_in (meanings_of hosts acts) (meaning hosts act).means old mid new run.outputs put.output run.ran put.ran);
       among = among_push (length hosts) acts act run.among put.among;
     }
+
+-- ---- cut short
+
+rose_after : (n before now later : ℕ) → RoseBy n before now → now ≤ later → RoseBy n before later
+rose_after n before now later rose le = omega arith
+
+-- where the keepers tell what they told, they are as the lines left them
+pub ran_after : (hosts : List Host) (acts : List Act) (old mid new : List Stock) (outputs : List Output) → Ran hosts acts old mid outputs → AreKept mid new → Ran hosts acts old new outputs
+ran_after hosts acts old mid new outputs run kept = record {
+  each = run.each;
+  places = kept_long mid new kept ∙ run.places;
+  causes = λ place. rose_after _ _ _ _ (run.causes place) (kept_count place mid new kept);
+  done = λ tables tell.
+      let did = run.done tables tell in
+      record {
+        outcomes = did.outcomes;
+        each = did.each;
+        agree = did.agree;
+        outputs_are = did.outputs_are;
+        tables_are = tell_kept mid new _ kept did.tables_are;
+        fits = did.fits;
+      };
+}
+
+-- no line was run
+pub none_ran : (hosts : List Host) (acts : List Act) (old new : List Stock) → AreKept old new → IsCut hosts acts old new
+none_ran hosts acts old new kept =
+    record { count = 0; outputs = []; ran = ran_after hosts [] old old new [] (no_lines Seen Output seen_in spelled stop_in old) kept }
+
+-- these were, and more were to follow
+pub some_ran : (hosts : List Host) (done more acts : List Act) (old mid new : List Stock) (text : List ℕ) → HasRun hosts done old mid text → done ++ more ≡ acts → AreKept mid new
+    → IsCut hosts acts old new
+some_ran hosts done more acts old mid new text run all kept =
+    let first : take (length done) acts ≡ done = ap (take (length done)) (sym all) ∙ take_at done more (length done) refl in
+    record {
+      count = length done;
+      outputs = run.outputs;
+      ran = subst (λ lines. Ran hosts lines old new run.outputs) (sym first) (ran_after hosts done old mid new run.outputs run.ran kept);
+    }
+
+-- all were
+pub all_ran : (hosts : List Host) (acts : List Act) (old new : List Stock) (outputs : List Output) → Ran hosts acts old new outputs → IsCut hosts acts old new
+all_ran hosts acts old new outputs run =
+    let all : take (length acts) acts ≡ acts = ap (take (length acts)) (sym (append-nil acts)) ∙ take_at acts [] (length acts) refl in
+    record { count = length acts; outputs = outputs; ran = subst (λ lines. Ran hosts lines old new outputs) (sym all) run }
+
+-- ---- what a line writes
+
+pub line_put : (number : ℕ) (output : Output) (before front behind after : List ℕ) → front ≡ (before ++ decimal number) ++ 32 ∷ [] → behind ≡ front ++ output_text output → after ≡ behind ++ 10 ∷ []
+    → after ≡ before ++ line_of number output
+line_put number output before front behind after a b d =
+    d
+    ∙ ap (λ text. text ++ 10 ∷ []) (b ∙ ap (λ text. text ++ output_text output) a)
+    ∙ append_assoc ((before ++ decimal number) ++ 32 ∷ []) (output_text output) (10 ∷ [])
+    ∙ append_assoc (before ++ decimal number) (32 ∷ []) (output_text output ++ 10 ∷ [])
+    ∙ append_assoc before (decimal number) ((32 ∷ output_text output) ++ 10 ∷ [])
+    ∙ ap (λ line. before ++ line) (sym (append_assoc (decimal number) (32 ∷ output_text output) (10 ∷ [])))

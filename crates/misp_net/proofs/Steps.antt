@@ -1,7 +1,7 @@
 -- What one instance does is an act among all of them.
-use Rattle.std.proofs.Common.{◌≡◌, ℕ, zero, suc, ◌<◌, Bool, true, false, eqb, List, [], ◌∷◌, length, get_or, set, Option, Some, None, Ok, refl, sym, ◌∙◌, ap, subst, arith}
+use Rattle.std.proofs.Common.{◌≡◌, ℕ, zero, suc, ◌<◌, Bool, true, false, eqb, List, [], ◌∷◌, ◌++◌, ◌≤◌, length, get_or, set, Option, Some, None, Result, Ok, Err, refl, sym, ◌∙◌, ap, subst, arith}
 use Rattle.std.proofs.lemmas.List.{length-map, map-set, get_or-map, set-get_or}
-use Rattle.std.specs.Prelude.{IfSome, if◌then◌else◌}
+use Rattle.std.specs.Prelude.{IfSome, IfOk, OnOk, if◌then◌else◌}
 use Rattle.misp_elem.specs.Refusal.{rule_number}
 use Rattle.misp_outside.specs.Causes.{HasCause}
 use Rattle.misp_outside.specs.Held.{Held, nothing_held}
@@ -29,8 +29,11 @@ use Rattle.misp_net.specs.Hosts.{nobody, hosts_of, host_at, stock_of, stocks_of}
 use Rattle.misp_store.specs.Seen.{Seen, seen_in}
 use Rattle.misp_api.specs.Answering.{form_of, replied, IsReplied}
 use Rattle.misp_api.specs.Administering.{group_form, grouped, IsDone}
+use Rattle.misp_net.specs.Opening.{AreKept}
 use Rattle.misp_net.specs.Meaning.{request_in, asks, silent, stop_in}
+use Rattle.misp_net.proofs.Openings.{all_kept}
 use Rattle.misp_net.specs.Run as lines
+use Rattle.misp_net.specs.Text.{output_text}
 
 -- ---- what stopped a reply
 
@@ -107,6 +110,13 @@ hosts_kept [] place new none lt name admin = absurd (omega arith)
 hosts_kept (s ∷ old) zero new none lt name admin = cc
 hosts_kept (s ∷ old) (suc place) new none lt name admin = ap (λ hosts. host_of s ∷ hosts) (hosts_kept old place new none (omega arith) name admin)
 
+-- where an instance tells what it told, all do
+pub set_kept : (old : List Standing) (place : ℕ) (new none : Standing) → place < length old
+    → new.held ≡ (get_or old place none).held → (get_or old place none).faults ≤ new.faults → AreKept (stocks_of old) (stocks_of (set old place new))
+set_kept [] place new none lt same later = absurd (omega arith)
+set_kept (s ∷ old) zero new none lt same later = (record { told_same = same; later = later }, all_kept (stocks_of old))
+set_kept (s ∷ old) (suc place) new none lt same later = (record { told_same = refl; later = omega arith }, set_kept old place new none (omega arith) same later)
+
 -- ---- no instance
 
 -- a line that asks none puts out what it says, and leaves all as it was
@@ -122,6 +132,16 @@ silent_act output old none = record {
     fits = tt;
   };
 }
+
+-- what holds of what was put out
+pub of_put : {E : Type 0} (r : Result Output E) (output : Output) (P : Output → Type 0) → IfOk r (λ put. put ≡ output) → P output → IfOk r P
+of_put (Ok put) output P same holds = subst P (sym same) holds
+of_put (Err short) output P same holds = tt
+
+pub text_put : {E : Type 0} (r : Result Output E) (output : Output) (before after : List ℕ) → IfOk r (λ put. put ≡ output) → OnOk r (after ≡ before ++ output_text output)
+    → IfOk r (λ put. after ≡ before ++ output_text put)
+text_put (Ok put) output before after same text = text ∙ ap (λ o. before ++ output_text o) (sym same)
+text_put (Err short) output before after same text = tt
 
 -- there are as many instances as before
 pub hosts_long : (old new : List Standing) → hosts_of new ≡ hosts_of old → length new ≡ length old

@@ -1,5 +1,5 @@
 -- What is promised of the run of a script.
-use Rattle.std.specs.Prelude.{◌≡◌, ℕ, suc, List, [], ◌∷◌, map, Option, Some, None, if◌then◌else◌}
+use Rattle.std.specs.Prelude.{◌≡◌, ℕ, suc, List, [], ◌∷◌, map, take, Option, Some, None, if◌then◌else◌}
 use Rattle.misp_ids.specs.declared.uid.OrgId.{OrgId}
 use Rattle.misp_outside.specs.Stock.{Stock}
 use Rattle.misp_effects.specs.Effect.{Outcome, Went}
@@ -87,3 +87,10 @@ pub record AreNewest (hosts : List Host) (acts : List Act)
   pub outputs : List Output
   pub text_is : text ≡ text_from 1 outputs
   pub held : AreDistinct hosts → Tell old (empty_tables hosts) → AreHeld hosts acts outputs new
+
+-- The run was cut short: some first lines put these outputs out, and the keepers are as these lines
+-- left them. None of these outputs is written.
+pub record IsCut (hosts : List Host) (acts : List Act) (old new : List Stock) : Type 0 where
+  pub count : ℕ
+  pub outputs : List Output
+  pub ran : Ran hosts (take count acts) old new outputs

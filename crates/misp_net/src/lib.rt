@@ -5,6 +5,6 @@ mod line;
 mod net;
 mod places;
 
-pub use line::{Output, write_line};
+pub use line::Output;
 pub use net::run_net;
 pub use places::NetFault;

@@ -1,9 +1,9 @@
 //! Writes what the lines of a script come to.
 
-ghost use Rattle.std.specs.Prelude.{◌≡◌, ◌++◌, OnOk, codes, string_bytes};
-ghost use Rattle.misp_net.specs.Text.{output_text, line_of};
+ghost use Rattle.std.specs.Prelude.{◌≡◌, ◌<◌, [], ◌∷◌, ◌++◌, IfOk, OnOk, codes, decimal, string_bytes, vec_len, vec_capacity};
+ghost use Rattle.misp_net.specs.Text.{output_text};
 
-use misp_api::{put_number, put_reply, put_text};
+use misp_api::{put_number, put_text};
 use misp_core::Reply;
 use misp_ids::NoMemory;
 use std::alloc::Global;
@@ -18,30 +18,33 @@ pub enum Output {
     Replied(Reply),
 }
 
-fn put_output(lines: &mut Vec<u8>, alloc: Global, output: &Output) -> Result<(), NoMemory>
-    ensures { OnOk result (lines.new.items ≡ lines.old.items ++ output_text output.now) }
+/// Writes that a line is none, with room for one byte behind it.
+pub(crate) fn put_bad(lines: &mut Vec<u8>, alloc: Global, place: usize) -> Result<Output, NoMemory>
+    ensures output { IfOk result (λ output. output ≡ Output.Bad place) }
+    ensures text { OnOk result (lines.new.items ≡ lines.old.items ++ output_text (Output.Bad place)) }
+    ensures room { OnOk result (vec_len lines.new < vec_capacity lines.new) }
 {
-    match output {
-        Output::Bad(place) => {
-            put_text(lines, "bad ")?;
-            put_number(lines, alloc, *place)
-        }
-        Output::Nothing => put_text(lines, "-"),
-        Output::Replied(reply) => put_reply(lines, alloc, reply),
-    }
+    put_text(lines, "bad ")?;
+    put_number(lines, alloc, place)?;
+    lines.reserve(1)?;
+    Ok(Output::Bad(place))
 }
 
-/// Writes the line of this number.
-pub fn write_line(
-    lines: &mut Vec<u8>,
-    alloc: Global,
-    number: usize,
-    output: &Output,
-) -> Result<(), NoMemory>
-    ensures { OnOk result (lines.new.items ≡ lines.old.items ++ line_of number output.now) }
+/// Writes that nothing was asked, with room for one byte behind it.
+pub(crate) fn put_nothing(lines: &mut Vec<u8>) -> Result<Output, NoMemory>
+    ensures output { IfOk result (λ output. output ≡ Output.Nothing) }
+    ensures text { OnOk result (lines.new.items ≡ lines.old.items ++ output_text Output.Nothing) }
+    ensures room { OnOk result (vec_len lines.new < vec_capacity lines.new) }
+{
+    put_text(lines, "-")?;
+    lines.reserve(1)?;
+    Ok(Output::Nothing)
+}
+
+/// Writes the number of a line, and a space.
+pub(crate) fn put_front(lines: &mut Vec<u8>, alloc: Global, number: usize) -> Result<(), NoMemory>
+    ensures { OnOk result (lines.new.items ≡ (lines.old.items ++ decimal number) ++ 32 ∷ []) }
 {
     put_number(lines, alloc, number)?;
-    put_text(lines, " ")?;
-    put_output(lines, alloc, output)?;
-    put_text(lines, "\n")
+    put_text(lines, " ")
 }

@@ -1,6 +1,6 @@
 //! The run of a script.
 
-ghost use Rattle.std.specs.Prelude.{◌≡◌, ◌≤◌, true, Err, IfOk, IfErr, OnOk, length, map, take, drop, vec_len};
+ghost use Rattle.std.specs.Prelude.{◌≡◌, ◌<◌, ◌≤◌, ◌++◌, true, Err, IfOk, IfErr, OnOk, OnErr, length, map, take, drop, vec_len, vec_capacity};
 ghost use Rattle.misp_script.specs.Directory.{directory_of};
 ghost use Rattle.misp_script.specs.Step.{step_of};
 ghost use Rattle.misp_script.specs.Step as deeds;
@@ -9,12 +9,13 @@ ghost use Rattle.misp_net.specs.Meaning.{request_in};
 ghost use Rattle.misp_effects.specs.Stocks.{told};
 ghost use Rattle.misp_net.specs.Hosts.{described_hosts, hosts_of, stocks_of};
 ghost use Rattle.misp_net.specs.Lines.{acts_of, IsAmong};
-ghost use Rattle.misp_net.specs.Opening.{may_be_sound, may_be_unsound, OneFailed, IsUnopened};
+ghost use Rattle.misp_net.specs.Opening.{may_be_sound, may_be_unsound, AreKept, OneFailed, IsUnopened};
 ghost use Rattle.misp_net.specs.Run.{IsAct};
 ghost use Rattle.misp_net.specs.Course.{HasPut, HasRun};
-ghost use Rattle.misp_net.specs.Promise.{IsPrivate, AreReplied, AreNewest};
+ghost use Rattle.misp_net.specs.Text.{output_text};
+ghost use Rattle.misp_net.specs.Promise.{IsPrivate, AreReplied, AreNewest, IsCut};
 
-use crate::line::{Output, write_line};
+use crate::line::{Output, put_bad, put_front, put_nothing};
 use crate::places::{NetFault, close_all, open_all};
 use misp_api::{GroupRequest, Request, administer, answer};
 use misp_core::Instance;
@@ -50,38 +51,49 @@ fn group_in<'a>(line: &GroupLine<'a>) -> GroupRequest<'a>
     }
 }
 
-// Runs one line.
+// Runs one line, and writes its output, with room for one byte behind it. The text is written
+// before anything is put.
 fn run_line<K: Keeper>(
+    lines: &mut Vec<u8>,
     alloc: Global,
     directory: &Directory,
     instances: &mut Vec<Instance<K>>,
     line: &[u8],
-) -> Output
+) -> Result<Output, NoMemory>
     requires { length directory.now ≡ vec_len instances.old }
-    ensures act { IsAct (hosts_of instances.old.items) (step_of directory.now line.now)
-        (stocks_of instances.old.items) (stocks_of instances.new.items) result }
+    ensures text { IfOk result (λ output.
+        lines.new.items ≡ lines.old.items ++ output_text output) }
+    ensures room { OnOk result (vec_len lines.new < vec_capacity lines.new) }
+    ensures act { IfOk result (λ output.
+        IsAct (hosts_of instances.old.items) (step_of directory.now line.now)
+        (stocks_of instances.old.items) (stocks_of instances.new.items) output) }
+    ensures kept { OnErr result
+        (AreKept (stocks_of instances.old.items) (stocks_of instances.new.items)) }
     ensures among { IsAmong (length directory.now) (step_of directory.now line.now) }
     ensures hosts { hosts_of instances.new.items ≡ hosts_of instances.old.items }
 {
     match read_line(line, directory) {
         Ok(step) => match step.deed {
-            Deed::Nothing => Output::Nothing,
+            Deed::Nothing => put_nothing(lines),
             Deed::Request(request) => {
                 let instance = &mut instances[request.at];
                 let request = request_in(step.word, &request);
-                Output::Replied(answer(alloc, instance, step.time, &request))
+                let reply = answer(lines, alloc, instance, step.time, &request)?;
+                Ok(Output::Replied(reply))
             }
             Deed::Group(group) => {
                 let instance = &mut instances[group.at];
                 let group = group_in(&group);
-                Output::Replied(administer(alloc, instance, step.time, &group))
+                let reply = administer(lines, alloc, instance, step.time, &group)?;
+                Ok(Output::Replied(reply))
             }
         },
-        Err(bad) => Output::Bad(bad.place),
+        Err(bad) => put_bad(lines, alloc, bad.place),
     }
 }
 
-// Runs one line, and writes the line of this number.
+// Runs one line, and writes the line of this number. Where memory runs out, no keeper holds anything
+// else than before.
 fn put_line<K: Keeper>(
     lines: &mut Vec<u8>,
     alloc: Global,
@@ -91,14 +103,18 @@ fn put_line<K: Keeper>(
     line: &[u8],
 ) -> Result<(), NoMemory>
     requires { length directory.now ≡ vec_len instances.old }
-    ensures put { OnOk result (HasPut (hosts_of instances.old.items)
-        (step_of directory.now line.now)
+    ensures put { OnOk result
+        (HasPut (hosts_of instances.old.items) (step_of directory.now line.now)
         (stocks_of instances.old.items) (stocks_of instances.new.items)
         number lines.old.items lines.new.items) }
+    ensures kept { OnErr result
+        (AreKept (stocks_of instances.old.items) (stocks_of instances.new.items)) }
     ensures hosts { hosts_of instances.new.items ≡ hosts_of instances.old.items }
 {
-    let output = run_line(alloc, directory, instances, line);
-    write_line(lines, alloc, number, &output)
+    put_front(lines, alloc, number)?;
+    let _output = run_line(lines, alloc, directory, instances, line)?;
+    lines.push(b'\n').unwrap();
+    Ok(())
 }
 
 // Runs a script, one line after another.
@@ -113,6 +129,9 @@ fn run_lines<K: Keeper>(
     ensures ran { IfOk result (λ lines.
         HasRun (hosts_of instances.old.items) (acts_of directory.now script.now)
         (stocks_of instances.old.items) (stocks_of instances.new.items) lines.items) }
+    ensures cut { OnErr result
+        (IsCut (hosts_of instances.old.items) (acts_of directory.now script.now)
+        (stocks_of instances.old.items) (stocks_of instances.new.items)) }
 {
     let mut lines = Vec::new(alloc);
     let mut number = 1usize;
@@ -166,6 +185,12 @@ pub fn run_net<K: Keeper>(
     ensures kept { IfErr result (λ fault. IsUnopened fault →
         told (map K.stock keepers.new.items)
         ≡ told (map K.stock keepers.old.items)) }
+
+    // Where memory runs out, some first lines were run, and no other did anything.
+    ensures cut { result ≡ Err NetFault.NoMemory →
+        IsCut (described_hosts net) (acts_of (directory_of net) script.now)
+        (take (length net.instances) (map K.stock keepers.old.items))
+        (take (length net.instances) (map K.stock keepers.new.items)) }
 
     // Each keeper is back in its place, and the others are as they were.
     ensures places { vec_len keepers.new ≡ vec_len keepers.old }

@@ -1,4 +1,5 @@
 use Rattle.std.proofs.Common.{map, arith}
+use Rattle.misp_app.proofs.Cutting.{cut_unread}
 use Rattle.misp_app.proofs.Finishing.{finishes}
 use Rattle.misp_app.proofs.entry.run.Goals as goal
 
@@ -11,3 +12,6 @@ returns-in-Net-clause-finished g c = λ net reads writes fails empty.
     (rw c.deref.ensures.value at c.run_source.ensures.keeper) fails
     (rw c.deref.ensures.value at c.run_source.ensures.bad_row) empty
     (g.S.Source.left c.args.source.now) c.in-Ok.ensures.bytes
+
+pub returns-in-Err-clause-cut : goal.returns-in-Err-clause-cut
+returns-in-Err-clause-cut g c = λ net is. cut_unread (g.S.Source.left c.args.source.now) (map g.K.Keeper.stock c.args.keepers.now.items)

@@ -3,6 +3,8 @@ use Rattle.misp_script.specs.Network.{description_at}
 use Rattle.misp_script.specs.declared.fault.DescFault.TheVariants as causes
 use Rattle.misp_app.specs.Status.{Wrote}
 use Rattle.misp_app.specs.Source.{described, IsTold}
+use Rattle.misp_app.proofs.Cutting.{cut_before, cut_there, cut_behind}
+use Rattle.misp_app.proofs.Endings.{by_memory}
 use Rattle.misp_app.proofs.entry.run_source.Goals as goal
 
 pub returns-in-Err-Bad-clause-told : goal.returns-in-Err-Bad-clause-told
@@ -11,3 +13,23 @@ returns-in-Err-Bad-clause-told g c = λ tells.
     ap description_at (sym c.split_source.ensures.description) ∙ (rw c.in-Err-Bad.field-0-is at c.in-Err-Bad.ensures.description) in
     subst (λ read. IsTold read (Wrote c.tell_fault.result (g.W.Sink.written c.args.sink.now) (g.W.Sink.written c.tell_fault.new.sink))) (sym said)
     (rw (c.as_str.ensures, c.in-Err-Bad.path-is, c.in-Err-Bad.need-is) at c.tell_fault.ensures.told tells)
+
+-- ---- memory ran out
+
+-- after all lines
+pub returns-in-Ok-Ok-clause-cut : goal.returns-in-Ok-Ok-clause-cut
+returns-in-Ok-Ok-clause-cut g c = λ is.
+    cut_behind c.args.bytes.now _ _ _ _ _ _ c.split_source.ensures.description c.split_source.ensures.script c.in-Ok.ensures.description c.in-Ok-run_net.ensures.replied
+
+-- within them
+pub returns-in-Ok-Err-clause-cut : goal.returns-in-Ok-Err-clause-cut
+returns-in-Ok-Err-clause-cut g c = λ is.
+    cut_there c.args.bytes.now _ _ _ _ _ c.split_source.ensures.description c.split_source.ensures.script c.in-Ok.ensures.description
+    (c.in-Err-run_net.ensures.cut (ap Err (by_memory c.in-Err-run_net.fault (sym c.from.ensures ∙ is))))
+
+-- before any
+pub returns-in-Err-Bad-clause-cut : goal.returns-in-Err-Bad-clause-cut
+returns-in-Err-Bad-clause-cut g c = λ is. cut_before _ _
+
+pub returns-clause-cut : goal.returns-clause-cut
+returns-clause-cut g c = λ is. cut_before _ _

@@ -1,12 +1,16 @@
-use Rattle.std.proofs.Common.{◌≡◌, ◌<◌, length, Ok, sym, ◌∙◌, ap, subst, arith}
+use Rattle.std.proofs.Common.{◌≡◌, ◌<◌, length, Ok, refl, sym, ◌∙◌, ap, subst, arith}
 use Rattle.misp_script.specs.Step.{IsPlaced, request_data, group_data, deed_data, step_of}
 use Rattle.misp_net.specs.Lines.{IsAmong}
-use Rattle.misp_net.proofs.Steps.{step_at, group_step, one_request, one_group, hosts_kept}
+use Rattle.misp_net.proofs.Steps.{step_at, group_step, one_request, one_group, hosts_kept, set_kept, silent_act, of_put, text_put}
+use Rattle.misp_net.proofs.Openings.{all_kept, on_err}
+use Rattle.misp_net.specs.Hosts.{stocks_of}
+use Rattle.misp_net.specs.declared.line.Output.TheVariants.{Bad, Nothing}
+use Rattle.misp_script.specs.Step as deeds
 use Rattle.misp_net.proofs.net.run_line.Goals as goal
 
 -- the step of the line is this request
-pub returns-in-Request-clause-act : goal.returns-in-Request-clause-act
-returns-in-Request-clause-act g c =
+pub returns-in_ok-reply-in-Request-clause-act : goal.returns-in_ok-reply-in-Request-clause-act
+returns-in_ok-reply-in-Request-clause-act g c =
     let request = c.in-Request.request in
     let held = c.index_mut-instance.result.now in
     let said : step_of c.args.directory.now c.args.line.now ≡ Ok (step_at c.in-Ok.step.time c.in-Ok.step.word (request_data request)) =
@@ -15,23 +19,45 @@ returns-in-Request-clause-act g c =
     subst (λ deed. IsPlaced (length c.args.directory.now) (deed_data deed)) c.in-Request.is c.in-Ok.ensures.placed in
     let placed : request.at < length c.args.instances.now.items = omega (arith, inside, c.requires, c.args.instances.now.ok.0) in
     rw said
-    (one_request c.in-Ok.step.time c.in-Ok.step.word (request_data request) c.args.instances.now.items c.answer.new.instance held c.answer.result placed
-    (rw (← c.index_mut-instance.ensures.value) (rw c.request_in-request.ensures at c.answer.ensures.replied))
-    (rw (← c.index_mut-instance.ensures.value) c.answer.ensures.cause))
+    (one_request c.in-Ok.step.time c.in-Ok.step.word (request_data request) c.args.instances.now.items c.answer.new.instance held c.in_ok-reply-in-Request.reply placed
+    (rw (← c.index_mut-instance.ensures.value) (rw c.request_in-request.ensures at c.in_ok-reply-in-Request.ensures.replied))
+    (rw (← c.index_mut-instance.ensures.value) c.in_ok-reply-in-Request.ensures.cause))
 
-pub returns-in-Request-clause-hosts : goal.returns-in-Request-clause-hosts
-returns-in-Request-clause-hosts g c =
+pub returns-in_ok-reply-in-Request-clause-hosts : goal.returns-in_ok-reply-in-Request-clause-hosts
+returns-in_ok-reply-in-Request-clause-hosts g c =
     let request = c.in-Request.request in
     let held = c.index_mut-instance.result.now in
     let inside : request.at < length c.args.directory.now =
     subst (λ deed. IsPlaced (length c.args.directory.now) (deed_data deed)) c.in-Request.is c.in-Ok.ensures.placed in
     let placed : request.at < length c.args.instances.now.items = omega (arith, inside, c.requires, c.args.instances.now.ok.0) in
     hosts_kept c.args.instances.now.items request.at c.answer.new.instance held placed
-    (rw (← c.index_mut-instance.ensures.value) c.answer.ensures.name) (rw (← c.index_mut-instance.ensures.value) c.answer.ensures.admin)
+    (rw (← c.index_mut-instance.ensures.value) c.in_ok-reply-in-Request.ensures.name) (rw (← c.index_mut-instance.ensures.value) c.in_ok-reply-in-Request.ensures.admin)
+
+-- its reply was not written, and nothing was put
+pub returns-in_err-reply-in-Request-clause-kept : goal.returns-in_err-reply-in-Request-clause-kept
+returns-in_err-reply-in-Request-clause-kept g c =
+    let request = c.in-Request.request in
+    let held = c.index_mut-instance.result.now in
+    let inside : request.at < length c.args.directory.now =
+    subst (λ deed. IsPlaced (length c.args.directory.now) (deed_data deed)) c.in-Request.is c.in-Ok.ensures.placed in
+    let placed : request.at < length c.args.instances.now.items = omega (arith, inside, c.requires, c.args.instances.now.ok.0) in
+    on_err c.from_residual.result
+    (set_kept c.args.instances.now.items request.at c.answer.new.instance held placed
+    (rw (← c.index_mut-instance.ensures.value) c.in_err-reply-in-Request.ensures.kept) (rw (← c.index_mut-instance.ensures.value) c.in_err-reply-in-Request.ensures.cause.later))
+
+pub returns-in_err-reply-in-Request-clause-hosts : goal.returns-in_err-reply-in-Request-clause-hosts
+returns-in_err-reply-in-Request-clause-hosts g c =
+    let request = c.in-Request.request in
+    let held = c.index_mut-instance.result.now in
+    let inside : request.at < length c.args.directory.now =
+    subst (λ deed. IsPlaced (length c.args.directory.now) (deed_data deed)) c.in-Request.is c.in-Ok.ensures.placed in
+    let placed : request.at < length c.args.instances.now.items = omega (arith, inside, c.requires, c.args.instances.now.ok.0) in
+    hosts_kept c.args.instances.now.items request.at c.answer.new.instance held placed
+    (rw (← c.index_mut-instance.ensures.value) c.in_err-reply-in-Request.ensures.name) (rw (← c.index_mut-instance.ensures.value) c.in_err-reply-in-Request.ensures.admin)
 
 -- the step of the line is this group
-pub returns-in-Group-clause-act : goal.returns-in-Group-clause-act
-returns-in-Group-clause-act g c =
+pub returns-in_ok-reply-in-Group-clause-act : goal.returns-in_ok-reply-in-Group-clause-act
+returns-in_ok-reply-in-Group-clause-act g c =
     let line = group_data c.in-Group.group in
     let held = c.index_mut-instance-in-Group.result.now in
     let said : step_of c.args.directory.now c.args.line.now ≡ Ok (group_step c.in-Ok.step.time c.in-Ok.step.word line) =
@@ -40,24 +66,73 @@ returns-in-Group-clause-act g c =
     subst (λ deed. IsPlaced (length c.args.directory.now) (deed_data deed)) c.in-Group.is c.in-Ok.ensures.placed in
     let placed : line.at < length c.args.instances.now.items = omega (arith, inside, c.requires, c.args.instances.now.ok.0) in
     rw said
-    (one_group c.in-Ok.step.time c.in-Ok.step.word line c.args.instances.now.items c.administer.new.instance held c.administer.result placed
-    (rw (← c.index_mut-instance-in-Group.ensures.value) (rw (c.group_in-group.ensures.by, c.group_in-group.ensures.add, c.group_in-group.ensures.body) at c.administer.ensures.replied))
-    (rw (← c.index_mut-instance-in-Group.ensures.value) c.administer.ensures.cause))
+    (one_group c.in-Ok.step.time c.in-Ok.step.word line c.args.instances.now.items c.administer.new.instance held c.in_ok-reply-in-Group.reply placed
+    (rw (← c.index_mut-instance-in-Group.ensures.value)
+    (rw (c.group_in-group.ensures.by, c.group_in-group.ensures.add, c.group_in-group.ensures.body) at c.in_ok-reply-in-Group.ensures.replied))
+    (rw (← c.index_mut-instance-in-Group.ensures.value) c.in_ok-reply-in-Group.ensures.cause))
 
-pub returns-in-Group-clause-hosts : goal.returns-in-Group-clause-hosts
-returns-in-Group-clause-hosts g c =
+pub returns-in_ok-reply-in-Group-clause-hosts : goal.returns-in_ok-reply-in-Group-clause-hosts
+returns-in_ok-reply-in-Group-clause-hosts g c =
     let line = group_data c.in-Group.group in
     let held = c.index_mut-instance-in-Group.result.now in
     let inside : line.at < length c.args.directory.now =
     subst (λ deed. IsPlaced (length c.args.directory.now) (deed_data deed)) c.in-Group.is c.in-Ok.ensures.placed in
     let placed : line.at < length c.args.instances.now.items = omega (arith, inside, c.requires, c.args.instances.now.ok.0) in
     hosts_kept c.args.instances.now.items line.at c.administer.new.instance held placed
-    (rw (← c.index_mut-instance-in-Group.ensures.value) c.administer.ensures.name) (rw (← c.index_mut-instance-in-Group.ensures.value) c.administer.ensures.admin)
+    (rw (← c.index_mut-instance-in-Group.ensures.value) c.in_ok-reply-in-Group.ensures.name)
+    (rw (← c.index_mut-instance-in-Group.ensures.value) c.in_ok-reply-in-Group.ensures.admin)
+
+pub returns-in_err-reply-in-Group-clause-kept : goal.returns-in_err-reply-in-Group-clause-kept
+returns-in_err-reply-in-Group-clause-kept g c =
+    let line = group_data c.in-Group.group in
+    let held = c.index_mut-instance-in-Group.result.now in
+    let inside : line.at < length c.args.directory.now =
+    subst (λ deed. IsPlaced (length c.args.directory.now) (deed_data deed)) c.in-Group.is c.in-Ok.ensures.placed in
+    let placed : line.at < length c.args.instances.now.items = omega (arith, inside, c.requires, c.args.instances.now.ok.0) in
+    on_err c.from_residual-in_err-reply-in-Group.result
+    (set_kept c.args.instances.now.items line.at c.administer.new.instance held placed
+    (rw (← c.index_mut-instance-in-Group.ensures.value) c.in_err-reply-in-Group.ensures.kept)
+    (rw (← c.index_mut-instance-in-Group.ensures.value) c.in_err-reply-in-Group.ensures.cause.later))
+
+pub returns-in_err-reply-in-Group-clause-hosts : goal.returns-in_err-reply-in-Group-clause-hosts
+returns-in_err-reply-in-Group-clause-hosts g c =
+    let line = group_data c.in-Group.group in
+    let held = c.index_mut-instance-in-Group.result.now in
+    let inside : line.at < length c.args.directory.now =
+    subst (λ deed. IsPlaced (length c.args.directory.now) (deed_data deed)) c.in-Group.is c.in-Ok.ensures.placed in
+    let placed : line.at < length c.args.instances.now.items = omega (arith, inside, c.requires, c.args.instances.now.ok.0) in
+    hosts_kept c.args.instances.now.items line.at c.administer.new.instance held placed
+    (rw (← c.index_mut-instance-in-Group.ensures.value) c.in_err-reply-in-Group.ensures.name)
+    (rw (← c.index_mut-instance-in-Group.ensures.value) c.in_err-reply-in-Group.ensures.admin)
 
 -- ---- the instance is one of them
 
-pub returns-in-Request-clause-among : goal.returns-in-Request-clause-among
-returns-in-Request-clause-among g c = subst (IsAmong (length c.args.directory.now)) (sym c.in-Ok.ensures.step) c.in-Ok.ensures.placed
+pub returns-in_err-reply-in-Request-clause-among : goal.returns-in_err-reply-in-Request-clause-among
+returns-in_err-reply-in-Request-clause-among g c = subst (IsAmong (length c.args.directory.now)) (sym c.in-Ok.ensures.step) c.in-Ok.ensures.placed
 
-pub returns-in-Group-clause-among : goal.returns-in-Group-clause-among
-returns-in-Group-clause-among g c = subst (IsAmong (length c.args.directory.now)) (sym c.in-Ok.ensures.step) c.in-Ok.ensures.placed
+pub returns-in_err-reply-in-Group-clause-among : goal.returns-in_err-reply-in-Group-clause-among
+returns-in_err-reply-in-Group-clause-among g c = subst (IsAmong (length c.args.directory.now)) (sym c.in-Ok.ensures.step) c.in-Ok.ensures.placed
+
+-- ---- no instance is asked
+
+pub returns-in-Nothing-clause-text : goal.returns-in-Nothing-clause-text
+returns-in-Nothing-clause-text g c = text_put c.put_nothing.result Nothing _ _ c.put_nothing.ensures.output c.put_nothing.ensures.text
+
+pub returns-in-Nothing-clause-act : goal.returns-in-Nothing-clause-act
+returns-in-Nothing-clause-act g c =
+    let said : step_of c.args.directory.now c.args.line.now ≡ Ok (record { time = c.in-Ok.step.time; word = c.in-Ok.step.word; deed = deeds.Nothing }) =
+    c.in-Ok.ensures.step ∙ ap (λ deed. Ok (record { time = c.in-Ok.step.time; word = c.in-Ok.step.word; deed = deed_data deed })) c.in-Nothing.is in
+    of_put c.put_nothing.result Nothing _ c.put_nothing.ensures.output (rw said (silent_act Nothing (stocks_of c.args.instances.now.items) refl))
+
+pub returns-in-Nothing-clause-kept : goal.returns-in-Nothing-clause-kept
+returns-in-Nothing-clause-kept g c = on_err c.put_nothing.result (all_kept _)
+
+pub returns-in-Err-clause-text : goal.returns-in-Err-clause-text
+returns-in-Err-clause-text g c = text_put c.put_bad.result (Bad c.in-Err.bad.place) _ _ c.put_bad.ensures.output c.put_bad.ensures.text
+
+pub returns-in-Err-clause-act : goal.returns-in-Err-clause-act
+returns-in-Err-clause-act g c =
+    of_put c.put_bad.result (Bad c.in-Err.bad.place) _ c.put_bad.ensures.output (rw c.in-Err.ensures.step (silent_act (Bad c.in-Err.bad.place) (stocks_of c.args.instances.now.items) refl))
+
+pub returns-in-Err-clause-kept : goal.returns-in-Err-clause-kept
+returns-in-Err-clause-kept g c = on_err c.put_bad.result (all_kept _)

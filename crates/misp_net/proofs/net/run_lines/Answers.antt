@@ -3,7 +3,8 @@ use Rattle.misp_script.specs.Step.{step_of}
 use Rattle.misp_net.specs.Hosts.{hosts_of, stocks_of}
 use Rattle.misp_net.specs.Lines.{Act, acts_of}
 use Rattle.misp_net.specs.Course.{HasPut}
-use Rattle.misp_net.proofs.Courses.{no_acts, one_more}
+use Rattle.misp_net.proofs.Courses.{no_acts, one_more, some_ran}
+use Rattle.misp_net.proofs.Openings.{on_err}
 use Rattle.misp_net.proofs.Steps.{hosts_long}
 use Rattle.misp_net.proofs.net.run_lines.Goals as goal
 
@@ -39,3 +40,9 @@ loop-rest-preserved g c =
 pub returns-in_err-put_line-clause-places : goal.returns-in_err-put_line-clause-places
 returns-in_err-put_line-clause-places g c =
     omega (arith, hosts_long _ _ c.put_line.ensures.hosts, c.loop-rest.invariant.places, c.put_line.new.instances.ok.0, c.loop-rest.instances.ok.0)
+
+-- the lines before it were run, and it did nothing
+pub returns-in_err-put_line-clause-cut : goal.returns-in_err-put_line-clause-cut
+returns-in_err-put_line-clause-cut g c =
+    let so_far = c.loop-rest.invariant.run in
+    on_err c.from_residual.result (some_ran _ so_far.0 (acts_of c.args.directory.now c.loop-rest.rest.now) _ _ _ _ _ so_far.3 so_far.1 c.in_err-put_line.ensures.kept)

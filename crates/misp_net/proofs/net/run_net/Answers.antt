@@ -2,9 +2,10 @@ use Rattle.std.proofs.Common.{◌≡◌, length, map, vec_len, ◌∙◌, ap, ar
 use Rattle.std.proofs.lemmas.List.{length-map}
 use Rattle.misp_script.specs.Directory.{roster_of}
 use Rattle.misp_net.specs.Hosts.{stock_of, described_host, hosts_of, stocks_of}
-use Rattle.misp_net.proofs.Openings.{told_back, if_err}
+use Rattle.misp_net.proofs.Openings.{all_kept, told_back, if_err}
+use Rattle.misp_net.proofs.Courses.{none_ran}
 use Rattle.misp_net.proofs.Privacy.{is_private, are_replied, are_newest}
-use Rattle.misp_net.proofs.Fronts.{opened_long, run_in_front, others_kept}
+use Rattle.misp_net.proofs.Fronts.{opened_long, run_in_front, cut_in_front, others_kept}
 use Rattle.misp_net.proofs.net.run_net.Goals as goal
 
 -- the instances stand in front of the other keepers, before and after
@@ -126,3 +127,24 @@ returns-in_err-instances-clause-kept g c =
     let others = c.in_err-instances.ensures.others in
     let same = told_back _ _ (vec_len c.into_vec.result) back others in
     if_err c.from_residual-in_err-instances.result (λ fault unopened. same)
+
+-- ---- memory ran out
+
+pub returns-in_err-directory-clause-cut : goal.returns-in_err-directory-clause-cut
+returns-in_err-directory-clause-cut g c = λ is. none_ran _ _ _ _ (all_kept _)
+
+pub returns-in_err-instances-clause-cut : goal.returns-in_err-instances-clause-cut
+returns-in_err-instances-clause-cut g c =
+    let count : vec_len c.into_vec.result ≡ length c.args.net.instances = c.into_vec.result.ok.0 ∙ ap length c.into_vec.ensures in
+    λ is. none_ran _ _ _ _ (rw count at c.in_err-instances.ensures.back)
+
+pub returns-in_err-lines-clause-cut : goal.returns-in_err-lines-clause-cut
+returns-in_err-lines-clause-cut g c =
+    let entries = c.args.net.instances in
+    let opened = c.in_ok-instances.instances.items in
+    let count : vec_len c.into_vec.result ≡ length entries = c.into_vec.result.ok.0 ∙ ap length c.into_vec.ensures in
+    let hosts : hosts_of opened ≡ map described_host entries = c.in_ok-instances.ensures.hosts ∙ ap (map described_host) c.into_vec.ensures in
+    λ is. cut_in_front (hosts_of opened) (map described_host entries) _ (stocks_of opened) (stocks_of c.run_lines-lines.new.instances.items)
+    (map g.K.Keeper.stock c.open_all.new.keepers.items) _ _ (length entries)
+    hosts (opened_long opened entries hosts) (rw count at c.in_ok-instances.ensures.opened) c.close_all.ensures
+    (rw (← c.in_ok-directory.ensures) c.in_err-lines.ensures.cut)

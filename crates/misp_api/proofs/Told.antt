@@ -1,0 +1,151 @@
+-- What is told of a plan, where memory does not run out for its text.
+use Rattle.std.proofs.Common.{◌≡◌, ◌⊎◌, ℕ, false, ◌≤◌, List, [], ◌++◌, length, take, length-append, refl, sym, ◌∙◌, ap, subst, inl, inr, arith, Option, Some, None, Result, Ok, Err}
+use Rattle.std.proofs.lemmas.List.{take_at}
+use Rattle.std.specs.Prelude.{IfSome, IfOk, IfErr, IsOkAnd, OnOk, OnErr}
+use Rattle.misp_outside.specs.Causes.{Rose, HasCause}
+use Rattle.misp_outside.specs.Held.{Held}
+use Rattle.misp_effects.specs.Batches.{AreReadable}
+use Rattle.misp_effects.specs.Effect.{Effect, effect, left}
+use Rattle.misp_effects.specs.Effect as effects
+use Rattle.misp_requests.specs.declared.ask.Ask.{Ask}
+use Rattle.misp_core.specs.Standing.{Standing}
+use Rattle.misp_core.specs.Permission.{is_permitted, forbidden}
+use Rattle.misp_core.specs.Turned.{IsBarred}
+use Rattle.misp_core.specs.Answers.{IsBuilt, site_at}
+use Rattle.misp_core.specs.Order.{IsInOrder}
+use Rattle.misp_store.specs.Seen.{seen_in}
+use Rattle.misp_core.specs.Effects.{requested, Did, IsRefused, stop_in, by_keeper}
+use Rattle.misp_core.specs.Planning.{Plans, IsPlan, IsPlanned, batches_of, unplanned, stop_planned}
+use Rattle.misp_core.specs.declared.planning.Plan.{Plan}
+use Rattle.misp_core.specs.declared.planning.Batch.{Batch as Put}
+use Rattle.misp_store.specs.Batches.{spelled}
+use Rattle.misp_core.specs.declared.planning.NoPlan.{NoPlan}
+use Rattle.misp_core.specs.declared.reply.Reply.{Reply}
+use Rattle.misp_core.specs.declared.reply.Reply.TheVariants as replies
+use Rattle.misp_core.proofs.Carried.{DidThere, is_planned}
+use Rattle.misp_core.proofs.Answered.{turned_there}
+use Rattle.misp_core.proofs.Ordering.{told_in_order}
+use Rattle.misp_api.specs.Host.{host_of}
+use Rattle.misp_api.specs.Order.{order}
+use Rattle.misp_api.specs.Request.{RequestData}
+use Rattle.misp_api.specs.Refusing.{TurnsAway}
+use Rattle.misp_api.specs.Text.{reply_text}
+use Rattle.misp_api.specs.Answering.{Asked, read_of, form_of, IsReplied}
+use Rattle.misp_api.proofs.Turning.{turned_by_step}
+use Rattle.misp_api.proofs.Replying.{by_step}
+use Rattle.misp_api.proofs.Ordering.{order_by_step}
+
+module _ {E : Type 0} where
+  -- what holds of a reply, where there is one
+  pub of_reply : (r : Result Reply E) {P Q : Reply → Type 0} → ((reply : Reply) → P reply → Q reply) → IfOk r P → IfOk r Q
+  of_reply (Ok reply) follows holds = follows reply holds
+  of_reply (Err short) follows holds = tt
+
+  pub every_reply : (r : Result Reply E) {P : Reply → Type 0} → ((reply : Reply) → P reply) → IfOk r P
+  every_reply (Ok reply) holds = holds reply
+  every_reply (Err short) holds = tt
+
+  -- the text of the reply that was to be told
+  pub text_told : (r : Result Reply E) (reply : Reply) (before after : List ℕ) → IfOk r (λ told. told ≡ reply) → OnOk r (after ≡ before ++ reply_text reply) → IfOk r (λ told. after ≡ before ++ reply_text told)
+  text_told (Ok told) reply before after same text = text ∙ ap (λ r. before ++ reply_text r) (sym same)
+  text_told (Err short) reply before after same text = tt
+
+  -- what holds of the reply that was to be told
+  pub of_told : (r : Result Reply E) (reply : Reply) (P : Reply → Type 0) → IfOk r (λ told. told ≡ reply) → P reply → IfOk r P
+  of_told (Ok told) reply P same holds = subst P (sym same) holds
+  of_told (Err short) reply P same holds = tt
+
+  -- what was planned over what is held was done
+  pub done_there : (r : Result Reply E) (comes : Held → Effect Reply) (planned : Result Plan NoPlan) (old mid new : Option Held) → mid ≡ old
+      → IfSome old (λ held. IsPlanned planned (comes held))
+      → ((e : Effect Reply) → IsPlanned planned e → IfOk r (λ reply. DidThere e mid reply new))
+      → IfOk r (λ reply. IfSome old (λ held. Did (comes held) held reply new))
+  done_there (Ok reply) comes planned None mid new same plans done = tt
+  done_there (Ok reply) comes planned (Some held) mid new same plans done =
+      subst (λ (m : Option Held). DidThere (comes held) m reply new) same (done (comes held) plans)
+  done_there (Err short) comes planned old mid new same plans done = tt
+
+  -- what the role forbids is turned away
+  pub turned_told : (r : Result Reply E) (old mid new : Standing) (request : RequestData) (asked : Asked) (planned : Result Plan NoPlan) → read_of old.admin request ≡ Ok asked
+      → (is_permitted asked.0 asked.1 ≡ false → IsBarred (forbidden asked.1) old mid planned)
+      → IfErr planned (λ why. IfOk r (λ reply. reply ≡ unplanned why)) → OnErr planned (new ≡ mid)
+      → IfOk r (λ reply. TurnsAway (form_of old.admin request) old new reply)
+  turned_told (Ok reply) old mid new request asked planned is bars just still =
+      turned_by_step old new request asked reply is (λ not_. turned_there old mid new asked.1 planned reply (bars not_) just still)
+  turned_told (Err short) old mid new request asked planned is bars just still = tt
+
+  -- a fault that is told has its cause in the planning, or in the telling
+  pub cause_told : (r : Result Reply E) (planned : Result Plan NoPlan) (before mid now : ℕ) → HasCause before mid (stop_planned planned ≡ by_keeper) → mid ≤ now
+      → IfOk r (λ reply. stop_in reply ≡ by_keeper → (stop_planned planned ≡ by_keeper) ⊎ Rose mid now)
+      → HasCause before now (IsOkAnd r (λ reply. stop_in reply ≡ by_keeper))
+  cause_told (Ok reply) planned before mid now cause later rose = record {
+    later = omega (arith, cause.later, later);
+    rose = λ is. elim (rose is) [
+      | inl met ↦ let rises : Rose before mid = cause.rose met in omega (arith, rises, later)
+      | inr rises ↦ omega (arith, rises, cause.later)
+    ];
+  }
+  cause_told (Err short) planned before mid now cause later rose = record { later = omega (arith, cause.later, later); rose = λ is. absurd is }
+
+  -- a refusal by the form has none
+  pub no_cause : (r : Result Reply E) (reply : Reply) (count : ℕ) → IfOk r (λ told. told ≡ reply) → (stop_in reply ≡ by_keeper → ⊥)
+      → HasCause count count (IsOkAnd r (λ told. stop_in told ≡ by_keeper))
+  no_cause (Ok told) reply count same none = record { later = omega arith; rose = λ is. absurd (none (subst (λ x. stop_in x ≡ by_keeper) same is)) }
+  no_cause (Err short) reply count same none = record { later = omega arith; rose = λ is. absurd is }
+
+-- what is no refusal tells no stop
+pub no_stop_in : (reply : Reply) → (IsRefused reply → ⊥) → stop_in reply ≡ by_keeper → ⊥
+no_stop_in (replies.Ok answer) answered is = absurd cc
+no_stop_in (replies.Refused refusal) answered is = answered tt
+
+-- no fault was met
+pub unmet : {P : Type 0} (count : ℕ) → (P → ⊥) → HasCause count count P
+unmet count none = record { later = omega arith; rose = λ is. absurd (none is) }
+
+-- a plan that asked no keeper is one
+pub planned_there : (old : Option Held) (comes : Held → Effect Reply) (planned : Result Plan NoPlan) → IfSome old (λ held. Plans planned (comes held)) → IfSome old (λ held. IsPlanned planned (comes held))
+planned_there None comes planned plans = tt
+planned_there (Some held) comes planned plans = is_planned planned (comes held) plans
+
+-- a text without what was written last
+pub text_before : (before more after : List ℕ) (start : ℕ) → length before ≡ start → after ≡ before ++ more → take start after ≡ before
+text_before before more after start long is = ap (take start) is ∙ take_at before more start long
+
+pub start_within : (before more after : List ℕ) (start : ℕ) → length before ≡ start → after ≡ before ++ more → start ≤ length after
+start_within before more after start long is = omega (arith, long, ap length is, length-append before more)
+
+-- what puts nothing was done
+pub nothing_did : (p : Plan) (e : Effect Reply) (old : Option Held) → IsPlan p e → p.batch ≡ None → DidThere e old (replies.Ok p.answer) old
+nothing_did p e None plans none = tt
+nothing_did p e (Some held) plans none =
+    let is : e ≡ effect (replies.Ok p.answer) [] = plans.is ∙ ap (λ (b : Option Put). effect (replies.Ok p.answer) (batches_of b)) none in
+    record {
+      outcome = effects.Went;
+      agree = refl;
+      reply_is = sym (ap (λ (x : Effect Reply). x.reply) is);
+      held_is = sym (ap (λ (x : Effect Reply). Some (left spelled x held)) is);
+      fits = subst (λ (x : Effect Reply). AreReadable x.batches) (sym is) tt;
+    }
+
+-- ---- a request that was read
+
+-- what was planned of it was replied
+pub replied_told : {E : Type 0} (r : Result Reply E) (i : Standing) (now : ℕ) (request : RequestData) (asked : Asked) (planned : Result Plan NoPlan) (mid new : Option Held)
+    → read_of i.admin request ≡ Ok asked → mid ≡ i.held
+    → IfSome i.held (λ held. IsPlanned planned (requested (site_at i held asked.0 now) asked.1 (seen_in held)))
+    → ((e : Effect Reply) → IsPlanned planned e → IfOk r (λ reply. DidThere e mid reply new))
+    → IfOk r (λ reply. IfSome i.held (λ held. IsReplied (host_of i) now (form_of i.admin request) held reply new))
+replied_told r i now request asked planned mid new is same plans done =
+    of_reply r (λ reply answered. by_step i now request asked reply i.held new is answered)
+    (done_there r (λ held. requested (site_at i held asked.0 now) asked.1 (seen_in held)) planned i.held mid new same plans done)
+
+-- and by the first of its rules
+pub ordered_told : {E : Type 0} (r : Result Reply E) (i : Standing) (now : ℕ) (request : RequestData) (asked : Asked) (planned : Result Plan NoPlan) (mid new : Option Held)
+    → read_of i.admin request ≡ Ok asked → IsBuilt asked.1 → mid ≡ i.held
+    → IfSome i.held (λ held. IsPlanned planned (requested (site_at i held asked.0 now) asked.1 (seen_in held)))
+    → ((e : Effect Reply) → IsPlanned planned e → IfOk r (λ reply. DidThere e mid reply new))
+    → IfOk r (λ reply. IfSome i.held (λ held. IsInOrder (order (host_of i) now request held) reply))
+ordered_told r i now request asked planned mid new is built same plans done =
+    of_reply r
+    (λ reply answered. order_by_step i now request asked reply i.held is (told_in_order (λ held. site_at i held asked.0 now) asked.1 i.held new reply built answered))
+    (done_there r (λ held. requested (site_at i held asked.0 now) asked.1 (seen_in held)) planned i.held mid new same plans done)

@@ -1,0 +1,38 @@
+use Rattle.std.proofs.Common.{◌≡◌, ◌∙◌, Ok, Err, sym, ap, subst, refl, inl, inr}
+use Rattle.misp_core.specs.Planning.{IsPlanned, unplanned, stop_planned}
+use Rattle.misp_core.specs.Effects.{stop_in, by_keeper}
+use Rattle.misp_core.specs.declared.reply.Reply.TheVariants as replies
+use Rattle.misp_core.proofs.Carried.{refused_did, DidThere}
+use Rattle.misp_api.proofs.Told.{of_told, text_told, nothing_did}
+use Rattle.misp_api.proofs.telling.tell.Goals as goal
+
+-- ---- nothing is planned
+
+pub returns-in-Err-clause-text : goal.returns-in-Err-clause-text
+returns-in-Err-clause-text g c = text_told c.told.result c.unplanned.result _ _ c.told.ensures.reply c.told.ensures.text
+
+pub returns-in-Err-clause-done : goal.returns-in-Err-clause-done
+returns-in-Err-clause-done g c = λ e plans.
+    of_told c.told.result c.unplanned.result _ c.told.ensures.reply
+    (rw c.unplanned.ensures (refused_did c.in-Err.why e _ _ (subst (λ planned. IsPlanned planned e) c.in-Err.is plans) refl))
+
+-- ---- nothing is put
+
+pub returns-in-None-clause-text : goal.returns-in-None-clause-text
+returns-in-None-clause-text g c = text_told c.told-in-None.result (replies.Ok c.into_parts-answer.result.0) _ _ c.told-in-None.ensures.reply c.told-in-None.ensures.text
+
+pub returns-in-None-clause-done : goal.returns-in-None-clause-done
+returns-in-None-clause-done g c = λ e plans.
+    of_told c.told-in-None.result (replies.Ok c.into_parts-answer.result.0) _ c.told-in-None.ensures.reply
+    (subst (λ answer. DidThere e c.args.instance.now.held (replies.Ok answer) c.args.instance.now.held) (sym c.into_parts-answer.ensures.answer)
+    (nothing_did c.in-Ok.plan e c.args.instance.now.held (subst (λ planned. IsPlanned planned e) c.in-Ok.is plans) (sym c.into_parts-answer.ensures.batch ∙ c.in-None.is)))
+
+pub returns-in-None-clause-rose : goal.returns-in-None-clause-rose
+returns-in-None-clause-rose g c =
+    of_told c.told-in-None.result (replies.Ok c.into_parts-answer.result.0) _ c.told-in-None.ensures.reply (λ is. absurd cc)
+
+-- ---- the batch is put
+
+pub returns-in-Some-clause-done : goal.returns-in-Some-clause-done
+returns-in-Some-clause-done g c = λ e plans.
+    c.told_and_put.ensures.done c.in-Ok.plan e (sym c.into_parts-answer.ensures.answer) (sym c.into_parts-answer.ensures.batch ∙ c.in-Some.is) (subst (λ planned. IsPlanned planned e) c.in-Ok.is plans)
