@@ -70,8 +70,8 @@ abbrev pub IsSound : Reading Description → List Stock → Type 0
 IsSound (Ok net) old = may_be_sound (take (length net.instances) old) ≡ true
 IsSound (Err fault) old = Unit {0}
 
--- the source describes a network, and as far as the keepers of its instances tell, one of them holds
--- a row of the administration that is none
+-- the source describes a network, and as far as the keepers of its instances tell, one of them
+-- holds a row of the administration that is none
 abbrev pub IsUnsound : Reading Description → List Stock → Type 0
 IsUnsound (Ok net) old = may_be_unsound (take (length net.instances) old) ≡ true
 IsUnsound (Err fault) old = ⊥

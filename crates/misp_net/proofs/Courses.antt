@@ -13,7 +13,7 @@ use Rattle.misp_net.specs.declared.line.Output.{Output}
 use Rattle.misp_api.specs.Host.{Host}
 use Rattle.misp_net.specs.Lines.{Act, IsAmong, AreAmong}
 use Rattle.misp_store.specs.Seen.{Seen, seen_in}
-use Rattle.misp_net.specs.Meaning.{meaning, meanings_of, stop_in}
+use Rattle.misp_net.specs.Meaning.{meaning, meanings_of, stop_in, IsAsFormed, AreAsFormed}
 use Rattle.misp_net.specs.Text.{output_text, line_of, text_from}
 use Rattle.misp_net.specs.Run.{Ran}
 use Rattle.misp_net.specs.Opening.{AreKept}
@@ -24,6 +24,13 @@ use Rattle.misp_net.proofs.Openings.{kept_long, kept_count, tell_kept}
 among_push : (count : ℕ) (acts : List Act) (act : Act) → AreAmong count acts → IsAmong count act → AreAmong count (acts ++ act ∷ [])
 among_push count [] act all is = (is, tt)
 among_push count (a ∷ acts) act all is = (all.0, among_push count acts act all.1 is)
+
+formed_push : (hosts : List Host) (acts : List Act) (act : Act) (outputs : List Output) (output : Output) → length outputs ≡ length acts
+    → AreAsFormed hosts acts outputs → IsAsFormed (meaning hosts act).formed output → AreAsFormed hosts (acts ++ act ∷ []) (outputs ++ output ∷ [])
+formed_push hosts [] act [] output long all is = (is, tt)
+formed_push hosts [] act (o ∷ outputs) output long all is = absurd (omega (arith, long))
+formed_push hosts (a ∷ acts) act [] output long all is = absurd (omega (arith, long))
+formed_push hosts (a ∷ acts) act (o ∷ outputs) output long all is = (all.0, formed_push hosts acts act outputs output (omega (arith, long)) all.1 is)
 
 text_push : (number : ℕ) (outputs : List Output) (output : Output) → text_from number (outputs ++ output ∷ []) ≡ text_from number outputs ++ line_of (number + length outputs) output
 text_push number [] output = simp append-nil (ap (λ n. line_of n output) (omega arith))
@@ -38,6 +45,7 @@ no_acts hosts old = record {
   outputs = [];
   text_is = refl;
   ran = no_lines Seen Output seen_in spelled stop_in old;
+  formed = tt;
   among = tt;
 }
 
@@ -55,6 +63,7 @@ one_more hosts acts act old mid new before after run put =
       ran =
           subst (λ (ms : List (Meaning Seen Output)). courses.HasRun Seen Output seen_in spelled stop_in ms old new (run.outputs ++ put.output ∷ [])) (sym (map-append (λ a. (meaning hosts a).means) acts (act ∷ [])))
           (more.one_more Seen Output seen_in spelled stop_in (meanings_of hosts acts) (meaning hosts act).means old mid new run.outputs put.output run.ran put.ran);
+      formed = formed_push hosts acts act run.outputs put.output long run.formed put.formed;
       among = among_push (length hosts) acts act run.among put.among;
     }
 

@@ -34,7 +34,7 @@ ran_before hosts acts before old new outputs kept run = record {
 
 run_before : (hosts : List Host) (acts : List Act) (before old new : List Stock) (text : List ℕ) → AreKept before old → HasRun hosts acts old new text → HasRun hosts acts before new text
 run_before hosts acts before old new text kept run =
-    record { outputs = run.outputs; text_is = run.text_is; ran = ran_before hosts acts before old new run.outputs kept run.ran; among = run.among }
+    record { outputs = run.outputs; text_is = run.text_is; ran = ran_before hosts acts before old new run.outputs kept run.ran; formed = run.formed; among = run.among }
 
 -- and of the first keepers
 pub run_in_front : (hosts described : List Host) (acts : List Act) (front after rest olds news : List Stock) (count : ℕ) (text : List ℕ)

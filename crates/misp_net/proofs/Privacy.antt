@@ -122,6 +122,7 @@ are_replied back hosts acts old new text run = record {
   outputs = run.outputs;
   text_is = run.text_is;
   ran = run.ran;
+  formed = run.formed;
   refused = λ outcome act tables idle. idle_same outcome hosts act tables idle;
   told = λ distinct empty. told back hosts acts old new text run distinct empty;
 }

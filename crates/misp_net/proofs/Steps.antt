@@ -1,5 +1,5 @@
 -- What one instance does is an act among all of them.
-use Rattle.std.proofs.Common.{◌≡◌, ℕ, zero, suc, ◌<◌, Bool, true, false, eqb, List, [], ◌∷◌, ◌++◌, ◌≤◌, length, get_or, set, Option, Some, None, Result, Ok, Err, refl, sym, ◌∙◌, ap, subst, arith}
+use Rattle.std.proofs.Common.{◌≡◌, ℕ, zero, suc, ◌<◌, Bool, true, false, eqb, List, [], ◌∷◌, ◌++◌, ◌≤◌, length, get_or, set, Option, Some, None, Result, Ok, Err, inl, inr, refl, sym, ◌∙◌, ap, subst, arith}
 use Rattle.std.proofs.lemmas.List.{length-map, map-set, get_or-map, set-get_or}
 use Rattle.std.specs.Prelude.{IfSome, IfOk, OnOk, if◌then◌else◌}
 use Rattle.misp_elem.specs.Refusal.{rule_number}
@@ -29,8 +29,10 @@ use Rattle.misp_net.specs.Hosts.{nobody, hosts_of, host_at, stock_of, stocks_of}
 use Rattle.misp_store.specs.Seen.{Seen, seen_in}
 use Rattle.misp_api.specs.Answering.{form_of, replied, IsReplied}
 use Rattle.misp_api.specs.Administering.{group_form, grouped, IsDone}
+use Rattle.misp_api.specs.Refusing.{TurnsAway}
+use Rattle.misp_api.specs.Request.{Reading}
 use Rattle.misp_net.specs.Opening.{AreKept}
-use Rattle.misp_net.specs.Meaning.{request_in, asks, silent, stop_in}
+use Rattle.misp_net.specs.Meaning.{meaning, request_in, asks, silent, stop_in, turned_away, IsAsFormed}
 use Rattle.misp_net.proofs.Openings.{all_kept}
 use Rattle.misp_net.specs.Run as lines
 use Rattle.misp_net.specs.Text.{output_text}
@@ -103,6 +105,19 @@ pub one_group : (time word : ℕ) (line : GroupData) (old : List Standing) (new 
     → lines.IsAct (hosts_of old) (Ok (group_step time word line)) (stocks_of old) (stocks_of (set old line.at new)) (Replied reply)
 one_group time word line old new none reply lt did cause =
     instance_act line.at (λ here. grouped time line.org line.add (group_form line.body) here.groups) old new none reply lt did cause
+
+-- what its form refuses is put out so
+pub turned_output : {A : Type 0} (form : Reading A) (old new : Standing) (reply : Reply) → TurnsAway form old new reply → IsAsFormed (turned_away form) (Replied reply)
+turned_output (Ok x) old new reply away = tt
+turned_output (Err refusal) old new reply away = elim away.just [ inl just ↦ inl (ap Replied just) | inr short ↦ inr (ap Replied short) ]
+
+pub request_formed : (time word : ℕ) (r : RequestData) (old : List Standing) (new none : Standing) (reply : Reply) → r.at < length old
+    → TurnsAway (form_of (get_or old r.at none).admin (request_in word r)) (get_or old r.at none) new reply
+    → IsAsFormed (meaning (hosts_of old) (Ok (step_at time word r))).formed (Replied reply)
+request_formed time word r old new none reply lt away =
+    let host : host_at r.at (hosts_of old) ≡ host_of (get_or old r.at none) = get_or-map host_of old r.at none nobody lt in
+    turned_output (form_of (host_at r.at (hosts_of old)).admin (request_in word r)) (get_or old r.at none) new reply
+    (subst (λ (h : Host). TurnsAway (form_of h.admin (request_in word r)) (get_or old r.at none) new reply) (sym host) away)
 
 pub hosts_kept : (old : List Standing) (place : ℕ) (new none : Standing) → place < length old
     → new.name ≡ (get_or old place none).name → new.admin ≡ (get_or old place none).admin → hosts_of (set old place new) ≡ hosts_of old

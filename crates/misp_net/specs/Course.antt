@@ -4,6 +4,7 @@ use Rattle.misp_outside.specs.Stock.{Stock}
 use Rattle.misp_net.specs.declared.line.Output.{Output}
 use Rattle.misp_api.specs.Host.{Host}
 use Rattle.misp_net.specs.Lines.{Act, IsAmong, AreAmong}
+use Rattle.misp_net.specs.Meaning.{meaning, IsAsFormed, AreAsFormed}
 use Rattle.misp_net.specs.Run.{IsAct, Ran}
 use Rattle.misp_net.specs.Text.{line_of, text_from}
 
@@ -13,6 +14,7 @@ pub record HasPut (hosts : List Host) (act : Act)
     (old new : List Stock) (number : ℕ) (before after : List ℕ) : Type 0 where
   pub output : Output
   pub ran : IsAct hosts act old new output
+  pub formed : IsAsFormed (meaning hosts act).formed output
   pub among : IsAmong (length hosts) act
   pub text_is : after ≡ before ++ line_of number output
 
@@ -22,4 +24,5 @@ pub record HasRun (hosts : List Host) (acts : List Act)
   pub outputs : List Output
   pub text_is : text ≡ text_from 1 outputs
   pub ran : Ran hosts acts old new outputs
+  pub formed : AreAsFormed hosts acts outputs
   pub among : AreAmong (length hosts) acts

@@ -100,8 +100,8 @@ pub record AreTold (hosts : List Host) (acts : List Act) (outputs : List Output)
   pub agree : map stop_of outcomes ≡ map stop_in outputs
   pub outputs_are : outputs ≡ told_outputs 0 hosts start acts outcomes
 
--- Under outcomes that the outputs tell, and by which they are those of the history, each keeper holds
--- the tables and the groups of its instance after these lines, and nothing else.
+-- Under outcomes that the outputs tell, and by which they are those of the history, each keeper
+-- holds the tables and the groups of its instance after these lines, and nothing else.
 pub record AreHeld (hosts : List Host) (acts : List Act)
     (outputs : List Output) (new : List Stock) : Type 0 where
   pub outcomes : List Outcome

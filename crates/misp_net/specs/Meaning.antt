@@ -1,6 +1,7 @@
 -- What each line means: THE definition by deed.
-use Rattle.std.specs.Prelude.{ℕ, List, [], map, Option, Some, None, option_map, Ok, Err}
+use Rattle.std.specs.Prelude.{◌≡◌, ◌⊎◌, ℕ, List, [], ◌∷◌, map, Option, Some, None, option_map, Ok, Err}
 use Rattle.misp_ids.specs.declared.uid.OrgId.{OrgId}
+use Rattle.misp_elem.specs.declared.refusal.RuleName.TheVariants as rules
 use Rattle.misp_groups.specs.declared.group.GroupFields.{GroupFields as Group}
 use Rattle.misp_orgs.specs.Keys.{CallerFields as Caller}
 use Rattle.misp_effects.specs.declared.stop.Stop.{Stop}
@@ -13,6 +14,7 @@ use Rattle.misp_core.specs.Keeping.{caller_at}
 use Rattle.misp_core.specs.Effects.{refused_by, rule_told}
 use Rattle.misp_core.specs.Effects as replies
 use Rattle.misp_core.specs.declared.reply.Reply.{Reply}
+use Rattle.misp_core.specs.declared.reply.Reply.TheVariants.{Refused}
 use Rattle.misp_net.specs.declared.line.Output.{Output}
 use Rattle.misp_net.specs.declared.line.Output.TheVariants.{Bad, Nothing, Replied}
 use Rattle.misp_net.specs.Lines.{Act}
@@ -23,10 +25,11 @@ use Rattle.misp_store.specs.Seen.{Seen}
 use Rattle.misp_api.specs.Answering.{Asked, caller_in, form_of, replied}
 use Rattle.misp_api.specs.Administering.{group_form, grouped}
 
--- what a line is: what it comes to among the instances, its act in the history, and the
--- organisation that asks
+-- what a line is: what it comes to among the instances; what it puts out whatever is held, where
+-- its form says that; its act in the history; and the organisation that asks
 pub record LineMeaning : Type 0 where
   pub means : Meaning Seen Output
+  pub formed : Option Output
   pub act : model.Act
   pub asker : Option OrgId
 
@@ -51,9 +54,17 @@ silent output = record {
 abbrev pub idle : Output → ℕ → LineMeaning
 idle output time = record {
   means = silent output;
+  formed = Some output;
   act = record { at = []; now = time; deed = model.Nothing };
   asker = None;
 }
+
+-- ---- forms
+
+-- what is refused by its form is refused whatever is held
+abbrev pub turned_away : {A : Type 0} → Reading A → Option Output
+turned_away (Ok x) = None
+turned_away (Err refusal) = Some (Replied (Refused refusal))
 
 -- ---- acts by form
 
@@ -84,6 +95,7 @@ deed_meaning hosts time word (deeds.Request r) =
     let form : Reading Asked = form_of host.admin (request_in word r) in
     record {
       means = asks r.at (replied host time form);
+      formed = turned_away form;
       act = record { at = host.name; now = time; deed = asking form host caller };
       asker = option_map (λ c. c.org) caller;
     }
@@ -91,6 +103,7 @@ deed_meaning hosts time word (deeds.Group line) =
     let form : Reading Group = group_form line.body in
     record {
       means = asks line.at (λ here. grouped time line.org line.add form here.groups);
+      formed = turned_away form;
       act = record { at = (host_at line.at hosts).name; now = time; deed = administering form line };
       asker = None;
     }
@@ -103,6 +116,21 @@ meaning hosts (Err bad) = idle (Bad bad.place) 0
 -- what lines come to
 abbrev pub meanings_of : List Host → List Act → List (Meaning Seen Output)
 meanings_of hosts acts = map (λ act. (meaning hosts act).means) acts
+
+-- It is put out as the form of its line says; of a reply the want of memory may be told instead.
+abbrev pub IsAsFormed : Option Output → Output → Type 0
+IsAsFormed None output = Unit {0}
+IsAsFormed (Some (Bad place)) output = output ≡ Bad place
+IsAsFormed (Some Nothing) output = output ≡ Nothing
+IsAsFormed (Some (Replied reply)) output =
+    (output ≡ Replied reply) ⊎ (output ≡ Replied (refused_by rules.NoMemory))
+
+-- the same of each of these lines
+abbrev pub AreAsFormed : List Host → List Act → List Output → Type 0
+AreAsFormed hosts [] outputs = Unit {0}
+AreAsFormed hosts (act ∷ acts) [] = Unit {0}
+AreAsFormed hosts (act ∷ acts) (output ∷ outputs) =
+    IsAsFormed (meaning hosts act).formed output × AreAsFormed hosts acts outputs
 
 -- ---- stops
 

@@ -12,7 +12,7 @@ use Rattle.misp_net.specs.declared.line.Output.{Output}
 use Rattle.misp_net.specs.declared.line.Output.TheVariants.{Bad, Nothing, Replied}
 use Rattle.misp_api.specs.Host.{Host}
 use Rattle.misp_net.specs.Lines.{Act}
-use Rattle.misp_net.specs.Meaning.{stop_in}
+use Rattle.misp_net.specs.Meaning.{stop_in, AreAsFormed}
 use Rattle.misp_net.specs.Run.{output_of, tables_after, Ran}
 use Rattle.misp_net.specs.Text.{text_from}
 use Rattle.misp_net.specs.History.{acts_in, no_links, told_output, AreDistinct, empty_tables, AreTold, AreHeld, is_of}
@@ -68,20 +68,22 @@ pub record IsPrivate (hosts : List Host) (acts : List Act)
       → replies_to o hosts others (outputs_over 0 hosts start others (acts_in hosts others))
       ≡ replies_to o hosts acts outputs
 
--- The lines put these outputs out, and wrote this text: one line for each. What is refused changes
--- nothing; and over keepers that held nothing the outputs are those of the history.
+-- The lines put these outputs out, and wrote this text: one line for each. Over every keeper a line
+-- whose form says what it puts out puts that out. What is refused changes nothing; and over keepers
+-- that held nothing the outputs are those of the history.
 pub record AreReplied (hosts : List Host) (acts : List Act)
     (old new : List Stock) (text : List ℕ) : Type 0 where
   pub outputs : List Output
   pub text_is : text ≡ text_from 1 outputs
   pub ran : Ran hosts acts old new outputs
+  pub formed : AreAsFormed hosts acts outputs
   pub refused : (outcome : Outcome) (act : Act) (tables : Tables)
       → IsIdle (output_of outcome hosts act tables)
       → tables_after outcome hosts act tables ≡ tables
   pub told : AreDistinct hosts → Tell old (empty_tables hosts) → AreTold hosts acts outputs
 
--- Over keepers that held nothing, after the lines of this text each keeper holds the newest versions
--- and the groups of its instance, and nothing else.
+-- Over keepers that held nothing, after the lines of this text each keeper holds the newest
+-- versions and the groups of its instance, and nothing else.
 pub record AreNewest (hosts : List Host) (acts : List Act)
     (old new : List Stock) (text : List ℕ) : Type 0 where
   pub outputs : List Output

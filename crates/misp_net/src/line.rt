@@ -21,7 +21,8 @@ pub enum Output {
 /// Writes that a line is none, with room for one byte behind it.
 pub(crate) fn put_bad(lines: &mut Vec<u8>, alloc: Global, place: usize) -> Result<Output, NoMemory>
     ensures output { IfOk result (λ output. output ≡ Output.Bad place) }
-    ensures text { OnOk result (lines.new.items ≡ lines.old.items ++ output_text (Output.Bad place)) }
+    ensures text { OnOk result
+        (lines.new.items ≡ lines.old.items ++ output_text (Output.Bad place)) }
     ensures room { OnOk result (vec_len lines.new < vec_capacity lines.new) }
 {
     put_text(lines, "bad ")?;

@@ -5,7 +5,7 @@ ghost use Rattle.misp_script.specs.Directory.{directory_of};
 ghost use Rattle.misp_script.specs.Step.{step_of};
 ghost use Rattle.misp_script.specs.Step as deeds;
 ghost use Rattle.misp_api.specs.Request as requests;
-ghost use Rattle.misp_net.specs.Meaning.{request_in};
+ghost use Rattle.misp_net.specs.Meaning.{meaning, request_in, IsAsFormed};
 ghost use Rattle.misp_effects.specs.Stocks.{told};
 ghost use Rattle.misp_net.specs.Hosts.{described_hosts, hosts_of, stocks_of};
 ghost use Rattle.misp_net.specs.Lines.{acts_of, IsAmong};
@@ -67,6 +67,8 @@ fn run_line<K: Keeper>(
     ensures act { IfOk result (λ output.
         IsAct (hosts_of instances.old.items) (step_of directory.now line.now)
         (stocks_of instances.old.items) (stocks_of instances.new.items) output) }
+    ensures formed { IfOk result (λ output. IsAsFormed
+        (meaning (hosts_of instances.old.items) (step_of directory.now line.now)).formed output) }
     ensures kept { OnErr result
         (AreKept (stocks_of instances.old.items) (stocks_of instances.new.items)) }
     ensures among { IsAmong (length directory.now) (step_of directory.now line.now) }
@@ -92,8 +94,8 @@ fn run_line<K: Keeper>(
     }
 }
 
-// Runs one line, and writes the line of this number. Where memory runs out, no keeper holds anything
-// else than before.
+// Runs one line, and writes the line of this number. Where memory runs out, no keeper holds
+// anything else than before.
 fn put_line<K: Keeper>(
     lines: &mut Vec<u8>,
     alloc: Global,

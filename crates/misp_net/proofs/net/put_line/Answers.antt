@@ -19,6 +19,7 @@ returns-clause-put g c =
     record {
       output = c.in_ok-_output._output;
       ran = c.in_ok-_output.ensures.act;
+      formed = c.in_ok-_output.ensures.formed;
       among = subst (λ count. IsAmong count (step_of c.args.directory.now c.args.line.now)) long c.run_line.ensures.among;
       text_is = line_put c.args.number c.in_ok-_output._output _ _ _ _ c.in_ok-put_front.ensures c.in_ok-_output.ensures.text pushed;
     }

@@ -1,7 +1,8 @@
 use Rattle.std.proofs.Common.{◌≡◌, ◌<◌, length, Ok, refl, sym, ◌∙◌, ap, subst, arith}
 use Rattle.misp_script.specs.Step.{IsPlaced, request_data, group_data, deed_data, step_of}
 use Rattle.misp_net.specs.Lines.{IsAmong}
-use Rattle.misp_net.proofs.Steps.{step_at, group_step, one_request, one_group, hosts_kept, set_kept, silent_act, of_put, text_put}
+use Rattle.misp_api.specs.Administering.{group_form}
+use Rattle.misp_net.proofs.Steps.{step_at, group_step, one_request, one_group, request_formed, turned_output, hosts_kept, set_kept, silent_act, of_put, text_put}
 use Rattle.misp_net.proofs.Openings.{all_kept, on_err}
 use Rattle.misp_net.specs.Hosts.{stocks_of}
 use Rattle.misp_net.specs.declared.line.Output.TheVariants.{Bad, Nothing}
@@ -22,6 +23,19 @@ returns-in_ok-reply-in-Request-clause-act g c =
     (one_request c.in-Ok.step.time c.in-Ok.step.word (request_data request) c.args.instances.now.items c.answer.new.instance held c.in_ok-reply-in-Request.reply placed
     (rw (← c.index_mut-instance.ensures.value) (rw c.request_in-request.ensures at c.in_ok-reply-in-Request.ensures.replied))
     (rw (← c.index_mut-instance.ensures.value) c.in_ok-reply-in-Request.ensures.cause))
+
+-- and what its form refuses is refused whatever is held
+pub returns-in_ok-reply-in-Request-clause-formed : goal.returns-in_ok-reply-in-Request-clause-formed
+returns-in_ok-reply-in-Request-clause-formed g c =
+    let request = c.in-Request.request in
+    let said : step_of c.args.directory.now c.args.line.now ≡ Ok (step_at c.in-Ok.step.time c.in-Ok.step.word (request_data request)) =
+    c.in-Ok.ensures.step ∙ ap (λ deed. Ok (record { time = c.in-Ok.step.time; word = c.in-Ok.step.word; deed = deed_data deed })) c.in-Request.is in
+    let inside : request.at < length c.args.directory.now =
+    subst (λ deed. IsPlaced (length c.args.directory.now) (deed_data deed)) c.in-Request.is c.in-Ok.ensures.placed in
+    let placed : request.at < length c.args.instances.now.items = omega (arith, inside, c.requires, c.args.instances.now.ok.0) in
+    rw said
+    (request_formed c.in-Ok.step.time c.in-Ok.step.word (request_data request) c.args.instances.now.items c.answer.new.instance c.index_mut-instance.result.now c.in_ok-reply-in-Request.reply placed
+    (rw (← c.index_mut-instance.ensures.value) (rw c.request_in-request.ensures at c.in_ok-reply-in-Request.ensures.formed)))
 
 pub returns-in_ok-reply-in-Request-clause-hosts : goal.returns-in_ok-reply-in-Request-clause-hosts
 returns-in_ok-reply-in-Request-clause-hosts g c =
@@ -70,6 +84,13 @@ returns-in_ok-reply-in-Group-clause-act g c =
     (rw (← c.index_mut-instance-in-Group.ensures.value)
     (rw (c.group_in-group.ensures.by, c.group_in-group.ensures.add, c.group_in-group.ensures.body) at c.in_ok-reply-in-Group.ensures.replied))
     (rw (← c.index_mut-instance-in-Group.ensures.value) c.in_ok-reply-in-Group.ensures.cause))
+
+pub returns-in_ok-reply-in-Group-clause-formed : goal.returns-in_ok-reply-in-Group-clause-formed
+returns-in_ok-reply-in-Group-clause-formed g c =
+    let line = group_data c.in-Group.group in
+    let said : step_of c.args.directory.now c.args.line.now ≡ Ok (group_step c.in-Ok.step.time c.in-Ok.step.word line) =
+    c.in-Ok.ensures.step ∙ ap (λ deed. Ok (record { time = c.in-Ok.step.time; word = c.in-Ok.step.word; deed = deed_data deed })) c.in-Group.is in
+    rw said (turned_output (group_form line.body) _ _ c.in_ok-reply-in-Group.reply (rw c.group_in-group.ensures.body at c.in_ok-reply-in-Group.ensures.formed))
 
 pub returns-in_ok-reply-in-Group-clause-hosts : goal.returns-in_ok-reply-in-Group-clause-hosts
 returns-in_ok-reply-in-Group-clause-hosts g c =
@@ -124,6 +145,12 @@ returns-in-Nothing-clause-act g c =
     c.in-Ok.ensures.step ∙ ap (λ deed. Ok (record { time = c.in-Ok.step.time; word = c.in-Ok.step.word; deed = deed_data deed })) c.in-Nothing.is in
     of_put c.put_nothing.result Nothing _ c.put_nothing.ensures.output (rw said (silent_act Nothing (stocks_of c.args.instances.now.items) refl))
 
+pub returns-in-Nothing-clause-formed : goal.returns-in-Nothing-clause-formed
+returns-in-Nothing-clause-formed g c =
+    let said : step_of c.args.directory.now c.args.line.now ≡ Ok (record { time = c.in-Ok.step.time; word = c.in-Ok.step.word; deed = deeds.Nothing }) =
+    c.in-Ok.ensures.step ∙ ap (λ deed. Ok (record { time = c.in-Ok.step.time; word = c.in-Ok.step.word; deed = deed_data deed })) c.in-Nothing.is in
+    of_put c.put_nothing.result Nothing _ c.put_nothing.ensures.output (rw said refl)
+
 pub returns-in-Nothing-clause-kept : goal.returns-in-Nothing-clause-kept
 returns-in-Nothing-clause-kept g c = on_err c.put_nothing.result (all_kept _)
 
@@ -133,6 +160,9 @@ returns-in-Err-clause-text g c = text_put c.put_bad.result (Bad c.in-Err.bad.pla
 pub returns-in-Err-clause-act : goal.returns-in-Err-clause-act
 returns-in-Err-clause-act g c =
     of_put c.put_bad.result (Bad c.in-Err.bad.place) _ c.put_bad.ensures.output (rw c.in-Err.ensures.step (silent_act (Bad c.in-Err.bad.place) (stocks_of c.args.instances.now.items) refl))
+
+pub returns-in-Err-clause-formed : goal.returns-in-Err-clause-formed
+returns-in-Err-clause-formed g c = of_put c.put_bad.result (Bad c.in-Err.bad.place) _ c.put_bad.ensures.output (rw c.in-Err.ensures.step refl)
 
 pub returns-in-Err-clause-kept : goal.returns-in-Err-clause-kept
 returns-in-Err-clause-kept g c = on_err c.put_bad.result (all_kept _)
