@@ -1,4 +1,4 @@
-use Rattle.std.proofs.Common.{◌≡◌, Err, sym, ◌∙◌, ap, subst}
+use Rattle.std.proofs.Common.{◌≡◌, Err, sym, ◌∙◌, ap, subst, map}
 use Rattle.misp_script.specs.Network.{description_at}
 use Rattle.misp_script.specs.declared.fault.DescFault.TheVariants as causes
 use Rattle.misp_app.specs.Status.{Wrote}
@@ -17,19 +17,13 @@ returns-in-Err-Bad-clause-told g c = λ tells.
 -- ---- memory ran out
 
 -- after all lines
-pub returns-in-Ok-Ok-clause-cut : goal.returns-in-Ok-Ok-clause-cut
-returns-in-Ok-Ok-clause-cut g c = λ is.
+pub returns-in-Ok-run_net-clause-cut : goal.returns-in-Ok-run_net-clause-cut
+returns-in-Ok-run_net-clause-cut g c = λ is.
     cut_behind c.args.bytes.now _ _ _ _ _ _ c.split_source.ensures.description c.split_source.ensures.script c.in-Ok.ensures.description c.in-Ok-run_net.ensures.replied
 
--- within them
-pub returns-in-Ok-Err-clause-cut : goal.returns-in-Ok-Err-clause-cut
-returns-in-Ok-Err-clause-cut g c = λ is.
-    cut_there c.args.bytes.now _ _ _ _ _ c.split_source.ensures.description c.split_source.ensures.script c.in-Ok.ensures.description
-    (c.in-Err-run_net.ensures.cut (ap Err (by_memory c.in-Err-run_net.fault (sym c.from.ensures ∙ is))))
-
--- before any
+-- before any line
 pub returns-in-Err-Bad-clause-cut : goal.returns-in-Err-Bad-clause-cut
-returns-in-Err-Bad-clause-cut g c = λ is. cut_before _ _
+returns-in-Err-Bad-clause-cut g c = λ is. cut_before c.args.bytes.now (map g.K.Keeper.stock c.args.keepers.now.items)
 
-pub returns-clause-cut : goal.returns-clause-cut
-returns-clause-cut g c = λ is. cut_before _ _
+pub returns-in-Err-NoMemory-clause-cut : goal.returns-in-Err-NoMemory-clause-cut
+returns-in-Err-NoMemory-clause-cut g c = λ is. cut_before c.args.bytes.now (map g.K.Keeper.stock c.args.keepers.now.items)
