@@ -8,13 +8,13 @@ use Rattle.misp_format.specs.declared.fault.FormatFault.TheVariants as faults
 use Rattle.misp_orgs.specs.Admin.{AdminFields as Admin}
 use Rattle.misp_orgs.specs.Keys.{CallerFields as Caller}
 use Rattle.misp_requests.specs.declared.ask.Ask.{Ask}
-use Rattle.misp_core.specs.Permission.{permission_of, is_permitted, no_permission}
-use Rattle.misp_core.specs.Answers.{IsAdded, IsBuilt}
+use Rattle.misp_requests.specs.Permission.{permission_of, is_permitted, no_permission}
+use Rattle.misp_core.specs.Answers.{Asked, IsAdded, IsBuilt}
 use Rattle.misp_api.specs.declared.route.Route.{Route}
 use Rattle.misp_api.specs.declared.route.Route.TheVariants.{AddEvent, ViewEvent, Groups}
 use Rattle.misp_api.specs.Route.{route_of}
 use Rattle.misp_api.specs.Request.{RequestData, Reading, event_in, added, formed, asked, ask_of}
-use Rattle.misp_api.specs.Answering.{Asked, caller_in, by_body, by_route, read_of, permitted, form_of}
+use Rattle.misp_api.specs.Answering.{caller_in, by_body, by_route, read_of, permitted, form_of}
 use Rattle.misp_api.proofs.Built.{event_built}
 
 -- ---- what is asked

@@ -1,6 +1,7 @@
 -- The reply where a group is added or edited, by what its text is.
 use Rattle.std.proofs.Common.{◌≡◌, ℕ, ◌≤◌, Bool, List, refl, sym, subst, Option, Some, None, Ok, Err}
 use Rattle.std.specs.Prelude.{IfSome}
+use Rattle.std.proofs.lemmas.Option.{IfSome_then}
 use Rattle.misp_groups.specs.declared.group.GroupFields.{GroupFields as Group}
 use Rattle.misp_groups.specs.Group.{IsGroup}
 use Rattle.misp_ids.specs.declared.uid.OrgId.{OrgId}
@@ -8,8 +9,8 @@ use Rattle.misp_ids.specs.declared.stamp.TheConstants.{LAST_SECOND}
 use Rattle.misp_outside.specs.Held.{Held}
 use Rattle.misp_format.specs.GroupText.{group_in_text}
 use Rattle.misp_store.specs.Sharing.{groups_of}
-use Rattle.misp_core.specs.Administering.{IsAdministered}
-use Rattle.misp_core.specs.Effects.{by_keeper, stop_in}
+use Rattle.misp_core.specs.Administering.{administered}
+use Rattle.misp_core.specs.Effects.{by_keeper, stop_in, Did}
 use Rattle.misp_core.specs.declared.reply.Reply.{Reply}
 use Rattle.misp_api.specs.declared.request.AskFault.{AskFault}
 use Rattle.misp_api.specs.declared.request.AskFault.TheVariants as stops
@@ -20,9 +21,8 @@ use Rattle.misp_api.proofs.Replying.{ByForm, formed_by_form, by_fault, no_keeper
 
 -- a group is administered by the instance
 pub by_instance : (now : ℕ) (by : OrgId) (add : Bool) (form : Reading Group) (g : Group) (reply : Reply) (old new : Option Held) → form ≡ Ok g
-    → IfSome old (λ held. IsAdministered now by add g held reply new) → IfSome old (λ held. IsDone now by add form held reply new)
-by_instance now by add form g reply None new is done = tt
-by_instance now by add form g reply (Some held) new is done = subst (λ f. IsDone now by add f held reply new) (sym is) done
+    → IfSome old (λ held. Did (administered now by add g (groups_of held)) held reply new) → IfSome old (λ held. IsDone now by add form held reply new)
+by_instance now by add form g reply old new is done = IfSome_then old done (λ held did. subst (λ f. IsDone now by add f held reply new) (sym is) did)
 
 pub text_by_form : (text : List ℕ) → ByForm (group_form text)
 unfolding group_form

@@ -1,21 +1,42 @@
 -- The reply to a request refuses by the first rule that refuses it.
-use Rattle.std.proofs.Common.{◌≡◌, ℕ, Bool, true, false, List, [], ◌∷◌, refl, sym, subst, ◌∙◌, Option, Some, None, Result, Ok, Err}
+use Rattle.std.proofs.Common.{◌≡◌, ℕ, Bool, true, false, List, [], ◌∷◌, refl, ap, sym, subst, ◌∙◌, map, option_map, Option, Some, None, Result, Ok, Err}
 use Rattle.std.specs.Prelude.{◌==◌, not, is_some, bytes_eq, if◌then◌else◌, IfSome}
 use Rattle.std.specs.Option.{option_map_or}
+use Rattle.std.proofs.lemmas.Option.{IfSome_then}
+use Rattle.misp_ids.specs.declared.uid.OrgId.{OrgId}
+use Rattle.misp_ids.specs.declared.uid.EventId.{EventId}
+use Rattle.misp_elem.specs.declared.row.RowFields.{RowFields as Row}
+use Rattle.misp_elem.specs.declared.visible.VisibleEvent.{VisibleEvent}
 use Rattle.misp_elem.specs.declared.refusal.RuleName.{RuleName}
+use Rattle.misp_elem.specs.declared.refusal.RuleName.TheVariants as rules
 use Rattle.misp_elem.specs.Draft.{SubmissionFields as Submission}
 use Rattle.misp_elem.specs.Refusal.{rule_number}
-use Rattle.misp_elem.specs.declared.refusal.RuleName.TheVariants as rules
 use Rattle.misp_format.specs.declared.fault.FormatFault.{FormatFault}
 use Rattle.misp_format.specs.declared.fault.FormatFault.TheVariants as faults
+use Rattle.misp_groups.specs.declared.group.GroupFields.{GroupFields as Group}
+use Rattle.misp_orgs.specs.Admin.{AdminFields as Admin}
 use Rattle.misp_orgs.specs.Keys.{CallerFields as Caller}
 use Rattle.misp_outside.specs.Held.{Held}
+use Rattle.misp_effects.specs.Effect.{Effect, under, stop_of}
+use Rattle.misp_effects.specs.Effect as effects
 use Rattle.misp_requests.specs.declared.ask.Ask.{Ask}
-use Rattle.misp_core.specs.Standing.{Standing}
-use Rattle.misp_core.specs.Answers.{site, site_at}
+use Rattle.misp_requests.specs.declared.ask.Ask.TheVariants.{View}
+use Rattle.misp_requests.specs.declared.ask.Ask.TheVariants as asks
+use Rattle.misp_requests.specs.declared.change.Change.TheVariants as changes
+use Rattle.misp_model.specs.Asking.{Scene, Rule, first_rule, change_rules}
+use Rattle.misp_model.specs.Asking as asking
+use Rattle.misp_model.specs.Shown.{shown}
+use Rattle.misp_model.specs.Machine.{seeing}
+use Rattle.misp_model.specs.Acts.{answer, ok_answer, ask_rules}
+use Rattle.misp_model.specs.Acts as model
+use Rattle.misp_store.specs.Seen.{seen_in}
 use Rattle.misp_store.specs.Sharing.{groups_of}
-use Rattle.misp_core.specs.Effects.{stop_in}
-use Rattle.misp_core.specs.Order.{Ground, first_ground, IsInOrder, grounds}
+use Rattle.misp_core.specs.Standing.{Standing, Host, host_of}
+use Rattle.misp_requests.specs.Permission.{is_permitted, forbidden}
+use Rattle.misp_store.specs.Reach.{reach_of}
+use Rattle.misp_edit.specs.Refusals.{named}
+use Rattle.misp_core.specs.Answers.{Asked, IsBuilt, reply_of, reply_in, scene_at}
+use Rattle.misp_core.specs.Effects.{telling, refused, asked_over, requested, stop_in, Did}
 use Rattle.misp_core.specs.declared.reply.Reply.{Reply}
 use Rattle.misp_core.specs.declared.reply.Reply.TheVariants as replies
 use Rattle.misp_api.specs.declared.route.Route.{Route}
@@ -23,10 +44,62 @@ use Rattle.misp_api.specs.declared.route.Route.TheVariants.{AddEvent, ViewEvent,
 use Rattle.misp_api.specs.declared.request.AskFault.{AskFault}
 use Rattle.misp_api.specs.declared.request.AskFault.TheVariants as stops
 use Rattle.misp_api.specs.Route.{method_of, by_method, route_of}
-use Rattle.misp_api.specs.Host.{Host, host_of}
 use Rattle.misp_api.specs.Request.{RequestData, Reading, Gives, event_in, added, formed, asked, ask_of}
-use Rattle.misp_api.specs.Answering.{Asked, caller_in, by_body, by_key, by_route, read_of, fault_reply}
-use Rattle.misp_api.specs.Order.{route_asked, is_refused_by, asked_grounds, order}
+use Rattle.misp_api.specs.Answering.{caller_in, by_body, by_key, by_route, read_of, fault_reply}
+use Rattle.misp_api.specs.Order.{Ground, first_ground, rule_of, IsInOrder, ground_of, row_grounds, grounds, route_asked, is_refused_by, asked_grounds, order}
+
+-- ---- what is asked
+
+-- the first of the named rules is the name of the first
+first_named : (rs : List (Bool × Rule)) → first_ground (map ground_of rs) ≡ option_map named (first_rule rs)
+unfolding first_ground first_rule
+first_named [] = refl
+first_named ((true, r) ∷ rs) = refl
+first_named ((false, r) ∷ rs) = first_named rs
+
+by_seen : (admin : Admin) (s : Scene) (event : EventId) (owner : Option OrgId) (seen : Option VisibleEvent)
+    → rule_of (reply_of admin s (View event owner) (elim (first_rule ((elim seen [ None ↦ true | Some x ↦ false ], asking.NotGranted) ∷ []))
+    [ None ↦ elim seen [ None ↦ model.Other | Some x ↦ model.Seen x ] | Some r ↦ model.Refused r ]))
+    ≡ first_ground (map ground_of ((elim seen [ None ↦ true | Some x ↦ false ], asking.NotGranted) ∷ []))
+unfolding first_ground first_rule
+by_seen admin s event owner None = refl
+by_seen admin s event owner (Some v) = refl
+
+by_rule : (admin : Admin) (s : Scene) (b : Submission) (rule : Option Rule)
+    → rule_of (reply_of admin s (asks.Change (changes.AddEvent b)) (elim rule [ None ↦ ok_answer s (asks.Change (changes.AddEvent b)) | Some r ↦ model.Refused r ]))
+    ≡ option_map named rule
+unfolding ok_answer
+by_rule admin s b None = refl
+by_rule admin s b (Some r) = refl
+
+-- of an ask in its scene
+in_scene : (admin : Admin) (s : Scene) (ask : Ask) → IsBuilt ask → rule_of (reply_in admin s ask) ≡ first_ground (map ground_of (ask_rules s ask))
+unfolding reply_in answer ask_rules ok_answer first_ground first_rule
+in_scene admin s (View event owner) built = by_seen admin s event owner (shown s event owner)
+in_scene admin s (asks.Change (changes.AddEvent b)) built = by_rule admin s b (first_rule (change_rules s (changes.AddEvent b))) ∙ sym (first_named (change_rules s (changes.AddEvent b)))
+in_scene admin s asks.Groups built = refl
+in_scene admin s ask built = absurd built
+
+-- over what is read for it, by whether the role permits the ask
+by_rows : (host : Host) (now : ℕ) (it : Asked) (groups : List Group) (may : Bool) (rows : Result (List Row) (List ℕ)) → IsBuilt it.1
+    → rule_of (if may then asked_over host now it groups rows else refused (forbidden it.1)).reply
+    ≡ first_ground ((not may, rules.NoPermission) ∷ row_grounds host now it groups rows)
+unfolding first_ground
+by_rows host now it groups false rows built = refl
+by_rows host now it groups true (Err name) built = refl
+by_rows host now it groups true (Ok rows) built = in_scene host.admin (seeing (scene_at host now it.0 groups) rows) it.1 built
+
+-- where nothing stopped it, the reply is that of the effect
+of_effect : (o : effects.Outcome) (e : Effect Reply) → stop_of o ≡ None → (under telling o e).reply ≡ e.reply
+of_effect effects.Went e none = refl
+of_effect (effects.Stopped stop k lost) e none = absurd cc
+
+-- of what is asked, over what is held
+in_order : (host : Host) (now : ℕ) (it : Asked) (held : Held) (reply : Reply) (new : Option Held) → IsBuilt it.1
+    → Did (requested host now it (seen_in held)) held reply new → IsInOrder (grounds host now it (seen_in held)) reply
+in_order host now it held reply new built did went =
+    ap rule_of (did.reply_is ∙ of_effect did.outcome (requested host now it (seen_in held)) (did.agree ∙ went))
+    ∙ by_rows host now it (groups_of held) (is_permitted it.0 it.1) ((seen_in held).rows (reach_of it.0.org it.1)) built
 
 -- ---- a body is refused by one of three rules, unless memory ran out
 
@@ -59,7 +132,7 @@ ask_named Groups body word = tt
 module _ (host : Host) (now : ℕ) (held : Held) where
   -- of what was read the first of these rules is the first of what is asked, and of what was not it is the refusal's
   abbrev IsFirst : Reading Asked → Option RuleName → Type 0
-  IsFirst (Ok it) first = first ≡ first_ground (grounds (site host.name host.admin (groups_of held) it.0 now) it.1 held)
+  IsFirst (Ok it) first = first ≡ first_ground (grounds host now it (seen_in held))
   IsFirst (Err refusal) first = stop_in (replies.Refused refusal) ≡ None → Some refusal.name ≡ first
 
   abbrev from_body : Reading Ask → List Ground → List Ground
@@ -119,13 +192,12 @@ module _ (host : Host) (now : ℕ) (held : Held) where
 -- ---- of a reply
 
 -- what was read is answered by the instance in its order
-pub order_by_step : (i : Standing) (now : ℕ) (request : RequestData) (it : Asked) (reply : Reply) (old : Option Held)
-    → read_of i.admin request ≡ Ok it → IfSome old (λ held. IsInOrder (grounds (site_at i held it.0 now) it.1 held) reply)
+pub order_by_step : (i : Standing) (now : ℕ) (request : RequestData) (it : Asked) (reply : Reply) (old new : Option Held)
+    → read_of i.admin request ≡ Ok it → IsBuilt it.1 → IfSome old (λ held. Did (requested (host_of i) now it (seen_in held)) held reply new)
     → IfSome old (λ held. IsInOrder (order (host_of i) now request held) reply)
-order_by_step i now request it reply None is answered = tt
-order_by_step i now request it reply (Some held) is answered = λ went.
-    answered went
-    ∙ sym (subst (λ read. IsFirst (host_of i) now held read (first_ground (order (host_of i) now request held))) is (ordered (host_of i) now held request))
+order_by_step i now request it reply old new is built answered = IfSome_then old answered (λ held did went.
+    in_order (host_of i) now it held reply new built did went
+    ∙ sym (subst (λ read. IsFirst (host_of i) now held read (first_ground (order (host_of i) now request held))) is (ordered (host_of i) now held request)))
 
 -- what was not read is refused by its first rule
 pub order_by_fault : (i : Standing) (now : ℕ) (request : RequestData) (fault : AskFault) (old : Option Held)

@@ -1,6 +1,7 @@
 -- The reply to a request by its form.
 use Rattle.std.proofs.Common.{◌≡◌, ◌⊎◌, ℕ, Bool, true, false, List, refl, sym, ◌∙◌, subst, inl, inr, Option, Some, None, Result, Ok, Err}
 use Rattle.std.specs.Prelude.{IfSome, bytes_eq, if◌then◌else◌}
+use Rattle.std.proofs.lemmas.Option.{IfSome_then}
 use Rattle.misp_elem.specs.declared.refusal.Refusal.{Refusal}
 use Rattle.misp_elem.specs.declared.refusal.RuleName.{RuleName}
 use Rattle.misp_elem.specs.declared.refusal.RuleName.TheVariants as rules
@@ -12,16 +13,14 @@ use Rattle.misp_orgs.specs.Admin.{AdminFields as Admin}
 use Rattle.misp_orgs.specs.Keys.{CallerFields as Caller}
 use Rattle.misp_outside.specs.Held.{Held}
 use Rattle.misp_requests.specs.declared.ask.Ask.{Ask}
-use Rattle.misp_core.specs.Standing.{Standing}
+use Rattle.misp_core.specs.Standing.{Standing, Host, host_of}
 use Rattle.misp_effects.specs.declared.stop.Stop.TheVariants as kinds
 use Rattle.misp_effects.specs.declared.stop.Side.TheVariants.{Here}
 use Rattle.misp_effects.specs.Effect.{Effect, Stopped}
 use Rattle.misp_effects.specs.Effect as effects
-use Rattle.misp_core.specs.Permission.{is_permitted, forbidden}
-use Rattle.misp_store.specs.Sharing.{groups_of}
-use Rattle.misp_core.specs.Answers.{site, site_at}
-use Rattle.misp_core.specs.Answers.{reach_of}
-use Rattle.misp_core.specs.Effects.{stop_in, by_keeper, refused, asked_over, Did, IsAnswered}
+use Rattle.misp_requests.specs.Permission.{is_permitted, forbidden}
+use Rattle.misp_core.specs.Answers.{Asked}
+use Rattle.misp_core.specs.Effects.{stop_in, by_keeper, refused, asked_where, requested, Did}
 use Rattle.misp_core.specs.declared.reply.Reply.{Reply}
 use Rattle.misp_core.specs.declared.reply.Reply.TheVariants as replies
 use Rattle.misp_api.specs.declared.route.Route.{Route}
@@ -29,27 +28,25 @@ use Rattle.misp_api.specs.declared.route.Route.TheVariants.{AddEvent, ViewEvent,
 use Rattle.misp_api.specs.declared.request.AskFault.{AskFault}
 use Rattle.misp_api.specs.declared.request.AskFault.TheVariants as stops
 use Rattle.misp_api.specs.Route.{path_of, path_route, method_of, by_method, route_of}
-use Rattle.misp_api.specs.Host.{Host, host_of}
 use Rattle.misp_api.specs.Request.{RequestData, Reading, Gives, event_in, added, formed, asked, ask_of}
 use Rattle.misp_api.proofs.Forms.{allowed}
 use Rattle.misp_store.specs.Seen.{seen_in}
-use Rattle.misp_api.specs.Answering.{Asked, caller_in, by_body, by_route, read_of, permitted, form_of, fault_reply, replied, IsReplied}
+use Rattle.misp_api.specs.Answering.{caller_in, by_body, by_route, read_of, permitted, form_of, fault_reply, replied, IsReplied}
 
 -- what an instance comes to by an ask is what its form comes to, by whether the role permits the ask
 ask_replied : (host : Host) (now : ℕ) (asked : Asked) (may : Bool) (held : Held)
     → replied host now (allowed may asked) (seen_in held)
-    ≡ (if may then asked_over (site host.name host.admin (groups_of held) asked.0 now) asked.1 ((seen_in held).rows (reach_of asked.0.org asked.1)) else refused (forbidden asked.1))
+    ≡ (if may then asked_where host now asked (seen_in held) else refused (forbidden asked.1))
 ask_replied host now asked true held = refl
 ask_replied host now asked false held = refl
 
 -- an ask is answered by the instance
 pub by_step : (i : Standing) (now : ℕ) (request : RequestData) (asked : Asked) (reply : Reply) (old new : Option Held)
-    → read_of i.admin request ≡ Ok asked → IfSome old (λ held. IsAnswered (site_at i held asked.0 now) asked.1 held reply new)
+    → read_of i.admin request ≡ Ok asked → IfSome old (λ held. Did (requested (host_of i) now asked (seen_in held)) held reply new)
     → IfSome old (λ held. IsReplied (host_of i) now (form_of i.admin request) held reply new)
-by_step i now request asked reply None new is answered = tt
-by_step i now request asked reply (Some held) new is answered =
+by_step i now request asked reply old new is answered = IfSome_then old answered (λ held did.
     subst (λ read. IsReplied (host_of i) now (permitted read) held reply new) (sym is)
-    (subst (λ e. Did e held reply new) (sym (ask_replied (host_of i) now asked (is_permitted asked.0 asked.1) held)) answered)
+    (subst (λ e. Did e held reply new) (sym (ask_replied (host_of i) now asked (is_permitted asked.0 asked.1) held)) did))
 
 -- a refusal by the form of a request comes from no keeper, and from memory only where memory ran out
 abbrev pub IsFormal : Refusal → Type 0

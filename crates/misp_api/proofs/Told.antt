@@ -1,21 +1,19 @@
 -- What is told of a plan, where memory does not run out for its text.
 use Rattle.std.proofs.Common.{◌≡◌, ◌⊎◌, ℕ, false, ◌≤◌, List, [], ◌++◌, length, take, length-append, refl, sym, ◌∙◌, ap, subst, inl, inr, arith, Option, Some, None, Result, Ok, Err}
 use Rattle.std.proofs.lemmas.List.{take_at}
+use Rattle.std.proofs.lemmas.Option.{IfSome_then}
 use Rattle.std.specs.Prelude.{IfSome, IfOk, IfErr, IsOkAnd, OnOk, OnErr}
 use Rattle.misp_outside.specs.Causes.{Rose, HasCause}
 use Rattle.misp_outside.specs.Held.{Held}
 use Rattle.misp_effects.specs.Batches.{AreReadable}
 use Rattle.misp_effects.specs.Effect.{Effect, effect, left}
 use Rattle.misp_effects.specs.Effect as effects
-use Rattle.misp_requests.specs.declared.ask.Ask.{Ask}
-use Rattle.misp_core.specs.Standing.{Standing}
-use Rattle.misp_core.specs.Permission.{is_permitted, forbidden}
-use Rattle.misp_core.specs.Turned.{IsBarred}
-use Rattle.misp_core.specs.Answers.{IsBuilt, site_at}
-use Rattle.misp_core.specs.Order.{IsInOrder}
+use Rattle.misp_core.specs.Standing.{Standing, host_of}
+use Rattle.misp_requests.specs.Permission.{is_permitted, forbidden}
+use Rattle.misp_core.specs.Answers.{Asked, IsBuilt}
 use Rattle.misp_store.specs.Seen.{seen_in}
 use Rattle.misp_core.specs.Effects.{requested, Did, IsRefused, stop_in, by_keeper}
-use Rattle.misp_core.specs.Planning.{Plans, IsPlan, IsPlanned, batches_of, unplanned, stop_planned}
+use Rattle.misp_core.specs.Planning.{Plans, IsPlan, IsPlanned, batches_of, unplanned, stop_planned, IsBarred}
 use Rattle.misp_core.specs.declared.planning.Plan.{Plan}
 use Rattle.misp_core.specs.declared.planning.Batch.{Batch as Put}
 use Rattle.misp_store.specs.Batches.{spelled}
@@ -23,15 +21,12 @@ use Rattle.misp_core.specs.declared.planning.NoPlan.{NoPlan}
 use Rattle.misp_core.specs.declared.reply.Reply.{Reply}
 use Rattle.misp_core.specs.declared.reply.Reply.TheVariants as replies
 use Rattle.misp_core.proofs.Carried.{DidThere, is_planned}
-use Rattle.misp_core.proofs.Answered.{turned_there}
-use Rattle.misp_core.proofs.Ordering.{told_in_order}
-use Rattle.misp_api.specs.Host.{host_of}
-use Rattle.misp_api.specs.Order.{order}
+use Rattle.misp_api.specs.Order.{IsInOrder, order}
 use Rattle.misp_api.specs.Request.{RequestData}
 use Rattle.misp_api.specs.Refusing.{TurnsAway}
 use Rattle.misp_api.specs.Text.{reply_text}
-use Rattle.misp_api.specs.Answering.{Asked, read_of, form_of, IsReplied}
-use Rattle.misp_api.proofs.Turning.{turned_by_step}
+use Rattle.misp_api.specs.Answering.{read_of, form_of, IsReplied}
+use Rattle.misp_api.proofs.Turning.{turned_there, turned_by_step}
 use Rattle.misp_api.proofs.Replying.{by_step}
 use Rattle.misp_api.proofs.Ordering.{order_by_step}
 
@@ -104,8 +99,7 @@ unmet count none = record { later = omega arith; rose = λ is. absurd (none is) 
 
 -- a plan that asked no keeper is one
 pub planned_there : (old : Option Held) (comes : Held → Effect Reply) (planned : Result Plan NoPlan) → IfSome old (λ held. Plans planned (comes held)) → IfSome old (λ held. IsPlanned planned (comes held))
-planned_there None comes planned plans = tt
-planned_there (Some held) comes planned plans = is_planned planned (comes held) plans
+planned_there old comes planned plans = IfSome_then old plans (λ held. is_planned planned (comes held))
 
 -- a text without what was written last
 pub text_before : (before more after : List ℕ) (start : ℕ) → length before ≡ start → after ≡ before ++ more → take start after ≡ before
@@ -132,20 +126,19 @@ nothing_did p e (Some held) plans none =
 -- what was planned of it was replied
 pub replied_told : {E : Type 0} (r : Result Reply E) (i : Standing) (now : ℕ) (request : RequestData) (asked : Asked) (planned : Result Plan NoPlan) (mid new : Option Held)
     → read_of i.admin request ≡ Ok asked → mid ≡ i.held
-    → IfSome i.held (λ held. IsPlanned planned (requested (site_at i held asked.0 now) asked.1 (seen_in held)))
+    → IfSome i.held (λ held. IsPlanned planned (requested (host_of i) now asked (seen_in held)))
     → ((e : Effect Reply) → IsPlanned planned e → IfOk r (λ reply. DidThere e mid reply new))
     → IfOk r (λ reply. IfSome i.held (λ held. IsReplied (host_of i) now (form_of i.admin request) held reply new))
 replied_told r i now request asked planned mid new is same plans done =
     of_reply r (λ reply answered. by_step i now request asked reply i.held new is answered)
-    (done_there r (λ held. requested (site_at i held asked.0 now) asked.1 (seen_in held)) planned i.held mid new same plans done)
+    (done_there r (λ held. requested (host_of i) now asked (seen_in held)) planned i.held mid new same plans done)
 
 -- and by the first of its rules
 pub ordered_told : {E : Type 0} (r : Result Reply E) (i : Standing) (now : ℕ) (request : RequestData) (asked : Asked) (planned : Result Plan NoPlan) (mid new : Option Held)
     → read_of i.admin request ≡ Ok asked → IsBuilt asked.1 → mid ≡ i.held
-    → IfSome i.held (λ held. IsPlanned planned (requested (site_at i held asked.0 now) asked.1 (seen_in held)))
+    → IfSome i.held (λ held. IsPlanned planned (requested (host_of i) now asked (seen_in held)))
     → ((e : Effect Reply) → IsPlanned planned e → IfOk r (λ reply. DidThere e mid reply new))
     → IfOk r (λ reply. IfSome i.held (λ held. IsInOrder (order (host_of i) now request held) reply))
 ordered_told r i now request asked planned mid new is built same plans done =
-    of_reply r
-    (λ reply answered. order_by_step i now request asked reply i.held is (told_in_order (λ held. site_at i held asked.0 now) asked.1 i.held new reply built answered))
-    (done_there r (λ held. requested (site_at i held asked.0 now) asked.1 (seen_in held)) planned i.held mid new same plans done)
+    of_reply r (λ reply answered. order_by_step i now request asked reply i.held new is built answered)
+    (done_there r (λ held. requested (host_of i) now asked (seen_in held)) planned i.held mid new same plans done)

@@ -1,14 +1,23 @@
 -- What is refused by its form is refused just so.
-use Rattle.std.proofs.Common.{◌≡◌, Bool, true, false, refl, sym, subst, inl, inr, Ok, Err}
+use Rattle.std.proofs.Common.{◌≡◌, Bool, true, false, refl, sym, subst, ◌∙◌, inl, inr, Result, Ok, Err}
+use Rattle.std.specs.Prelude.{IfErr, OnErr}
+use Rattle.std.proofs.lemmas.Result.{IfErr-at_err}
+use Rattle.misp_elem.specs.declared.refusal.RuleName.TheVariants as rules
+use Rattle.misp_requests.specs.declared.ask.Ask.{Ask}
 use Rattle.misp_core.specs.Standing.{Standing}
-use Rattle.misp_core.specs.Permission.{is_permitted, forbidden}
-use Rattle.misp_core.specs.Turned.{IsTurnedAway}
+use Rattle.misp_requests.specs.Permission.{is_permitted, forbidden}
+use Rattle.misp_core.specs.Effects.{refused_by, stop_in, by_keeper}
+use Rattle.misp_core.specs.Planning.{unplanned, IsBarred}
+use Rattle.misp_core.specs.declared.planning.Plan.{Plan}
+use Rattle.misp_core.specs.declared.planning.NoPlan.{NoPlan}
 use Rattle.misp_core.specs.declared.reply.Reply.{Reply}
+use Rattle.misp_core.specs.declared.reply.Reply.TheVariants as replies
+use Rattle.misp_core.specs.Answers.{Asked}
 use Rattle.misp_api.specs.declared.request.AskFault.{AskFault}
 use Rattle.misp_api.specs.declared.request.AskFault.TheVariants as stops
 use Rattle.misp_api.specs.Request.{RequestData, Reading, Gives}
-use Rattle.misp_api.specs.Refusing.{TurnsAway}
-use Rattle.misp_api.specs.Answering.{Asked, read_of, permitted, form_of, fault_reply}
+use Rattle.misp_api.specs.Refusing.{IsTurnedAway, TurnsAway}
+use Rattle.misp_api.specs.Answering.{read_of, permitted, form_of, fault_reply}
 use Rattle.misp_api.proofs.Forms.{allowed}
 use Rattle.misp_api.proofs.Replying.{ByForm, read_by_form, no_keeper_in}
 
@@ -34,6 +43,24 @@ turned_unread i request (stops.Refused refusal) given =
 turned_unread i request stops.NoMemory given = out_of_memory i (form_of i.admin request)
 
 -- ---- what was read
+
+not_forbidden : (ask : Ask) → stop_in (replies.Refused (forbidden ask)) ≡ by_keeper → ⊥
+not_forbidden ask is = absurd cc
+
+no_memory : stop_in (refused_by rules.NoMemory) ≡ by_keeper → ⊥
+no_memory is = absurd cc
+
+-- what the role forbids is refused just so
+pub turned_there : (old mid new : Standing) (ask : Ask) (planned : Result Plan NoPlan) (reply : Reply) → IsBarred (forbidden ask) old mid planned
+    → IfErr planned (λ no. reply ≡ unplanned no) → OnErr planned (new ≡ mid) → IsTurnedAway (forbidden ask) old new reply
+turned_there old mid new ask planned reply bars is still = elim bars.just [
+  | inl e ↦
+      let just : reply ≡ replies.Refused (forbidden ask) = IfErr-at_err (λ no. reply ≡ unplanned no) e is in
+      record { just = inl just; no_fault = λ told. not_forbidden ask (subst (λ r. stop_in r ≡ by_keeper) just told); still = IfErr-at_err (λ no. new ≡ mid) e still ∙ bars.still }
+  | inr e ↦
+      let just : reply ≡ refused_by rules.NoMemory = IfErr-at_err (λ no. reply ≡ unplanned no) e is in
+      record { just = inr just; no_fault = λ told. no_memory (subst (λ r. stop_in r ≡ by_keeper) just told); still = IfErr-at_err (λ no. new ≡ mid) e still ∙ bars.still }
+]
 
 by_role : (may : Bool) (asked : Asked) (old new : Standing) (reply : Reply) → (may ≡ false → IsTurnedAway (forbidden asked.1) old new reply) → TurnsAway (allowed may asked) old new reply
 by_role true asked old new reply turned = tt

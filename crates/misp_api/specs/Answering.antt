@@ -9,15 +9,15 @@ use Rattle.misp_orgs.specs.Admin.{AdminFields as Admin, who_of}
 use Rattle.misp_outside.specs.Held.{Held}
 use Rattle.misp_effects.specs.Effect.{Effect}
 use Rattle.misp_requests.specs.declared.ask.Ask.{Ask}
-use Rattle.misp_core.specs.Permission.{permission_of, is_permitted, no_permission}
-use Rattle.misp_core.specs.Answers.{reach_of, site}
-use Rattle.misp_core.specs.Effects.{refused, refused_by, asked_over, Did}
+use Rattle.misp_requests.specs.Permission.{permission_of, is_permitted, no_permission}
+use Rattle.misp_core.specs.Answers.{Asked}
+use Rattle.misp_core.specs.Effects.{refused, refused_by, asked_where, Did}
 use Rattle.misp_core.specs.declared.reply.Reply.{Reply}
 use Rattle.misp_core.specs.declared.reply.Reply.TheVariants as replies
 use Rattle.misp_api.specs.declared.route.Route.{Route}
 use Rattle.misp_api.specs.declared.request.AskFault.{AskFault}
 use Rattle.misp_api.specs.declared.request.AskFault.TheVariants as stops
-use Rattle.misp_api.specs.Host.{Host}
+use Rattle.misp_core.specs.Standing.{Host}
 use Rattle.misp_api.specs.Route.{route_of}
 use Rattle.misp_api.specs.Request.{RequestData, Reading, ask_of}
 use Rattle.misp_store.specs.Seen.{Seen, seen_in}
@@ -26,10 +26,6 @@ use Rattle.misp_store.specs.Seen.{Seen, seen_in}
 abbrev pub caller_in : Admin → Option (List ℕ) → Option Caller
 caller_in admin None = None
 caller_in admin (Some text) = if is_api_key text then who_of admin text else None
-
--- an ask, and whose it is
-abbrev pub Asked : Type 0
-Asked = Caller × Ask
 
 abbrev pub by_body : Caller → Reading Ask → Reading Asked
 by_body caller (Ok ask) = Ok (caller, ask)
@@ -68,9 +64,7 @@ fault_reply stops.NoMemory = refused_by rules.NoMemory
 
 -- what it comes to by what is seen
 abbrev pub replied : Host → ℕ → Reading Asked → Seen → Effect Reply
-replied host now (Ok asked) here =
-    asked_over (site host.name host.admin here.groups asked.0 now) asked.1
-    (here.rows (reach_of asked.0.org asked.1))
+replied host now (Ok asked) here = asked_where host now asked here
 replied host now (Err refusal) here = refused refusal
 
 -- it was replied so, and left this

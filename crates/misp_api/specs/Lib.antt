@@ -1,4 +1,3 @@
-pub mod Host
 pub mod Route
 pub mod Request
 pub mod Refusing

@@ -1,18 +1,66 @@
 -- The one order of refusals: each rule in its place, with whether it refuses the request.
-use Rattle.std.specs.Prelude.{ℕ, ◌==◌, Bool, false, not, bytes_eq, is_some, List, [], ◌∷◌, Option, Ok, Err}
+use Rattle.std.specs.Prelude.{◌≡◌, ℕ, ◌==◌, Bool, true, false, not, bytes_eq, is_some, List, [], ◌∷◌, map, find, Option, None, Some, Result, Ok, Err, option_map}
 use Rattle.std.specs.Option.{option_map_or}
 use Rattle.misp_elem.specs.declared.refusal.RuleName.{RuleName}
 use Rattle.misp_elem.specs.declared.refusal.RuleName.TheVariants as rules
+use Rattle.misp_elem.specs.declared.row.RowFields.{RowFields as Row}
 use Rattle.misp_elem.specs.Refusal.{rule_number}
+use Rattle.misp_groups.specs.declared.group.GroupFields.{GroupFields as Group}
 use Rattle.misp_outside.specs.Held.{Held}
-use Rattle.misp_core.specs.Answers.{site}
-use Rattle.misp_store.specs.Sharing.{groups_of}
-use Rattle.misp_core.specs.Order.{Ground, grounds}
+use Rattle.misp_model.specs.Asking.{Rule}
+use Rattle.misp_model.specs.Acts.{ask_rules}
+use Rattle.misp_model.specs.Machine.{seeing}
+use Rattle.misp_store.specs.Seen.{Seen, seen_in}
+use Rattle.misp_requests.specs.Permission.{is_permitted}
+use Rattle.misp_store.specs.Reach.{reach_of}
+use Rattle.misp_edit.specs.Refusals.{named}
+use Rattle.misp_core.specs.Answers.{Asked, scene_at}
+use Rattle.misp_core.specs.Effects.{stop_in}
+use Rattle.misp_core.specs.declared.reply.Reply.{Reply}
+use Rattle.misp_core.specs.declared.reply.Reply.TheVariants as replies
 use Rattle.misp_api.specs.declared.route.Route.{Route}
-use Rattle.misp_api.specs.Host.{Host}
+use Rattle.misp_core.specs.Standing.{Host}
 use Rattle.misp_api.specs.Route.{path_of, path_route, method_of}
 use Rattle.misp_api.specs.Request.{RequestData, Reading, ask_of}
-use Rattle.misp_api.specs.Answering.{Asked, caller_in, read_of}
+use Rattle.misp_api.specs.Answering.{caller_in, read_of}
+
+-- whether a rule refuses a request, and the rule
+abbrev pub Ground : Type 0
+Ground = Bool × RuleName
+
+-- the first of these rules that refuses
+unfoldable pub first_ground : List Ground → Option RuleName
+first_ground grounds = option_map (λ g. g.1) (find (λ g. g.0) grounds)
+
+-- the rule by which a reply refuses
+abbrev pub rule_of : Reply → Option RuleName
+rule_of (replies.Ok answer) = None
+rule_of (replies.Refused refusal) = Some refusal.name
+
+-- a reply that nothing stopped refuses by the first of these rules that refuses, and is an answer
+-- where none does
+abbrev pub IsInOrder : List Ground → Reply → Type 0
+IsInOrder grounds reply = stop_in reply ≡ None → rule_of reply ≡ first_ground grounds
+
+-- ---- the rules from the role of the caller on
+
+abbrev pub ground_of : Bool × Rule → Ground
+ground_of g = (g.0, named g.1)
+
+-- the rule of a row that does not decode, or else the rules of the ask in their order
+abbrev pub row_grounds :
+    Host → ℕ → Asked → List Group → Result (List Row) (List ℕ) → List Ground
+row_grounds host now it groups (Ok rows) =
+    map ground_of (ask_rules (seeing (scene_at host now it.0 groups) rows) it.1)
+row_grounds host now it groups (Err name) = (true, rules.BadRow) ∷ []
+
+-- of what is asked, where this is seen: first the role of the caller must permit it
+abbrev pub grounds : Host → ℕ → Asked → Seen → List Ground
+grounds host now it seen =
+    (not (is_permitted it.0 it.1), rules.NoPermission)
+    ∷ row_grounds host now it seen.groups (seen.rows (reach_of it.0.org it.1))
+
+-- ---- from the path on
 
 -- what the path of a request is for
 abbrev pub route_asked : RequestData → Option Route
@@ -36,8 +84,7 @@ body_breaks rule request =
 
 -- the rules of what is asked, where it was read
 abbrev pub asked_grounds : Host → ℕ → Reading Asked → Held → List Ground
-asked_grounds host now (Ok asked) held =
-    grounds (site host.name host.admin (groups_of held) asked.0 now) asked.1 held
+asked_grounds host now (Ok it) held = grounds host now it (seen_in held)
 asked_grounds host now (Err refusal) held = []
 
 -- of a request, at this moment and over what is held

@@ -4,10 +4,9 @@ ghost use Rattle.std.specs.Prelude.{◌≡◌, ◌<◌, ◌++◌, Err, IfOk, IsO
 ghost use Rattle.misp_outside.specs.Causes.{HasCause};
 ghost use Rattle.misp_core.specs.Answers.{IsBuilt};
 ghost use Rattle.misp_core.specs.Effects.{stop_in, by_keeper, IsRefused};
-ghost use Rattle.misp_core.specs.Order.{IsInOrder};
 ghost use Rattle.misp_api.specs.Answering.{caller_in, read_of, form_of, fault_reply, IsReplied};
-ghost use Rattle.misp_api.specs.Order.{order};
-ghost use Rattle.misp_api.specs.Host.{host_of};
+ghost use Rattle.misp_api.specs.Order.{IsInOrder, order};
+ghost use Rattle.misp_core.specs.Standing.{host_of};
 ghost use Rattle.misp_api.specs.Request.{Gives, request_data};
 ghost use Rattle.misp_api.specs.Refusing.{TurnsAway};
 ghost use Rattle.misp_api.specs.Text.{reply_text};

@@ -9,7 +9,7 @@ use Rattle.misp_script.specs.Source.{description_part, script_part}
 use Rattle.misp_net.specs.Hosts.{described_hosts}
 use Rattle.misp_net.specs.Lines.{acts_of}
 use Rattle.misp_net.specs.Promise.{IsCut, AreReplied}
-use Rattle.misp_net.proofs.Openings.{all_kept}
+use Rattle.misp_effects.proofs.Stocks.{all_kept}
 use Rattle.misp_net.proofs.Courses.{none_ran, all_ran}
 use Rattle.misp_app.specs.Source.{described, IsCutShort}
 
@@ -40,4 +40,4 @@ cut_there source description script net old new first second is cut =
 pub cut_behind : (source description script : List ℕ) (net : Description) (old new : List Stock) (text : List ℕ) → description ≡ description_part source → script ≡ script_part source → description_at description ≡ Ok net
     → AreReplied (described_hosts net) (acts_of (directory_of net) script) (take (length net.instances) old) (take (length net.instances) new) text → IsCutShort source old new
 cut_behind source description script net old new text first second is said =
-    cut_there source description script net old new first second is (all_ran _ _ _ _ said.outputs said.ran)
+    cut_there source description script net old new first second is (all_ran _ _ _ _ said.run.outputs said.run.ran)

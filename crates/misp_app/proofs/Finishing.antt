@@ -5,11 +5,12 @@ use Rattle.std.proofs.lemmas.Bool.{cases_Bool}
 use Rattle.std.proofs.lemmas.Bool.Decides.{nat_tests}
 use Rattle.misp_outside.specs.Held.{nothing_held}
 use Rattle.misp_outside.specs.Stock.{Stock}
-use Rattle.misp_effects.specs.Stocks.{told}
+use Rattle.misp_effects.specs.Stocks.{told, OneFailed}
+use Rattle.misp_effects.proofs.Stocks.{one_of_all}
 use Rattle.misp_script.specs.declared.description.Description.{Description}
 use Rattle.misp_script.specs.Faults.{Reading}
-use Rattle.misp_net.specs.Opening.{may_be_unsound, OneFailed}
-use Rattle.misp_net.proofs.Openings.{nothing_is_sound, one_of_all}
+use Rattle.misp_store.specs.Sharing.{may_be_unsound}
+use Rattle.misp_net.proofs.Openings.{nothing_is_sound}
 use Rattle.misp_app.specs.declared.status.Status.{Status}
 use Rattle.misp_app.specs.declared.status.Status.TheVariants as ends
 use Rattle.misp_app.specs.Status.{IsStopped}

@@ -9,10 +9,10 @@ use Rattle.misp_script.specs.Directory.{directory_of}
 use Rattle.misp_script.specs.Source.{description_part, script_part}
 use Rattle.misp_outside.specs.Held.{nothing_held}
 use Rattle.misp_outside.specs.Stock.{Stock}
-use Rattle.misp_effects.specs.Stocks.{told}
-use Rattle.misp_api.specs.Host.{Host}
+use Rattle.misp_effects.specs.Stocks.{told, OneFailed}
+use Rattle.misp_core.specs.Standing.{Host}
 use Rattle.misp_net.specs.Hosts.{described_hosts}
-use Rattle.misp_net.specs.Opening.{may_be_sound, may_be_unsound, OneFailed}
+use Rattle.misp_store.specs.Sharing.{may_be_sound, may_be_unsound}
 use Rattle.misp_net.specs.Lines.{Act, acts_of}
 use Rattle.misp_net.specs.History.{AreDistinct}
 use Rattle.misp_net.specs.Promise.{IsCut}

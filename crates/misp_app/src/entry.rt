@@ -3,8 +3,7 @@
 ghost use Rattle.std.specs.Prelude.{◌≡◌, ◌≤◌, ◌↔◌, ◌⊎◌, None, Some, IfSome, IfOk, IsSome, ◌<◌, length, map, vec_len, string_bytes};
 ghost use Rattle.misp_outside.specs.Causes.{Rose};
 ghost use Rattle.std.specs.Io.KnownBytes.{Appends};
-ghost use Rattle.misp_effects.specs.Stocks.{told};
-ghost use Rattle.misp_net.specs.Opening.{OneFailed};
+ghost use Rattle.misp_effects.specs.Stocks.{told, OneFailed};
 ghost use Rattle.misp_net.specs.Promise.{IsPrivate, AreReplied, AreNewest};
 ghost use Rattle.misp_app.specs.Limits.{source_limit, least_keepers};
 ghost use Rattle.misp_app.specs.Source.{described, described_status, status_of, ok_line, IsTold, HasRun, IsCutShort, IsSound, IsUnsound, HasFailed, OthersStay, HoldNothing};

@@ -17,8 +17,8 @@ use Rattle.misp_effects.specs.Effect as effects
 use Rattle.misp_levels.specs.Groups.{put_groups}
 use Rattle.misp_store.specs.Sharing.{HoldsGroups, group_row, groups_in, AreStorable}
 use Rattle.misp_store.specs.Batches.{spelled}
-use Rattle.misp_core.specs.Effects.{refused_by, stop_in, by_keeper, rule_of_stop, Did}
-use Rattle.misp_core.specs.Planning.{batch_of, batches_of, rows_put, Plans, IsPlanned, TellsNoStop, unplanned, stop_planned}
+use Rattle.misp_core.specs.Effects.{refused_by, by_keeper, rule_of_stop, Did}
+use Rattle.misp_core.specs.Planning.{batch_of, batches_of, rows_put, Plans, IsPlanned, unplanned, stop_planned}
 use Rattle.misp_core.specs.declared.planning.Plan.{Plan}
 use Rattle.misp_core.specs.declared.planning.Batch.{Batch as Put}
 use Rattle.misp_core.specs.declared.planning.NoPlan.{NoPlan}
@@ -48,25 +48,16 @@ refused_did no.KeeperFault e (Some held) new plans same =
 refused_did no.NoMemory e (Some held) new plans same =
     record { outcome = effects.Stopped (stops.Memory Here) 0 false; agree = refl; reply_is = refl; held_is = same; fits = tt }
 
-pub no_stop : (planned : Result Plan NoPlan) (e : Effect Reply) → Plans planned e → TellsNoStop planned
-no_stop (Ok p) e plans = tt
-no_stop (Err (no.Refused refusal)) e plans = plans.no_stop
-no_stop (Err no.KeeperFault) e plans = plans
-no_stop (Err no.NoMemory) e plans = tt
-
 -- what asks no keeper is planned
 pub is_planned : (planned : Result Plan NoPlan) (e : Effect Reply) → Plans planned e → IsPlanned planned e
-is_planned (Ok p) e plans = plans
-is_planned (Err (no.Refused refusal)) e plans = plans
 is_planned (Err no.KeeperFault) e plans = tt
-is_planned (Err no.NoMemory) e plans = tt
+is_planned planned e plans = plans
 
 -- and it tells no fault of a keeper
-pub asks_none : (planned : Result Plan NoPlan) → TellsNoStop planned → stop_planned planned ≡ by_keeper → ⊥
-asks_none (Ok p) none is = absurd cc
-asks_none (Err (no.Refused refusal)) none is = let both : None ≡ by_keeper = sym none ∙ is in absurd cc
-asks_none (Err no.KeeperFault) none is = none
-asks_none (Err no.NoMemory) none is = absurd cc
+pub asks_none : (planned : Result Plan NoPlan) (e : Effect Reply) → Plans planned e → stop_planned planned ≡ by_keeper → ⊥
+asks_none (Err (no.Refused refusal)) e plans is = let both : None ≡ by_keeper = sym plans.no_stop ∙ is in absurd cc
+asks_none (Err no.KeeperFault) e plans is = plans
+asks_none planned e plans is = absurd cc
 
 -- ---- the keeper stopped
 
@@ -76,11 +67,6 @@ stopped_did faults.Failed e (Some held) new same =
     record { outcome = effects.Stopped (stops.Keeper Here) 0 false; agree = refl; reply_is = refl; held_is = same; fits = tt }
 stopped_did faults.NoMemory e (Some held) new same =
     record { outcome = effects.Stopped (stops.Memory Here) 0 false; agree = refl; reply_is = refl; held_is = same; fits = tt }
-
--- a keeper that stopped by its fault failed
-pub stop_failed : (stop : KeeperFault) → stop_in (refused_by (rule_of_stop stop)) ≡ by_keeper → stop ≡ faults.Failed
-stop_failed faults.Failed e = refl
-stop_failed faults.NoMemory e = absurd cc
 
 -- ---- it was put
 

@@ -1,14 +1,6 @@
-pub mod BuiltAsks
 pub mod Decisions
-pub mod Planned
 pub mod Carried
 pub mod Answered
-pub mod Serving
-pub mod OwnCopy
-pub mod NamedRows
-pub mod OwnRows
+pub mod Alike
 pub mod Keeping
-pub mod Ordering
 pub mod KeepingGroups
-pub mod NamedGroups
-pub mod Numbers

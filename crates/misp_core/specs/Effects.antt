@@ -1,12 +1,11 @@
 -- What a request comes to, and how a stop of it is told.
-use Rattle.std.specs.Prelude.{ℕ, ◌==◌, List, [], ◌∷◌, Result, Ok, Err, if◌then◌else◌}
-use Rattle.std.specs.declared.option.Option.{Option}
-use Rattle.std.specs.declared.option.Option.TheVariants.{None, Some}
+use Rattle.std.specs.Prelude.{ℕ, ◌==◌, List, [], ◌∷◌, Option, None, Some, Result, Ok, Err, if◌then◌else◌}
 use Rattle.misp_elem.specs.declared.refusal.Refusal.{Refusal}
 use Rattle.misp_elem.specs.declared.refusal.RuleName.{RuleName}
 use Rattle.misp_elem.specs.declared.refusal.RuleName.TheVariants as rules
 use Rattle.misp_elem.specs.Refusal.{rule_number, bare}
 use Rattle.misp_elem.specs.declared.row.RowFields.{RowFields as Row}
+use Rattle.misp_groups.specs.declared.group.GroupFields.{GroupFields as Group}
 use Rattle.misp_requests.specs.declared.ask.Ask.{Ask}
 use Rattle.misp_orgs.specs.Admin.{AdminFields as Admin}
 use Rattle.misp_outside.specs.declared.fault.KeeperFault.{KeeperFault}
@@ -18,10 +17,13 @@ use Rattle.misp_effects.specs.declared.stop.Side.TheVariants.{Here}
 use Rattle.misp_effects.specs.Batches.{Batch, batch}
 use Rattle.misp_effects.specs.Effect.{Effect, effect, Telling, nothing_of, Does}
 use Rattle.misp_model.specs.Asking.{Scene}
+use Rattle.misp_model.specs.Machine.{seeing}
 use Rattle.misp_store.specs.Batches.{spelled}
-use Rattle.misp_store.specs.Seen.{Seen, seen_in}
-use Rattle.misp_core.specs.Permission.{is_permitted, forbidden}
-use Rattle.misp_core.specs.Answers.{Surroundings, reach_of, scene_at, reply_in, writes_in, bad_row}
+use Rattle.misp_store.specs.Seen.{Seen}
+use Rattle.misp_requests.specs.Permission.{is_permitted, forbidden}
+use Rattle.misp_store.specs.Reach.{reach_of}
+use Rattle.misp_core.specs.Answers.{Asked, scene_at, reply_in, writes_in, bad_row}
+use Rattle.misp_core.specs.Standing.{Host}
 use Rattle.misp_core.specs.declared.reply.Reply.{Reply}
 use Rattle.misp_core.specs.declared.reply.Reply.TheVariants as replies
 
@@ -83,22 +85,23 @@ row_batches (row ∷ rows) = batch (row ∷ rows) [] ∷ []
 abbrev pub asked : Admin → Scene → Ask → Effect Reply
 asked admin s ask = effect (reply_in admin s ask) (row_batches (writes_in s ask))
 
--- an ask over what is read for it
-abbrev pub asked_over : Surroundings → Ask → Result (List Row) (List ℕ) → Effect Reply
-asked_over at ask (Ok rows) = asked at.admin (scene_at at rows) ask
-asked_over at ask (Err name) = refused (bad_row name)
+-- what is asked, with these groups and over what is read for it
+abbrev pub asked_over :
+    Host → ℕ → Asked → List Group → Result (List Row) (List ℕ) → Effect Reply
+asked_over host now it groups (Ok rows) =
+    asked host.admin (seeing (scene_at host now it.0 groups) rows) it.1
+asked_over host now it groups (Err name) = refused (bad_row name)
+
+-- what is asked, where this is seen
+abbrev pub asked_where : Host → ℕ → Asked → Seen → Effect Reply
+asked_where host now it seen =
+    asked_over host now it seen.groups (seen.rows (reach_of it.0.org it.1))
 
 -- a request, where this is seen: the role of the caller must permit what it asks
-abbrev pub requested : Surroundings → Ask → Seen → Effect Reply
-requested at ask seen =
-    if is_permitted at.caller ask
-    then asked_over at ask (seen.rows (reach_of at.caller.org ask))
-    else refused (forbidden ask)
+abbrev pub requested : Host → ℕ → Asked → Seen → Effect Reply
+requested host now it seen =
+    if is_permitted it.0 it.1 then asked_where host now it seen else refused (forbidden it.1)
 
 -- a call that was to have this effect did what it comes to under some outcome
 abbrev pub Did : Effect Reply → Held → Reply → Option Held → Type 0
 Did e held reply new = Does Reply spelled stop_in telling e held reply new
-
--- a request was answered so, and left this
-abbrev pub IsAnswered : Surroundings → Ask → Held → Reply → Option Held → Type 0
-IsAnswered at ask held reply new = Did (requested at ask (seen_in held)) held reply new

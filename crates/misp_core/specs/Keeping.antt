@@ -1,12 +1,11 @@
 -- An instance in a network: whose act a request is, and what its keeper holds of the history.
-use Rattle.std.specs.Prelude.{◌≡◌, map, Bool, Ok}
+use Rattle.std.specs.Prelude.{◌≡◌, ℕ, map, Bool, Ok}
 use Rattle.std.specs.List.{AllByRecursion}
 use Rattle.std.specs.List.Sorted.{IsStrictlySortedBy}
 use Rattle.misp_ids.specs.declared.uid.OrgId.{OrgId}
 use Rattle.misp_elem.specs.Row.{AreRows}
 use Rattle.misp_groups.specs.declared.group.GroupFields.{GroupFields as Group}
 use Rattle.misp_groups.specs.Group.{IsGroup}
-use Rattle.misp_requests.specs.declared.ask.Ask.{Ask}
 use Rattle.misp_orgs.specs.Admin.{AdminFields as Admin}
 use Rattle.misp_orgs.specs.Keys.{CallerFields as Caller}
 use Rattle.misp_outside.specs.Held.{Held}
@@ -16,16 +15,17 @@ use Rattle.misp_model.specs.Acts as model
 use Rattle.misp_levels.specs.Groups.{by_name}
 use Rattle.misp_store.specs.Raw.{raw_row}
 use Rattle.misp_store.specs.Sharing.{groups_in}
-use Rattle.misp_core.specs.Answers.{Surroundings, name_in}
+use Rattle.misp_core.specs.Answers.{Asked, name_in}
+use Rattle.misp_core.specs.Standing.{Host}
 
 -- who asks, with the name by which an instance of this administration knows the organisation
 abbrev pub caller_at : Admin → Caller → model.Caller
 caller_at admin caller = record { org = caller.org; name = name_in admin caller.org }
 
 -- a request there, as an act
-abbrev pub act_at : Surroundings → Ask → model.Act
-act_at at ask =
-    record { at = at.here; now = at.now; deed = model.Asks (caller_at at.admin at.caller) ask }
+abbrev pub act_at : Host → ℕ → Asked → model.Act
+act_at host now it =
+    record { at = host.name; now = now; deed = model.Asks (caller_at host.admin it.0) it.1 }
 
 -- an administration there, as an act
 abbrev pub act_of : Inst → Stamp → OrgId → Bool → Group → model.Act

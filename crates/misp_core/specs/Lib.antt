@@ -1,10 +1,6 @@
 pub mod Standing
-pub mod Permission
-pub mod Naming
 pub mod Answers
-pub mod Turned
 pub mod Effects
 pub mod Planning
 pub mod Administering
 pub mod Keeping
-pub mod Order

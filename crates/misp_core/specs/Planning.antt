@@ -1,7 +1,5 @@
 -- What a planner answers.
-use Rattle.std.specs.Prelude.{◌≡◌, List, [], ◌∷◌, Result, Ok, Err}
-use Rattle.std.specs.declared.option.Option.{Option}
-use Rattle.std.specs.declared.option.Option.TheVariants.{None, Some}
+use Rattle.std.specs.Prelude.{◌≡◌, ◌⊎◌, List, [], ◌∷◌, Result, Ok, Err, Option, None, Some}
 use Rattle.misp_elem.specs.declared.refusal.Refusal.{Refusal}
 use Rattle.misp_elem.specs.declared.row.RowFields.{RowFields as Row}
 use Rattle.misp_elem.specs.Row.{AreRows}
@@ -11,6 +9,7 @@ use Rattle.misp_effects.specs.Effect.{Effect, effect}
 use Rattle.misp_elem.specs.declared.refusal.RuleName.TheVariants as rules
 use Rattle.misp_store.specs.declared.fault.LoadFault.{LoadFault}
 use Rattle.misp_store.specs.declared.fault.LoadFault.TheVariants as unread
+use Rattle.misp_core.specs.Standing.{Standing}
 use Rattle.misp_core.specs.Answers.{bad_row}
 use Rattle.misp_core.specs.Effects.{refused, refused_by, stop_by, stop_in}
 use Rattle.misp_core.specs.declared.planning.Plan.{Plan}
@@ -48,32 +47,21 @@ pub record Refuses (refusal : Refusal) (e : Effect Reply) : Type 0 where
   pub is : e ≡ refused refusal
   pub no_stop : stop_by refusal.name ≡ None
 
--- the plan of this effect, or its refusal; the want of memory says nothing, and no keeper is asked
-abbrev pub Plans : Result Plan NoPlan → Effect Reply → Type 0
-Plans (Ok p) e = IsPlan p e
-Plans (Err (why.Refused refusal)) e = Refuses refusal e
-Plans (Err why.KeeperFault) e = ⊥
-Plans (Err why.NoMemory) e = Unit {0}
-
--- the same where a keeper may have been asked, whose fault says nothing
+-- the plan of this effect, or its refusal; a keeper's fault and the want of memory say nothing
 abbrev pub IsPlanned : Result Plan NoPlan → Effect Reply → Type 0
 IsPlanned (Ok p) e = IsPlan p e
 IsPlanned (Err (why.Refused refusal)) e = Refuses refusal e
-IsPlanned (Err why.KeeperFault) e = Unit {0}
-IsPlanned (Err why.NoMemory) e = Unit {0}
+IsPlanned (Err _) e = Unit {0}
 
--- where nothing is planned, no stop is told but the want of memory
-abbrev pub TellsNoStop : Result Plan NoPlan → Type 0
-TellsNoStop (Ok p) = Unit {0}
-TellsNoStop (Err (why.Refused refusal)) = stop_by refusal.name ≡ None
-TellsNoStop (Err why.KeeperFault) = ⊥
-TellsNoStop (Err why.NoMemory) = Unit {0}
+-- the same where no keeper is asked
+abbrev pub Plans : Result Plan NoPlan → Effect Reply → Type 0
+Plans (Err why.KeeperFault) e = ⊥
+Plans planned e = IsPlanned planned e
 
 -- the effect is that of rows which are not read: a row that does not decode is refused
 abbrev pub IsUnread : LoadFault → Effect Reply → Type 0
 IsUnread (unread.BadRow name) e = e ≡ refused (bad_row name)
-IsUnread unread.KeeperFault e = Unit {0}
-IsUnread unread.NoMemory e = Unit {0}
+IsUnread fault e = Unit {0}
 
 -- what is replied where nothing is planned
 abbrev pub unplanned : NoPlan → Reply
@@ -85,3 +73,9 @@ unplanned why.NoMemory = refused_by rules.NoMemory
 abbrev pub stop_planned : Result Plan NoPlan → Option Stop
 stop_planned (Ok p) = None
 stop_planned (Err why) = stop_in (unplanned why)
+
+-- nothing is planned but this refusal, unless memory ran out; and the instance stands as it stood
+pub record IsBarred (refusal : Refusal) (old new : Standing)
+    (planned : Result Plan NoPlan) : Type 0 where
+  pub just : (planned ≡ Err (why.Refused refusal)) ⊎ (planned ≡ Err why.NoMemory)
+  pub still : new ≡ old

@@ -1,6 +1,5 @@
 -- What an instance is seen as.
-use Rattle.std.specs.Prelude.{ℕ, List}
-use Rattle.std.specs.declared.option.Option.{Option}
+use Rattle.std.specs.Prelude.{ℕ, List, Option}
 use Rattle.misp_orgs.specs.Admin.{AdminFields as Admin}
 use Rattle.misp_outside.specs.Held.{Held}
 
@@ -15,3 +14,11 @@ pub record Standing : Type 0 where
 abbrev pub standing : List ℕ → Admin → Option Held → ℕ → Standing
 standing name admin held faults =
     record { name = name; admin = admin; held = held; faults = faults }
+
+-- who an instance is to a request: its name, and what is set up there
+pub record Host : Type 0 where
+  pub name : List ℕ
+  pub admin : Admin
+
+abbrev pub host_of : Standing → Host
+host_of i = record { name = i.name; admin = i.admin }

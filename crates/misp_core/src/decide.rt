@@ -3,16 +3,15 @@
 ghost use Rattle.std.specs.Prelude.{◌≡◌, ◌≤◌, List, None, IfOk, map, length};
 ghost use Rattle.misp_elem.specs.declared.row.RowFields.{RowFields};
 ghost use Rattle.misp_model.specs.View.{IsTable};
+ghost use Rattle.misp_model.specs.Machine.{seeing};
 ghost use Rattle.misp_requests.specs.declared.ask.Ask.TheVariants.{View};
 ghost use Rattle.misp_requests.specs.declared.ask.Ask.TheVariants as asks;
 ghost use Rattle.misp_requests.specs.declared.change.Change.TheVariants.{AddEvent};
 ghost use Rattle.misp_core.specs.declared.reply.Answer.TheVariants as answers;
-ghost use Rattle.misp_core.specs.Answers.{site_of, scene_with, scene_at, IsAdded, IsBuilt, IsRefusal, named_event, name_in, greatest};
-ghost use Rattle.misp_core.specs.Effects.{asked, row_batches};
-ghost use Rattle.misp_core.specs.Planning.{Plans, TellsNoStop, batches_of, rows_put};
+ghost use Rattle.misp_core.specs.Answers.{scene_in, knowing, IsAdded, IsBuilt, named_event, name_in, greatest};
+ghost use Rattle.misp_core.specs.Effects.{asked, row_batches, by_keeper};
+ghost use Rattle.misp_core.specs.Planning.{Plans, batches_of, rows_put, stop_planned};
 
-use crate::listing::concerning;
-use crate::naming::group_names;
 use crate::planning::{Batch, NoPlan, Plan};
 use crate::reply::Answer;
 use crate::site::Site;
@@ -22,7 +21,7 @@ use misp_ids::{EventId, Items, OrgId, Stamp, Text};
 use misp_levels::Groups;
 use misp_orgs::{Admin, Caller};
 use misp_requests::{Ask, Change};
-use misp_view::{known, shown};
+use misp_view::{concerning, group_names, known, shown};
 use std::alloc::Global;
 
 // An answer for which nothing is put.
@@ -72,25 +71,6 @@ fn greatest(rows: &[Row]) -> Stamp
     newest
 }
 
-// The refusal of an addition.
-fn refusal(alloc: Global, fault: AddFault) -> Result<Refusal, NoMemory>
-    ensures { IfOk result (IsRefusal fault) }
-{
-    match fault {
-        AddFault::EventExists => Ok(Refusal::bare(alloc, RuleName::EventExists)),
-        AddFault::EventGone => Ok(Refusal::bare(alloc, RuleName::EventGone)),
-        AddFault::ElementExists(uuid) => Ok(Refusal {
-            name: RuleName::ElementExists,
-            place: uuid.to_text(alloc)?,
-        }),
-        AddFault::GroupNotUsable(group) => Ok(Refusal {
-            name: RuleName::GroupNotUsable,
-            place: group.uuid.to_text(alloc)?,
-        }),
-        AddFault::NoMemory => Err(NoMemory),
-    }
-}
-
 // What is answered to an addition, and the rows that it writes.
 fn saved(alloc: Global, event: EventId, rows: Vec<Row>) -> Plan
     ensures answer { result.answer ≡ answers.Saved (length rows.items) event
@@ -126,7 +106,7 @@ fn event_in(submission: &Submission) -> EventId
 fn add(alloc: Global, site: &Site<'_>, submission: Submission, rows: &[Row]) -> Result<Plan, NoPlan>
     requires { IsAdded submission }
     ensures { Plans result (asked site.now.admin.now
-        (scene_with (site_of site.now) rows.now) (asks.Change (AddEvent submission))) }
+        (knowing (scene_in site.now) rows.now) (asks.Change (AddEvent submission))) }
 {
     let org = asker(site.caller);
     let name = name_text(alloc, site.admin, &org)?;
@@ -142,7 +122,10 @@ fn add(alloc: Global, site: &Site<'_>, submission: Submission, rows: &[Row]) -> 
         rows,
     ) {
         Ok(added) => Ok(saved(alloc, event, added)),
-        Err(fault) => Err(NoPlan::Refused(refusal(alloc, fault)?)),
+        Err(fault) => match fault {
+            AddFault::Refused(refusal) => Err(NoPlan::Refused(refusal)),
+            AddFault::NoMemory => Err(NoPlan::NoMemory),
+        },
     }
 }
 
@@ -178,7 +161,7 @@ fn add_known(
 ) -> Result<Plan, NoPlan>
     requires { IsAdded submission }
     ensures { Plans result (asked site.now.admin.now
-        (scene_at (site_of site.now) rows.items) (asks.Change (AddEvent submission))) }
+        (seeing (scene_in site.now) rows.items) (asks.Change (AddEvent submission))) }
 {
     let org = asker(site.caller);
     let rows = known(alloc, rows, site.groups, site.here, &org)?;
@@ -195,9 +178,9 @@ fn view(
     rows: &[Row],
 ) -> Result<Plan, NoPlan>
     ensures all { Plans result (asked site.now.admin.now
-        (scene_with (site_of site.now) rows.now) (View event.now owner)) }
+        (knowing (scene_in site.now) rows.now) (View event.now owner)) }
     ensures known { IsTable rows.now → Plans result (asked site.now.admin.now
-        (scene_at (site_of site.now) rows.now) (View event.now owner)) }
+        (seeing (scene_in site.now) rows.now) (View event.now owner)) }
 {
     let org = asker(site.caller);
     match shown(alloc, rows, site.groups, site.here, &org, event, owner)? {
@@ -215,7 +198,7 @@ fn view(
 // Tells the groups that concern the caller.
 fn list(alloc: Global, site: &Site<'_>) -> Result<Plan, NoPlan>
     ensures { (rows : List RowFields) → Plans result (asked site.now.admin.now
-        (scene_with (site_of site.now) rows) asks.Groups) }
+        (knowing (scene_in site.now) rows) asks.Groups) }
 {
     let org = asker(site.caller);
     let groups = concerning(alloc, site.groups, &org, site.here)?;
@@ -231,8 +214,8 @@ pub(crate) fn plan_request(
 ) -> Result<Plan, NoPlan>
     requires { IsBuilt ask }
     ensures plan { IsTable rows.items → Plans result (asked site.now.admin.now
-        (scene_at (site_of site.now) rows.items) ask) }
-    ensures no_stop { TellsNoStop result }
+        (seeing (scene_in site.now) rows.items) ask) }
+    ensures no_fault { stop_planned result ≡ by_keeper → ⊥ }
 {
     match ask {
         Ask::View { event, owner } => view(alloc, site, &event, owner, &rows),

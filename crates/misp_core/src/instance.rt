@@ -6,21 +6,19 @@ ghost use Rattle.misp_outside.specs.Held.{with_batch};
 ghost use Rattle.misp_store.specs.Sharing.{groups_in, groups_of, AreStorable};
 ghost use Rattle.misp_store.specs.Batches.{spelled};
 ghost use Rattle.misp_store.specs.Seen.{seen_in};
-ghost use Rattle.misp_core.specs.Answers.{site_at, IsBuilt};
-ghost use Rattle.misp_core.specs.Standing.{standing};
+ghost use Rattle.misp_core.specs.Answers.{IsBuilt};
+ghost use Rattle.misp_core.specs.Standing.{standing, host_of};
 ghost use Rattle.misp_store.specs.Loading.{NamesFault};
-ghost use Rattle.misp_core.specs.Permission.{is_permitted, forbidden};
-ghost use Rattle.misp_core.specs.Turned.{IsBarred};
+ghost use Rattle.misp_requests.specs.Permission.{is_permitted, forbidden};
 ghost use Rattle.misp_core.specs.Effects.{requested, by_keeper};
-ghost use Rattle.misp_core.specs.Planning.{Plans, IsPlanned, TellsNoStop, batch_of, stop_planned};
+ghost use Rattle.misp_core.specs.Planning.{Plans, IsPlanned, batch_of, stop_planned, IsBarred};
 ghost use Rattle.misp_core.specs.Administering.{administered};
 ghost use Rattle.misp_store.specs.declared.fault.LoadFault.TheVariants as faults;
 ghost use Rattle.misp_orgs.specs.Admin.{who_of, link_of};
 
 use crate::administering::plan_group;
-use crate::answering::{forbidden, reach, unread};
+use crate::answering::{forbidden, unread};
 use crate::decide::plan_request;
-use crate::permission::permission_for;
 use crate::planning::{Batch, NoPlan, Plan};
 use crate::settling::settle;
 use crate::site::Site;
@@ -29,8 +27,8 @@ use misp_ids::{ApiKey, InstId, OrgId, Stamp};
 use misp_levels::Groups;
 use misp_orgs::{Admin, Caller, Link, may};
 use misp_outside::{Keeper, KeeperFault};
-use misp_requests::Ask;
-use misp_store::{LoadFault, load, load_groups};
+use misp_requests::{Ask, permission_for};
+use misp_store::{LoadFault, Reach, load, load_groups};
 use std::alloc::Global;
 use std::marker::Model;
 
@@ -127,7 +125,7 @@ impl<K: Keeper> Instance<K> {
 
         // The plan is the stated function of what is held, and of what stopped the reading of it.
         ensures planned { IfSome self.old.held (λ held. IsPlanned result
-            (requested (site_at self.old held caller.now now) ask (seen_in held))) }
+            (requested (host_of self.old) now (caller.now, ask) (seen_in held))) }
 
         // What the role of the caller forbids is refused just so, and the keeper is as it was.
         ensures forbidden { is_permitted caller.now ask ≡ false →
@@ -144,7 +142,7 @@ impl<K: Keeper> Instance<K> {
         if !may(caller.role, perm) {
             return Err(forbidden(alloc, perm));
         }
-        let rows = match load(&mut self.keeper, alloc, &reach(caller, &ask)) {
+        let rows = match load(&mut self.keeper, alloc, &Reach::of(&caller.org, &ask)) {
             Ok(rows) => rows,
             Err(fault) => return Err(unread(alloc, fault)),
         };
@@ -168,10 +166,10 @@ impl<K: Keeper> Instance<K> {
         group: Group,
         add: bool,
     ) -> Result<Plan, NoPlan>
-        // The refusal names the first cause against it, and where there is none, the group is put.
+        // The refusal names the first rule against it, and where there is none, the group is put.
         ensures planned { IfSome self.now.held (λ held.
             Plans result (administered now by.now add group (groups_of held))) }
-        ensures no_stop { TellsNoStop result }
+        ensures no_fault { stop_planned result ≡ by_keeper → ⊥ }
     {
         plan_group(alloc, &self.groups, now, by, group, add)
     }

@@ -1,10 +1,9 @@
 //! Laws of what an instance answers.
 
-ghost use Rattle.std.specs.Prelude.{◌≡◌, ℕ, Bool, List, [], Result, true, false, is_some, ltb};
+ghost use Rattle.std.specs.Prelude.{◌≡◌, ℕ, Bool, [], true, false, is_some, ltb};
 ghost use Rattle.std.specs.List.{list_all};
 ghost use Rattle.misp_ids.specs.declared.uid.OrgId.{OrgId};
 ghost use Rattle.misp_groups.specs.declared.group.GroupFields.{GroupFields as Group};
-ghost use Rattle.misp_elem.specs.declared.row.RowFields.{RowFields as Row};
 ghost use Rattle.misp_requests.specs.declared.ask.Ask.{Ask};
 ghost use Rattle.misp_orgs.specs.Admin.{AdminFields as Admin};
 ghost use Rattle.misp_outside.specs.Held.{Held};
@@ -15,12 +14,14 @@ ghost use Rattle.misp_model.specs.History.{tables};
 ghost use Rattle.misp_model.specs.Asking.{Scene};
 ghost use Rattle.misp_model.specs.Numbers.{scene_as};
 ghost use Rattle.misp_model.specs.Acts.{World, Net, administration_fails, scene, step};
+ghost use Rattle.misp_levels.specs.Groups.{why_not};
 ghost use Rattle.misp_store.specs.Batches.{spelled};
-ghost use Rattle.misp_store.specs.Seen.{seen_in};
+ghost use Rattle.misp_store.specs.Seen.{Seen, seen_in};
 ghost use Rattle.misp_store.specs.Sharing.{groups_of};
-ghost use Rattle.misp_core.specs.Answers.{Surroundings, IsBuilt, reach_of};
-ghost use Rattle.misp_core.specs.Effects.{IsRefused, asked, asked_over};
-ghost use Rattle.misp_core.specs.Administering.{why_not, administered};
+ghost use Rattle.misp_core.specs.Answers.{Asked, IsBuilt};
+ghost use Rattle.misp_core.specs.Effects.{IsRefused, asked, asked_where};
+ghost use Rattle.misp_core.specs.Standing.{Host};
+ghost use Rattle.misp_core.specs.Administering.{administered};
 ghost use Rattle.misp_core.specs.Keeping.{Keeps, act_at, act_of, caller_at};
 
 use misp_format::a_group_is_read_from_its_text;
@@ -33,32 +34,29 @@ pub fn a_request_is_replied_without_its_number()
 
 /// A request that is refused has no batch.
 pub fn a_refused_request_writes_nothing()
-    ensures writes { (at : Surroundings) (ask : Ask) (read : Result (List Row) (List ℕ)) →
-        IsBuilt ask → IsRefused (asked_over at ask read).reply →
-        (asked_over at ask read).batches ≡ [] }
+    ensures writes { (host : Host) (now : ℕ) (it : Asked) (seen : Seen) → IsBuilt it.1 →
+        IsRefused (asked_where host now it seen).reply →
+        (asked_where host now it seen).batches ≡ [] }
 {}
 
 /// Where a keeper holds the tables and groups of its instance, a request comes to what the history
 /// says. Where that is of earlier acts, the keeper afterwards holds what it is to hold after the
 /// act. No tables elsewhere and no groups change.
 pub fn an_instance_answers_by_the_history()
-    ensures told { (n : ℕ) (w : World) (at : Surroundings) (ask : Ask) (held : Held) →
-        IsBuilt ask → at.groups ≡ groups_of held → Keeps at.here w held →
-        asked_over at ask ((seen_in held).rows (reach_of at.caller.org ask))
-        ≡ asked at.admin (scene n w (act_at at ask) (caller_at at.admin at.caller)) ask }
-    ensures left { (net : Net) (n : ℕ) (w : World) (at : Surroundings) (ask : Ask) (held : Held) →
-        IsBuilt ask → list_all (λ v. ltb v.act n) w.log ≡ true →
-        at.groups ≡ groups_of held → Keeps at.here w held →
-        AreReadable
-        (asked_over at ask ((seen_in held).rows (reach_of at.caller.org ask))).batches →
-        Keeps at.here (step net n w (act_at at ask))
-        (left spelled
-        (asked_over at ask ((seen_in held).rows (reach_of at.caller.org ask))) held) }
-    ensures elsewhere { (net : Net) (n : ℕ) (w : World) (at : Surroundings) (ask : Ask) (j : Inst) →
-        IsBuilt ask → same_inst at.here j ≡ false →
-        tables (step net n w (act_at at ask)).log j ≡ tables w.log j }
-    ensures groups { (net : Net) (n : ℕ) (w : World) (at : Surroundings) (ask : Ask) →
-        (step net n w (act_at at ask)).groups ≡ w.groups }
+    ensures told { (n : ℕ) (w : World) (host : Host) (now : ℕ) (it : Asked) (held : Held) →
+        IsBuilt it.1 → Keeps host.name w held →
+        asked_where host now it (seen_in held)
+        ≡ asked host.admin (scene n w (act_at host now it) (caller_at host.admin it.0)) it.1 }
+    ensures left { (net : Net) (n : ℕ) (w : World) (host : Host) (now : ℕ) (it : Asked)
+        (held : Held) → IsBuilt it.1 → list_all (λ v. ltb v.act n) w.log ≡ true →
+        Keeps host.name w held → AreReadable (asked_where host now it (seen_in held)).batches →
+        Keeps host.name (step net n w (act_at host now it))
+        (left spelled (asked_where host now it (seen_in held)) held) }
+    ensures elsewhere { (net : Net) (n : ℕ) (w : World) (host : Host) (now : ℕ) (it : Asked)
+        (j : Inst) → IsBuilt it.1 → same_inst host.name j ≡ false →
+        tables (step net n w (act_at host now it)).log j ≡ tables w.log j }
+    ensures groups { (net : Net) (n : ℕ) (w : World) (host : Host) (now : ℕ) (it : Asked) →
+        (step net n w (act_at host now it)).groups ≡ w.groups }
 {}
 
 /// Where a keeper holds the groups of its instance, an administration comes to what the history

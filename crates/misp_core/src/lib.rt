@@ -7,9 +7,6 @@ mod answering;
 mod decide;
 mod instance;
 mod laws;
-mod listing;
-mod naming;
-mod permission;
 mod planning;
 mod reply;
 mod settling;
@@ -21,6 +18,5 @@ pub use laws::{
     an_instance_answers_by_the_history, an_instance_is_administered_by_the_history,
 };
 pub use misp_store::LoadFault;
-pub use permission::permission_for;
 pub use planning::{Batch, NoPlan, Plan};
 pub use reply::{Answer, Reply};

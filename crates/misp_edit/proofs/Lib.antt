@@ -3,6 +3,7 @@ pub mod SortLemmas
 pub mod UuidLemmas
 pub mod TargetLemmas
 pub mod RuleLemmas
+pub mod OwnCopy
 pub mod RowLemmas
 pub mod ChangeLemmas
 pub mod RenewedRows

@@ -1,18 +1,28 @@
 -- Which rule refuses to add an event, and what the refusal names.
-use Rattle.std.proofs.Common.{◌≡◌, ◌∙◌, ℕ, Bool, true, false, not, ◌||◌, [], ◌∷◌, map, Option, Some, None, BTreeMap, ap, sym, refl}
+use Rattle.std.proofs.Common.{◌≡◌, ◌∙◌, ℕ, Bool, true, false, not, ◌||◌, [], ◌∷◌, map, Option, Some, None, option_map, BTreeMap, ap, sym, refl}
 use Rattle.std.specs.List.{list_any, find}
 use Rattle.std.specs.Option.{is_some}
 use Rattle.misp_ids.specs.declared.uid.ElemId.{ElemId}
 use Rattle.misp_ids.specs.declared.uid.GroupId.{GroupId}
 use Rattle.misp_ids.specs.declared.label.Label.{Label}
 use Rattle.misp_ids.specs.declared.label.Label.TheVariants as labels
+use Rattle.misp_ids.specs.Uid.{text_of}
 use Rattle.misp_elem.specs.declared.key.Place.{Place}
+use Rattle.misp_elem.specs.declared.refusal.Refusal.{Refusal}
+use Rattle.misp_elem.specs.declared.refusal.RuleName.TheVariants as rules
+use Rattle.misp_elem.specs.Refusal.{bare}
 use Rattle.misp_elem.specs.Draft.{SubmissionFields as Submission}
+use Rattle.misp_requests.specs.declared.ask.Ask.{Ask}
+use Rattle.misp_requests.specs.declared.ask.Ask.TheVariants.{Change}
+use Rattle.misp_requests.specs.declared.change.Change.TheVariants.{AddEvent}
 use Rattle.misp_model.specs.Order.{in_order}
 use Rattle.misp_model.specs.View.{has_copy, has_gone}
-use Rattle.misp_model.specs.Asking.{Scene, Rule, first_rule, change_rules, holds_copy, holds_mark, target_of, is_taken, are_distinct, is_usable, clashes, has_unusable, EventExists, EventGone, ElementExists, GroupNotUsable}
-use Rattle.misp_edit.specs.declared.fault.AddFault.TheVariants as fault
-use Rattle.misp_edit.specs.Adding.{refusing, numbered_uuids, is_read_before, read_uuids, is_clash, first_clash, labels_of, first_unusable, Refuses}
+use Rattle.misp_model.specs.Asking.{Scene, Rule, first_rule, change_rules, holds_copy, holds_mark, target_in_copy, target_of, has_target, is_taken, are_distinct, is_usable, clashes, has_unusable, EventExists, EventGone, ElementExists, GroupNotUsable}
+use Rattle.misp_model.specs.Numbers.{scene_as}
+use Rattle.misp_model.proofs.Numbers.{usable_as}
+use Rattle.misp_edit.specs.declared.fault.AddFault.TheVariants.{Refused}
+use Rattle.misp_edit.specs.Adding.{refusing, numbered_uuids, is_read_before, read_uuids, is_clash, first_clash, labels_of, first_unusable}
+use Rattle.misp_edit.specs.Refusals.{named, added_place, refusal_of, uuid_text, group_text, Refuses}
 use Rattle.misp_edit.specs.Labels.{is_unusable}
 use Rattle.misp_edit.specs.Uuids.{has_uuid, is_used, numbered_in, clash_in}
 use Rattle.misp_edit.specs.Targets.{target_places, target_in, AreTargets}
@@ -58,28 +68,28 @@ module _ (s : Scene) (b : Submission) where
   abbrev bars : Label → Bool
   bars = is_unusable s.groups s.at s.by
 
-  usable : (l : Label) → not (is_usable s l) ≡ bars l
+  pub usable : (l : Label) → not (is_usable s l) ≡ bars l
   unfolding is_usable is_unusable
   usable (labels.Group g) = refl
-  usable labels.Own = refl
-  usable labels.Community = refl
-  usable labels.Connected = refl
-  usable labels.All = refl
-  usable labels.Inherit = refl
+  usable l = refl
 
   unusable_by : (found : Option Label) → find bars (b.label ∷ map (λ d. d.label) b.parts) ≡ found → first_unusable s b ≡ found
   unfolding first_unusable labels_of
   unusable_by found h = find_same (λ l. not (is_usable s l)) bars (b.label ∷ map (λ d. d.label) b.parts) usable ∙ h
 
+  -- the refusal by the first rule that refuses
+  by_rule : (rule : Rule) → refusing s b ≡ Some rule → Refuses s b (Refused (refusal_of s (Change (AddEvent b)) rule))
+  by_rule rule h = ap (option_map (refusal_of s (Change (AddEvent b)))) h
+
   -- the caller has the event
-  pub exists : has_copy s.rows s.by b.event ≡ true → Refuses s b fault.EventExists
+  pub exists : has_copy s.rows s.by b.event ≡ true → Refuses s b (Refused (bare rules.EventExists))
   unfolding first_rule holds_copy
-  exists h = rule_is s b ∙ rw h refl
+  exists h = by_rule EventExists (rule_is s b ∙ rw h refl)
 
   -- the caller has its mark
-  pub gone : has_copy s.rows s.by b.event ≡ false → has_gone s.rows s.by b.event ≡ true → Refuses s b fault.EventGone
+  pub gone : has_copy s.rows s.by b.event ≡ false → has_gone s.rows s.by b.event ≡ true → Refuses s b (Refused (bare rules.EventGone))
   unfolding first_rule holds_copy holds_mark
-  gone h k = rule_is s b ∙ rw (h, k) refl
+  gone h k = by_rule EventGone (rule_is s b ∙ rw (h, k) refl)
 
   -- with what the references name
   module _ (m : BTreeMap ℕ Place) (targets : AreTargets m (target_places s.rows s.by b.event b.parts)) where
@@ -100,18 +110,28 @@ module _ (s : Scene) (b : Submission) where
 
     module _ (h : has_copy s.rows s.by b.event ≡ false) (k : has_gone s.rows s.by b.event ≡ false) where
       -- a uuid clashes
-      pub clash : (u : ℕ) → found_clash ≡ Some u → Refuses s b (fault.ElementExists (record { 0 = u }))
+      pub clash : (u : ℕ) → found_clash ≡ Some u → Refuses s b (Refused (record { name = rules.ElementExists; place = text_of (record { 0 = u }) }))
       unfolding first_rule holds_copy holds_mark
-      clash u e = (rule_is s b ∙ rw (h, k, clash_by _ e) refl, clash_by _ e)
+      clash u e =
+          by_rule ElementExists (rule_is s b ∙ rw (h, k, clash_by _ e) refl)
+          ∙ ap {B = Option Refusal} (λ (c : Option ℕ). Some (record { name = rules.ElementExists; place = uuid_text c })) (clash_by _ e)
 
       module _ (e : found_clash ≡ None) where
         -- a label is that of a group that is not usable
         pub group : (g : GroupId) → find bars (b.label ∷ map (λ d. d.label) b.parts) ≡ Some (labels.Group g) →
-            Refuses s b (fault.GroupNotUsable g)
+            Refuses s b (Refused (record { name = rules.GroupNotUsable; place = text_of g.uuid }))
         unfolding first_rule holds_copy holds_mark
-        group g f = (rule_is s b ∙ rw (h, k, clash_by _ e, unusable_by _ f) refl, unusable_by _ f)
+        group g f =
+            by_rule GroupNotUsable (rule_is s b ∙ rw (h, k, clash_by _ e, unusable_by _ f) refl)
+            ∙ ap {B = Option Refusal} (λ (l : Option Label). Some (record { name = rules.GroupNotUsable; place = group_text l })) (unusable_by _ f)
 
         -- nothing refuses
         pub free : find bars (b.label ∷ map (λ d. d.label) b.parts) ≡ None → refusing s b ≡ None
         unfolding first_rule holds_copy holds_mark
         free f = rule_is s b ∙ rw (h, k, clash_by _ e, unusable_by _ f) refl
+
+-- a refusal does not depend on the number of its act
+pub refusal_as : (n : ℕ) (s : Scene) (a : Ask) (rule : Rule) → refusal_of (scene_as n s) a rule ≡ refusal_of s a rule
+unfolding first_clash read_uuids numbered_uuids is_clash is_taken has_target target_of target_in_copy first_unusable
+refusal_as n s (Change (AddEvent b)) rule = λ i. record { name = named rule; place = added_place (first_clash s b) (find (λ l. not (usable_as n s l i)) (labels_of b)) rule }
+refusal_as n s a rule = refl

@@ -1,10 +1,9 @@
 -- Adding an event: what the caller has, brings and is refused.
-use Rattle.std.specs.Prelude.{◌≡◌, ℕ, Bool, eqb, leb, not, ◌||◌, List, [], ◌∷◌, ◌++◌, map, filter, Option, Some, None, option_map}
+use Rattle.std.specs.Prelude.{◌≡◌, ℕ, Bool, eqb, leb, not, ◌||◌, List, [], ◌∷◌, ◌++◌, map, filter, Option, None, option_map}
 use Rattle.std.specs.List.{list_any, find}
 use Rattle.misp_ids.specs.declared.uid.OrgId.{OrgId}
 use Rattle.misp_ids.specs.declared.uid.EventId.{EventId}
 use Rattle.misp_ids.specs.declared.label.Label.{Label}
-use Rattle.misp_ids.specs.declared.label.Label.TheVariants as labels
 use Rattle.misp_elem.specs.declared.row.RowFields.{RowFields as Row}
 use Rattle.misp_elem.specs.Draft.{SubmissionFields as Submission}
 use Rattle.misp_groups.specs.declared.group.GroupFields.{GroupFields as Group}
@@ -13,9 +12,6 @@ use Rattle.misp_model.specs.Names.{Inst, Stamp}
 use Rattle.misp_model.specs.Order.{in_order}
 use Rattle.misp_model.specs.History.{fresh_row}
 use Rattle.misp_model.specs.Asking.{Scene, Rule, first_rule, change_rules, event_written, has_target, is_taken, is_usable, uuid_at}
-use Rattle.misp_model.specs.Asking as rule
-use Rattle.misp_edit.specs.declared.fault.AddFault.{AddFault}
-use Rattle.misp_edit.specs.declared.fault.AddFault.TheVariants.{EventExists, EventGone, ElementExists, GroupNotUsable, NoMemory}
 
 -- the surroundings of a request
 abbrev pub scene_of :
@@ -72,16 +68,6 @@ labels_of b = b.label ∷ map (λ d. d.label) b.parts
 -- the first label that is not usable
 unfoldable pub first_unusable : Scene → Submission → Option Label
 first_unusable s b = find (λ l. not (is_usable s l)) (labels_of b)
-
--- the fault says which rule refuses, and what of the body that rule is about
-abbrev pub Refuses : Scene → Submission → AddFault → Type 0
-Refuses s b EventExists = refusing s b ≡ Some rule.EventExists
-Refuses s b EventGone = refusing s b ≡ Some rule.EventGone
-Refuses s b (ElementExists u) =
-    (refusing s b ≡ Some rule.ElementExists) × (first_clash s b ≡ Some u.0)
-Refuses s b (GroupNotUsable g) =
-    (refusing s b ≡ Some rule.GroupNotUsable) × (first_unusable s b ≡ Some (labels.Group g))
-Refuses s b NoMemory = Unit {0}
 
 -- no rule refuses, and these are the rows of what is written
 abbrev pub Adds : Scene → Submission → List Row → Type 0

@@ -1,4 +1,5 @@
 pub mod Adding
+pub mod Refusals
 pub mod Labels
 pub mod Uuids
 pub mod Targets

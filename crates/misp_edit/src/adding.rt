@@ -3,7 +3,8 @@
 ghost use Rattle.std.specs.Prelude.{◌≡◌, ℕ, IfOk, IfErr, is_some, true};
 ghost use Rattle.misp_dates.specs.Dates.{date_of};
 ghost use Rattle.misp_elem.specs.Row.{IsText, AreRows};
-ghost use Rattle.misp_edit.specs.Adding.{scene_of, Refuses, Adds};
+ghost use Rattle.misp_edit.specs.Adding.{scene_of, Adds};
+ghost use Rattle.misp_edit.specs.Refusals.{Refuses};
 
 use crate::fault::AddFault;
 use crate::refusing::admitted;

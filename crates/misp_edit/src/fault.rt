@@ -3,20 +3,14 @@
 ghost use Rattle.std.specs.Prelude.{◌≡◌};
 ghost use Rattle.misp_edit.specs.declared.fault.AddFault.TheVariants.{NoMemory};
 
-use misp_ids::{GroupId, NoMemory, Uid};
-use std::alloc::{AllocError, AllocFailed};
+use misp_elem::Refusal;
+use misp_ids::NoMemory;
 
 /// Why an event is not added.
-#[derive(Clone, Copy, Debug, PartialEq, Eq)]
+#[derive(Debug, Drop)]
 pub enum AddFault {
-    /// The caller has the event.
-    EventExists,
-    /// The caller deleted the event.
-    EventGone,
-    /// The caller's copy has this uuid, or the body brings it twice.
-    ElementExists(Uid),
-    /// The caller may not use this group.
-    GroupNotUsable(GroupId),
+    /// A rule refuses it.
+    Refused(Refusal),
     /// Memory ran out.
     NoMemory,
 }

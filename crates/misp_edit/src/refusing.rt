@@ -1,8 +1,10 @@
 //! The rules that refuse to add an event.
 
 ghost use Rattle.std.specs.Prelude.{◌≡◌, ℕ, List, IfOk, IfErr, OnOk, None};
+ghost use Rattle.misp_ids.specs.Uid.{text_of};
 ghost use Rattle.misp_model.specs.Names.{Stamp};
-ghost use Rattle.misp_edit.specs.Adding.{scene_of, refusing, Refuses};
+ghost use Rattle.misp_edit.specs.Adding.{scene_of, refusing};
+ghost use Rattle.misp_edit.specs.Refusals.{Refuses};
 ghost use Rattle.misp_edit.specs.Targets.{target_places, AreTargets};
 
 use crate::clash::first_clash;
@@ -10,12 +12,21 @@ use crate::copies::{has_copy, has_mark};
 use crate::fault::AddFault;
 use crate::labels::first_unusable;
 use crate::targets::{Targets, targets};
-use misp_elem::{Row, Submission};
-use misp_ids::{InstId, OrgId, Uid};
+use misp_elem::{Refusal, Row, RuleName, Submission};
+use misp_ids::{InstId, NoMemory, OrgId, Uid};
 use misp_levels::Groups;
 use std::alloc::Global;
 
-// The first rule that refuses, or, where none does, what the references name.
+// The refusal by a rule that names this uuid.
+fn refused(alloc: Global, name: RuleName, uuid: Uid) -> Result<AddFault, NoMemory>
+    ensures { IfOk result (λ fault.
+        fault ≡ AddFault.Refused (record { name = name; place = text_of uuid })) }
+{
+    let place = uuid.to_text(alloc)?;
+    Ok(AddFault::Refused(Refusal { name, place }))
+}
+
+// The refusal by the first rule that refuses, or, where none does, what the references name.
 pub(crate) fn admitted(
     alloc: Global,
     submission: &Submission,
@@ -34,20 +45,19 @@ pub(crate) fn admitted(
         AreTargets targets
         (target_places rows.now owner submission.now.event submission.now.parts)) }
 {
-    let event = submission.event;
+    let (event, parts) = (submission.event, submission.parts.as_slice());
     if has_copy(rows, owner, event) {
-        return Err(AddFault::EventExists);
+        return Err(AddFault::Refused(Refusal::bare(alloc, RuleName::EventExists)));
     }
     if has_mark(rows, owner, event) {
-        return Err(AddFault::EventGone);
+        return Err(AddFault::Refused(Refusal::bare(alloc, RuleName::EventGone)));
     }
-    let parts = submission.parts.as_slice();
     let targets = targets(alloc, parts, rows, owner, event)?;
     if let Some(uuid) = first_clash(alloc, submission, &targets, rows, owner)? {
-        return Err(AddFault::ElementExists(Uid(uuid)));
+        return Err(refused(alloc, RuleName::ElementExists, Uid(uuid))?);
     }
     match first_unusable(submission.label, parts, groups, here, &owner) {
-        Some(group) => Err(AddFault::GroupNotUsable(group)),
+        Some(group) => Err(refused(alloc, RuleName::GroupNotUsable, group.uuid)?),
         None => Ok(targets),
     }
 }

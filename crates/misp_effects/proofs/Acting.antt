@@ -1,7 +1,8 @@
 -- What one instance does, or two, among all of them.
-use Rattle.std.proofs.Common.{◌≡◌, ◌≢◌, ℕ, ◌<◌, Bool, List, length, get_or, set, Option, Some, sym, ◌∙◌, ap, subst, inl, inr, arith, length-set}
+use Rattle.std.proofs.Common.{◌≡◌, ◌≢◌, ℕ, ◌<◌, Bool, List, length, map, get_or, set, Option, Some, refl, sym, ◌∙◌, ap, subst, inl, inr, arith, length-set}
 use Rattle.std.proofs.lemmas.Bool.{cases_eq}
-use Rattle.std.proofs.lemmas.List.{get_or-set_other, set-get_or}
+use Rattle.std.proofs.lemmas.List.{length-map, map-set, get_or-map, get_or-set_other, set-get_or}
+use Rattle.std.proofs.lemmas.Option.{IfSome_then}
 use Rattle.std.specs.Prelude.{IfSome}
 use Rattle.misp_outside.specs.Causes.{RoseBy, HasCause}
 use Rattle.misp_outside.specs.Held.{Held, nothing_held}
@@ -9,13 +10,14 @@ use Rattle.misp_effects.specs.declared.stop.Stop.{Stop}
 use Rattle.misp_effects.specs.declared.stop.Stop.TheVariants as stops
 use Rattle.misp_effects.specs.declared.stop.Side.TheVariants.{Here, There}
 use Rattle.misp_effects.specs.Batches.{Spelling}
-use Rattle.misp_effects.specs.Effect.{Effect, nothing_of, first_of, Does}
+use Rattle.misp_effects.specs.Effect.{Effect, shown, nothing_of, first_of, Does}
 use Rattle.misp_outside.specs.Stock.{Stock}
 use Rattle.misp_effects.specs.Stocks.{Tables, held_at, Tell, count_at}
 use Rattle.misp_effects.specs.Meanings.{alone, between}
 use Rattle.misp_effects.specs.Run.{fault_at, tables_after}
 use Rattle.misp_effects.specs.Course.{IsAct}
 use Rattle.misp_effects.proofs.Places.{tell_at, tell_set, count_same, count_is, count_other, fault_rose}
+use Rattle.misp_effects.proofs.Showing.{does_shown}
 
 -- ---- one instance
 
@@ -55,6 +57,24 @@ one_act {S} {A} seen_in spelled stop_in refused at comes old new none output lt 
         fits = (there tables tell).fits;
       };
     }
+
+-- the same of things that have a keeper each, where the reply is shown in another way
+pub shown_act : {S A B X : Type 0} (seen_in : Held → S) (spelled : Spelling) (f : A → B) (stop_in : B → Option Stop) (refused : Stop → A) (stock : X → Stock)
+    (at : ℕ) (comes : S → Effect A) (old : List X) (new none : X) (reply : A) → at < length old
+    → IfSome (stock (get_or old at none)).held (λ held. Does A spelled (λ a. stop_in (f a)) (nothing_of refused) (comes (seen_in held)) held reply (stock new).held)
+    → HasCause (stock (get_or old at none)).faults (stock new).faults (stop_in (f reply) ≡ Some (stops.Keeper Here))
+    → (stop_in (f reply) ≡ Some (stops.Keeper There) → ⊥)
+    → IsAct S B seen_in spelled stop_in (alone (λ stop. f (refused stop)) at (λ here. shown f (comes here))) (map stock old) (map stock (set old at new)) (f reply)
+shown_act {S} {A} {B} {X} seen_in spelled f stop_in refused stock at comes old new none reply lt does cause never =
+    let there : get_or (map stock old) at (stock none) ≡ stock (get_or old at none) = get_or-map stock old at none (stock none) lt in
+    let long : at < length (map stock old) = rw (length-map old stock) lt in
+    subst (λ news. IsAct S B seen_in spelled stop_in (alone (λ stop. f (refused stop)) at (λ here. shown f (comes here))) (map stock old) news (f reply)) (sym (map-set stock old at new))
+    (one_act seen_in spelled stop_in (λ stop. f (refused stop)) at (λ here. shown f (comes here)) (map stock old) (stock new) (stock none) (f reply) long
+    (subst (λ (s : Stock). IfSome s.held (λ held. Does B spelled stop_in (nothing_of (λ stop. f (refused stop))) (shown f (comes (seen_in held))) held (f reply) (stock new).held)) (sym there)
+    (IfSome_then (stock (get_or old at none)).held does (λ held did.
+    does_shown spelled f (λ a. stop_in (f a)) stop_in (nothing_of refused) (nothing_of (λ stop. f (refused stop))) (λ a. refl) (λ stop n lost e. refl) (comes (seen_in held)) held reply (stock new).held did)))
+    (subst (λ (s : Stock). HasCause s.faults (stock new).faults (stop_in (f reply) ≡ Some (stops.Keeper Here))) (sym there) cause)
+    never)
 
 -- ---- two instances, of which one puts
 

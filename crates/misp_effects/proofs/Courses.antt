@@ -1,6 +1,7 @@
 -- A course goes on by one command.
-use Rattle.std.proofs.Common.{◌≡◌, ℕ, ◌+◌, List, [], ◌∷◌, ◌++◌, length, map, refl, sym, ◌∙◌, ap, subst, arith, length-append}
+use Rattle.std.proofs.Common.{◌≡◌, ℕ, ◌+◌, ◌≤◌, List, [], ◌∷◌, ◌++◌, length, map, refl, sym, ◌∙◌, ap, subst, arith, length-append}
 use Rattle.std.proofs.lemmas.List.{map-append}
+use Rattle.std.proofs.lemmas.Slice.Zip.{AllZip-long}
 use Rattle.std.specs.Prelude.{Option}
 use Rattle.misp_outside.specs.Held.{Held}
 use Rattle.misp_outside.specs.Causes.{RoseBy}
@@ -8,10 +9,11 @@ use Rattle.misp_effects.specs.declared.stop.Stop.{Stop}
 use Rattle.misp_effects.specs.Batches.{Spelling, AreReadable}
 use Rattle.misp_effects.specs.Effect.{Outcome, stop_of}
 use Rattle.misp_outside.specs.Stock.{Stock}
-use Rattle.misp_effects.specs.Stocks.{Tables, Tell, count_at}
+use Rattle.misp_effects.specs.Stocks.{Tables, Tell, IsKept, AreKept, count_at}
 use Rattle.misp_effects.specs.Meanings.{Meaning}
 use Rattle.misp_effects.specs.Run.{effect_in, output_of, tables_after, outputs_of, tables_left, AreFit, fault_at, faults_at}
 use Rattle.misp_effects.specs.Course.{IsAct, HasRun}
+use Rattle.misp_effects.proofs.Stocks.{kept_told, kept_count}
 
 -- what is put out by the commands and one more
 outputs_push : {S A : Type 0} (seen_in : Held → S) (spelled : Spelling) (ms : List (Meaning S A)) (m : Meaning S A) (outcomes : List Outcome) (outcome : Outcome) (tables : Tables) → length outcomes ≡ length ms
@@ -86,5 +88,28 @@ one_more S A seen_in spelled stop_in ms m old mid new outputs output run act = r
         tables_are =
             subst (λ left. Tell new left) (sym (left_push seen_in spelled ms m so_far.outcomes step.outcome tables so_far.each)) step.tables_are;
         fits = fit_push seen_in spelled ms m so_far.outcomes step.outcome tables so_far.each so_far.fits step.fits;
+      };
+}
+
+-- a count that did not fall before and afterwards rose by as much
+rose_within : (n before old mid now : ℕ) → before ≤ old → RoseBy n old mid → mid ≤ now → RoseBy n before now
+rose_within n before old mid now first rose last = omega arith
+
+-- where the keepers before and those afterwards tell the same, the commands have run over these too
+pub run_kept : {S A : Type 0} {seen_in : Held → S} {spelled : Spelling} {stop_in : A → Option Stop} {ms : List (Meaning S A)} {before old mid new : List Stock} {outputs : List A}
+    → AreKept before old → HasRun S A seen_in spelled stop_in ms old mid outputs → AreKept mid new → HasRun S A seen_in spelled stop_in ms before new outputs
+run_kept {before = before} {old = old} {mid = mid} {new = new} first run last = record {
+  each = run.each;
+  places = AllZip-long IsKept mid new last ∙ run.places ∙ AllZip-long IsKept before old first;
+  causes = λ place. rose_within _ _ _ _ _ (kept_count place before old first) (run.causes place) (kept_count place mid new last);
+  done = λ tables tell.
+      let did = run.done tables (kept_told before old first ∙ tell) in
+      record {
+        outcomes = did.outcomes;
+        each = did.each;
+        agree = did.agree;
+        outputs_are = did.outputs_are;
+        tables_are = kept_told mid new last ∙ did.tables_are;
+        fits = did.fits;
       };
 }

@@ -5,3 +5,4 @@ pub mod Lines
 pub mod Places
 pub mod Readable
 pub mod Showing
+pub mod Stocks

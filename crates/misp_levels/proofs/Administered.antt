@@ -1,5 +1,5 @@
 -- Changes at an instance, and what the history makes of the groups.
-use Rattle.std.proofs.Common.{◌≡◌, Bool, true, false, not, List, [], ◌∷◌, if◌then◌else◌, eqb, is_some, Option, Some, None, IfSome, refl, sym, ap, subst, ◌∙◌, inl, inr}
+use Rattle.std.proofs.Common.{◌≡◌, Bool, true, false, not, List, [], ◌∷◌, if◌then◌else◌, eqb, is_some, Option, Some, None, refl, sym, ap, subst, ◌∙◌, inl, inr}
 use Rattle.std.specs.Prelude.{◌&&◌}
 use Rattle.std.specs.declared.cmp.Ordering.TheVariants.{Less}
 use Rattle.std.specs.List.{list_any, AllByRecursion}
@@ -7,16 +7,14 @@ use Rattle.std.specs.List.Sorted.{IsStrictlySortedBy}
 use Rattle.std.proofs.lemmas.Bool.{cases_Bool}
 use Rattle.misp_ids.specs.declared.uid.OrgId.{OrgId}
 use Rattle.misp_ids.specs.declared.uid.GroupId.{GroupId}
+use Rattle.misp_elem.specs.declared.refusal.RuleName.TheVariants.{NotCreator}
 use Rattle.misp_groups.specs.declared.group.GroupFields.{GroupFields as Group}
-use Rattle.misp_groups.specs.Group.{home}
 use Rattle.misp_model.specs.Names.{Stamp, same_org, same_group}
-use Rattle.misp_model.specs.Asking.{last_stamp, next_stamp}
+use Rattle.misp_model.specs.Asking.{last_stamp}
 use Rattle.misp_model.specs.Audience.{known_group, is_known_group}
-use Rattle.misp_model.specs.Acts.{put_group, administration_fails, group_stamp, group_now, administered}
-use Rattle.misp_levels.specs.declared.fault.GroupFault.TheVariants.{NotCreator, GroupExists}
-use Rattle.misp_levels.specs.Groups.{by_id, by_name, why_not_added, Adds, why_kept, why_not_edited, Edits}
+use Rattle.misp_model.specs.Acts.{put_group, administration_fails, group_now, administered}
+use Rattle.misp_levels.specs.Groups.{by_id, by_name, why_not, why_not_added, why_kept, why_not_edited}
 use Rattle.misp_levels.proofs.Ids.{greater_apart, same_group-sound}
-use Rattle.misp_levels.proofs.Changes.{known_where}
 
 -- ---- when it fails
 
@@ -73,20 +71,12 @@ edited_fails old by g up = elim (cases_Bool (same_org by g.id.creator)) [
   | inr other ↦ rw other refl
 ]
 
+-- an administration fails where there is a rule against it
+pub fails_where : (add : Bool) (old : List Group) (by : OrgId) (g : Group) → IsStrictlySortedBy by_name old → is_some (why_not add old by g.id) ≡ administration_fails by add g old
+fails_where true old by g up = added_fails old by g
+fails_where false old by g up = edited_fails old by g up
+
 -- ---- what it does
-
-none_from : (own known : Bool) (k : Option Group) → known ≡ is_some k → (if not own then Some NotCreator else if known then Some GroupExists else None) ≡ None → (own ≡ true) × (k ≡ None)
-none_from false known k is free = absurd cc
-none_from true true k is free = absurd cc
-none_from true false None is free = (refl, refl)
-none_from true false (Some g) is free = absurd cc
-
-pub added_is : (old new : List Group) (by : OrgId) (g : Group) (now : Stamp) → Adds old new by g now → new ≡ administered now by true g old
-unfolding administered group_now group_stamp
-added_is old new by g now adds =
-    let is : (same_org by g.id.creator ≡ true) × (known_group old g.id ≡ None) = none_from (same_org by g.id.creator) (is_known_group old g.id) (known_group old g.id) (known_where old g.id) adds.no_cause in
-    let passes : administration_fails by true g old ≡ false = sym (added_fails old by g) ∙ ap is_some adds.no_cause in
-    adds.is ∙ rw (passes, is.1) refl
 
 free_from : (own : Bool) (k : Option Group) → (if not own then Some NotCreator else why_kept k) ≡ None → (own ≡ true) × (passes may_change k ≡ true)
 free_from false k free = absurd cc
@@ -104,14 +94,15 @@ any_from_known test id (x ∷ xs) h = elim (cases_Bool (same_group x.id id)) [
   | inr miss ↦ rw miss (any_from_known test id xs (rw miss at h))
 ]
 
-edited_where : (g : Group) (now : Stamp) (old new : List Group) (k : Option Group) → passes may_change k ≡ true → IfSome k (λ held. new ≡ put_group (home g (next_stamp now held.modified)) old)
-    → new ≡ put_group (home g (group_stamp now k)) old
-unfolding group_stamp
-edited_where g now old new None free is = absurd cc
-edited_where g now old new (Some held) free is = is
+module _ (old : List Group) (by : OrgId) (g : Group) (now : Stamp) where
+  pub added_is : why_not_added old by g.id ≡ None → put_group (group_now now g old) old ≡ administered now by true g old
+  unfolding administered
+  added_is free =
+      let passes : administration_fails by true g old ≡ false = sym (added_fails old by g) ∙ ap is_some free in
+      rw passes refl
 
-pub edited_is : (old new : List Group) (by : OrgId) (g : Group) (now : Stamp) → Edits old new by g now → new ≡ administered now by false g old
-unfolding administered administration_fails group_now
-edited_is old new by g now edits =
-    let is : (same_org by g.id.creator ≡ true) × (passes may_change (known_group old g.id) ≡ true) = free_from (same_org by g.id.creator) (known_group old g.id) edits.no_cause in
-    rw (is.0, any_from_known may_change g.id old is.1) (edited_where g now old new (known_group old g.id) is.1 edits.is)
+  pub edited_is : why_not_edited old by g.id ≡ None → put_group (group_now now g old) old ≡ administered now by false g old
+  unfolding administered administration_fails
+  edited_is free =
+      let is : (same_org by g.id.creator ≡ true) × (passes may_change (known_group old g.id) ≡ true) = free_from (same_org by g.id.creator) (known_group old g.id) free in
+      rw (is.0, any_from_known may_change g.id old is.1) refl

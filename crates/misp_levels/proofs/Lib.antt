@@ -6,5 +6,6 @@ pub mod Places
 pub mod Planned
 pub mod Putting
 pub mod Servers
+pub mod Sorted
 pub mod Steps
 pub mod Taking

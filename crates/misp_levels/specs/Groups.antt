@@ -1,21 +1,20 @@
 -- The groups that are known at an instance, and how they change.
-use Rattle.std.specs.Prelude.{◌≡◌, ℕ, ◌<◌, ◌≤◌, ◌==◌, Bool, ltb, ◌&&◌, not, List, [], ◌∷◌, length, take, drop, slice_index_or, Option, Some, None, IfSome, unwrap_or, if◌then◌else◌}
+use Rattle.std.specs.Prelude.{◌≡◌, ℕ, ◌<◌, ◌≤◌, ◌==◌, Bool, ltb, ◌&&◌, not, List, [], ◌∷◌, length, take, drop, slice_index_or, Option, Some, None, if◌then◌else◌}
 use Rattle.std.specs.declared.cmp.Ordering.{Ordering}
 use Rattle.std.specs.declared.cmp.Ordering.TheVariants.{Less}
 use Rattle.std.specs.Ordering.{nat_cmp, ordering_then}
 use Rattle.std.specs.List.{AllByRecursion}
 use Rattle.misp_ids.specs.declared.uid.OrgId.{OrgId}
 use Rattle.misp_ids.specs.declared.uid.GroupId.{GroupId}
+use Rattle.misp_elem.specs.declared.refusal.RuleName.{RuleName}
+use Rattle.misp_elem.specs.declared.refusal.RuleName.TheVariants.{NotCreator, GroupExists, NoGroup, LockedGroup, TimeLimit}
 use Rattle.misp_groups.specs.declared.group.GroupFields.{GroupFields as Group}
-use Rattle.misp_groups.specs.Group.{home}
-use Rattle.misp_model.specs.Names.{Stamp, same_org}
-use Rattle.misp_model.specs.Asking.{last_stamp, next_stamp}
+use Rattle.misp_model.specs.Names.{same_org}
+use Rattle.misp_model.specs.Asking.{last_stamp}
 use Rattle.misp_model.specs.Audience.{known_group, is_known_group}
 use Rattle.misp_model.specs.Acts.{put_group}
 use Rattle.misp_levels.specs.declared.groups.Taken.{Taken}
 use Rattle.misp_levels.specs.declared.groups.Taken.TheVariants.{New, Newer, Held}
-use Rattle.misp_levels.specs.declared.fault.GroupFault.{GroupFault}
-use Rattle.misp_levels.specs.declared.fault.GroupFault.TheVariants.{NotCreator, GroupExists, NoGroup, LockedGroup, TimeLimit, NoMemory}
 
 -- ---- the order
 
@@ -45,27 +44,6 @@ unfoldable pub put_groups : List Group → List Group → List Group
 put_groups groups [] = groups
 put_groups groups (g ∷ gs) = put_groups (put_group g groups) gs
 
--- ---- adding
-
--- the first cause why a group of this name is not added: the organisation is not its creator, or
--- the name is known
-abbrev pub why_not_added : List Group → OrgId → GroupId → Option GroupFault
-why_not_added groups by id =
-    if not (same_org by id.creator) then Some NotCreator
-    else if is_known_group groups id then Some GroupExists
-    else None
-
--- no cause stands against it, and the group is put in its place, with the stamp now
-pub record Adds (old new : List Group) (by : OrgId) (g : Group) (now : Stamp) : Type 0 where
-  pub no_cause : why_not_added old by g.id ≡ None
-  pub is : new ≡ put_group (home g now) old
-
--- nothing changed, and the fault is the first cause, or, where there is none, want of memory
-pub record NotAdded (old new : List Group) (by : OrgId) (id : GroupId)
-    (fault : GroupFault) : Type 0 where
-  pub cause : fault ≡ unwrap_or (why_not_added old by id) NoMemory
-  pub same : new ≡ old
-
 -- ---- taking
 
 -- the group that is known came by a synchronisation, and is older than the other
@@ -77,32 +55,32 @@ unfoldable pub taken_by : Option Group → Group → Taken
 taken_by None g = New
 taken_by (Some held) g = if is_older held g then Newer else Held
 
--- ---- editing
+-- ---- adding and editing
 
--- the first cause why the group that is known, if one is, keeps its form: none is, it came by a
+-- the first rule against adding a group of this name: the organisation is not its creator, or the
+-- name is known
+abbrev pub why_not_added : List Group → OrgId → GroupId → Option RuleName
+why_not_added groups by id =
+    if not (same_org by id.creator) then Some NotCreator
+    else if is_known_group groups id then Some GroupExists
+    else None
+
+-- the first rule by which the group that is known, if one is, keeps its form: none is, it came by a
 -- synchronisation, or there is no stamp after its own
-abbrev pub why_kept : Option Group → Option GroupFault
+abbrev pub why_kept : Option Group → Option RuleName
 why_kept None = Some NoGroup
 why_kept (Some held) =
     if held.carried then Some LockedGroup
     else if held.modified == last_stamp then Some TimeLimit
     else None
 
--- the first cause why the group of this name is not edited: the organisation is not its creator, or
--- why it keeps its form
-abbrev pub why_not_edited : List Group → OrgId → GroupId → Option GroupFault
+-- the first rule against editing the group of this name: the organisation is not its creator, or
+-- that by which it keeps its form
+abbrev pub why_not_edited : List Group → OrgId → GroupId → Option RuleName
 why_not_edited groups by id =
     if not (same_org by id.creator) then Some NotCreator else why_kept (known_group groups id)
 
--- no cause stands against it, and the group has the place of the one that was known, with a stamp
--- after that one's
-pub record Edits (old new : List Group) (by : OrgId) (g : Group) (now : Stamp) : Type 0 where
-  pub no_cause : why_not_edited old by g.id ≡ None
-  pub is : IfSome (known_group old g.id) (λ held.
-      new ≡ put_group (home g (next_stamp now held.modified)) old)
-
--- nothing changed, and the fault is the first cause
-pub record NotEdited (old new : List Group) (by : OrgId) (id : GroupId)
-    (fault : GroupFault) : Type 0 where
-  pub cause : why_not_edited old by id ≡ Some fault
-  pub same : new ≡ old
+-- the first rule against adding a group of this name, or against editing it
+abbrev pub why_not : Bool → List Group → OrgId → GroupId → Option RuleName
+why_not add groups by id =
+    if add then why_not_added groups by id else why_not_edited groups by id

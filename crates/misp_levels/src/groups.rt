@@ -1,16 +1,13 @@
 //! The groups that are known at an instance.
 
-ghost use Rattle.std.specs.Prelude.{◌≡◌, true, false, [], option_map, Some, None, IfOk, IfErr, OnOk, OnErr};
+ghost use Rattle.std.specs.Prelude.{◌≡◌, true, false, [], option_map, Some, IfOk, IfErr, OnOk, OnErr};
 ghost use Rattle.std.specs.List.Sorted.{IsStrictlySortedBy};
-ghost use Rattle.misp_model.specs.Asking.{next_stamp};
 ghost use Rattle.misp_model.specs.Acts.{put_group, take_group};
 ghost use Rattle.misp_model.specs.Audience.{known_group, is_known_group};
-ghost use Rattle.misp_model.specs.Names.{same_org};
-ghost use Rattle.misp_levels.specs.Groups.{by_id, by_name, is_older, taken_by, why_kept, IsPlaceOf, IsGapFor, Adds, NotAdded, Edits, NotEdited};
+ghost use Rattle.misp_levels.specs.Groups.{by_id, by_name, is_older, taken_by, IsPlaceOf, IsGapFor};
 
-use crate::fault::GroupFault;
 use misp_groups::Group;
-use misp_ids::{GroupId, NoMemory, OrgId, Stamp};
+use misp_ids::{GroupId, NoMemory};
 use std::alloc::Global;
 use std::cmp::Ordering;
 use std::marker::Model;
@@ -51,30 +48,6 @@ pub(crate) fn place_of(groups: &[Group], id: &GroupId) -> Result<usize, usize>
     ensures absent { IfErr result (IsGapFor groups.now id.now) }
 {
     groups.binary_search_by(|group| compare(&group.id, id))
-}
-
-// Whether the organisation created the group of this name.
-#[tactic(auto, unfolding(misp_model::specs::Names::same_org))]
-pub(crate) fn is_creator(org: &OrgId, id: &GroupId) -> bool
-    ensures { result ≡ same_org org.now id.now.creator }
-{
-    *org == id.creator
-}
-
-// The stamp of an edit of the group, or why it keeps its form.
-#[tactic(auto, unfolding(misp_model::specs::Asking::last_stamp, misp_model::specs::Asking::next_stamp))]
-pub(crate) fn edit_stamp(held: &Group, now: Stamp) -> Result<Stamp, GroupFault>
-    ensures free { OnOk result (why_kept (Some held.now) ≡ None) }
-    ensures stamp { IfOk result (λ stamp. stamp ≡ next_stamp now held.now.modified) }
-    ensures err { IfErr result (λ fault. why_kept (Some held.now) ≡ Some fault) }
-{
-    if held.carried {
-        return Err(GroupFault::LockedGroup);
-    }
-    match Stamp::next(held.modified, now) {
-        Some(stamp) => Ok(stamp),
-        None => Err(GroupFault::TimeLimit),
-    }
 }
 
 /// What became of a group that came by a synchronisation.
@@ -147,40 +120,6 @@ impl Groups {
                 self.put_into(gap, group)?;
                 Ok(None)
             }
-        }
-    }
-
-    /// Adds a group of this instance, which its creator makes at this moment.
-    pub fn add(&mut self, by: &OrgId, group: Group, now: Stamp) -> Result<(), GroupFault>
-        ensures ok { OnOk result (Adds self.old self.new by.now group now) }
-        ensures err { IfErr result (NotAdded self.old self.new by.now group.id) }
-    {
-        if !is_creator(by, &group.id) {
-            return Err(GroupFault::NotCreator);
-        }
-        match place_of(self.groups.as_slice(), &group.id) {
-            Ok(_) => Err(GroupFault::GroupExists),
-            Err(gap) => Ok(self.put_into(gap, group.home(now))?),
-        }
-    }
-
-    /// Replaces the group of its name as a whole, which its creator does at this moment, and gives
-    /// back the group as it was. It takes no memory.
-    pub fn edit(&mut self, by: &OrgId, group: Group, now: Stamp) -> Result<Group, GroupFault>
-        ensures ok { OnOk result (Edits self.old self.new by.now group now) }
-        ensures before { IfOk result (λ before. known_group self.old group.id ≡ Some before) }
-        ensures err { IfErr result (NotEdited self.old self.new by.now group.id) }
-    {
-        if !is_creator(by, &group.id) {
-            return Err(GroupFault::NotCreator);
-        }
-        let groups = self.groups.as_slice();
-        match place_of(groups, &group.id) {
-            Ok(place) => {
-                let stamp = edit_stamp(&groups[place], now)?;
-                Ok(self.put_at(place, group.home(stamp)))
-            }
-            Err(_) => Err(GroupFault::NoGroup),
         }
     }
 

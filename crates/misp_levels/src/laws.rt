@@ -1,6 +1,6 @@
 //! Laws of labels on the way, and of the groups of an instance.
 
-ghost use Rattle.std.specs.Prelude.{◌≡◌, ℕ, ◌+◌, ◌≤◌, List, [], true, false, Some, is_some, if◌then◌else◌};
+ghost use Rattle.std.specs.Prelude.{◌≡◌, ℕ, ◌+◌, ◌≤◌, List, [], true, false, None, Some, is_some, if◌then◌else◌};
 ghost use Rattle.std.specs.Ordering.{is_lt};
 ghost use Rattle.std.specs.List.Sorted.{IsStrictlySortedBy};
 ghost use Rattle.misp_ids.specs.declared.uid.OrgId.{OrgId};
@@ -10,9 +10,9 @@ ghost use Rattle.misp_ids.specs.declared.label.Way.{Way};
 ghost use Rattle.misp_groups.specs.declared.group.GroupFields.{GroupFields as Group};
 ghost use Rattle.misp_model.specs.Names.{Stamp, same_group, group_before};
 ghost use Rattle.misp_model.specs.Audience.{hop, down, known_group};
-ghost use Rattle.misp_model.specs.Acts.{put_group, administration_fails, administered};
+ghost use Rattle.misp_model.specs.Acts.{put_group, group_now, administration_fails, administered};
 ghost use Rattle.misp_levels.specs.Levels.{rank};
-ghost use Rattle.misp_levels.specs.Groups.{by_id, by_name, put_groups, why_not_added, why_not_edited, Adds, Edits};
+ghost use Rattle.misp_levels.specs.Groups.{by_id, by_name, put_groups, why_not_added, why_not_edited};
 
 /// What is sent comes with the label one step down.
 pub fn a_hop_is_one_step_down()
@@ -32,13 +32,15 @@ pub fn no_hop_raises_a_label()
         rank after ≤ rank before }
 {}
 
-/// A group is added and edited as an administration of the history does it, and not where that
-/// fails.
+/// A group that is added or edited, and then put in its place, is put as an administration of the
+/// history does it. There is a rule against it exactly where that fails.
 pub fn groups_change_as_they_are_administered()
-    ensures added { (old new : List Group) (by : OrgId) (g : Group) (now : Stamp) →
-        Adds old new by g now → new ≡ administered now by true g old }
-    ensures edited { (old new : List Group) (by : OrgId) (g : Group) (now : Stamp) →
-        Edits old new by g now → new ≡ administered now by false g old }
+    ensures added { (old : List Group) (by : OrgId) (g : Group) (now : Stamp) →
+        why_not_added old by g.id ≡ None →
+        put_group (group_now now g old) old ≡ administered now by true g old }
+    ensures edited { (old : List Group) (by : OrgId) (g : Group) (now : Stamp) →
+        why_not_edited old by g.id ≡ None →
+        put_group (group_now now g old) old ≡ administered now by false g old }
     ensures not_added { (old : List Group) (by : OrgId) (g : Group) →
         is_some (why_not_added old by g.id) ≡ administration_fails by true g old }
     ensures not_edited { (old : List Group) (by : OrgId) (g : Group) →

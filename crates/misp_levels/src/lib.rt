@@ -1,7 +1,6 @@
 //! Which labels show a row to whom, what a hop makes of a label, and the groups of an instance.
 #![tactic(auto)]
 
-mod fault;
 mod groups;
 mod laws;
 mod level;
@@ -9,7 +8,6 @@ mod planning;
 mod room;
 mod sharing;
 
-pub use fault::GroupFault;
 pub use groups::{Groups, Taken};
 pub use laws::{
     a_hop_is_one_step_down, groups_are_put_in_order, groups_change_as_they_are_administered,

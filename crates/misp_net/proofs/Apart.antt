@@ -10,7 +10,7 @@ use Rattle.std.proofs.lemmas.Slice.Eq.{bytes_eq-Decides}
 use Rattle.misp_script.specs.declared.description.Description.{Description}
 use Rattle.misp_script.specs.Names.{IsNet}
 use Rattle.misp_model.specs.Names.{same_inst}
-use Rattle.misp_api.specs.Host.{Host}
+use Rattle.misp_core.specs.Standing.{Host}
 use Rattle.misp_net.specs.Hosts.{nobody, host_at, described_host, described_hosts}
 use Rattle.misp_net.specs.History.{AreDistinct}
 

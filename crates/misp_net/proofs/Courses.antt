@@ -1,25 +1,23 @@
 -- A course goes on by one line.
-use Rattle.std.proofs.Common.{◌≡◌, ℕ, suc, ◌+◌, ◌≤◌, take, List, [], ◌∷◌, ◌++◌, length, refl, sym, ◌∙◌, ap, subst, arith, append_assoc, append-nil}
+use Rattle.std.proofs.Common.{◌≡◌, ℕ, suc, ◌+◌, take, List, [], ◌∷◌, ◌++◌, length, refl, sym, ◌∙◌, ap, subst, arith, append_assoc, append-nil}
 use Rattle.std.specs.Prelude.{decimal}
-use Rattle.std.proofs.lemmas.List.{length-map, map-append, take_at}
-use Rattle.misp_outside.specs.Causes.{RoseBy}
+use Rattle.std.proofs.lemmas.List.{length-map, map_push, take_at}
 use Rattle.misp_outside.specs.Stock.{Stock}
 use Rattle.misp_effects.specs.Meanings.{Meaning}
 use Rattle.misp_effects.specs.Course as courses
-use Rattle.misp_effects.proofs.Courses.{no_lines}
+use Rattle.misp_effects.specs.Stocks.{AreKept}
+use Rattle.misp_effects.proofs.Courses.{no_lines, run_kept}
 use Rattle.misp_effects.proofs.Courses as more
+use Rattle.misp_effects.proofs.Stocks.{all_kept}
 use Rattle.misp_store.specs.Batches.{spelled}
 use Rattle.misp_net.specs.declared.line.Output.{Output}
-use Rattle.misp_api.specs.Host.{Host}
+use Rattle.misp_core.specs.Standing.{Host}
 use Rattle.misp_net.specs.Lines.{Act, IsAmong, AreAmong}
 use Rattle.misp_store.specs.Seen.{Seen, seen_in}
 use Rattle.misp_net.specs.Meaning.{meaning, meanings_of, stop_in, IsAsFormed, AreAsFormed}
 use Rattle.misp_net.specs.Text.{output_text, line_of, text_from}
-use Rattle.misp_net.specs.Run.{Ran}
-use Rattle.misp_net.specs.Opening.{AreKept}
+use Rattle.misp_net.specs.Run.{IsAct, Ran, HasRun}
 use Rattle.misp_net.specs.Promise.{IsCut}
-use Rattle.misp_net.specs.Course.{HasPut, HasRun}
-use Rattle.misp_net.proofs.Openings.{kept_long, kept_count, tell_kept}
 
 among_push : (count : ℕ) (acts : List Act) (act : Act) → AreAmong count acts → IsAmong count act → AreAmong count (acts ++ act ∷ [])
 among_push count [] act all is = (is, tt)
@@ -49,51 +47,30 @@ no_acts hosts old = record {
   among = tt;
 }
 
-pub one_more : (hosts : List Host) (acts : List Act) (act : Act) (old mid new : List Stock) (before after : List ℕ)
-    → HasRun hosts acts old mid before → HasPut hosts act mid new (1 + length acts) before after → HasRun hosts (acts ++ act ∷ []) old new after
-one_more hosts acts act old mid new before after run put =
+pub one_more : (hosts : List Host) (acts : List Act) (act : Act) (old mid new : List Stock) (before after : List ℕ) (output : Output)
+    → HasRun hosts acts old mid before → after ≡ before ++ line_of (1 + length acts) output → IsAct hosts act mid new output → IsAsFormed (meaning hosts act).formed output → IsAmong (length hosts) act → HasRun hosts (acts ++ act ∷ []) old new after
+one_more hosts acts act old mid new before after output run text_is did formed among =
     let long : length run.outputs ≡ length acts = run.ran.each ∙ length-map acts (λ a. (meaning hosts a).means) in
     record {
-      outputs = run.outputs ++ put.output ∷ [];
+      outputs = run.outputs ++ output ∷ [];
       text_is =
-          put.text_is
-          ∙ ap (λ text. text ++ line_of (1 + length acts) put.output) run.text_is
-          ∙ ap (λ n. text_from 1 run.outputs ++ line_of (1 + n) put.output) (sym long)
-          ∙ sym (text_push 1 run.outputs put.output);
+          text_is
+          ∙ ap (λ text. text ++ line_of (1 + length acts) output) run.text_is
+          ∙ ap (λ n. text_from 1 run.outputs ++ line_of (1 + n) output) (sym long)
+          ∙ sym (text_push 1 run.outputs output);
       ran =
-          subst (λ (ms : List (Meaning Seen Output)). courses.HasRun Seen Output seen_in spelled stop_in ms old new (run.outputs ++ put.output ∷ [])) (sym (map-append (λ a. (meaning hosts a).means) acts (act ∷ [])))
-          (more.one_more Seen Output seen_in spelled stop_in (meanings_of hosts acts) (meaning hosts act).means old mid new run.outputs put.output run.ran put.ran);
-      formed = formed_push hosts acts act run.outputs put.output long run.formed put.formed;
-      among = among_push (length hosts) acts act run.among put.among;
+          subst (λ (ms : List (Meaning Seen Output)). courses.HasRun Seen Output seen_in spelled stop_in ms old new (run.outputs ++ output ∷ [])) (sym (map_push (λ a. (meaning hosts a).means) acts act))
+          (more.one_more Seen Output seen_in spelled stop_in (meanings_of hosts acts) (meaning hosts act).means old mid new run.outputs output run.ran did);
+      formed = formed_push hosts acts act run.outputs output long run.formed formed;
+      among = among_push (length hosts) acts act run.among among;
     }
 
 -- ---- cut short
 
-rose_after : (n before now later : ℕ) → RoseBy n before now → now ≤ later → RoseBy n before later
-rose_after n before now later rose le = omega arith
-
--- where the keepers tell what they told, they are as the lines left them
-pub ran_after : (hosts : List Host) (acts : List Act) (old mid new : List Stock) (outputs : List Output) → Ran hosts acts old mid outputs → AreKept mid new → Ran hosts acts old new outputs
-ran_after hosts acts old mid new outputs run kept = record {
-  each = run.each;
-  places = kept_long mid new kept ∙ run.places;
-  causes = λ place. rose_after _ _ _ _ (run.causes place) (kept_count place mid new kept);
-  done = λ tables tell.
-      let did = run.done tables tell in
-      record {
-        outcomes = did.outcomes;
-        each = did.each;
-        agree = did.agree;
-        outputs_are = did.outputs_are;
-        tables_are = tell_kept mid new _ kept did.tables_are;
-        fits = did.fits;
-      };
-}
-
 -- no line was run
 pub none_ran : (hosts : List Host) (acts : List Act) (old new : List Stock) → AreKept old new → IsCut hosts acts old new
 none_ran hosts acts old new kept =
-    record { count = 0; outputs = []; ran = ran_after hosts [] old old new [] (no_lines Seen Output seen_in spelled stop_in old) kept }
+    record { count = 0; outputs = []; ran = run_kept (all_kept old) (no_lines Seen Output seen_in spelled stop_in old) kept }
 
 -- these were, and more were to follow
 pub some_ran : (hosts : List Host) (done more acts : List Act) (old mid new : List Stock) (text : List ℕ) → HasRun hosts done old mid text → done ++ more ≡ acts → AreKept mid new
@@ -103,7 +80,7 @@ some_ran hosts done more acts old mid new text run all kept =
     record {
       count = length done;
       outputs = run.outputs;
-      ran = subst (λ lines. Ran hosts lines old new run.outputs) (sym first) (ran_after hosts done old mid new run.outputs run.ran kept);
+      ran = subst (λ lines. Ran hosts lines old new run.outputs) (sym first) (run_kept (all_kept old) run.ran kept);
     }
 
 -- all were

@@ -21,7 +21,7 @@ use Rattle.misp_store.specs.Sharing.{groups_of}
 use Rattle.misp_store.specs.Batches.{spelled}
 use Rattle.misp_store.proofs.GroupRows.{AreReadBack}
 use Rattle.misp_core.specs.declared.reply.Reply.{Reply}
-use Rattle.misp_api.specs.Host.{Host}
+use Rattle.misp_core.specs.Standing.{Host}
 use Rattle.misp_api.specs.Answering.{caller_in, form_of, replied}
 use Rattle.misp_api.specs.Administering.{group_form, grouped}
 use Rattle.misp_api.proofs.Forms.{form_built, form_caller}

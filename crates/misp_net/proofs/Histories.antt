@@ -16,7 +16,7 @@ use Rattle.misp_store.specs.Sharing.{groups_in}
 use Rattle.misp_store.specs.Batches.{spelled}
 use Rattle.misp_store.proofs.GroupRows.{AreReadBack}
 use Rattle.misp_net.specs.declared.line.Output.{Output}
-use Rattle.misp_api.specs.Host.{Host}
+use Rattle.misp_core.specs.Standing.{Host}
 use Rattle.misp_net.specs.Lines.{Act, AreAmong}
 use Rattle.misp_store.specs.Seen.{Seen, seen_in}
 use Rattle.misp_net.specs.Meaning.{meaning, meanings_of, stop_in}
@@ -67,24 +67,20 @@ module _ (back : AreReadBack) (hosts : List Host) (distinct : AreDistinct hosts)
     each : length done.outcomes ≡ length acts
     each = done.each ∙ length-map acts (λ act. (meaning hosts act).means)
 
+    history : (outputs_of seen_in spelled (meanings_of hosts acts) done.outcomes (empty_tables hosts) ≡ told_outputs 0 hosts start acts done.outcomes)
+        × IsHistory hosts (0 + length acts) (world_left 0 hosts start acts done.outcomes) (tables_left seen_in spelled (meanings_of hosts acts) done.outcomes (empty_tables hosts))
+    history = all_told 0 start acts done.outcomes (empty_tables hosts) each among (at_start hosts) done.fits
+
     pub are_told : AreTold hosts acts outputs
-    are_told = record {
-      outcomes = done.outcomes;
-      each = each;
-      agree = done.agree;
-      outputs_are = done.outputs_are ∙ (all_told 0 start acts done.outcomes (empty_tables hosts) each among (at_start hosts) done.fits).0;
-    }
+    are_told = record { outcomes = done.outcomes; each = each; agree = done.agree; outputs_are = done.outputs_are ∙ history.0 }
 
     pub are_held : AreHeld hosts acts outputs new
+    unfolding are_told done
     are_held =
         let same : 0 + length acts ≡ length acts = omega arith in
         record {
-          outcomes = done.outcomes;
-          each = each;
-          agree = done.agree;
-          outputs_are = done.outputs_are ∙ (all_told 0 start acts done.outcomes (empty_tables hosts) each among (at_start hosts) done.fits).0;
+          told = are_told;
           tables = tables_left seen_in spelled (meanings_of hosts acts) done.outcomes (empty_tables hosts);
           tables_are = done.tables_are;
-          history = subst (λ k. IsHistory hosts k (world_left 0 hosts start acts done.outcomes) (tables_left seen_in spelled (meanings_of hosts acts) done.outcomes (empty_tables hosts))) same
-              (all_told 0 start acts done.outcomes (empty_tables hosts) each among (at_start hosts) done.fits).1;
+          history = subst (λ k. IsHistory hosts k (world_left 0 hosts start acts done.outcomes) (tables_left seen_in spelled (meanings_of hosts acts) done.outcomes (empty_tables hosts))) same history.1;
         }

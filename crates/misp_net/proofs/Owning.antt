@@ -14,11 +14,11 @@ use Rattle.misp_model.proofs.Same.{same_org-sound}
 use Rattle.misp_model.proofs.Lists.{filter_all}
 use Rattle.misp_model.proofs.Knowing.{known_cut}
 use Rattle.misp_model.proofs.Tables.{tables_cut}
-use Rattle.misp_core.specs.Answers.{site, scene_with, reply_in}
-use Rattle.misp_api.specs.Host.{Host}
+use Rattle.misp_core.specs.Answers.{Asked, scene_at, knowing, reply_in}
+use Rattle.misp_core.specs.Standing.{Host}
 use Rattle.misp_net.specs.Hosts.{host_at}
 use Rattle.misp_api.specs.Request.{Reading}
-use Rattle.misp_api.specs.Answering.{Asked, replied}
+use Rattle.misp_api.specs.Answering.{replied}
 use Rattle.misp_net.specs.History.{seen_by, is_asker}
 use Rattle.misp_api.proofs.Forms.{AskedBy}
 
@@ -40,5 +40,5 @@ module _ (keep : Key → Bool) (closed : IsClosed keep) (o : OrgId) (hosts : Lis
   own_reply w at now (Ok asked) caller by own has =
       let host : Host = host_at at hosts in
       let same : same_org asked.0.org o ≡ true = subst (λ (c : Option Caller). is_asker o (option_map (λ (d : Caller). d.org) c) ≡ true) by own in
-      ap (λ rows. reply_in host.admin (scene_with (site host.name host.admin (w.groups host.name) asked.0 now) rows) asked.1) (own_rows w host.name asked.0.org same has)
+      ap (λ rows. reply_in host.admin (knowing (scene_at host now asked.0 (w.groups host.name)) rows) asked.1) (own_rows w host.name asked.0.org same has)
   own_reply w at now (Err refusal) caller by own has = refl

@@ -15,10 +15,10 @@ use Rattle.misp_model.proofs.Erasing.{step_cut}
 use Rattle.misp_model.proofs.Headline.{kept_is_closed, kept_has}
 use Rattle.misp_store.proofs.GroupRows.{AreReadBack}
 use Rattle.misp_net.specs.declared.line.Output.{Output}
-use Rattle.misp_api.specs.Host.{Host}
+use Rattle.misp_core.specs.Standing.{Host}
 use Rattle.misp_net.specs.Lines.{Act}
 use Rattle.misp_net.specs.Meaning.{stop_in}
-use Rattle.misp_net.specs.Course.{HasRun}
+use Rattle.misp_net.specs.Run.{HasRun}
 use Rattle.misp_net.specs.History.{act_in, acts_in, no_links, told_output, told_outputs, AreDistinct, empty_tables, AreTold, is_of}
 use Rattle.misp_net.specs.Promise.{ShowNoStop, outputs_over, replies_to, own_lines, AreReplied, AreNewest, IsPrivate}
 use Rattle.misp_net.proofs.Telling.{world_whole}
@@ -108,44 +108,31 @@ told_unstopped n hosts w (act ∷ acts) (Went ∷ outcomes) (output ∷ outputs)
     ap (λ v. told_output Went hosts w act ∷ told_outputs (suc n) hosts v acts outcomes) (world_whole n w (act_in hosts act))
     ∙ ap (λ os. told_output Went hosts w act ∷ os) (told_unstopped (suc n) hosts (step no_links n w (act_in hosts act)) acts outcomes outputs (omega (arith, each)) rest none.1)
 
-module _ (back : AreReadBack) (hosts : List Host) (acts : List Act) (old new : List Stock) (text : List ℕ) (run : HasRun hosts acts old new text)
-    (distinct : AreDistinct hosts) (empty : Tell old (empty_tables hosts)) where
-  told : AreTold hosts acts run.outputs
-  told = are_told back hosts distinct acts old new run.outputs run.among run.ran empty
+module _ (back : AreReadBack) (hosts : List Host) (acts : List Act) (old new : List Stock) (text : List ℕ) (run : HasRun hosts acts old new text) where
+  told : AreDistinct hosts → Tell old (empty_tables hosts) → AreTold hosts acts run.outputs
+  told distinct empty = are_told back hosts distinct acts old new run.outputs run.among run.ran empty
 
   -- what was put out is what the history says of all acts
-  told_whole : ShowNoStop run.outputs → run.outputs ≡ outputs_over 0 hosts start acts (acts_in hosts acts)
-  told_whole none = told.outputs_are ∙ told_unstopped 0 hosts start acts told.outcomes run.outputs told.each told.agree none
+  told_whole : AreDistinct hosts → Tell old (empty_tables hosts) → ShowNoStop run.outputs → run.outputs ≡ outputs_over 0 hosts start acts (acts_in hosts acts)
+  told_whole distinct empty none =
+      let by = told distinct empty in by.outputs_are ∙ told_unstopped 0 hosts start acts by.outcomes run.outputs by.each by.agree none
 
-pub are_replied : AreReadBack → (hosts : List Host) (acts : List Act) (old new : List Stock) (text : List ℕ) → HasRun hosts acts old new text → AreReplied hosts acts old new text
-are_replied back hosts acts old new text run = record {
-  outputs = run.outputs;
-  text_is = run.text_is;
-  ran = run.ran;
-  formed = run.formed;
-  refused = λ outcome act tables idle. idle_same outcome hosts act tables idle;
-  told = λ distinct empty. told back hosts acts old new text run distinct empty;
-}
+  pub are_replied : AreReplied hosts acts old new text
+  are_replied = record { run = run; refused = λ outcome act tables idle. idle_same outcome hosts act tables idle; told = told }
 
-pub are_newest : AreReadBack → (hosts : List Host) (acts : List Act) (old new : List Stock) (text : List ℕ) → HasRun hosts acts old new text → AreNewest hosts acts old new text
-are_newest back hosts acts old new text run = record {
-  outputs = run.outputs;
-  text_is = run.text_is;
-  held = λ distinct empty. are_held back hosts distinct acts old new run.outputs run.among run.ran empty;
-}
+  pub are_newest : AreNewest hosts acts old new text
+  are_newest = record { run = run; held = λ distinct empty. are_held back hosts distinct acts old new run.outputs run.among run.ran empty }
 
-pub is_private : AreReadBack → (hosts : List Host) (acts : List Act) (old new : List Stock) (text : List ℕ) → HasRun hosts acts old new text → IsPrivate hosts acts old new text
-is_private back hosts acts old new text run = record {
-  outputs = run.outputs;
-  text_is = run.text_is;
-  ran = run.ran;
-  kept = λ distinct empty none o.
-      ap (replies_to o hosts acts) (told_whole back hosts acts old new text run distinct empty none)
-      ∙ sym (private_replies o hosts acts);
-  alike = λ distinct empty none o others own same.
-      sym (private_replies o hosts others)
-      ∙ ap (λ history. replies_to o hosts others (outputs_over 0 hosts start others history)) same
-      ∙ same_lines o hosts 0 start acts others (erased o no_links (acts_in hosts acts)) own
-      ∙ private_replies o hosts acts
-      ∙ sym (ap (replies_to o hosts acts) (told_whole back hosts acts old new text run distinct empty none));
-}
+  pub is_private : IsPrivate hosts acts old new text
+  is_private = record {
+    run = run;
+    kept = λ distinct empty none o.
+        ap (replies_to o hosts acts) (told_whole distinct empty none)
+        ∙ sym (private_replies o hosts acts);
+    alike = λ distinct empty none o others own same.
+        sym (private_replies o hosts others)
+        ∙ ap (λ history. replies_to o hosts others (outputs_over 0 hosts start others history)) same
+        ∙ same_lines o hosts 0 start acts others (erased o no_links (acts_in hosts acts)) own
+        ∙ private_replies o hosts acts
+        ∙ sym (ap (replies_to o hosts acts) (told_whole distinct empty none));
+  }

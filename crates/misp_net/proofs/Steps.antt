@@ -1,39 +1,35 @@
 -- What one instance does is an act among all of them.
-use Rattle.std.proofs.Common.{◌≡◌, ℕ, zero, suc, ◌<◌, Bool, true, false, eqb, List, [], ◌∷◌, ◌++◌, ◌≤◌, length, get_or, set, Option, Some, None, Result, Ok, Err, inl, inr, refl, sym, ◌∙◌, ap, subst, arith}
-use Rattle.std.proofs.lemmas.List.{length-map, map-set, get_or-map, set-get_or}
+use Rattle.std.proofs.Common.{◌≡◌, ℕ, zero, suc, ◌<◌, Bool, true, false, eqb, List, [], ◌∷◌, ◌++◌, length, get_or, set, Some, None, Result, Ok, Err, inl, inr, refl, sym, ◌∙◌, ap, subst, arith}
+use Rattle.std.proofs.lemmas.List.{length-map, get_or-map, set-get_or}
 use Rattle.std.specs.Prelude.{IfSome, IfOk, OnOk, if◌then◌else◌}
 use Rattle.misp_elem.specs.Refusal.{rule_number}
 use Rattle.misp_outside.specs.Causes.{HasCause}
-use Rattle.misp_outside.specs.Held.{Held, nothing_held}
+use Rattle.misp_outside.specs.Held.{nothing_held}
 use Rattle.misp_outside.specs.Stock.{Stock}
 use Rattle.misp_effects.specs.declared.stop.Stop.TheVariants as stops
 use Rattle.misp_effects.specs.declared.stop.Side.TheVariants.{Here, There}
-use Rattle.misp_effects.specs.Effect.{Effect, shown, nothing_of, Does}
+use Rattle.misp_effects.specs.Effect.{Effect}
 use Rattle.misp_effects.specs.Effect as effects
 use Rattle.misp_effects.specs.Stocks.{Tell}
 use Rattle.misp_effects.specs.Course.{IsAct}
-use Rattle.misp_effects.proofs.Acting.{one_act}
-use Rattle.misp_effects.proofs.Showing.{does_shown}
+use Rattle.misp_effects.proofs.Acting.{shown_act}
 use Rattle.misp_script.specs.Step.{StepData, RequestData, GroupData}
 use Rattle.misp_script.specs.Step as deeds
-use Rattle.misp_core.specs.Standing.{Standing}
+use Rattle.misp_core.specs.Standing.{Standing, Host, host_of}
 use Rattle.misp_store.specs.Batches.{spelled}
-use Rattle.misp_core.specs.Effects.{refused_by, by_keeper, rule_told, telling, Did}
+use Rattle.misp_core.specs.Effects.{refused_by, by_keeper, rule_told, Did}
 use Rattle.misp_core.specs.Effects as core
 use Rattle.misp_core.specs.declared.reply.Reply.{Reply}
 use Rattle.misp_core.specs.declared.reply.Reply.TheVariants as replies
 use Rattle.misp_net.specs.declared.line.Output.{Output}
 use Rattle.misp_net.specs.declared.line.Output.TheVariants.{Replied}
-use Rattle.misp_api.specs.Host.{Host, host_of}
 use Rattle.misp_net.specs.Hosts.{nobody, hosts_of, host_at, stock_of, stocks_of}
 use Rattle.misp_store.specs.Seen.{Seen, seen_in}
 use Rattle.misp_api.specs.Answering.{form_of, replied, IsReplied}
 use Rattle.misp_api.specs.Administering.{group_form, grouped, IsDone}
 use Rattle.misp_api.specs.Refusing.{TurnsAway}
 use Rattle.misp_api.specs.Request.{Reading}
-use Rattle.misp_net.specs.Opening.{AreKept}
 use Rattle.misp_net.specs.Meaning.{meaning, request_in, asks, silent, stop_in, turned_away, IsAsFormed}
-use Rattle.misp_net.proofs.Openings.{all_kept}
 use Rattle.misp_net.specs.Run as lines
 use Rattle.misp_net.specs.Text.{output_text}
 
@@ -51,35 +47,13 @@ never_there (replies.Refused refusal) is = none_there (eqb (rule_number refusal.
 
 -- ---- one instance
 
-as_output : (comes : Seen → Effect Reply) (old new : Option Held) (reply : Reply) → IfSome old (λ held. Did (comes (seen_in held)) held reply new)
-    → IfSome old (λ held. Does Output spelled stop_in (nothing_of (λ stop. Replied (refused_by (rule_told stop)))) (shown Replied (comes (seen_in held))) held (Replied reply) new)
-as_output comes None new reply did = tt
-as_output comes (Some held) new reply did =
-    does_shown spelled Replied core.stop_in stop_in telling _ (λ a. refl) (λ stop n lost e. refl) (comes (seen_in held)) held reply new did
-
--- what is replied at one keeper is an act among all
-stock_act : (at : ℕ) (comes : Seen → Effect Reply) (old : List Stock) (new none : Stock) (reply : Reply) → at < length old
-    → IfSome (get_or old at none).held (λ held. Did (comes (seen_in held)) held reply new.held)
-    → HasCause (get_or old at none).faults new.faults (core.stop_in reply ≡ by_keeper)
-    → IsAct Seen Output seen_in spelled stop_in (asks at comes) old (set old at new) (Replied reply)
-stock_act at comes old new none reply lt did cause =
-    one_act seen_in spelled stop_in (λ stop. Replied (refused_by (rule_told stop))) at (λ here. shown Replied (comes here)) old new none (Replied reply) lt
-    (as_output comes (get_or old at none).held new.held reply did)
-    cause
-    (never_there reply)
-
--- and so is what one instance replies
+-- what is replied at one instance is an act among all
 pub instance_act : (at : ℕ) (comes : Seen → Effect Reply) (old : List Standing) (new none : Standing) (reply : Reply) → at < length old
     → IfSome (get_or old at none).held (λ held. Did (comes (seen_in held)) held reply new.held)
     → HasCause (get_or old at none).faults new.faults (core.stop_in reply ≡ by_keeper)
     → IsAct Seen Output seen_in spelled stop_in (asks at comes) (stocks_of old) (stocks_of (set old at new)) (Replied reply)
 instance_act at comes old new none reply lt did cause =
-    let stock : get_or (stocks_of old) at (stock_of none) ≡ stock_of (get_or old at none) = get_or-map stock_of old at none (stock_of none) lt in
-    let long : at < length (stocks_of old) = rw (length-map old stock_of) lt in
-    subst (λ news. IsAct Seen Output seen_in spelled stop_in (asks at comes) (stocks_of old) news (Replied reply)) (sym (map-set stock_of old at new))
-    (stock_act at comes (stocks_of old) (stock_of new) (stock_of none) reply long
-    (subst (λ (s : Stock). IfSome s.held (λ held. Did (comes (seen_in held)) held reply new.held)) (sym stock) did)
-    (subst (λ (s : Stock). HasCause s.faults new.faults (core.stop_in reply ≡ by_keeper)) (sym stock) cause))
+    shown_act seen_in spelled Replied stop_in (λ stop. refused_by (rule_told stop)) stock_of at comes old new none reply lt did cause (never_there reply)
 
 abbrev pub step_at : ℕ → ℕ → RequestData → StepData
 step_at time word r = record { time = time; word = word; deed = deeds.Request r }
@@ -124,13 +98,6 @@ pub hosts_kept : (old : List Standing) (place : ℕ) (new none : Standing) → p
 hosts_kept [] place new none lt name admin = absurd (omega arith)
 hosts_kept (s ∷ old) zero new none lt name admin = cc
 hosts_kept (s ∷ old) (suc place) new none lt name admin = ap (λ hosts. host_of s ∷ hosts) (hosts_kept old place new none (omega arith) name admin)
-
--- where an instance tells what it told, all do
-pub set_kept : (old : List Standing) (place : ℕ) (new none : Standing) → place < length old
-    → new.held ≡ (get_or old place none).held → (get_or old place none).faults ≤ new.faults → AreKept (stocks_of old) (stocks_of (set old place new))
-set_kept [] place new none lt same later = absurd (omega arith)
-set_kept (s ∷ old) zero new none lt same later = (record { told_same = same; later = later }, all_kept (stocks_of old))
-set_kept (s ∷ old) (suc place) new none lt same later = (record { told_same = refl; later = omega arith }, set_kept old place new none (omega arith) same later)
 
 -- ---- no instance
 

@@ -3,13 +3,10 @@ use Rattle.std.proofs.Common.{◌≡◌, ◌≢◌, ℕ, zero, suc, ◌<◌, Boo
 use Rattle.std.proofs.lemmas.Bool.{cases_eq, cases_Bool}
 use Rattle.std.proofs.lemmas.List.{get_or-set_same, get_or-set_other, set-get_or}
 use Rattle.std.specs.Prelude.{ltb, slice_set}
-use Rattle.std.specs.List.{list_all, AllByRecursion}
-use Rattle.std.specs.List.Sorted.{IsStrictlySortedBy}
-use Rattle.misp_elem.specs.Row.{AreRows}
+use Rattle.std.specs.List.{list_all}
 use Rattle.misp_orgs.specs.Keys.{CallerFields as Caller}
 use Rattle.misp_outside.specs.Held.{Held, nothing_held}
 use Rattle.misp_groups.specs.declared.group.GroupFields.{GroupFields as Group}
-use Rattle.misp_groups.specs.Group.{IsGroup}
 use Rattle.misp_effects.specs.declared.stop.Stop.{Stop}
 use Rattle.misp_effects.specs.Batches.{put_batches, AreReadable}
 use Rattle.misp_effects.specs.Effect.{Effect, Stopped}
@@ -23,22 +20,19 @@ use Rattle.misp_model.specs.Outcomes.{Whole, step_partly}
 use Rattle.misp_model.specs.Outcomes as parts
 use Rattle.misp_model.proofs.Steps.{step_nothing, step_misfit}
 use Rattle.misp_model.proofs.Numbered.{step_below}
-use Rattle.misp_levels.specs.Groups.{by_name}
-use Rattle.misp_store.specs.Raw.{raw_row}
-use Rattle.misp_core.specs.Answers.{Surroundings, site}
-use Rattle.misp_core.specs.Effects.{asked_over}
+use Rattle.misp_core.specs.Answers.{Asked}
 use Rattle.misp_store.specs.Sharing.{or_none, groups_of}
 use Rattle.misp_core.specs.Keeping.{Keeps, act_at, act_of}
 use Rattle.misp_store.specs.Batches.{spelled}
 use Rattle.misp_core.specs.declared.reply.Reply.{Reply}
-use Rattle.misp_core.proofs.Keeping.{over_all, same_elsewhere, same_groups, left_there}
+use Rattle.misp_core.proofs.Keeping.{keeps_by, over_all, same_elsewhere, same_groups, left_there}
 use Rattle.misp_store.proofs.GroupRows.{AreReadBack}
 use Rattle.misp_core.proofs.KeepingGroups.{administered_left, same_log, groups_elsewhere}
-use Rattle.misp_api.specs.Host.{Host}
+use Rattle.misp_core.specs.Standing.{Host}
 use Rattle.misp_net.specs.Hosts.{host_at}
 use Rattle.misp_api.specs.Request.{Reading}
 use Rattle.misp_store.specs.Seen.{seen_in}
-use Rattle.misp_api.specs.Answering.{Asked, replied}
+use Rattle.misp_api.specs.Answering.{replied}
 use Rattle.misp_api.specs.Administering.{grouped}
 use Rattle.misp_net.specs.Meaning.{asking, administering}
 use Rattle.misp_net.specs.History.{no_links, applied, seen_by, AreDistinct, IsHistory}
@@ -65,16 +59,6 @@ pub world_still : (n : ℕ) (w : World) (act : model.Act) (stop : Stop) (k : ℕ
 world_still n w act stop zero lost = deed_still n w act.at act.now act.deed false 0
 world_still n w act stop (suc k) lost = deed_still n w act.at act.now act.deed true k
 
--- what an instance has stays where the history of it does
-keeps_same : (j : Inst) (w next : World) (held : Held) → tables next.log j ≡ tables w.log j → next.groups j ≡ w.groups j → Keeps j w held → Keeps j next held
-keeps_same j w next held rows groups keeps = record {
-  rows = keeps.rows ∙ ap (map raw_row) (sym rows);
-  are_rows = subst AreRows (sym rows) keeps.are_rows;
-  groups = keeps.groups ∙ ap Ok (sym groups);
-  are_groups = subst (AllByRecursion IsGroup) (sym groups) keeps.are_groups;
-  ascend = subst (IsStrictlySortedBy by_name) (sym groups) keeps.ascend;
-}
-
 module _ (hosts : List Host) (distinct : AreDistinct hosts) (n : ℕ) (w : World) (old : Tables) (told : IsHistory hosts n w old) where
   -- the groups that are held there are those of the history
   pub groups_there : (at : ℕ) → at < length hosts → groups_of (held_at at old) ≡ w.groups (host_at at hosts).name
@@ -85,9 +69,7 @@ module _ (hosts : List Host) (distinct : AreDistinct hosts) (n : ℕ) (w : World
   pub request_told : (at now : ℕ) (form : Reading Asked) → BuiltForm form → at < length hosts
       → (replied (host_at at hosts) now form (seen_in (held_at at old))).reply ≡ (replied (host_at at hosts) now form (seen_by hosts w at)).reply
   request_told at now (Ok asked) built lt =
-      let host : Host = host_at at hosts in
-      ap (λ (e : Effect Reply). e.reply) (over_all w (site host.name host.admin (groups_of (held_at at old)) asked.0 now) asked.1 (held_at at old) built (told.each at lt))
-      ∙ ap (λ groups. (asked_over (site host.name host.admin groups asked.0 now) asked.1 (Ok (tables w.log host.name))).reply) (groups_there at lt)
+      ap (λ (e : Effect Reply). e.reply) (over_all w (host_at at hosts) now asked (held_at at old) built (told.each at lt))
   request_told at now (Err refusal) built lt = refl
 
   -- ---- what is left
@@ -127,8 +109,9 @@ module _ (hosts : List Host) (distinct : AreDistinct hosts) (n : ℕ) (w : World
           (subst (λ held. Keeps (host_at at hosts).name next held) (sym (get_or-set_same old at left nothing_held (rw told.long lt))) here)
       | inr other ↦
           let same = elsewhere (host_at place hosts).name (apart place inside other) in
+          let was = told.each place inside in
           subst (λ held. Keeps (host_at place hosts).name next held) (sym (get_or-set_other old at place left nothing_held other))
-          (keeps_same (host_at place hosts).name w next (held_at place old) same.0 same.1 (told.each place inside))
+          (keeps_by (host_at place hosts).name next (held_at place old) _ _ same.0 same.1 was.rows was.are_rows was.groups was.are_groups was.ascend)
     ]
 
     one_left : IsHistory hosts (suc n) next (slice_set old at left)
@@ -145,12 +128,10 @@ module _ (hosts : List Host) (distinct : AreDistinct hosts) (n : ℕ) (w : World
       (slice_set old at (put_batches (map spelled (replied (host_at at hosts) now form (seen_in (held_at at old))).batches) (held_at at old)))
   request_left at now (Ok asked) caller built lt fits =
       let host : Host = host_at at hosts in
-      let held : Held = held_at at old in
-      let there : Surroundings = site host.name host.admin (groups_of held) asked.0 now in
-      one_left at lt (step no_links n w (act_at there asked.1)) _
-      (left_there no_links n w there asked.1 held built told.earlier refl (told.each at lt) fits)
-      (λ j other. (same_elsewhere no_links n w there asked.1 j other, ap (λ groups. groups j) (same_groups no_links n w there asked.1)))
-      (step_below no_links n w (act_at there asked.1) told.earlier)
+      one_left at lt (step no_links n w (act_at host now asked)) _
+      (left_there no_links n w host now asked (held_at at old) built told.earlier (told.each at lt) fits)
+      (λ j other. (same_elsewhere no_links n w host now asked j other, ap (λ groups. groups j) (same_groups no_links n w host now asked)))
+      (step_below no_links n w (act_at host now asked) told.earlier)
   request_left at now (Err refusal) None built lt fits = as_before _ _ (step_nothing no_links n w _ refl) (still at)
   request_left at now (Err refusal) (Some caller) built lt fits = as_before _ _ (step_misfit no_links n w _ _ refl) (still at)
 

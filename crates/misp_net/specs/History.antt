@@ -16,7 +16,7 @@ use Rattle.misp_model.specs.Outcomes.{Whole, step_partly}
 use Rattle.misp_model.specs.Outcomes as parts
 use Rattle.misp_core.specs.Keeping.{Keeps}
 use Rattle.misp_net.specs.declared.line.Output.{Output}
-use Rattle.misp_api.specs.Host.{Host}
+use Rattle.misp_core.specs.Standing.{Host}
 use Rattle.misp_net.specs.Hosts.{host_at}
 use Rattle.misp_net.specs.Lines.{Act}
 use Rattle.misp_store.specs.Seen.{Seen}
@@ -100,17 +100,14 @@ pub record AreTold (hosts : List Host) (acts : List Act) (outputs : List Output)
   pub agree : map stop_of outcomes ≡ map stop_in outputs
   pub outputs_are : outputs ≡ told_outputs 0 hosts start acts outcomes
 
--- Under outcomes that the outputs tell, and by which they are those of the history, each keeper
--- holds the tables and the groups of its instance after these lines, and nothing else.
+-- The outputs are those of the history, and under the same outcomes each keeper holds the tables
+-- and the groups of its instance after these lines, and nothing else.
 pub record AreHeld (hosts : List Host) (acts : List Act)
     (outputs : List Output) (new : List Stock) : Type 0 where
-  pub outcomes : List Outcome
-  pub each : length outcomes ≡ length acts
-  pub agree : map stop_of outcomes ≡ map stop_in outputs
-  pub outputs_are : outputs ≡ told_outputs 0 hosts start acts outcomes
+  pub told : AreTold hosts acts outputs
   pub tables : Tables
   pub tables_are : Tell new tables
-  pub history : IsHistory hosts (length acts) (world_left 0 hosts start acts outcomes) tables
+  pub history : IsHistory hosts (length acts) (world_left 0 hosts start acts told.outcomes) tables
 
 -- ---- whose a line is
 

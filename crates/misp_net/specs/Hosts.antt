@@ -3,8 +3,7 @@ use Rattle.std.specs.Prelude.{ℕ, List, [], map, slice_index_or}
 use Rattle.misp_outside.specs.Stock.{Stock, stock}
 use Rattle.misp_script.specs.declared.description.Description.{Description}
 use Rattle.misp_script.specs.declared.description.Entry.{Entry}
-use Rattle.misp_core.specs.Standing.{Standing}
-use Rattle.misp_api.specs.Host.{Host, host_of}
+use Rattle.misp_core.specs.Standing.{Standing, Host, host_of}
 
 abbrev pub hosts_of : List Standing → List Host
 hosts_of instances = map host_of instances

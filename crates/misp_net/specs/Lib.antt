@@ -5,5 +5,4 @@ pub mod Text
 pub mod Opening
 pub mod Run
 pub mod History
-pub mod Course
 pub mod Promise

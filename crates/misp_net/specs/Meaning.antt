@@ -18,11 +18,12 @@ use Rattle.misp_core.specs.declared.reply.Reply.TheVariants.{Refused}
 use Rattle.misp_net.specs.declared.line.Output.{Output}
 use Rattle.misp_net.specs.declared.line.Output.TheVariants.{Bad, Nothing, Replied}
 use Rattle.misp_net.specs.Lines.{Act}
-use Rattle.misp_api.specs.Host.{Host}
+use Rattle.misp_core.specs.Standing.{Host}
+use Rattle.misp_core.specs.Answers.{Asked}
 use Rattle.misp_net.specs.Hosts.{host_at}
 use Rattle.misp_api.specs.Request.{RequestData, Reading}
 use Rattle.misp_store.specs.Seen.{Seen}
-use Rattle.misp_api.specs.Answering.{Asked, caller_in, form_of, replied}
+use Rattle.misp_api.specs.Answering.{caller_in, form_of, replied}
 use Rattle.misp_api.specs.Administering.{group_form, grouped}
 
 -- what a line is: what it comes to among the instances; what it puts out whatever is held, where
@@ -42,13 +43,7 @@ asks at comes =
 
 -- none is asked, and nothing stops it
 abbrev pub silent : Output → Meaning Seen Output
-silent output = record {
-  at = 0;
-  peer = 0;
-  into = 0;
-  comes = λ here there. effect output [];
-  telling = λ stop n lost e. e;
-}
+silent output = alone (λ stop. output) 0 (λ here. effect output [])
 
 -- a line that does nothing
 abbrev pub idle : Output → ℕ → LineMeaning

@@ -1,5 +1,6 @@
 -- What is promised of the run of a script.
 use Rattle.std.specs.Prelude.{◌≡◌, ℕ, suc, List, [], ◌∷◌, map, take, Option, Some, None, if◌then◌else◌}
+use Rattle.std.specs.List.{AllByRecursion, filter, zip}
 use Rattle.misp_ids.specs.declared.uid.OrgId.{OrgId}
 use Rattle.misp_outside.specs.Stock.{Stock}
 use Rattle.misp_effects.specs.Effect.{Outcome, Went}
@@ -10,17 +11,15 @@ use Rattle.misp_model.specs.Kept.{start, erased}
 use Rattle.misp_core.specs.Effects.{IsRefused}
 use Rattle.misp_net.specs.declared.line.Output.{Output}
 use Rattle.misp_net.specs.declared.line.Output.TheVariants.{Bad, Nothing, Replied}
-use Rattle.misp_api.specs.Host.{Host}
+use Rattle.misp_core.specs.Standing.{Host}
 use Rattle.misp_net.specs.Lines.{Act}
-use Rattle.misp_net.specs.Meaning.{stop_in, AreAsFormed}
-use Rattle.misp_net.specs.Run.{output_of, tables_after, Ran}
-use Rattle.misp_net.specs.Text.{text_from}
+use Rattle.misp_net.specs.Meaning.{stop_in}
+use Rattle.misp_net.specs.Run.{output_of, tables_after, Ran, HasRun}
 use Rattle.misp_net.specs.History.{acts_in, no_links, told_output, AreDistinct, empty_tables, AreTold, AreHeld, is_of}
 
 -- nothing stopped any of the lines
 abbrev pub ShowNoStop : List Output → Type 0
-ShowNoStop [] = Unit {0}
-ShowNoStop (output ∷ outputs) = (stop_in output ≡ None) × ShowNoStop outputs
+ShowNoStop outputs = AllByRecursion (λ output. stop_in output ≡ None) outputs
 
 -- what the lines put out where nothing stops them, over the history of these acts
 abbrev pub outputs_over : ℕ → List Host → World → List Act → List model.Act → List Output
@@ -31,11 +30,9 @@ outputs_over n hosts w (act ∷ acts) (a ∷ history) =
 
 -- what the organisation is replied, in order
 abbrev pub replies_to : OrgId → List Host → List Act → List Output → List Output
-replies_to o hosts [] outputs = []
-replies_to o hosts (act ∷ acts) [] = []
-replies_to o hosts (act ∷ acts) (output ∷ outputs) =
-    if is_of o hosts act then output ∷ replies_to o hosts acts outputs
-    else replies_to o hosts acts outputs
+replies_to o hosts acts outputs =
+    map (λ (p : Act × Output). p.1)
+    (filter (λ (p : Act × Output). is_of o hosts p.0) (zip acts outputs))
 
 -- its own lines, each in its place
 abbrev pub own_lines : OrgId → List Host → List Act → List (Option Act)
@@ -51,44 +48,37 @@ IsIdle (Replied reply) = IsRefused reply
 -- nothing.
 pub record IsPrivate (hosts : List Host) (acts : List Act)
     (old new : List Stock) (text : List ℕ) : Type 0 where
-  pub outputs : List Output
-  pub text_is : text ≡ text_from 1 outputs
-  pub ran : Ran hosts acts old new outputs
+  pub run : HasRun hosts acts old new text
   -- where no output shows a stop, elements that an organisation was never granted change none of
   -- its replies
-  pub kept : AreDistinct hosts → Tell old (empty_tables hosts) → ShowNoStop outputs
-      → (o : OrgId) → replies_to o hosts acts outputs
+  pub kept : AreDistinct hosts → Tell old (empty_tables hosts) → ShowNoStop run.outputs
+      → (o : OrgId) → replies_to o hosts acts run.outputs
       ≡ replies_to o hosts acts
       (outputs_over 0 hosts start acts (erased o no_links (acts_in hosts acts)))
   -- and any script with its lines that comes to the same without those elements gives it these
   -- replies
-  pub alike : AreDistinct hosts → Tell old (empty_tables hosts) → ShowNoStop outputs
+  pub alike : AreDistinct hosts → Tell old (empty_tables hosts) → ShowNoStop run.outputs
       → (o : OrgId) (others : List Act) → own_lines o hosts others ≡ own_lines o hosts acts
       → erased o no_links (acts_in hosts others) ≡ erased o no_links (acts_in hosts acts)
       → replies_to o hosts others (outputs_over 0 hosts start others (acts_in hosts others))
-      ≡ replies_to o hosts acts outputs
+      ≡ replies_to o hosts acts run.outputs
 
--- The lines put these outputs out, and wrote this text: one line for each. Over every keeper a line
--- whose form says what it puts out puts that out. What is refused changes nothing; and over keepers
--- that held nothing the outputs are those of the history.
+-- The lines ran and wrote this text. What is refused changes nothing; and over keepers that held
+-- nothing the outputs are those of the history.
 pub record AreReplied (hosts : List Host) (acts : List Act)
     (old new : List Stock) (text : List ℕ) : Type 0 where
-  pub outputs : List Output
-  pub text_is : text ≡ text_from 1 outputs
-  pub ran : Ran hosts acts old new outputs
-  pub formed : AreAsFormed hosts acts outputs
+  pub run : HasRun hosts acts old new text
   pub refused : (outcome : Outcome) (act : Act) (tables : Tables)
       → IsIdle (output_of outcome hosts act tables)
       → tables_after outcome hosts act tables ≡ tables
-  pub told : AreDistinct hosts → Tell old (empty_tables hosts) → AreTold hosts acts outputs
+  pub told : AreDistinct hosts → Tell old (empty_tables hosts) → AreTold hosts acts run.outputs
 
 -- Over keepers that held nothing, after the lines of this text each keeper holds the newest
 -- versions and the groups of its instance, and nothing else.
 pub record AreNewest (hosts : List Host) (acts : List Act)
     (old new : List Stock) (text : List ℕ) : Type 0 where
-  pub outputs : List Output
-  pub text_is : text ≡ text_from 1 outputs
-  pub held : AreDistinct hosts → Tell old (empty_tables hosts) → AreHeld hosts acts outputs new
+  pub run : HasRun hosts acts old new text
+  pub held : AreDistinct hosts → Tell old (empty_tables hosts) → AreHeld hosts acts run.outputs new
 
 -- The run was cut short: some first lines put these outputs out, and the keepers are as these lines
 -- left them. None of these outputs is written.

@@ -1,6 +1,6 @@
 -- The run of a script, given what stopped each of its lines: what is put out, and what is held in
 -- the end. The words of misp_effects, of the meanings of the lines.
-use Rattle.std.specs.Prelude.{List}
+use Rattle.std.specs.Prelude.{◌≡◌, ℕ, List, length}
 use Rattle.misp_outside.specs.Stock.{Stock}
 use Rattle.misp_effects.specs.Effect.{Outcome}
 use Rattle.misp_effects.specs.Stocks.{Tables}
@@ -8,10 +8,11 @@ use Rattle.misp_effects.specs.Run as runs
 use Rattle.misp_effects.specs.Course as courses
 use Rattle.misp_store.specs.Batches.{spelled}
 use Rattle.misp_net.specs.declared.line.Output.{Output}
-use Rattle.misp_api.specs.Host.{Host}
-use Rattle.misp_net.specs.Lines.{Act}
+use Rattle.misp_core.specs.Standing.{Host}
+use Rattle.misp_net.specs.Lines.{Act, AreAmong}
 use Rattle.misp_store.specs.Seen.{Seen, seen_in}
-use Rattle.misp_net.specs.Meaning.{meaning, meanings_of, stop_in}
+use Rattle.misp_net.specs.Meaning.{meaning, meanings_of, stop_in, AreAsFormed}
+use Rattle.misp_net.specs.Text.{text_from}
 
 -- what a line puts out
 abbrev pub output_of : Outcome → List Host → Act → Tables → Output
@@ -35,3 +36,13 @@ IsAct hosts act old new output =
 abbrev pub Ran : List Host → List Act → List Stock → List Stock → List Output → Type 0
 Ran hosts acts old new outputs =
     courses.HasRun Seen Output seen_in spelled stop_in (meanings_of hosts acts) old new outputs
+
+-- The lines ran so, each over one of the instances, and wrote this text: one line for each output.
+-- Over every keeper a line whose form says what it puts out puts that out.
+pub record HasRun (hosts : List Host) (acts : List Act)
+    (old new : List Stock) (text : List ℕ) : Type 0 where
+  pub outputs : List Output
+  pub text_is : text ≡ text_from 1 outputs
+  pub ran : Ran hosts acts old new outputs
+  pub formed : AreAsFormed hosts acts outputs
+  pub among : AreAmong (length hosts) acts

@@ -6,13 +6,13 @@ ghost use Rattle.misp_script.specs.Step.{step_of};
 ghost use Rattle.misp_script.specs.Step as deeds;
 ghost use Rattle.misp_api.specs.Request as requests;
 ghost use Rattle.misp_net.specs.Meaning.{meaning, request_in, IsAsFormed};
-ghost use Rattle.misp_effects.specs.Stocks.{told};
+ghost use Rattle.misp_effects.specs.Stocks.{told, AreKept, OneFailed};
 ghost use Rattle.misp_net.specs.Hosts.{described_hosts, hosts_of, stocks_of};
 ghost use Rattle.misp_net.specs.Lines.{acts_of, IsAmong};
-ghost use Rattle.misp_net.specs.Opening.{may_be_sound, may_be_unsound, AreKept, OneFailed, IsUnopened};
-ghost use Rattle.misp_net.specs.Run.{IsAct};
-ghost use Rattle.misp_net.specs.Course.{HasPut, HasRun};
-ghost use Rattle.misp_net.specs.Text.{output_text};
+ghost use Rattle.misp_store.specs.Sharing.{may_be_sound, may_be_unsound};
+ghost use Rattle.misp_net.specs.Opening.{IsUnopened};
+ghost use Rattle.misp_net.specs.Run.{IsAct, HasRun};
+ghost use Rattle.misp_net.specs.Text.{output_text, line_of};
 ghost use Rattle.misp_net.specs.Promise.{IsPrivate, AreReplied, AreNewest, IsCut};
 
 use crate::line::{Output, put_bad, put_front, put_nothing};
@@ -103,20 +103,25 @@ fn put_line<K: Keeper>(
     instances: &mut Vec<Instance<K>>,
     number: usize,
     line: &[u8],
-) -> Result<(), NoMemory>
+) -> Result<Output, NoMemory>
     requires { length directory.now ≡ vec_len instances.old }
-    ensures put { OnOk result
-        (HasPut (hosts_of instances.old.items) (step_of directory.now line.now)
-        (stocks_of instances.old.items) (stocks_of instances.new.items)
-        number lines.old.items lines.new.items) }
+    ensures text { IfOk result (λ output.
+        lines.new.items ≡ lines.old.items ++ line_of number output) }
+    ensures act { IfOk result (λ output.
+        IsAct (hosts_of instances.old.items) (step_of directory.now line.now)
+        (stocks_of instances.old.items) (stocks_of instances.new.items) output) }
+    ensures formed { IfOk result (λ output. IsAsFormed
+        (meaning (hosts_of instances.old.items) (step_of directory.now line.now)).formed output) }
+    ensures among { OnOk result (IsAmong (length (hosts_of instances.old.items))
+        (step_of directory.now line.now)) }
     ensures kept { OnErr result
         (AreKept (stocks_of instances.old.items) (stocks_of instances.new.items)) }
     ensures hosts { hosts_of instances.new.items ≡ hosts_of instances.old.items }
 {
     put_front(lines, alloc, number)?;
-    let _output = run_line(lines, alloc, directory, instances, line)?;
+    let output = run_line(lines, alloc, directory, instances, line)?;
     lines.push(b'\n').unwrap();
-    Ok(())
+    Ok(output)
 }
 
 // Runs a script, one line after another.
@@ -140,7 +145,8 @@ fn run_lines<K: Keeper>(
     let mut rest = script;
     while !rest.is_empty() {
         let (line, after) = split_line(rest);
-        put_line(&mut lines, alloc, directory, instances, number, line)?;
+        let output = put_line(&mut lines, alloc, directory, instances, number, line)?;
+        drop(output);
         rest = after;
         number += 1;
     }

@@ -1,9 +1,11 @@
 //! Takes keepers out of their places, and puts them back.
 
 ghost use Rattle.std.specs.Prelude.{◌≡◌, ◌+◌, ◌<◌, ◌≤◌, [], ◌∷◌, ◌++◌, true, Err, IfOk, OnOk, OnErr, map, take, drop, vec_len, vec_capacity};
-ghost use Rattle.misp_api.specs.Host.{host_of};
+ghost use Rattle.misp_effects.specs.Stocks.{AreKept, OneFailed};
+ghost use Rattle.misp_core.specs.Standing.{host_of};
 ghost use Rattle.misp_net.specs.Hosts.{described_host, hosts_of, stock_of, stocks_of};
-ghost use Rattle.misp_net.specs.Opening.{may_be_sound, may_be_unsound, AreKept, OneFailed, fault_of};
+ghost use Rattle.misp_store.specs.Sharing.{may_be_sound, may_be_unsound};
+ghost use Rattle.misp_net.specs.Opening.{fault_of};
 
 use misp_core::{Instance, LoadFault};
 use misp_ids::NoMemory;
@@ -107,9 +109,8 @@ pub(crate) fn open_all<K: Keeper>(
     ensures fewer { IfOk result (λ instances.
         vec_len instances + vec_len keepers.new ≡ vec_len keepers.old) }
     ensures room { OnOk result (vec_len keepers.old ≤ vec_capacity keepers.new) }
-    ensures back { OnErr result (AreKept
-        (take (vec_len entries) (map K.stock keepers.old.items))
-        (take (vec_len entries) (map K.stock keepers.new.items))) }
+    ensures back { OnErr result
+        (AreKept (map K.stock keepers.old.items) (map K.stock keepers.new.items)) }
     ensures places { OnErr result (vec_len keepers.new ≡ vec_len keepers.old) }
     ensures others { OnErr result
         (drop (vec_len entries) (map K.stock keepers.new.items)

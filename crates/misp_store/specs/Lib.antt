@@ -3,3 +3,4 @@ pub mod Sharing
 pub mod Batches
 pub mod Loading
 pub mod Seen
+pub mod Reach

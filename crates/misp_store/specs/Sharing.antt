@@ -1,8 +1,9 @@
 -- Sharing groups as a keeper holds them, among the rows of its administration.
-use Rattle.std.specs.Prelude.{◌≡◌, ℕ, ◌^◌, Bool, true, false, ltb, ◌==◌, ◌&&◌, cond, List, [], ◌∷◌, ◌++◌, Result, Ok, Err, bytes_eq, option_map}
+use Rattle.std.specs.Prelude.{◌≡◌, ℕ, ◌^◌, Bool, true, false, ltb, ◌==◌, ◌&&◌, cond, List, [], ◌∷◌, ◌++◌, Result, Ok, Err, bytes_eq, option_map, not, is_ok}
 use Rattle.std.specs.declared.option.Option.{Option}
 use Rattle.std.specs.declared.option.Option.TheVariants.{None, Some}
-use Rattle.std.specs.List.{AllByRecursion}
+use Rattle.std.specs.List.{AllByRecursion, list_all, list_any}
+use Rattle.std.specs.Option.{option_map_or}
 use Rattle.std.specs.Result.{result_ok}
 use Rattle.misp_ids.specs.declared.uid.GroupId.{GroupId}
 use Rattle.misp_groups.specs.declared.group.GroupFields.{GroupFields as Group}
@@ -12,6 +13,8 @@ use Rattle.misp_format.specs.WholeGroup.{group_text}
 use Rattle.misp_format.specs.GroupText.{group_in_text}
 use Rattle.misp_outside.specs.declared.row.AdminRow.{AdminRow}
 use Rattle.misp_outside.specs.Held.{Held, same_admin}
+use Rattle.misp_outside.specs.Stock.{Stock}
+use Rattle.misp_effects.specs.Stocks.{told}
 use Rattle.misp_levels.specs.Groups.{put_groups}
 use Rattle.misp_store.specs.Raw.{onto}
 use Rattle.misp_store.specs.declared.fault.RowFault.{RowFault}
@@ -117,3 +120,17 @@ NamesBadGroup read faults.NoMemory = Unit {0}
 abbrev pub HoldsGroups : Option Held → List Group → Type 0
 HoldsGroups None groups = Unit {0}
 HoldsGroups (Some held) groups = groups_in held.admin ≡ Ok groups
+
+-- ---- what keepers tell
+
+-- every row of the administration is a group
+abbrev pub is_sound : Held → Bool
+is_sound held = is_ok (groups_in held.admin)
+
+-- as far as the keepers tell, every row of the administration is a group
+abbrev pub may_be_sound : List Stock → Bool
+may_be_sound old = list_all (λ held. option_map_or is_sound held true) (told old)
+
+-- as far as the keepers tell, a row of the administration is none
+abbrev pub may_be_unsound : List Stock → Bool
+may_be_unsound old = list_any (λ held. option_map_or (λ h. not (is_sound h)) held true) (told old)

@@ -8,7 +8,7 @@ mod changing;
 use misp_edit::{AddFault, ChangeFault, add_event, delete, delete_event};
 use misp_elem::{
     Content, Draft, EventDraft, Key, KeyForm, ObjectBody, Place, ReferenceBody, ReferenceDraft,
-    Row, Submission,
+    Refusal, Row, RuleName, Submission,
 };
 use misp_ids::{ElemId, EventId, GroupId, Items, Label, OrgId, Stamp, Uid};
 use misp_levels::Groups;
@@ -207,9 +207,18 @@ enum Known {
     Mark,
 }
 
+// What a refusal says: its rule, and the uuid that it names.
+#[derive(Clone, Copy, Debug, PartialEq, Eq)]
+enum Told {
+    EventExists,
+    EventGone,
+    ElementExists(Uid),
+    GroupNotUsable(Uid),
+}
+
 const GROUPS: Label = Label::Group(GROUP);
 
-const UNUSABLE: AddFault = AddFault::GroupNotUsable(GROUP);
+const UNUSABLE: Told = Told::GroupNotUsable(Uid(0x91));
 
 /// The caller and what it knows, the event's label, the uuids of two objects, the label of
 /// the second, a reference, and the fault.
@@ -220,7 +229,7 @@ const CASES: [(
     [u128; 2],
     Label,
     [u128; 2],
-    Option<AddFault>,
+    Option<Told>,
 ); 12] = [
     (
         CALLER,
@@ -229,7 +238,7 @@ const CASES: [(
         [0xb1, 0xb1],
         GROUPS,
         [0xd2, 0xb1],
-        Some(AddFault::EventExists),
+        Some(Told::EventExists),
     ),
     (
         CALLER,
@@ -238,7 +247,7 @@ const CASES: [(
         [0xb1, 0xb1],
         GROUPS,
         [0xd2, 0xb1],
-        Some(AddFault::EventGone),
+        Some(Told::EventGone),
     ),
     (
         CALLER,
@@ -247,7 +256,7 @@ const CASES: [(
         [0xb3, 0xb2],
         GROUPS,
         [0xd2, 0xb3],
-        Some(AddFault::ElementExists(Uid(0xb2))),
+        Some(Told::ElementExists(Uid(0xb2))),
     ),
     (
         CALLER,
@@ -256,7 +265,7 @@ const CASES: [(
         [0xb3, 0xb4],
         GROUPS,
         [0xd1, 0xb1],
-        Some(AddFault::ElementExists(Uid(0xd1))),
+        Some(Told::ElementExists(Uid(0xd1))),
     ),
     (
         CALLER,
@@ -265,7 +274,7 @@ const CASES: [(
         [0xb3, 0xb3],
         GROUPS,
         [0xd2, 0xb3],
-        Some(AddFault::ElementExists(Uid(0xb3))),
+        Some(Told::ElementExists(Uid(0xb3))),
     ),
     (
         CALLER,
@@ -274,7 +283,7 @@ const CASES: [(
         [0xb3, 0xb3],
         GROUPS,
         [0xe1, 0xb3],
-        Some(AddFault::ElementExists(Uid(0xe1))),
+        Some(Told::ElementExists(Uid(0xe1))),
     ),
     (
         CALLER,
@@ -283,7 +292,7 @@ const CASES: [(
         [0xb3, 0xe1],
         GROUPS,
         [0xd2, 0xb3],
-        Some(AddFault::ElementExists(Uid(0xe1))),
+        Some(Told::ElementExists(Uid(0xe1))),
     ),
     (
         CALLER,
@@ -344,16 +353,26 @@ fn known_rows<'a>(known: Known, copy: &'a [Row], marks: &'a [Row]) -> &'a [Row] 
     }
 }
 
+// What a refusal of an addition tells.
+fn said(refusal: &Refusal) -> Option<Told> {
+    match (refusal.name, Uid::read(refusal.place.as_str())) {
+        (RuleName::EventExists, None) => Some(Told::EventExists),
+        (RuleName::EventGone, None) => Some(Told::EventGone),
+        (RuleName::ElementExists, Some(uuid)) => Some(Told::ElementExists(uuid)),
+        (RuleName::GroupNotUsable, Some(uuid)) => Some(Told::GroupNotUsable(uuid)),
+        _ => None,
+    }
+}
+
 // Why the event is not added.
-fn fault(
-    alloc: Global,
-    org: OrgId,
-    brought: Brought,
-    rows: &[Row],
-) -> Result<Option<AddFault>, Fail>
+fn fault(alloc: Global, org: OrgId, brought: Brought, rows: &[Row]) -> Result<Option<Told>, Fail>
     requires { IsLabelBut (5 ∷ []) brought.label }
 {
-    Ok(added(alloc, org, brought, rows)?.err())
+    match added(alloc, org, brought, rows)? {
+        Ok(_) => Ok(None),
+        Err(AddFault::Refused(refusal)) => Ok(Some(said(&refusal).ok_or("another rule")?)),
+        Err(AddFault::NoMemory) => Err(Fail::from("memory ran out")),
+    }
 }
 
 #[test]

@@ -6,6 +6,7 @@ ghost use Rattle.std.specs.List.Sorted.{IsStrictlySortedBy};
 ghost use Rattle.std.specs.Str.{is_utf8};
 ghost use Rattle.misp_groups.specs.Group.{by_org, by_server, IsOrg, IsServer};
 
+use misp_elem::RuleName;
 use misp_groups::{Group, GroupFields, GroupOrg, GroupServer};
 use misp_ids::{GroupId, InstId, Items, Label, OrgId, Stamp, Uid, Way};
 use misp_levels::{Groups, Taken, allows, down, hop};
@@ -85,6 +86,13 @@ fn group(alloc: Global, number: u128) -> Result<Group, AllocError> {
     }))
 }
 
+// Puts a group that no rule refuses, and answers the stamp of the one that was known by its name.
+fn put(groups: &mut Groups, planned: Result<Group, RuleName>) -> Result<Option<u64>, Fail> {
+    let group = planned.ok().ok_or("no rule refuses it")?;
+    let before = groups.put(group).ok().ok_or("memory is there")?;
+    Ok(before.map(|group| group.modified.get()))
+}
+
 #[test]
 fn groups_are_added_and_edited(rt: HostRuntime) -> Result<(), Fail> {
     let alloc = rt.alloc();
@@ -93,15 +101,13 @@ fn groups_are_added_and_edited(rt: HostRuntime) -> Result<(), Fail> {
     let north = InstId::read("north").unwrap();
     let mut groups = Groups::new(alloc);
     for number in [3, 1, 2] {
-        let group = group(alloc, number)?;
-        assert_eq!(rt; groups.add(&CREATOR, group, now), Ok(()));
+        let added = groups.added(&CREATOR, group(alloc, number)?, now);
+        assert_eq!(rt; put(&mut groups, added)?, None);
     }
     let again = group(alloc, 2)?.copied().expect(&rt, "memory is there");
     let name = again.id;
-    let was = groups
-        .edit(&CREATOR, again, now)
-        .map(|group| group.modified.get());
-    assert_eq!(rt; was, Ok(50));
+    let edited = groups.edited(&CREATOR, again, now);
+    assert_eq!(rt; put(&mut groups, edited)?, Some(50));
     let stamps = groups.as_slice().iter().map(|group| group.modified.get());
     assert_eq!(rt; stamps.eq([50, 51, 50]), true);
     let seen = |org, here| groups.get(&name).map(|group| allows(group, org, here));

@@ -1,4 +1,5 @@
-//! What each organisation knows and sees of a table of rows.
+//! What each organisation knows and sees of a table of rows, and which groups are named and concern
+//! it.
 
 use crate::rows::{
     ALL, ALPHA, BETA, CARRIED, COMMUNITY, EVENT, GROUP, INHERIT, Item, NONE, OWN, UNKNOWN, rows_of,
@@ -8,7 +9,7 @@ use misp_groups::{Group, GroupFields, GroupOrg, GroupServer};
 use misp_ids::{GroupId, Items, OrgId, Stamp, Uid};
 use misp_levels::Groups;
 use misp_samples::{here, text};
-use misp_view::{known, shown};
+use misp_view::{concerning, group_names, known, shown};
 use std::alloc::{AllocError, Global};
 use std::test::*;
 
@@ -69,8 +70,9 @@ fn group(alloc: Global, number: u128) -> Result<Group, AllocError> {
 fn known_groups(alloc: Global) -> Result<Groups, Fail> {
     let mut groups = Groups::new(alloc);
     let group = group(alloc, u128::from(GROUP))?;
-    let added = groups.add(&BETA, group, Stamp::first());
-    added.ok().ok_or("memory is there")?;
+    let added = groups.added(&BETA, group, Stamp::first()).ok();
+    let put = groups.put(added.ok_or("no rule refuses it")?).ok();
+    drop(put.ok_or("memory is there")?);
     Ok(groups)
 }
 
@@ -155,6 +157,21 @@ fn a_copy_may_be_named(rt: HostRuntime) -> Result<(), Fail> {
     ] {
         let seen = seen(rt.alloc(), rows, org, Some(owner))?;
         assert_eq!(rt; seen.is_some(), is_granted);
+    }
+    Ok(())
+}
+
+#[test]
+fn groups_are_named_and_listed(rt: HostRuntime) -> Result<(), Fail> {
+    let alloc = rt.alloc();
+    let rows = rows_of(alloc, &TABLE)?;
+    let groups = known_groups(alloc)?;
+    for (org, count) in [(ALPHA, 1), (BETA, 1), (GAMMA, 0)] {
+        let event = seen(alloc, rows.as_slice(), org, None)?.ok_or("a copy is granted")?;
+        let names = group_names(alloc, &groups, &event).ok();
+        assert_eq!(rt; names.ok_or("memory is there")?.len(), count);
+        let some = concerning(alloc, &groups, &org, &here()?).ok();
+        assert_eq!(rt; some.ok_or("memory is there")?.len(), count);
     }
     Ok(())
 }

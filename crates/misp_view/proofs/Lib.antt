@@ -17,3 +17,4 @@ pub mod Candidates
 pub mod Choosing
 pub mod Sorting
 pub mod InScene
+pub mod NamedGroups

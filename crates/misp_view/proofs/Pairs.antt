@@ -46,17 +46,21 @@ not_itself (Verdict g n i o) e h = grind arith
 not_itself (Sighting g t i o u) e h = grind arith
 
 -- the set with a pair more
-pub has_more : (old new : BTreeSet (ℕ × ℕ)) (f e : EventId) (o w : OrgId) →
-    contains pair_cmp new (e.0.0, w.0.0) ≡ cond (is_at (pair_cmp (f.0.0, o.0.0)) (e.0.0, w.0.0)) true (contains pair_cmp old (e.0.0, w.0.0)) →
-    has_pair new e w ≡ (has_pair old e w || same_event f e && same_org o w)
-unfolding has_pair same_event same_org
-has_more old new f e o w h = h ∙ one (is_at (pair_cmp (f.0.0, o.0.0)) (e.0.0, w.0.0)) (contains pair_cmp old (e.0.0, w.0.0)) (eqb f.0.0 e.0.0 && eqb o.0.0 w.0.0) (pair_is f.0.0 o.0.0 e.0.0 w.0.0)
+pub pair_more : (old new : BTreeSet (ℕ × ℕ)) (a b c d : ℕ) → contains pair_cmp new (c, d) ≡ cond (is_at (pair_cmp (a, b)) (c, d)) true (contains pair_cmp old (c, d)) →
+    contains pair_cmp new (c, d) ≡ (contains pair_cmp old (c, d) || eqb a c && eqb b d)
+pair_more old new a b c d h = h ∙ one (is_at (pair_cmp (a, b)) (c, d)) (contains pair_cmp old (c, d)) (eqb a c && eqb b d) (pair_is a b c d)
   where
     one : (t z v : Bool) → t ≡ v → cond t true z ≡ (z || v)
     one true true v k = refl
     one true false v k = k
     one false true v k = refl
     one false false v k = k
+
+pub has_more : (old new : BTreeSet (ℕ × ℕ)) (f e : EventId) (o w : OrgId) →
+    contains pair_cmp new (e.0.0, w.0.0) ≡ cond (is_at (pair_cmp (f.0.0, o.0.0)) (e.0.0, w.0.0)) true (contains pair_cmp old (e.0.0, w.0.0)) →
+    has_pair new e w ≡ (has_pair old e w || same_event f e && same_org o w)
+unfolding has_pair same_event same_org
+has_more old new f e o w h = pair_more old new f.0.0 o.0.0 e.0.0 w.0.0 h
 
 -- what a row of the event itself adds, and what any other
 pub row_adds : (row : Row) (o : OrgId) (e f : EventId) (w : OrgId) (new old wanted : Bool) → event_itself row.key ≡ Some f → o ≡ row.owner → wanted ≡ true →
@@ -94,6 +98,9 @@ pub any_more : (test : Row → Bool) (rows : List Row) (i : ℕ) (row : Row) (ne
 any_more test rows i row new old h e k g = g ∙ ap (λ b. b || test row) k ∙ ap (λ r. list_any test (take i rows) || test r) e ∙ sym (list_any_more test rows i row h)
 
 -- no pair is in the empty set
+pub none_in : (pairs : BTreeSet (ℕ × ℕ)) (a b : ℕ) → IsEmpty pairs → contains pair_cmp pairs (a, b) ≡ false
+none_in pairs a b h = ap (λ ks. list_any (is_at (pair_cmp (a, b))) ks) h
+
 pub empty_has : (pairs : BTreeSet (ℕ × ℕ)) (e : EventId) (w : OrgId) → IsEmpty pairs → has_pair pairs e w ≡ false
 unfolding has_pair
-empty_has pairs e w h = ap (λ ks. list_any (is_at (pair_cmp (e.0.0, w.0.0))) ks) h
+empty_has pairs e w h = none_in pairs e.0.0 w.0.0 h

@@ -12,3 +12,4 @@ pub mod Tellers
 pub mod Statements
 pub mod Form
 pub mod Inside
+pub mod Naming

@@ -1,4 +1,4 @@
-//! What an organisation knows and sees of one event.
+//! What an organisation knows and sees of one event, and which groups concern it.
 #![tactic(auto)]
 
 mod attributes;
@@ -11,6 +11,8 @@ mod inside;
 mod keys;
 mod kinds;
 mod knowing;
+mod listing;
+mod naming;
 mod objects;
 mod order;
 mod parts;
@@ -28,3 +30,5 @@ pub use choice::chosen;
 pub use form::shown;
 pub use granting::{live, row_granted};
 pub use knowing::known;
+pub use listing::concerning;
+pub use naming::group_names;

@@ -5,7 +5,6 @@ use Rattle.misp_core.specs.Effects.{stop_in}
 use Rattle.misp_core.specs.declared.reply.Reply.{Reply}
 use Rattle.misp_effects.specs.Effect.{Effect}
 use Rattle.misp_outside.specs.Held.{Held}
-use Rattle.misp_core.proofs.Carried.{asks_none}
 use Rattle.misp_store.specs.Sharing.{groups_of}
 use Rattle.misp_api.specs.Administering.{group_form, FormFits}
 use Rattle.misp_api.proofs.Turning.{not_turned, turned_by_fault}
@@ -28,7 +27,7 @@ returns-in-Ok-clause-fits g c =
 
 pub returns-in-Ok-clause-cause : goal.returns-in-Ok-clause-cause
 returns-in-Ok-clause-cause g c =
-    cause_told c.tell.result c.plan_group-planned.result _ _ _ (unmet _ (asks_none c.plan_group-planned.result c.plan_group-planned.ensures.no_stop)) c.tell.ensures.later c.tell.ensures.rose
+    cause_told c.tell.result c.plan_group-planned.result _ _ _ (unmet _ c.plan_group-planned.ensures.no_fault) c.tell.ensures.later c.tell.ensures.rose
 
 pub returns-in-Ok-clause-formed : goal.returns-in-Ok-clause-formed
 returns-in-Ok-clause-formed g c = every_reply c.tell.result (λ reply. not_turned _ _ _ _ _ c.in-Ok.ensures.read)

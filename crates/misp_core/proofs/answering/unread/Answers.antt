@@ -1,8 +1,8 @@
-use Rattle.std.proofs.Common.{◌≡◌, Err, ap, sym, subst, ◌∙◌}
+use Rattle.std.proofs.Common.{Err, ap, sym, subst, ◌∙◌}
 use Rattle.misp_core.specs.Answers.{bad_row}
 use Rattle.misp_core.specs.Effects.{refused}
 use Rattle.misp_core.specs.Planning.{Plans, IsUnread}
-use Rattle.misp_core.proofs.Carried.{is_planned, asks_none, no_stop}
+use Rattle.misp_core.proofs.Carried.{is_planned, asks_none}
 use Rattle.misp_core.proofs.answering.unread.Goals as goal
 
 pub returns-in-BadRow-clause-plans : goal.returns-in-BadRow-clause-plans
@@ -13,4 +13,4 @@ returns-in-BadRow-clause-plans c = λ e unread.
     c.bad_row.ensures)
 
 pub returns-in-BadRow-clause-cause : goal.returns-in-BadRow-clause-cause
-returns-in-BadRow-clause-cause c = λ is. absurd (asks_none (Err c.bad_row.result) (no_stop (Err c.bad_row.result) _ c.bad_row.ensures) is)
+returns-in-BadRow-clause-cause c = λ is. absurd (asks_none (Err c.bad_row.result) _ c.bad_row.ensures is)

@@ -1,6 +1,6 @@
--- The law is a lemma of proofs/Serving.antt.
-use Rattle.misp_core.proofs.Serving.{refused_over}
+-- The law is a lemma of proofs/Decisions.antt.
+use Rattle.misp_core.proofs.Decisions.{refused_puts_none}
 use Rattle.misp_core.proofs.laws.a_refused_request_writes_nothing.Goals as goal
 
 pub returns : goal.returns
-returns c = record { writes = λ at ask read built refused. refused_over at ask read built refused }
+returns c = record { writes = λ host now it seen built refused. refused_puts_none host now it seen built refused }

@@ -1,5 +1,5 @@
--- The law is a lemma of proofs/Numbers.antt.
-use Rattle.misp_core.proofs.Numbers.{asked_as}
+-- The law is a lemma of proofs/Alike.antt.
+use Rattle.misp_core.proofs.Alike.{asked_as}
 use Rattle.misp_core.proofs.laws.a_request_is_replied_without_its_number.Goals as goal
 
 pub returns : goal.returns

@@ -4,8 +4,8 @@ use Rattle.misp_core.proofs.laws.an_instance_answers_by_the_history.Goals as goa
 
 pub returns : goal.returns
 returns c = record {
-  told = λ n w at ask held built same keeps. told_there w at ask held built keeps n same;
-  left = λ net n w at ask held built older same keeps fits. left_there net n w at ask held built older same keeps fits;
-  elsewhere = λ net n w at ask j built apart. same_elsewhere net n w at ask j apart;
-  groups = λ net n w at ask. same_groups net n w at ask;
+  told = λ n w host now it held built keeps. told_there w host now it held built keeps n;
+  left = λ net n w host now it held built older keeps fits. left_there net n w host now it held built older keeps fits;
+  elsewhere = λ net n w host now it j built apart. same_elsewhere net n w host now it j apart;
+  groups = λ net n w host now it. same_groups net n w host now it;
 }

@@ -5,31 +5,35 @@ use Rattle.misp_edit.proofs.refusing.admitted.Goals as goal
 
 pub returns-then-has_copy-clause-err : goal.returns-then-has_copy-clause-err
 returns-then-has_copy-clause-err c = λ act name now today.
-    exists (scene_of act c.args.here.now c.args.owner name now today c.args.groups.now c.args.rows.now) c.args.submission.now
-    (rw (← c.submission.view_is) (sym c.has_copy.ensures ∙ c.if-has_copy.true))
+    rw c.bare.ensures
+    (exists (scene_of act c.args.here.now c.args.owner name now today c.args.groups.now c.args.rows.now) c.args.submission.now
+    (rw (← c.submission.view_is) (sym c.has_copy.ensures ∙ c.if-has_copy.true)))
 
 pub returns-then-has_mark-clause-err : goal.returns-then-has_mark-clause-err
 returns-then-has_mark-clause-err c = λ act name now today.
-    gone (scene_of act c.args.here.now c.args.owner name now today c.args.groups.now c.args.rows.now) c.args.submission.now
+    rw c.bare-then-has_mark.ensures
+    (gone (scene_of act c.args.here.now c.args.owner name now today c.args.groups.now c.args.rows.now) c.args.submission.now
     (rw (← c.submission.view_is) (sym c.has_copy.ensures ∙ c.if-has_copy.false))
-    (rw (← c.submission.view_is) (sym c.has_mark.ensures ∙ c.if-has_mark.true))
+    (rw (← c.submission.view_is) (sym c.has_mark.ensures ∙ c.if-has_mark.true)))
 
 pub returns-in-Some-clause-err : goal.returns-in-Some-clause-err
 returns-in-Some-clause-err c = λ act name now today.
-    clash (scene_of act c.args.here.now c.args.owner name now today c.args.groups.now c.args.rows.now) c.args.submission.now c.in_ok-targets.targets
+    rw c.in_ok-refused.ensures
+    (clash (scene_of act c.args.here.now c.args.owner name now today c.args.groups.now c.args.rows.now) c.args.submission.now c.in_ok-targets.targets
     (rw (← c.submission.view_is, ← c.as_slice-parts.ensures) c.in_ok-targets.ensures)
     (rw (← c.submission.view_is) (sym c.has_copy.ensures ∙ c.if-has_copy.false))
     (rw (← c.submission.view_is) (sym c.has_mark.ensures ∙ c.if-has_mark.false))
-    c.in-Some.uuid (sym c.in_ok-uuid.ensures ∙ c.in-Some.is)
+    c.in-Some.uuid (sym c.in_ok-uuid.ensures ∙ c.in-Some.is))
 
-pub returns-in-Some-first_unusable-clause-err : goal.returns-in-Some-first_unusable-clause-err
-returns-in-Some-first_unusable-clause-err c = λ act name now today.
-    group (scene_of act c.args.here.now c.args.owner name now today c.args.groups.now c.args.rows.now) c.args.submission.now c.in_ok-targets.targets
+pub returns-in_ok-refused-in-Some-first_unusable-clause-err : goal.returns-in_ok-refused-in-Some-first_unusable-clause-err
+returns-in_ok-refused-in-Some-first_unusable-clause-err c = λ act name now today.
+    rw c.in_ok-refused-in-Some-first_unusable.ensures
+    (group (scene_of act c.args.here.now c.args.owner name now today c.args.groups.now c.args.rows.now) c.args.submission.now c.in_ok-targets.targets
     (rw (← c.submission.view_is, ← c.as_slice-parts.ensures) c.in_ok-targets.ensures)
     (rw (← c.submission.view_is) (sym c.has_copy.ensures ∙ c.if-has_copy.false))
     (rw (← c.submission.view_is) (sym c.has_mark.ensures ∙ c.if-has_mark.false))
     (sym c.in_ok-uuid.ensures ∙ c.in_default.is)
-    c.in-Some-first_unusable.group (rw (← c.submission.view_is, ← c.as_slice-parts.ensures) (sym c.in-Some-first_unusable.ensures))
+    c.in-Some-first_unusable.group (rw (← c.submission.view_is, ← c.as_slice-parts.ensures) (sym c.in-Some-first_unusable.ensures)))
 
 pub returns-in-None-clause-ok : goal.returns-in-None-clause-ok
 returns-in-None-clause-ok c = λ act name now today.

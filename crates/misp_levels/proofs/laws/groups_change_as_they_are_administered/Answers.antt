@@ -4,8 +4,8 @@ use Rattle.misp_levels.proofs.laws.groups_change_as_they_are_administered.Goals 
 
 pub returns : goal.returns
 returns c = record {
-  added = λ old new by g now h. added_is old new by g now h;
-  edited = λ old new by g now h. edited_is old new by g now h;
+  added = λ old by g now free. added_is old by g now free;
+  edited = λ old by g now free. edited_is old by g now free;
   not_added = λ old by g. added_fails old by g;
   not_edited = λ old by g up. edited_fails old by g up;
 }

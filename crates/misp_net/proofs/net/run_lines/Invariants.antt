@@ -1,7 +1,7 @@
 use Rattle.std.proofs.Common.{◌≡◌, ◌+◌, ◌≤◌, List, ◌++◌, length, vec_len}
 use Rattle.misp_net.specs.Hosts.{hosts_of, stocks_of}
 use Rattle.misp_net.specs.Lines.{Act, acts_of}
-use Rattle.misp_net.specs.Course.{HasRun}
+use Rattle.misp_net.specs.Run.{HasRun}
 use Rattle.misp_net.proofs.net.run_lines.Given as goal
 
 -- some lines have run, and those of what is left follow; the numbers go up with the lines that are left behind

@@ -1,76 +1,84 @@
-use Rattle.std.proofs.Common.{◌≡◌, length, map, vec_len, ◌∙◌, ap, arith, length-append}
+use Rattle.std.proofs.Common.{◌≡◌, ℕ, List, ◌++◌, length, map, take, drop, vec_len, sym, ◌∙◌, ap, subst, arith, length-append}
 use Rattle.std.proofs.lemmas.List.{length-map}
+use Rattle.misp_outside.specs.Stock.{Stock}
+use Rattle.misp_effects.specs.Stocks.{AreKept}
+use Rattle.misp_script.specs.declared.description.Description.{Description}
 use Rattle.misp_script.specs.Directory.{roster_of}
-use Rattle.misp_net.specs.Hosts.{stock_of, described_host, hosts_of, stocks_of}
-use Rattle.misp_net.proofs.Openings.{all_kept, told_back, if_err}
+use Rattle.misp_core.specs.Standing.{Standing}
+use Rattle.misp_effects.proofs.Stocks.{all_kept, kept_told, kept_take}
+use Rattle.misp_net.specs.Hosts.{stock_of, described_host, described_hosts, hosts_of, stocks_of}
+use Rattle.misp_net.proofs.Openings.{if_err}
 use Rattle.misp_net.proofs.Courses.{none_ran}
 use Rattle.misp_net.proofs.Privacy.{is_private, are_replied, are_newest}
-use Rattle.misp_net.proofs.Fronts.{opened_long, run_in_front, cut_in_front, others_kept}
+use Rattle.misp_net.proofs.Fronts.{AreInFront, opened_long, run_in_front, cut_in_front, others_kept}
 use Rattle.misp_net.proofs.net.run_net.Goals as goal
 
 -- the instances stand in front of the other keepers, before and after
+in_front : (net : Description) (opened ran : List Standing) (rest olds news : List Stock) (count : ℕ) → count ≡ length net.instances → hosts_of opened ≡ described_hosts net
+    → AreKept (take count olds) (stocks_of opened) → rest ≡ drop count olds → length ran ≡ length opened → news ≡ stocks_of ran ++ rest
+    → AreInFront (hosts_of opened) (described_hosts net) (stocks_of opened) (stocks_of ran) rest olds news (length net.instances)
+in_front net opened ran rest olds news count long hosts kept left many is = record {
+  same = hosts;
+  long = opened_long opened net.instances hosts;
+  kept = subst (λ n. AreKept (take n olds) (stocks_of opened)) long kept;
+  left = subst (λ n. rest ≡ drop n olds) long left;
+  still = length-map ran stock_of ∙ many ∙ sym (length-map opened stock_of);
+  is = is;
+}
 
 pub returns-clause-private : goal.returns-clause-private
 returns-clause-private g c =
-    let entries = c.args.net.instances in
-    let opened = c.in_ok-instances.instances.items in
-    let count : vec_len c.into_vec.result ≡ length entries = c.into_vec.result.ok.0 ∙ ap length c.into_vec.ensures in
-    let hosts : hosts_of opened ≡ map described_host entries = c.in_ok-instances.ensures.hosts ∙ ap (map described_host) c.into_vec.ensures in
-    is_private c.a_group_is_read_from_its_text.ensures _ _ _ _ _
-    (run_in_front (hosts_of opened) (map described_host entries) _ (stocks_of opened) (stocks_of c.run_lines-lines.new.instances.items)
-    (map g.K.Keeper.stock c.open_all.new.keepers.items) _ _ (length entries) _
-    hosts (opened_long opened entries hosts) (rw count at c.in_ok-instances.ensures.opened) c.close_all.ensures
-    (rw (← c.in_ok-directory.ensures) c.in_ok-lines.ensures.ran))
+    let front = in_front c.args.net c.in_ok-instances.instances.items c.run_lines-lines.new.instances.items (map g.K.Keeper.stock c.open_all.new.keepers.items)
+    (map g.K.Keeper.stock c.args.keepers.now.items) (map g.K.Keeper.stock c.close_all.new.keepers.items) (vec_len c.into_vec.result)
+    (c.into_vec.result.ok.0 ∙ ap length c.into_vec.ensures) (c.in_ok-instances.ensures.hosts ∙ ap (map described_host) c.into_vec.ensures)
+    c.in_ok-instances.ensures.opened c.in_ok-instances.ensures.rest
+    (omega (arith, c.run_lines-lines.ensures.places, c.run_lines-lines.new.instances.ok.0, c.in_ok-instances.instances.ok.0)) c.close_all.ensures in
+    is_private c.a_group_is_read_from_its_text.ensures _ _ _ _ _ (run_in_front front (rw (← c.in_ok-directory.ensures) c.in_ok-lines.ensures.ran))
 
 pub returns-clause-replied : goal.returns-clause-replied
 returns-clause-replied g c =
-    let entries = c.args.net.instances in
-    let opened = c.in_ok-instances.instances.items in
-    let count : vec_len c.into_vec.result ≡ length entries = c.into_vec.result.ok.0 ∙ ap length c.into_vec.ensures in
-    let hosts : hosts_of opened ≡ map described_host entries = c.in_ok-instances.ensures.hosts ∙ ap (map described_host) c.into_vec.ensures in
-    are_replied c.a_group_is_read_from_its_text.ensures _ _ _ _ _
-    (run_in_front (hosts_of opened) (map described_host entries) _ (stocks_of opened) (stocks_of c.run_lines-lines.new.instances.items)
-    (map g.K.Keeper.stock c.open_all.new.keepers.items) _ _ (length entries) _
-    hosts (opened_long opened entries hosts) (rw count at c.in_ok-instances.ensures.opened) c.close_all.ensures
-    (rw (← c.in_ok-directory.ensures) c.in_ok-lines.ensures.ran))
+    let front = in_front c.args.net c.in_ok-instances.instances.items c.run_lines-lines.new.instances.items (map g.K.Keeper.stock c.open_all.new.keepers.items)
+    (map g.K.Keeper.stock c.args.keepers.now.items) (map g.K.Keeper.stock c.close_all.new.keepers.items) (vec_len c.into_vec.result)
+    (c.into_vec.result.ok.0 ∙ ap length c.into_vec.ensures) (c.in_ok-instances.ensures.hosts ∙ ap (map described_host) c.into_vec.ensures)
+    c.in_ok-instances.ensures.opened c.in_ok-instances.ensures.rest
+    (omega (arith, c.run_lines-lines.ensures.places, c.run_lines-lines.new.instances.ok.0, c.in_ok-instances.instances.ok.0)) c.close_all.ensures in
+    are_replied c.a_group_is_read_from_its_text.ensures _ _ _ _ _ (run_in_front front (rw (← c.in_ok-directory.ensures) c.in_ok-lines.ensures.ran))
 
 pub returns-clause-newest : goal.returns-clause-newest
 returns-clause-newest g c =
-    let entries = c.args.net.instances in
-    let opened = c.in_ok-instances.instances.items in
-    let count : vec_len c.into_vec.result ≡ length entries = c.into_vec.result.ok.0 ∙ ap length c.into_vec.ensures in
-    let hosts : hosts_of opened ≡ map described_host entries = c.in_ok-instances.ensures.hosts ∙ ap (map described_host) c.into_vec.ensures in
-    are_newest c.a_group_is_read_from_its_text.ensures _ _ _ _ _
-    (run_in_front (hosts_of opened) (map described_host entries) _ (stocks_of opened) (stocks_of c.run_lines-lines.new.instances.items)
-    (map g.K.Keeper.stock c.open_all.new.keepers.items) _ _ (length entries) _
-    hosts (opened_long opened entries hosts) (rw count at c.in_ok-instances.ensures.opened) c.close_all.ensures
-    (rw (← c.in_ok-directory.ensures) c.in_ok-lines.ensures.ran))
+    let front = in_front c.args.net c.in_ok-instances.instances.items c.run_lines-lines.new.instances.items (map g.K.Keeper.stock c.open_all.new.keepers.items)
+    (map g.K.Keeper.stock c.args.keepers.now.items) (map g.K.Keeper.stock c.close_all.new.keepers.items) (vec_len c.into_vec.result)
+    (c.into_vec.result.ok.0 ∙ ap length c.into_vec.ensures) (c.in_ok-instances.ensures.hosts ∙ ap (map described_host) c.into_vec.ensures)
+    c.in_ok-instances.ensures.opened c.in_ok-instances.ensures.rest
+    (omega (arith, c.run_lines-lines.ensures.places, c.run_lines-lines.new.instances.ok.0, c.in_ok-instances.instances.ok.0)) c.close_all.ensures in
+    are_newest c.a_group_is_read_from_its_text.ensures _ _ _ _ _ (run_in_front front (rw (← c.in_ok-directory.ensures) c.in_ok-lines.ensures.ran))
 
 pub returns-clause-others : goal.returns-clause-others
 returns-clause-others g c =
-    let entries = c.args.net.instances in
-    let opened = c.in_ok-instances.instances.items in
-    let ran = c.run_lines-lines.new.instances.items in
-    let count : vec_len c.into_vec.result ≡ length entries = c.into_vec.result.ok.0 ∙ ap length c.into_vec.ensures in
-    let hosts : hosts_of opened ≡ map described_host entries = c.in_ok-instances.ensures.hosts ∙ ap (map described_host) c.into_vec.ensures in
-    let long = opened_long opened entries hosts in
-    let still : length (stocks_of ran) ≡ length entries =
-    omega (arith, length-map ran stock_of, length-map opened stock_of, long, c.in_ok-lines.ensures.places, c.run_lines-lines.new.instances.ok.0, c.in_ok-instances.instances.ok.0) in
-    others_kept (stocks_of ran) (map g.K.Keeper.stock c.open_all.new.keepers.items) _ _ (length entries)
-    still (rw count at c.in_ok-instances.ensures.rest) c.close_all.ensures
+    let front = in_front c.args.net c.in_ok-instances.instances.items c.run_lines-lines.new.instances.items (map g.K.Keeper.stock c.open_all.new.keepers.items)
+    (map g.K.Keeper.stock c.args.keepers.now.items) (map g.K.Keeper.stock c.close_all.new.keepers.items) (vec_len c.into_vec.result)
+    (c.into_vec.result.ok.0 ∙ ap length c.into_vec.ensures) (c.in_ok-instances.ensures.hosts ∙ ap (map described_host) c.into_vec.ensures)
+    c.in_ok-instances.ensures.opened c.in_ok-instances.ensures.rest
+    (omega (arith, c.run_lines-lines.ensures.places, c.run_lines-lines.new.instances.ok.0, c.in_ok-instances.instances.ok.0)) c.close_all.ensures in
+    others_kept front
 
 pub returns-in_err-lines-clause-others : goal.returns-in_err-lines-clause-others
 returns-in_err-lines-clause-others g c =
-    let entries = c.args.net.instances in
-    let opened = c.in_ok-instances.instances.items in
-    let ran = c.run_lines-lines.new.instances.items in
-    let count : vec_len c.into_vec.result ≡ length entries = c.into_vec.result.ok.0 ∙ ap length c.into_vec.ensures in
-    let hosts : hosts_of opened ≡ map described_host entries = c.in_ok-instances.ensures.hosts ∙ ap (map described_host) c.into_vec.ensures in
-    let long = opened_long opened entries hosts in
-    let still : length (stocks_of ran) ≡ length entries =
-    omega (arith, length-map ran stock_of, length-map opened stock_of, long, c.in_err-lines.ensures.places, c.run_lines-lines.new.instances.ok.0, c.in_ok-instances.instances.ok.0) in
-    others_kept (stocks_of ran) (map g.K.Keeper.stock c.open_all.new.keepers.items) _ _ (length entries)
-    still (rw count at c.in_ok-instances.ensures.rest) c.close_all.ensures
+    let front = in_front c.args.net c.in_ok-instances.instances.items c.run_lines-lines.new.instances.items (map g.K.Keeper.stock c.open_all.new.keepers.items)
+    (map g.K.Keeper.stock c.args.keepers.now.items) (map g.K.Keeper.stock c.close_all.new.keepers.items) (vec_len c.into_vec.result)
+    (c.into_vec.result.ok.0 ∙ ap length c.into_vec.ensures) (c.in_ok-instances.ensures.hosts ∙ ap (map described_host) c.into_vec.ensures)
+    c.in_ok-instances.ensures.opened c.in_ok-instances.ensures.rest
+    (omega (arith, c.run_lines-lines.ensures.places, c.run_lines-lines.new.instances.ok.0, c.in_ok-instances.instances.ok.0)) c.close_all.ensures in
+    others_kept front
+
+pub returns-in_err-lines-clause-cut : goal.returns-in_err-lines-clause-cut
+returns-in_err-lines-clause-cut g c =
+    let front = in_front c.args.net c.in_ok-instances.instances.items c.run_lines-lines.new.instances.items (map g.K.Keeper.stock c.open_all.new.keepers.items)
+    (map g.K.Keeper.stock c.args.keepers.now.items) (map g.K.Keeper.stock c.close_all.new.keepers.items) (vec_len c.into_vec.result)
+    (c.into_vec.result.ok.0 ∙ ap length c.into_vec.ensures) (c.in_ok-instances.ensures.hosts ∙ ap (map described_host) c.into_vec.ensures)
+    c.in_ok-instances.ensures.opened c.in_ok-instances.ensures.rest
+    (omega (arith, c.run_lines-lines.ensures.places, c.run_lines-lines.new.instances.ok.0, c.in_ok-instances.instances.ok.0)) c.close_all.ensures in
+    λ is. cut_in_front front (rw (← c.in_ok-directory.ensures) c.in_err-lines.ensures.cut)
 
 -- ---- there are as many instances as entries, and as many keepers as before
 
@@ -78,7 +86,7 @@ pub run_lines-lines-requires : goal.run_lines-lines-requires
 run_lines-lines-requires g c =
     let entries = c.args.net.instances in
     let opened = c.in_ok-instances.instances.items in
-    let hosts : hosts_of opened ≡ map described_host entries = c.in_ok-instances.ensures.hosts ∙ ap (map described_host) c.into_vec.ensures in
+    let hosts : hosts_of opened ≡ described_hosts c.args.net = c.in_ok-instances.ensures.hosts ∙ ap (map described_host) c.into_vec.ensures in
     omega (arith, ap length c.in_ok-directory.ensures, length-map entries roster_of, opened_long opened entries hosts, length-map opened stock_of, c.in_ok-instances.instances.ok.0)
 
 pub close_all-requires : goal.close_all-requires
@@ -120,31 +128,16 @@ returns-in_err-lines-clause-places g c =
       c.in_ok-instances.ensures.fewer,
     )
 
--- where the instances do not open, each keeper tells what it told
+-- ---- the instances do not open, or memory ran out
+
+-- each keeper tells what it told
 pub returns-in_err-instances-clause-kept : goal.returns-in_err-instances-clause-kept
 returns-in_err-instances-clause-kept g c =
-    let back = c.in_err-instances.ensures.back in
-    let others = c.in_err-instances.ensures.others in
-    let same = told_back _ _ (vec_len c.into_vec.result) back others in
+    let same = kept_told _ _ c.in_err-instances.ensures.back in
     if_err c.from_residual-in_err-instances.result (λ fault unopened. same)
-
--- ---- memory ran out
 
 pub returns-in_err-directory-clause-cut : goal.returns-in_err-directory-clause-cut
 returns-in_err-directory-clause-cut g c = λ is. none_ran _ _ _ _ (all_kept _)
 
 pub returns-in_err-instances-clause-cut : goal.returns-in_err-instances-clause-cut
-returns-in_err-instances-clause-cut g c =
-    let count : vec_len c.into_vec.result ≡ length c.args.net.instances = c.into_vec.result.ok.0 ∙ ap length c.into_vec.ensures in
-    λ is. none_ran _ _ _ _ (rw count at c.in_err-instances.ensures.back)
-
-pub returns-in_err-lines-clause-cut : goal.returns-in_err-lines-clause-cut
-returns-in_err-lines-clause-cut g c =
-    let entries = c.args.net.instances in
-    let opened = c.in_ok-instances.instances.items in
-    let count : vec_len c.into_vec.result ≡ length entries = c.into_vec.result.ok.0 ∙ ap length c.into_vec.ensures in
-    let hosts : hosts_of opened ≡ map described_host entries = c.in_ok-instances.ensures.hosts ∙ ap (map described_host) c.into_vec.ensures in
-    λ is. cut_in_front (hosts_of opened) (map described_host entries) _ (stocks_of opened) (stocks_of c.run_lines-lines.new.instances.items)
-    (map g.K.Keeper.stock c.open_all.new.keepers.items) _ _ (length entries)
-    hosts (opened_long opened entries hosts) (rw count at c.in_ok-instances.ensures.opened) c.close_all.ensures
-    (rw (← c.in_ok-directory.ensures) c.in_err-lines.ensures.cut)
+returns-in_err-instances-clause-cut g c = λ is. none_ran _ _ _ _ (kept_take (length c.args.net.instances) _ _ c.in_err-instances.ensures.back)

@@ -1,6 +1,7 @@
 use Rattle.std.proofs.Common.{◌≡◌, ◌+◌, ◌≤◌, true, map, length, take, drop, vec_len, vec_capacity}
 use Rattle.misp_net.specs.Hosts.{described_host, hosts_of, stocks_of}
-use Rattle.misp_net.specs.Opening.{AreKept, may_be_sound}
+use Rattle.misp_effects.specs.Stocks.{AreKept}
+use Rattle.misp_store.specs.Sharing.{may_be_sound}
 use Rattle.misp_net.proofs.places.open_all.Given as goal
 
 -- the first keepers have been taken, each into its instance

@@ -1,35 +1,32 @@
 use native.Mathlib.Omega.{arith}
 use Rattle.std.proofs.Common.{ap, sym, subst}
-use Rattle.std.specs.Prelude.{None, Err}
-use Rattle.misp_core.specs.Answers.{site}
-use Rattle.misp_core.specs.Standing.{standing}
-use Rattle.misp_core.specs.Permission.{no_permission}
-use Rattle.misp_core.specs.Effects.{refused, requested}
-use Rattle.misp_core.specs.Planning.{Plans, IsPlanned}
-use Rattle.misp_store.specs.Seen.{seen_in}
+use Rattle.std.specs.Prelude.{Err}
+use Rattle.misp_core.specs.Standing.{host_of}
+use Rattle.misp_requests.specs.Permission.{no_permission}
+use Rattle.misp_core.specs.Effects.{refused}
+use Rattle.misp_core.specs.Planning.{Plans}
 use Rattle.misp_core.proofs.Answered.{barred_planned, unread_planned, asked_planned, just_barred, not_both}
-use Rattle.misp_core.proofs.Carried.{asks_none, no_stop}
-use Rattle.misp_core.proofs.Serving.{at_groups}
+use Rattle.misp_core.proofs.Carried.{asks_none}
 use Rattle.misp_core.proofs.instance.Instance.plan.Goals as goal
 
 pub returns-then-not-may-clause-planned : goal.returns-then-not-may-clause-planned
 returns-then-not-may-clause-planned g c =
-    barred_planned c.args.self.now c.args.caller.now c.args.now c.args.ask _ c.forbidden.result
+    barred_planned (host_of c.args.self.now) c.args.now (c.args.caller.now, c.args.ask) _ c.forbidden.result
     (rw (← c.caller.view_is, ← c.permission_for-perm.ensures) (sym c.if-not-may.ensures))
     (subst (λ perm. Plans (Err c.forbidden.result) (refused (no_permission perm))) c.permission_for-perm.ensures c.forbidden.ensures)
 
 pub returns-then-not-may-clause-cause : goal.returns-then-not-may-clause-cause
 returns-then-not-may-clause-cause g c = record {
   later = omega arith;
-  rose = λ is. absurd (asks_none (Err c.forbidden.result) (no_stop (Err c.forbidden.result) _ c.forbidden.ensures) is);
+  rose = λ is. absurd (asks_none (Err c.forbidden.result) _ c.forbidden.ensures is);
 }
 
 pub returns-in-Err-clause-planned : goal.returns-in-Err-clause-planned
 returns-in-Err-clause-planned g c =
     rw (← c.self.view_is)
-    (unread_planned (standing c.self.inside.name c.self.inside.admin None 0) c.args.caller.now c.args.now c.args.ask c.in-Err.fault c.unread.result _
+    (unread_planned (record { name = c.self.inside.name; admin = c.self.inside.admin }) c.args.now (c.args.caller.now, c.args.ask) _ c.in-Err.fault c.unread.result
     (rw (← c.caller.view_is, ← c.permission_for-perm.ensures) (sym c.if-not-may.ensures))
-    (rw (← c.reach.ensures) c.in-Err.ensures.bad) c.unread.ensures.plans)
+    (rw (← c.caller.view_is, ← c.of.ensures) c.in-Err.ensures.bad) c.unread.ensures.plans)
 
 pub returns-in-Err-clause-cause : goal.returns-in-Err-clause-cause
 returns-in-Err-clause-cause g c =
@@ -42,19 +39,16 @@ returns-in-Err-clause-cause g c =
 pub returns-clause-planned : goal.returns-clause-planned
 returns-clause-planned g c =
     rw (← c.self.view_is)
-    (at_groups _ c.self.inside.groups
-    (λ held groups. IsPlanned c.plan_request.result (requested (site c.self.inside.name c.self.inside.admin groups c.args.caller.now c.args.now) c.args.ask (seen_in held)))
-    c.self.invariant
-    (asked_planned (site c.self.inside.name c.self.inside.admin c.self.inside.groups c.args.caller.now c.args.now) c.args.ask c.in-Ok.rows.items c.plan_request.result _
-    (rw (← c.caller.view_is, ← c.permission_for-perm.ensures) (sym c.if-not-may.ensures))
-    (rw (← c.reach.ensures) c.in-Ok.ensures.found) c.in-Ok.ensures.table c.plan_request.ensures.plan))
+    (asked_planned (record { name = c.self.inside.name; admin = c.self.inside.admin }) c.args.now (c.args.caller.now, c.args.ask) c.self.inside.groups c.in-Ok.rows.items c.plan_request.result _
+    (rw (← c.caller.view_is, ← c.permission_for-perm.ensures) (sym c.if-not-may.ensures)) c.self.invariant
+    (rw (← c.caller.view_is, ← c.of.ensures) c.in-Ok.ensures.found) c.in-Ok.ensures.table c.plan_request.ensures.plan)
 
 pub returns-clause-cause : goal.returns-clause-cause
 returns-clause-cause g c =
     rw (← c.self.view_is)
     (record {
       later = c.in-Ok.ensures.cause.later;
-      rose = λ is. absurd (asks_none c.plan_request.result c.plan_request.ensures.no_stop is);
+      rose = λ is. absurd (c.plan_request.ensures.no_fault is);
     })
 
 -- ---- what the role forbids

@@ -9,7 +9,7 @@ pub returns-in-Some-clause-err : goal.returns-in-Some-clause-err
 returns-in-Some-clause-err c =
     let own : same_org c.args.by.now c.args.group.id.creator ≡ true = ap (λ g. same_org c.args.by.now g.id.creator) (sym c.group.view_is) ∙ sym c.is_creator.ensures ∙ c.if-not-is_creator.false in
     let known : known_group c.args.self.now c.args.group.id ≡ Some c.in-Some.field-0.now = sym (c.in-Some.ensures ∙ ap (λ g. known_group c.args.self.now g.id) c.group.view_is) in
-    exists c.args.self.now c.args.by.now c.args.group.id c.in-Some.field-0.now own known
+    exists c.args.self.now c.args.by.now c.args.group.id own c.in-Some.field-0.now known
 
 pub returns-in-None-clause-free : goal.returns-in-None-clause-free
 returns-in-None-clause-free c =

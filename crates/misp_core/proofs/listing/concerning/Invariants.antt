@@ -1,7 +1,0 @@
-use Rattle.std.proofs.Common.{◌≡◌, take}
-use Rattle.std.specs.List.{filter}
-use Rattle.misp_model.specs.Acts.{concerns}
-use Rattle.misp_core.proofs.listing.concerning.Given as goal
-
-abbrev pub invariant-loop-group : goal.invariant-loop-group
-invariant-loop-group l = l.some.items ≡ filter (concerns l.org l.here) (take l.group-index l.groups)

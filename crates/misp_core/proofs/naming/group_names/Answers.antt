@@ -1,7 +1,0 @@
-use Rattle.std.proofs.Common.{◌∙◌}
-use Rattle.std.proofs.lemmas.Result.{IfOk-weaker}
-use Rattle.misp_core.proofs.NamedGroups.{names_are}
-use Rattle.misp_core.proofs.naming.group_names.Goals as goal
-
-pub returns : goal.returns
-returns c = IfOk-weaker c.names_of.result _ _ (λ names is. is ∙ names_are c.in_ok-ids.ids c.args.groups.now c.args.event.now c.in_ok-ids.ensures) c.names_of.ensures

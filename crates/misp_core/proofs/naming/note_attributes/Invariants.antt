@@ -1,9 +1,0 @@
-use Rattle.std.proofs.Common.{◌≡◌, take}
-use Rattle.std.specs.Prelude.{◌||◌}
-use Rattle.std.specs.List.{list_any}
-use Rattle.misp_ids.specs.declared.uid.GroupId.{GroupId}
-use Rattle.misp_core.specs.Naming.{has_group, attribute_names}
-use Rattle.misp_core.proofs.naming.note_attributes.Given as goal
-
-abbrev pub invariant-loop-attribute : goal.invariant-loop-attribute
-invariant-loop-attribute l = (id : GroupId) → has_group l.ids id ≡ (has_group l.fn.ids id || list_any (attribute_names id) (take l.attribute-index l.attributes))

@@ -1,9 +1,0 @@
-use Rattle.std.proofs.Common.{◌≡◌, take}
-use Rattle.std.specs.Prelude.{◌||◌}
-use Rattle.std.specs.List.{list_any}
-use Rattle.misp_ids.specs.declared.uid.GroupId.{GroupId}
-use Rattle.misp_core.specs.Naming.{has_group, object_names}
-use Rattle.misp_core.proofs.naming.note_objects.Given as goal
-
-abbrev pub invariant-loop-object : goal.invariant-loop-object
-invariant-loop-object l = (id : GroupId) → has_group l.ids id ≡ (has_group l.fn.ids id || list_any (object_names id) (take l.object-index l.objects))

@@ -1,0 +1,43 @@
+-- The groups that labels name, as a set has them.
+use Rattle.std.proofs.Common.{◌≡◌, ℕ, Bool, true, false, refl, ap, ◌∙◌, eqb, cond, List, map}
+use Rattle.std.specs.Prelude.{◌&&◌, ◌||◌}
+use Rattle.std.specs.List.{list_any, filter}
+use Rattle.std.specs.BTreeSet.{BTreeSet, IsEmpty, contains}
+use Rattle.std.specs.BTreeMap.{is_at}
+use Rattle.misp_ids.specs.declared.uid.GroupId.{GroupId}
+use Rattle.misp_elem.specs.declared.visible.VisibleEvent.{VisibleEvent}
+use Rattle.misp_groups.specs.declared.group.GroupFields.{GroupFields as Group}
+use Rattle.misp_model.specs.Names.{same_org, same_group}
+use Rattle.misp_view.specs.Table.{pair_cmp}
+use Rattle.misp_view.proofs.Pairs.{pair_more, none_in}
+use Rattle.misp_view.specs.Naming.{has_group, event_names, group_names, with_name}
+
+-- the set with a group more
+pub has_more : (old new : BTreeSet (ℕ × ℕ)) (g id : GroupId) →
+    contains pair_cmp new (id.creator.0.0, id.uuid.0) ≡ cond (is_at (pair_cmp (g.creator.0.0, g.uuid.0)) (id.creator.0.0, id.uuid.0)) true (contains pair_cmp old (id.creator.0.0, id.uuid.0)) →
+    has_group new id ≡ (has_group old id || same_group g id)
+unfolding has_group same_group same_org
+has_more old new g id h = pair_more old new g.creator.0.0 g.uuid.0 id.creator.0.0 id.uuid.0 h
+
+-- no group is in the empty set
+pub none_has : (ids : BTreeSet (ℕ × ℕ)) (id : GroupId) → IsEmpty ids → has_group ids id ≡ false
+unfolding has_group
+none_has ids id h = none_in ids id.creator.0.0 id.uuid.0 h
+
+-- the groups of a set are those that an event names
+pub names_are : (ids : BTreeSet (ℕ × ℕ)) (groups : List Group) (v : VisibleEvent) → ((id : GroupId) → has_group ids id ≡ event_names id v)
+    → map with_name (filter (λ g. has_group ids g.id) groups) ≡ group_names groups v
+unfolding group_names
+names_are ids groups v h = λ i. map with_name (filter (λ g. h g.id i) groups)
+
+-- ---- one step after another
+
+pub two_more : (old next new a b : Bool) → next ≡ (old || a) → new ≡ (next || b) → new ≡ (old || (a || b))
+two_more old next new a b h k = k ∙ ap (λ t. t || b) h ∙ one old
+  where
+    one : (o : Bool) → ((o || a) || b) ≡ (o || (a || b))
+    one true = refl
+    one false = refl
+
+pub three_more : (none first next new a b d : Bool) → none ≡ false → first ≡ (none || a) → next ≡ (first || b) → new ≡ (next || d) → new ≡ (a || b || d)
+three_more none first next new a b d e h k m = m ∙ ap (λ t. t || d) (k ∙ ap (λ t. t || b) (h ∙ ap (λ t. t || a) e))
