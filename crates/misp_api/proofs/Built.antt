@@ -1,14 +1,10 @@
 -- What a body brings is built.
 use Rattle.std.proofs.Common.{◌≡◌, ℕ, List, codes, None, Ok, Err, refl}
-use Rattle.misp_ids.specs.Uid.{made_uid}
-use Rattle.misp_fields.specs.Fields.{uuid_of}
-use Rattle.serde_json.specs.Data.{Data}
+use Rattle.misp_lists.proofs.Readings.{ok_keeps}
 use Rattle.misp_elem.specs.Draft.{SubmissionFields}
-use Rattle.misp_format.specs.Rows.{Reading, ◌>>=◌, row, body_at}
-use Rattle.misp_format.specs.Gathered.{none_from}
-use Rattle.misp_format.specs.Elements.{attributes_at, objects_at}
-use Rattle.misp_format.specs.Tables.{event_at, event_itself_at, unwrapped}
-use Rattle.misp_format.specs.Json.{json_in}
+use Rattle.misp_format.specs.Prelude.{◌>>=◌, Data, Reading, attributes_at, event_at, json_in, made_uid, none_from, objects_at, uuid_of}
+use Rattle.misp_format.specs.Rows.{row, body_at}
+use Rattle.misp_format.specs.Tables.{event_itself_at, unwrapped}
 use Rattle.misp_core.specs.Answers.{IsAdded}
 use Rattle.misp_api.specs.Request.{event_in}
 
@@ -17,12 +13,6 @@ bind_keeps : {A B : Type 0} (P : B → Type 0) (read : Reading A) (f : A → Rea
     → ((x : A) (y : B) → f x ≡ Ok y → P y) → (y : B) → read >>= f ≡ Ok y → P y
 bind_keeps P (Ok x) f each y h = each x y h
 bind_keeps P (Err fault) f each y h = absurd cc
-
-abbrev given : {A : Type 0} → A → Reading A
-given x = Ok x
-
-ok_keeps : {A : Type 0} (P : A → Type 0) (x : A) → P x → (y : A) → given x ≡ given y → P y
-ok_keeps P x holds y h = let same : x ≡ y = cc in rw (← same) holds
 
 value_built : (word : ℕ) (d : Data) (s : SubmissionFields) → event_at word d ≡ Ok s → IsAdded s
 unfolding event_at

@@ -1,20 +1,11 @@
 -- What a request asks is built, and its caller is the one whose key it has.
-use Rattle.std.proofs.Common.{◌≡◌, ℕ, Bool, true, false, List, refl, Option, Some, None, Result, Ok, Err}
-use Rattle.std.specs.Prelude.{if◌then◌else◌}
-use Rattle.misp_elem.specs.declared.refusal.RuleName.{RuleName}
-use Rattle.misp_elem.specs.Draft.{SubmissionFields as Submission}
-use Rattle.misp_format.specs.declared.fault.FormatFault.{FormatFault}
-use Rattle.misp_format.specs.declared.fault.FormatFault.TheVariants as faults
-use Rattle.misp_orgs.specs.Admin.{AdminFields as Admin}
-use Rattle.misp_orgs.specs.Keys.{CallerFields as Caller}
-use Rattle.misp_requests.specs.declared.ask.Ask.{Ask}
-use Rattle.misp_requests.specs.Permission.{permission_of, is_permitted, no_permission}
-use Rattle.misp_core.specs.Answers.{Asked, IsAdded, IsBuilt}
-use Rattle.misp_api.specs.declared.route.Route.{Route}
-use Rattle.misp_api.specs.declared.route.Route.TheVariants.{AddEvent, ViewEvent, Groups}
-use Rattle.misp_api.specs.Route.{route_of}
-use Rattle.misp_api.specs.Request.{RequestData, Reading, event_in, added, formed, asked, ask_of}
-use Rattle.misp_api.specs.Answering.{caller_in, by_body, by_route, read_of, permitted, form_of}
+use Rattle.std.proofs.Common.{◌≡◌, ℕ, Bool, true, false, List, refl, Option, Some, None, Result, Ok, Err, if◌then◌else◌}
+use Rattle.misp_rules.specs.Permission.{permission_of, no_permission}
+use Rattle.misp_core.specs.Answers.{IsAdded, IsBuilt}
+use Rattle.misp_api.specs.Prelude.{AddEvent, Admin, Ask, Asked, Caller, FormatFault, Groups, Reading, RequestData, Route, RuleName, Submission, ViewEvent, added, ask_of, caller_in, event_in, form_of, formed, is_permitted, read_of}
+use Rattle.misp_api.specs.Prelude.{route_of}
+use Rattle.misp_api.specs.Request.{asked}
+use Rattle.misp_api.specs.Answering.{by_body, by_route, permitted}
 use Rattle.misp_api.proofs.Built.{event_built}
 
 -- ---- what is asked
@@ -29,10 +20,10 @@ BuiltForm (Err refusal) = Unit {0}
 
 asked_built : (read : Result Submission FormatFault) → ((s : Submission) → read ≡ Ok s → IsAdded s) → BuiltAsk (asked (formed read))
 asked_built (Ok s) built = built s refl
-asked_built (Err faults.NoJson) built = tt
-asked_built (Err (faults.BadField path need)) built = tt
-asked_built (Err (faults.BinaryType path)) built = tt
-asked_built (Err faults.NoMemory) built = tt
+asked_built (Err FormatFault.NoJson) built = tt
+asked_built (Err (FormatFault.BadField path need)) built = tt
+asked_built (Err (FormatFault.BinaryType path)) built = tt
+asked_built (Err FormatFault.NoMemory) built = tt
 
 ask_built : (route : Route) (body : List ℕ) (word : ℕ) → BuiltAsk (ask_of route body word)
 unfolding added

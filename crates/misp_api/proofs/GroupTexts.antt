@@ -1,22 +1,10 @@
 -- The reply where a group is added or edited, by what its text is.
-use Rattle.std.proofs.Common.{◌≡◌, ℕ, ◌≤◌, Bool, List, refl, sym, subst, Option, Some, None, Ok, Err}
-use Rattle.std.specs.Prelude.{IfSome}
+use Rattle.std.proofs.Common.{◌≡◌, ℕ, ◌≤◌, Bool, List, refl, sym, subst, Option, Some, None, Ok, Err, IfSome}
 use Rattle.std.proofs.lemmas.Option.{IfSome_then}
-use Rattle.misp_groups.specs.declared.group.GroupFields.{GroupFields as Group}
-use Rattle.misp_groups.specs.Group.{IsGroup}
-use Rattle.misp_ids.specs.declared.uid.OrgId.{OrgId}
-use Rattle.misp_ids.specs.declared.stamp.TheConstants.{LAST_SECOND}
-use Rattle.misp_outside.specs.Held.{Held}
-use Rattle.misp_format.specs.GroupText.{group_in_text}
-use Rattle.misp_store.specs.Sharing.{groups_of}
-use Rattle.misp_core.specs.Administering.{administered}
-use Rattle.misp_core.specs.Effects.{by_keeper, stop_in, Did}
-use Rattle.misp_core.specs.declared.reply.Reply.{Reply}
-use Rattle.misp_api.specs.declared.request.AskFault.{AskFault}
-use Rattle.misp_api.specs.declared.request.AskFault.TheVariants as stops
-use Rattle.misp_api.specs.Request.{Reading, Gives}
-use Rattle.misp_api.specs.Answering.{fault_reply}
-use Rattle.misp_api.specs.Administering.{group_form, FormFits, grouped, IsDone}
+use Rattle.misp_format.specs.Prelude.{LAST_SECOND, group_in_text}
+use Rattle.misp_core.specs.Prelude.{Did, IsGroup, administered, groups_of}
+use Rattle.misp_api.specs.Prelude.{AskFault, Gives, Group, Held, OrgId, Reading, Reply, by_keeper, fault_reply, grouped, stop_in}
+use Rattle.misp_api.specs.Administering.{group_form, FormFits, IsDone}
 use Rattle.misp_api.proofs.Replying.{ByForm, formed_by_form, by_fault, no_keeper_in}
 
 -- a group is administered by the instance
@@ -41,10 +29,10 @@ read_fits now form g is fits moment = subst (FormFits now) (sym is) (fits, momen
 
 -- a text that is no group has none that does not fit
 pub unread_fits : (now : ℕ) (form : Reading Group) (fault : AskFault) → Gives (Err fault) form → stop_in (fault_reply fault) ≡ None → FormFits now form
-unread_fits now form (stops.Refused refusal) given went = subst (FormFits now) (sym given) tt
-unread_fits now form stops.NoMemory given went = absurd cc
+unread_fits now form (AskFault.Refused refusal) given went = subst (FormFits now) (sym given) tt
+unread_fits now form AskFault.NoMemory given went = absurd cc
 
 -- no keeper failed where a text was not read
 pub no_keeper_read : (text : List ℕ) (fault : AskFault) → Gives (Err fault) (group_form text) → stop_in (fault_reply fault) ≡ by_keeper → ⊥
-no_keeper_read text (stops.Refused refusal) given = no_keeper_in refusal (subst ByForm given (text_by_form text))
-no_keeper_read text stops.NoMemory given = λ is. absurd cc
+no_keeper_read text (AskFault.Refused refusal) given = no_keeper_in refusal (subst ByForm given (text_by_form text))
+no_keeper_read text AskFault.NoMemory given = λ is. absurd cc

@@ -1,19 +1,9 @@
 -- What is refused puts nothing.
 use Rattle.std.proofs.Common.{◌≡◌, ℕ, Bool, List, [], Option, Some, None, Ok, Err, refl}
-use Rattle.misp_ids.specs.declared.uid.OrgId.{OrgId}
-use Rattle.misp_elem.specs.declared.refusal.RuleName.{RuleName}
-use Rattle.misp_outside.specs.Held.{Held}
-use Rattle.misp_groups.specs.declared.group.GroupFields.{GroupFields as Group}
-use Rattle.misp_core.specs.Answers.{Asked}
-use Rattle.misp_levels.specs.Groups.{why_not}
-use Rattle.misp_core.specs.Effects.{IsRefused}
+use Rattle.misp_groups.specs.Groups.{why_not}
 use Rattle.misp_core.specs.Administering.{effect_by}
-use Rattle.misp_core.specs.Standing.{Host}
 use Rattle.misp_core.proofs.Decisions.{refused_puts_none}
-use Rattle.misp_api.specs.Request.{Reading}
-use Rattle.misp_store.specs.Seen.{seen_in}
-use Rattle.misp_api.specs.Answering.{replied}
-use Rattle.misp_api.specs.Administering.{grouped}
+use Rattle.misp_api.specs.Prelude.{Asked, Group, Held, Host, IsRefused, OrgId, Reading, RuleName, grouped, replied, seen_in}
 use Rattle.misp_api.proofs.Forms.{BuiltForm}
 
 -- a request that is refused has no batch

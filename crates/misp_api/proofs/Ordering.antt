@@ -1,52 +1,21 @@
 -- The reply to a request refuses by the first rule that refuses it.
-use Rattle.std.proofs.Common.{◌≡◌, ℕ, Bool, true, false, List, [], ◌∷◌, refl, ap, sym, subst, ◌∙◌, map, option_map, Option, Some, None, Result, Ok, Err}
-use Rattle.std.specs.Prelude.{◌==◌, not, is_some, bytes_eq, if◌then◌else◌, IfSome}
-use Rattle.std.specs.Option.{option_map_or}
-use Rattle.std.proofs.lemmas.Option.{IfSome_then}
-use Rattle.misp_ids.specs.declared.uid.OrgId.{OrgId}
-use Rattle.misp_ids.specs.declared.uid.EventId.{EventId}
-use Rattle.misp_elem.specs.declared.row.RowFields.{RowFields as Row}
-use Rattle.misp_elem.specs.declared.visible.VisibleEvent.{VisibleEvent}
-use Rattle.misp_elem.specs.declared.refusal.RuleName.{RuleName}
-use Rattle.misp_elem.specs.declared.refusal.RuleName.TheVariants as rules
-use Rattle.misp_elem.specs.Draft.{SubmissionFields as Submission}
-use Rattle.misp_elem.specs.Refusal.{rule_number}
-use Rattle.misp_format.specs.declared.fault.FormatFault.{FormatFault}
-use Rattle.misp_format.specs.declared.fault.FormatFault.TheVariants as faults
-use Rattle.misp_groups.specs.declared.group.GroupFields.{GroupFields as Group}
-use Rattle.misp_orgs.specs.Admin.{AdminFields as Admin}
-use Rattle.misp_orgs.specs.Keys.{CallerFields as Caller}
-use Rattle.misp_outside.specs.Held.{Held}
-use Rattle.misp_effects.specs.Effect.{Effect, under, stop_of}
-use Rattle.misp_effects.specs.Effect as effects
-use Rattle.misp_requests.specs.declared.ask.Ask.{Ask}
-use Rattle.misp_requests.specs.declared.ask.Ask.TheVariants.{View}
-use Rattle.misp_requests.specs.declared.ask.Ask.TheVariants as asks
-use Rattle.misp_requests.specs.declared.change.Change.TheVariants as changes
-use Rattle.misp_model.specs.Asking.{Scene, Rule, first_rule, change_rules}
-use Rattle.misp_model.specs.Asking as asking
-use Rattle.misp_model.specs.Shown.{shown}
-use Rattle.misp_model.specs.Machine.{seeing}
-use Rattle.misp_model.specs.Acts.{answer, ok_answer, ask_rules}
-use Rattle.misp_model.specs.Acts as model
-use Rattle.misp_store.specs.Seen.{seen_in}
-use Rattle.misp_store.specs.Sharing.{groups_of}
-use Rattle.misp_core.specs.Standing.{Standing, Host, host_of}
-use Rattle.misp_requests.specs.Permission.{is_permitted, forbidden}
-use Rattle.misp_store.specs.Reach.{reach_of}
+use Rattle.std.proofs.Common.{◌≡◌, ℕ, Bool, true, false, List, [], ◌∷◌, refl, ap, sym, subst, ◌∙◌, map, option_map, Option, Some, None, Result, Ok, Err, ◌==◌, not, is_some, bytes_eq, if◌then◌else◌, IfSome}
+use Rattle.misp_effects.specs.Effect.{under, stop_of}
+use Rattle.misp_rules.proofs.Prelude.{IfSome_then, Rule, Submission, VisibleEvent, answer, change_rules, first_rule, ok_answer, shown}
+use Rattle.misp_rules.specs.declared.change.Change.{Change}
 use Rattle.misp_edit.specs.Refusals.{named}
-use Rattle.misp_core.specs.Answers.{Asked, IsBuilt, reply_of, reply_in, scene_at}
-use Rattle.misp_core.specs.Effects.{telling, refused, asked_over, requested, stop_in, Did}
-use Rattle.misp_core.specs.declared.reply.Reply.{Reply}
-use Rattle.misp_core.specs.declared.reply.Reply.TheVariants as replies
-use Rattle.misp_api.specs.declared.route.Route.{Route}
-use Rattle.misp_api.specs.declared.route.Route.TheVariants.{AddEvent, ViewEvent, Groups}
-use Rattle.misp_api.specs.declared.request.AskFault.{AskFault}
-use Rattle.misp_api.specs.declared.request.AskFault.TheVariants as stops
-use Rattle.misp_api.specs.Route.{method_of, by_method, route_of}
-use Rattle.misp_api.specs.Request.{RequestData, Reading, Gives, event_in, added, formed, asked, ask_of}
-use Rattle.misp_api.specs.Answering.{caller_in, by_body, by_key, by_route, read_of, fault_reply}
+use Rattle.misp_core.specs.Prelude.{Admin, Ask, Asked, Caller, Did, Effect, EventId, FormatFault, Group, Held, Host, IsBuilt, OrgId, Row, RuleName, Scene, Standing, View, ask_rules, asked_over, forbidden, groups_of, host_of, is_permitted}
+use Rattle.misp_core.specs.Prelude.{option_map_or, reach_of, refused, reply_in, requested, rule_number, scene_at, seeing, seen_in, stop_in}
+use Rattle.misp_core.specs.Answers.{reply_of}
+use Rattle.misp_core.specs.Effects.{telling}
+use Rattle.misp_api.specs.Prelude.{AddEvent, AskFault, Gives, Groups, Reading, Reply, RequestData, Route, ViewEvent, added, ask_of, caller_in, event_in, fault_reply, formed, read_of, route_of}
+use Rattle.misp_api.specs.Route.{method_of, by_method}
+use Rattle.misp_api.specs.Request.{asked}
+use Rattle.misp_api.specs.Answering.{by_body, by_key, by_route}
 use Rattle.misp_api.specs.Order.{Ground, first_ground, rule_of, IsInOrder, ground_of, row_grounds, grounds, route_asked, is_refused_by, asked_grounds, order}
+use Rattle.misp_effects.specs.Effect as effects
+use Rattle.misp_rules.specs.Scene as asking
+use Rattle.misp_rules.specs.Answers as model
 
 -- ---- what is asked
 
@@ -66,7 +35,7 @@ by_seen admin s event owner None = refl
 by_seen admin s event owner (Some v) = refl
 
 by_rule : (admin : Admin) (s : Scene) (b : Submission) (rule : Option Rule)
-    → rule_of (reply_of admin s (asks.Change (changes.AddEvent b)) (elim rule [ None ↦ ok_answer s (asks.Change (changes.AddEvent b)) | Some r ↦ model.Refused r ]))
+    → rule_of (reply_of admin s (Ask.Change (Change.AddEvent b)) (elim rule [ None ↦ ok_answer s (Ask.Change (Change.AddEvent b)) | Some r ↦ model.Refused r ]))
     ≡ option_map named rule
 unfolding ok_answer
 by_rule admin s b None = refl
@@ -76,14 +45,14 @@ by_rule admin s b (Some r) = refl
 in_scene : (admin : Admin) (s : Scene) (ask : Ask) → IsBuilt ask → rule_of (reply_in admin s ask) ≡ first_ground (map ground_of (ask_rules s ask))
 unfolding reply_in answer ask_rules ok_answer first_ground first_rule
 in_scene admin s (View event owner) built = by_seen admin s event owner (shown s event owner)
-in_scene admin s (asks.Change (changes.AddEvent b)) built = by_rule admin s b (first_rule (change_rules s (changes.AddEvent b))) ∙ sym (first_named (change_rules s (changes.AddEvent b)))
-in_scene admin s asks.Groups built = refl
+in_scene admin s (Ask.Change (Change.AddEvent b)) built = by_rule admin s b (first_rule (change_rules s (Change.AddEvent b))) ∙ sym (first_named (change_rules s (Change.AddEvent b)))
+in_scene admin s Ask.Groups built = refl
 in_scene admin s ask built = absurd built
 
 -- over what is read for it, by whether the role permits the ask
 by_rows : (host : Host) (now : ℕ) (it : Asked) (groups : List Group) (may : Bool) (rows : Result (List Row) (List ℕ)) → IsBuilt it.1
     → rule_of (if may then asked_over host now it groups rows else refused (forbidden it.1)).reply
-    ≡ first_ground ((not may, rules.NoPermission) ∷ row_grounds host now it groups rows)
+    ≡ first_ground ((not may, RuleName.NoPermission) ∷ row_grounds host now it groups rows)
 unfolding first_ground
 by_rows host now it groups false rows built = refl
 by_rows host now it groups true (Err name) built = refl
@@ -105,21 +74,21 @@ in_order host now it held reply new built did went =
 
 abbrev by_name : RuleName → List Ground
 by_name name =
-    (rule_number name == rule_number rules.BadJson, rules.BadJson)
-    ∷ (rule_number name == rule_number rules.BadField, rules.BadField)
-    ∷ (rule_number name == rule_number rules.BinaryType, rules.BinaryType) ∷ []
+    (rule_number name == rule_number RuleName.BadJson, RuleName.BadJson)
+    ∷ (rule_number name == rule_number RuleName.BadField, RuleName.BadField)
+    ∷ (rule_number name == rule_number RuleName.BinaryType, RuleName.BinaryType) ∷ []
 
 abbrev IsNamed : {A : Type 0} → Reading A → Type 0
 IsNamed (Ok x) = Unit {0}
-IsNamed (Err refusal) = stop_in (replies.Refused refusal) ≡ None → Some refusal.name ≡ first_ground (by_name refusal.name)
+IsNamed (Err refusal) = stop_in (Reply.Refused refusal) ≡ None → Some refusal.name ≡ first_ground (by_name refusal.name)
 
 asked_named : (read : Result Submission FormatFault) → IsNamed (asked (formed read))
 unfolding first_ground
 asked_named (Ok submission) = tt
-asked_named (Err faults.NoJson) = λ went. refl
-asked_named (Err (faults.BadField path need)) = λ went. refl
-asked_named (Err (faults.BinaryType path)) = λ went. refl
-asked_named (Err faults.NoMemory) = λ went. absurd cc
+asked_named (Err FormatFault.NoJson) = λ went. refl
+asked_named (Err (FormatFault.BadField path need)) = λ went. refl
+asked_named (Err (FormatFault.BinaryType path)) = λ went. refl
+asked_named (Err FormatFault.NoMemory) = λ went. absurd cc
 
 ask_named : (route : Route) (body : List ℕ) (word : ℕ) → IsNamed (ask_of route body word)
 unfolding added
@@ -133,13 +102,13 @@ module _ (host : Host) (now : ℕ) (held : Held) where
   -- of what was read the first of these rules is the first of what is asked, and of what was not it is the refusal's
   abbrev IsFirst : Reading Asked → Option RuleName → Type 0
   IsFirst (Ok it) first = first ≡ first_ground (grounds host now it (seen_in held))
-  IsFirst (Err refusal) first = stop_in (replies.Refused refusal) ≡ None → Some refusal.name ≡ first
+  IsFirst (Err refusal) first = stop_in (Reply.Refused refusal) ≡ None → Some refusal.name ≡ first
 
   abbrev from_body : Reading Ask → List Ground → List Ground
   from_body ask rest =
-      (is_refused_by rules.BadJson ask, rules.BadJson)
-      ∷ (is_refused_by rules.BadField ask, rules.BadField)
-      ∷ (is_refused_by rules.BinaryType ask, rules.BinaryType) ∷ rest
+      (is_refused_by RuleName.BadJson ask, RuleName.BadJson)
+      ∷ (is_refused_by RuleName.BadField ask, RuleName.BadField)
+      ∷ (is_refused_by RuleName.BinaryType ask, RuleName.BinaryType) ∷ rest
 
   by_ask : (caller : Caller) (ask : Reading Ask) → IsNamed ask → IsFirst (by_body caller ask) (first_ground (from_body ask (asked_grounds host now (by_body caller ask) held)))
   unfolding first_ground
@@ -148,17 +117,17 @@ module _ (host : Host) (now : ℕ) (held : Held) where
 
   by_caller : (route : Route) (caller : Option Caller) (body : List ℕ) (word : ℕ)
       → IsFirst (by_key caller route body word)
-      (first_ground ((not (is_some caller), rules.NoKey) ∷ from_body (ask_of route body word) (asked_grounds host now (by_key caller route body word) held)))
+      (first_ground ((not (is_some caller), RuleName.NoKey) ∷ from_body (ask_of route body word) (asked_grounds host now (by_key caller route body word) held)))
   unfolding first_ground
   by_caller route None body word = λ went. refl
   by_caller route (Some caller) body word = by_ask caller (ask_of route body word) (ask_named route body word)
 
   abbrev by_same : Bool → Route → Option Caller → List ℕ → ℕ → Reading Asked
-  by_same same route caller body word = by_route (if same then Ok route else Err rules.NoMethod) caller body word
+  by_same same route caller body word = by_route (if same then Ok route else Err RuleName.NoMethod) caller body word
 
   by_verb : (same : Bool) (route : Route) (caller : Option Caller) (body : List ℕ) (word : ℕ)
       → IsFirst (by_same same route caller body word)
-      (first_ground ((not same, rules.NoMethod) ∷ (not (is_some caller), rules.NoKey)
+      (first_ground ((not same, RuleName.NoMethod) ∷ (not (is_some caller), RuleName.NoKey)
       ∷ from_body (ask_of route body word) (asked_grounds host now (by_same same route caller body word) held)))
   unfolding first_ground
   by_verb true route caller body word = by_caller route caller body word
@@ -167,12 +136,12 @@ module _ (host : Host) (now : ℕ) (held : Held) where
   -- the rules of a request whose path is for this
   abbrev from_path : Option Route → RequestData → List Ground → List Ground
   from_path route request rest =
-      (not (is_some route), rules.NoRoute)
-      ∷ (option_map_or (λ r. not (bytes_eq request.method (method_of r))) route false, rules.NoMethod)
-      ∷ (not (is_some (caller_in host.admin request.key)), rules.NoKey)
-      ∷ (option_map_or (λ r. is_refused_by rules.BadJson (ask_of r request.body request.word)) route false, rules.BadJson)
-      ∷ (option_map_or (λ r. is_refused_by rules.BadField (ask_of r request.body request.word)) route false, rules.BadField)
-      ∷ (option_map_or (λ r. is_refused_by rules.BinaryType (ask_of r request.body request.word)) route false, rules.BinaryType)
+      (not (is_some route), RuleName.NoRoute)
+      ∷ (option_map_or (λ r. not (bytes_eq request.method (method_of r))) route false, RuleName.NoMethod)
+      ∷ (not (is_some (caller_in host.admin request.key)), RuleName.NoKey)
+      ∷ (option_map_or (λ r. is_refused_by RuleName.BadJson (ask_of r request.body request.word)) route false, RuleName.BadJson)
+      ∷ (option_map_or (λ r. is_refused_by RuleName.BadField (ask_of r request.body request.word)) route false, RuleName.BadField)
+      ∷ (option_map_or (λ r. is_refused_by RuleName.BinaryType (ask_of r request.body request.word)) route false, RuleName.BinaryType)
       ∷ rest
 
   abbrev read_at : Option Route → RequestData → Reading Asked
@@ -204,6 +173,6 @@ pub order_by_fault : (i : Standing) (now : ℕ) (request : RequestData) (fault :
     → Gives (Err fault) (read_of i.admin request)
     → IfSome old (λ held. IsInOrder (order (host_of i) now request held) (fault_reply fault))
 order_by_fault i now request fault None given = tt
-order_by_fault i now request (stops.Refused refusal) (Some held) given = λ went.
+order_by_fault i now request (AskFault.Refused refusal) (Some held) given = λ went.
     subst (λ read. IsFirst (host_of i) now held read (first_ground (order (host_of i) now request held))) given (ordered (host_of i) now held request) went
-order_by_fault i now request stops.NoMemory (Some held) given = λ went. absurd cc
+order_by_fault i now request AskFault.NoMemory (Some held) given = λ went. absurd cc

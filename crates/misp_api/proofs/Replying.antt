@@ -1,37 +1,16 @@
 -- The reply to a request by its form.
-use Rattle.std.proofs.Common.{◌≡◌, ◌⊎◌, ℕ, Bool, true, false, List, refl, sym, ◌∙◌, subst, inl, inr, Option, Some, None, Result, Ok, Err}
-use Rattle.std.specs.Prelude.{IfSome, bytes_eq, if◌then◌else◌}
+use Rattle.std.proofs.Common.{◌≡◌, ◌⊎◌, ℕ, Bool, true, false, List, refl, sym, ◌∙◌, subst, inl, inr, Option, Some, None, Result, Ok, Err, IfSome, bytes_eq, if◌then◌else◌}
 use Rattle.std.proofs.lemmas.Option.{IfSome_then}
-use Rattle.misp_elem.specs.declared.refusal.Refusal.{Refusal}
-use Rattle.misp_elem.specs.declared.refusal.RuleName.{RuleName}
-use Rattle.misp_elem.specs.declared.refusal.RuleName.TheVariants as rules
-use Rattle.misp_elem.specs.Refusal.{bare}
-use Rattle.misp_elem.specs.Draft.{SubmissionFields as Submission}
-use Rattle.misp_format.specs.declared.fault.FormatFault.{FormatFault}
-use Rattle.misp_format.specs.declared.fault.FormatFault.TheVariants as faults
-use Rattle.misp_orgs.specs.Admin.{AdminFields as Admin}
-use Rattle.misp_orgs.specs.Keys.{CallerFields as Caller}
-use Rattle.misp_outside.specs.Held.{Held}
-use Rattle.misp_requests.specs.declared.ask.Ask.{Ask}
-use Rattle.misp_core.specs.Standing.{Standing, Host, host_of}
-use Rattle.misp_effects.specs.declared.stop.Stop.TheVariants as kinds
 use Rattle.misp_effects.specs.declared.stop.Side.TheVariants.{Here}
-use Rattle.misp_effects.specs.Effect.{Effect, Stopped}
-use Rattle.misp_effects.specs.Effect as effects
-use Rattle.misp_requests.specs.Permission.{is_permitted, forbidden}
-use Rattle.misp_core.specs.Answers.{Asked}
-use Rattle.misp_core.specs.Effects.{stop_in, by_keeper, refused, asked_where, requested, Did}
-use Rattle.misp_core.specs.declared.reply.Reply.{Reply}
-use Rattle.misp_core.specs.declared.reply.Reply.TheVariants as replies
-use Rattle.misp_api.specs.declared.route.Route.{Route}
-use Rattle.misp_api.specs.declared.route.Route.TheVariants.{AddEvent, ViewEvent, Groups}
-use Rattle.misp_api.specs.declared.request.AskFault.{AskFault}
-use Rattle.misp_api.specs.declared.request.AskFault.TheVariants as stops
-use Rattle.misp_api.specs.Route.{path_of, path_route, method_of, by_method, route_of}
-use Rattle.misp_api.specs.Request.{RequestData, Reading, Gives, event_in, added, formed, asked, ask_of}
+use Rattle.misp_effects.specs.Effect.{Stopped}
+use Rattle.misp_core.specs.Prelude.{Did, Refusal, asked_where, bare, host_of, refused, requested}
+use Rattle.misp_api.specs.Prelude.{AddEvent, Admin, Ask, Asked, AskFault, Caller, Effect, FormatFault, Gives, Groups, Held, Host, Reading, Reply, RequestData, Route, RuleName, Standing, Stop, Submission, ViewEvent, added, ask_of}
+use Rattle.misp_api.specs.Prelude.{by_keeper, caller_in, event_in, fault_reply, forbidden, form_of, formed, is_permitted, read_of, replied, route_of, seen_in, stop_in}
+use Rattle.misp_api.specs.Route.{path_of, path_route, method_of, by_method}
+use Rattle.misp_api.specs.Request.{asked}
 use Rattle.misp_api.proofs.Forms.{allowed}
-use Rattle.misp_store.specs.Seen.{seen_in}
-use Rattle.misp_api.specs.Answering.{caller_in, by_body, by_route, read_of, permitted, form_of, fault_reply, replied, IsReplied}
+use Rattle.misp_api.specs.Answering.{by_body, by_route, permitted, IsReplied}
+use Rattle.misp_effects.specs.Effect as effects
 
 -- what an instance comes to by an ask is what its form comes to, by whether the role permits the ask
 ask_replied : (host : Host) (now : ℕ) (asked : Asked) (may : Bool) (held : Held)
@@ -50,7 +29,7 @@ by_step i now request asked reply old new is answered = IfSome_then old answered
 
 -- a refusal by the form of a request comes from no keeper, and from memory only where memory ran out
 abbrev pub IsFormal : Refusal → Type 0
-IsFormal refusal = (stop_in (replies.Refused refusal) ≡ None) ⊎ (refusal ≡ bare rules.NoMemory)
+IsFormal refusal = (stop_in (Reply.Refused refusal) ≡ None) ⊎ (refusal ≡ bare RuleName.NoMemory)
 
 abbrev pub ByForm : {A : Type 0} → Reading A → Type 0
 ByForm (Ok x) = Unit {0}
@@ -58,10 +37,10 @@ ByForm (Err refusal) = IsFormal refusal
 
 pub formed_by_form : {A : Type 0} (read : Result A FormatFault) → ByForm (formed read)
 formed_by_form (Ok x) = tt
-formed_by_form (Err faults.NoJson) = inl refl
-formed_by_form (Err (faults.BadField path need)) = inl refl
-formed_by_form (Err (faults.BinaryType path)) = inl refl
-formed_by_form (Err faults.NoMemory) = inr refl
+formed_by_form (Err FormatFault.NoJson) = inl refl
+formed_by_form (Err (FormatFault.BadField path need)) = inl refl
+formed_by_form (Err (FormatFault.BinaryType path)) = inl refl
+formed_by_form (Err FormatFault.NoMemory) = inr refl
 
 asked_by_form : (read : Reading Submission) → ByForm read → ByForm (asked read)
 asked_by_form (Ok submission) formed = tt
@@ -82,7 +61,7 @@ abbrev ByRoute : Result Route RuleName → Type 0
 ByRoute (Ok route) = Unit {0}
 ByRoute (Err rule) = IsFormal (bare rule)
 
-method_by_form : (same : Bool) (route : Route) → ByRoute (if same then Ok route else Err rules.NoMethod)
+method_by_form : (same : Bool) (route : Route) → ByRoute (if same then Ok route else Err RuleName.NoMethod)
 method_by_form true route = tt
 method_by_form false route = inl refl
 
@@ -104,23 +83,23 @@ unfolding read_of
 read_by_form admin request = route_by_form (route_of request.method request.target) (caller_in admin request.key) request.body request.word (target_by_form request.method request.target)
 
 -- where memory ran out, nothing is left
-pub out_of_memory : (e : Effect Reply) (held : Held) → Did e held (fault_reply stops.NoMemory) (Some held)
-out_of_memory e held = record { outcome = Stopped (kinds.Memory Here) 0 false; agree = refl; reply_is = refl; held_is = refl; fits = tt }
+pub out_of_memory : (e : Effect Reply) (held : Held) → Did e held (fault_reply AskFault.NoMemory) (Some held)
+out_of_memory e held = record { outcome = Stopped (Stop.Memory Here) 0 false; agree = refl; reply_is = refl; held_is = refl; fits = tt }
 
 -- such a refusal is the stated one
-formal_reply : (held : Held) (refusal : Refusal) → IsFormal refusal → Did (refused refusal) held (replies.Refused refusal) (Some held)
+formal_reply : (held : Held) (refusal : Refusal) → IsFormal refusal → Did (refused refusal) held (Reply.Refused refusal) (Some held)
 formal_reply held refusal (inl none) = record { outcome = effects.Went; agree = sym none; reply_is = refl; held_is = refl; fits = tt }
 formal_reply held refusal (inr out) =
-    subst (λ r. Did (refused r) held (replies.Refused r) (Some held)) (sym out) (out_of_memory (refused (bare rules.NoMemory)) held)
+    subst (λ r. Did (refused r) held (Reply.Refused r) (Some held)) (sym out) (out_of_memory (refused (bare RuleName.NoMemory)) held)
 
 -- what was not read is refused, and what is held stays
 pub by_fault : {A : Type 0} (comes : Reading A → Effect Reply) → ((refusal : Refusal) → comes (Err refusal) ≡ refused refusal)
     → (read : Reading A) (fault : AskFault) (held : Held) → Gives (Err fault) read → ByForm read → Did (comes read) held (fault_reply fault) (Some held)
-by_fault comes refuses read (stops.Refused refusal) held given formed =
+by_fault comes refuses read (AskFault.Refused refusal) held given formed =
     let formal : IsFormal refusal = subst ByForm given formed in
-    subst (λ r. Did (comes r) held (replies.Refused refusal) (Some held)) (sym given)
-    (subst (λ e. Did e held (replies.Refused refusal) (Some held)) (sym (refuses refusal)) (formal_reply held refusal formal))
-by_fault comes refuses read stops.NoMemory held given formed = out_of_memory (comes read) held
+    subst (λ r. Did (comes r) held (Reply.Refused refusal) (Some held)) (sym given)
+    (subst (λ e. Did e held (Reply.Refused refusal) (Some held)) (sym (refuses refusal)) (formal_reply held refusal formal))
+by_fault comes refuses read AskFault.NoMemory held given formed = out_of_memory (comes read) held
 
 pub refused_by_form : (i : Standing) (now : ℕ) (request : RequestData) (fault : AskFault) (old : Option Held)
     → Gives (Err fault) (read_of i.admin request)
@@ -130,12 +109,12 @@ refused_by_form i now request fault (Some held) given =
     by_fault (λ read. replied (host_of i) now (permitted read) (seen_in held)) (λ refusal. refl)
     (read_of i.admin request) fault held given (read_by_form i.admin request)
 
-pub no_keeper_in : (refusal : Refusal) → IsFormal refusal → stop_in (replies.Refused refusal) ≡ by_keeper → ⊥
+pub no_keeper_in : (refusal : Refusal) → IsFormal refusal → stop_in (Reply.Refused refusal) ≡ by_keeper → ⊥
 no_keeper_in refusal (inl none) is = let both : None ≡ by_keeper = sym none ∙ is in absurd cc
 no_keeper_in refusal (inr out) is = absurd cc
 
 -- no keeper failed where a request was not read
 pub no_keeper : (admin : Admin) (request : RequestData) (fault : AskFault) → Gives (Err fault) (read_of admin request)
     → stop_in (fault_reply fault) ≡ by_keeper → ⊥
-no_keeper admin request (stops.Refused refusal) given = no_keeper_in refusal (subst ByForm given (read_by_form admin request))
-no_keeper admin request stops.NoMemory given = λ is. absurd cc
+no_keeper admin request (AskFault.Refused refusal) given = no_keeper_in refusal (subst ByForm given (read_by_form admin request))
+no_keeper admin request AskFault.NoMemory given = λ is. absurd cc

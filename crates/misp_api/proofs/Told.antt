@@ -1,34 +1,23 @@
 -- What is told of a plan, where memory does not run out for its text.
-use Rattle.std.proofs.Common.{◌≡◌, ◌⊎◌, ℕ, false, ◌≤◌, List, [], ◌++◌, length, take, length-append, refl, sym, ◌∙◌, ap, subst, inl, inr, arith, Option, Some, None, Result, Ok, Err}
-use Rattle.std.proofs.lemmas.List.{take_at}
+use Rattle.std.proofs.Common.{◌≡◌, ◌⊎◌, ℕ, false, ◌≤◌, List, [], ◌++◌, length, take, length-append, refl, sym, ◌∙◌, ap, subst, inl, inr, arith, Option, Some, None, Result, Ok, Err, take_at, IfSome, IfOk, IfErr, IsOkAnd, OnOk, OnErr}
 use Rattle.std.proofs.lemmas.Option.{IfSome_then}
-use Rattle.std.specs.Prelude.{IfSome, IfOk, IfErr, IsOkAnd, OnOk, OnErr}
 use Rattle.misp_outside.specs.Causes.{Rose, HasCause}
-use Rattle.misp_outside.specs.Held.{Held}
-use Rattle.misp_effects.specs.Batches.{AreReadable}
-use Rattle.misp_effects.specs.Effect.{Effect, effect, left}
-use Rattle.misp_effects.specs.Effect as effects
-use Rattle.misp_core.specs.Standing.{Standing, host_of}
-use Rattle.misp_requests.specs.Permission.{is_permitted, forbidden}
-use Rattle.misp_core.specs.Answers.{Asked, IsBuilt}
-use Rattle.misp_store.specs.Seen.{seen_in}
-use Rattle.misp_core.specs.Effects.{requested, Did, IsRefused, stop_in, by_keeper}
-use Rattle.misp_core.specs.Planning.{Plans, IsPlan, IsPlanned, batches_of, unplanned, stop_planned, IsBarred}
+use Rattle.misp_effects.specs.Effect.{effect}
+use Rattle.misp_core.specs.Prelude.{AreReadable, Asked, Did, Effect, Held, IsBuilt, IsPlanned, IsRefused, Plans, Standing, forbidden, host_of, is_permitted, left, requested, seen_in, spelled, stop_in}
+use Rattle.misp_core.specs.Planning.{IsPlan, batches_of, unplanned, stop_planned, IsBarred}
 use Rattle.misp_core.specs.declared.planning.Plan.{Plan}
 use Rattle.misp_core.specs.declared.planning.Batch.{Batch as Put}
-use Rattle.misp_store.specs.Batches.{spelled}
 use Rattle.misp_core.specs.declared.planning.NoPlan.{NoPlan}
-use Rattle.misp_core.specs.declared.reply.Reply.{Reply}
-use Rattle.misp_core.specs.declared.reply.Reply.TheVariants as replies
 use Rattle.misp_core.proofs.Carried.{DidThere, is_planned}
+use Rattle.misp_api.specs.Prelude.{Reply, RequestData, by_keeper, form_of, read_of}
 use Rattle.misp_api.specs.Order.{IsInOrder, order}
-use Rattle.misp_api.specs.Request.{RequestData}
 use Rattle.misp_api.specs.Refusing.{TurnsAway}
 use Rattle.misp_api.specs.Text.{reply_text}
-use Rattle.misp_api.specs.Answering.{read_of, form_of, IsReplied}
+use Rattle.misp_api.specs.Answering.{IsReplied}
 use Rattle.misp_api.proofs.Turning.{turned_there, turned_by_step}
 use Rattle.misp_api.proofs.Replying.{by_step}
 use Rattle.misp_api.proofs.Ordering.{order_by_step}
+use Rattle.misp_effects.specs.Effect as effects
 
 module _ {E : Type 0} where
   -- what holds of a reply, where there is one
@@ -90,8 +79,8 @@ module _ {E : Type 0} where
 
 -- what is no refusal tells no stop
 pub no_stop_in : (reply : Reply) → (IsRefused reply → ⊥) → stop_in reply ≡ by_keeper → ⊥
-no_stop_in (replies.Ok answer) answered is = absurd cc
-no_stop_in (replies.Refused refusal) answered is = answered tt
+no_stop_in (Reply.Ok answer) answered is = absurd cc
+no_stop_in (Reply.Refused refusal) answered is = answered tt
 
 -- no fault was met
 pub unmet : {P : Type 0} (count : ℕ) → (P → ⊥) → HasCause count count P
@@ -109,10 +98,10 @@ pub start_within : (before more after : List ℕ) (start : ℕ) → length befor
 start_within before more after start long is = omega (arith, long, ap length is, length-append before more)
 
 -- what puts nothing was done
-pub nothing_did : (p : Plan) (e : Effect Reply) (old : Option Held) → IsPlan p e → p.batch ≡ None → DidThere e old (replies.Ok p.answer) old
+pub nothing_did : (p : Plan) (e : Effect Reply) (old : Option Held) → IsPlan p e → p.batch ≡ None → DidThere e old (Reply.Ok p.answer) old
 nothing_did p e None plans none = tt
 nothing_did p e (Some held) plans none =
-    let is : e ≡ effect (replies.Ok p.answer) [] = plans.is ∙ ap (λ (b : Option Put). effect (replies.Ok p.answer) (batches_of b)) none in
+    let is : e ≡ effect (Reply.Ok p.answer) [] = plans.is ∙ ap (λ (b : Option Put). effect (Reply.Ok p.answer) (batches_of b)) none in
     record {
       outcome = effects.Went;
       agree = refl;

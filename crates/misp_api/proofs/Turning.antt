@@ -1,53 +1,42 @@
 -- What is refused by its form is refused just so.
-use Rattle.std.proofs.Common.{◌≡◌, Bool, true, false, refl, sym, subst, ◌∙◌, inl, inr, Result, Ok, Err}
-use Rattle.std.specs.Prelude.{IfErr, OnErr}
+use Rattle.std.proofs.Common.{◌≡◌, Bool, true, false, refl, sym, subst, ◌∙◌, inl, inr, Result, Ok, Err, IfErr, OnErr}
 use Rattle.std.proofs.lemmas.Result.{IfErr-at_err}
-use Rattle.misp_elem.specs.declared.refusal.RuleName.TheVariants as rules
-use Rattle.misp_requests.specs.declared.ask.Ask.{Ask}
-use Rattle.misp_core.specs.Standing.{Standing}
-use Rattle.misp_requests.specs.Permission.{is_permitted, forbidden}
-use Rattle.misp_core.specs.Effects.{refused_by, stop_in, by_keeper}
 use Rattle.misp_core.specs.Planning.{unplanned, IsBarred}
 use Rattle.misp_core.specs.declared.planning.Plan.{Plan}
 use Rattle.misp_core.specs.declared.planning.NoPlan.{NoPlan}
-use Rattle.misp_core.specs.declared.reply.Reply.{Reply}
-use Rattle.misp_core.specs.declared.reply.Reply.TheVariants as replies
-use Rattle.misp_core.specs.Answers.{Asked}
-use Rattle.misp_api.specs.declared.request.AskFault.{AskFault}
-use Rattle.misp_api.specs.declared.request.AskFault.TheVariants as stops
-use Rattle.misp_api.specs.Request.{RequestData, Reading, Gives}
+use Rattle.misp_api.specs.Prelude.{Ask, Asked, AskFault, Gives, Reading, Reply, RequestData, RuleName, Standing, by_keeper, fault_reply, forbidden, form_of, is_permitted, read_of, refused_by, stop_in}
 use Rattle.misp_api.specs.Refusing.{IsTurnedAway, TurnsAway}
-use Rattle.misp_api.specs.Answering.{read_of, permitted, form_of, fault_reply}
+use Rattle.misp_api.specs.Answering.{permitted}
 use Rattle.misp_api.proofs.Forms.{allowed}
 use Rattle.misp_api.proofs.Replying.{ByForm, read_by_form, no_keeper_in}
 
 -- ---- what was not read
 
 -- memory may run out whatever the form
-out_of_memory : {A : Type 0} (i : Standing) (read : Reading A) → TurnsAway read i i (fault_reply stops.NoMemory)
+out_of_memory : {A : Type 0} (i : Standing) (read : Reading A) → TurnsAway read i i (fault_reply AskFault.NoMemory)
 out_of_memory i (Ok x) = tt
 out_of_memory i (Err refusal) = record { just = inr refl; no_fault = λ is. absurd cc; still = refl }
 
 pub turned_by_fault : {A : Type 0} (i : Standing) (read : Reading A) (fault : AskFault) → Gives (Err fault) read → ByForm read → TurnsAway read i i (fault_reply fault)
-turned_by_fault i read (stops.Refused refusal) given formed =
-    subst (λ r. TurnsAway r i i (fault_reply (stops.Refused refusal))) (sym given)
+turned_by_fault i read (AskFault.Refused refusal) given formed =
+    subst (λ r. TurnsAway r i i (fault_reply (AskFault.Refused refusal))) (sym given)
     (record { just = inl refl; no_fault = no_keeper_in refusal (subst ByForm given formed); still = refl })
-turned_by_fault i read stops.NoMemory given formed = out_of_memory i read
+turned_by_fault i read AskFault.NoMemory given formed = out_of_memory i read
 
 -- what was not read is turned away by its form
 pub turned_unread : (i : Standing) (request : RequestData) (fault : AskFault) → Gives (Err fault) (read_of i.admin request)
     → TurnsAway (form_of i.admin request) i i (fault_reply fault)
-turned_unread i request (stops.Refused refusal) given =
-    subst (λ read. TurnsAway (permitted read) i i (fault_reply (stops.Refused refusal))) (sym given)
+turned_unread i request (AskFault.Refused refusal) given =
+    subst (λ read. TurnsAway (permitted read) i i (fault_reply (AskFault.Refused refusal))) (sym given)
     (record { just = inl refl; no_fault = no_keeper_in refusal (subst ByForm given (read_by_form i.admin request)); still = refl })
-turned_unread i request stops.NoMemory given = out_of_memory i (form_of i.admin request)
+turned_unread i request AskFault.NoMemory given = out_of_memory i (form_of i.admin request)
 
 -- ---- what was read
 
-not_forbidden : (ask : Ask) → stop_in (replies.Refused (forbidden ask)) ≡ by_keeper → ⊥
+not_forbidden : (ask : Ask) → stop_in (Reply.Refused (forbidden ask)) ≡ by_keeper → ⊥
 not_forbidden ask is = absurd cc
 
-no_memory : stop_in (refused_by rules.NoMemory) ≡ by_keeper → ⊥
+no_memory : stop_in (refused_by RuleName.NoMemory) ≡ by_keeper → ⊥
 no_memory is = absurd cc
 
 -- what the role forbids is refused just so
@@ -55,10 +44,10 @@ pub turned_there : (old mid new : Standing) (ask : Ask) (planned : Result Plan N
     → IfErr planned (λ no. reply ≡ unplanned no) → OnErr planned (new ≡ mid) → IsTurnedAway (forbidden ask) old new reply
 turned_there old mid new ask planned reply bars is still = elim bars.just [
   | inl e ↦
-      let just : reply ≡ replies.Refused (forbidden ask) = IfErr-at_err (λ no. reply ≡ unplanned no) e is in
+      let just : reply ≡ Reply.Refused (forbidden ask) = IfErr-at_err (λ no. reply ≡ unplanned no) e is in
       record { just = inl just; no_fault = λ told. not_forbidden ask (subst (λ r. stop_in r ≡ by_keeper) just told); still = IfErr-at_err (λ no. new ≡ mid) e still ∙ bars.still }
   | inr e ↦
-      let just : reply ≡ refused_by rules.NoMemory = IfErr-at_err (λ no. reply ≡ unplanned no) e is in
+      let just : reply ≡ refused_by RuleName.NoMemory = IfErr-at_err (λ no. reply ≡ unplanned no) e is in
       record { just = inr just; no_fault = λ told. no_memory (subst (λ r. stop_in r ≡ by_keeper) just told); still = IfErr-at_err (λ no. new ≡ mid) e still ∙ bars.still }
 ]
 

@@ -1,16 +1,7 @@
 -- Adding or editing a sharing group: what it is by its text, and what it is replied.
-use Rattle.std.specs.Prelude.{ℕ, ◌≤◌, Bool, List, Ok, Err}
-use Rattle.std.specs.declared.option.Option.{Option}
-use Rattle.misp_ids.specs.declared.uid.OrgId.{OrgId}
-use Rattle.misp_ids.specs.declared.stamp.TheConstants.{LAST_SECOND}
-use Rattle.misp_groups.specs.declared.group.GroupFields.{GroupFields as Group}
-use Rattle.misp_groups.specs.Group.{IsGroup}
-use Rattle.misp_outside.specs.Held.{Held}
-use Rattle.misp_effects.specs.Effect.{Effect}
-use Rattle.misp_format.specs.GroupText.{group_in_text}
-use Rattle.misp_store.specs.Sharing.{groups_of}
-use Rattle.misp_core.specs.Effects.{refused, Did}
-use Rattle.misp_core.specs.Administering.{administered}
+use Rattle.std.specs.Prelude.{ℕ, ◌≤◌, Bool, List, Ok, Err, Option}
+use Rattle.misp_format.specs.Prelude.{LAST_SECOND, group_in_text}
+use Rattle.misp_core.specs.Prelude.{Did, Effect, Group, Held, IsGroup, OrgId, administered, groups_of, refused}
 use Rattle.misp_core.specs.declared.reply.Reply.{Reply}
 use Rattle.misp_api.specs.Request.{Reading, formed}
 

@@ -1,26 +1,13 @@
 -- What a request is by its form, and what it is replied.
 use Rattle.std.specs.Prelude.{ℕ, List, Option, Some, None, Result, Ok, Err, if◌then◌else◌}
 use Rattle.misp_ids.specs.Names.{is_api_key}
-use Rattle.misp_elem.specs.declared.refusal.RuleName.{RuleName}
-use Rattle.misp_elem.specs.declared.refusal.RuleName.TheVariants as rules
-use Rattle.misp_elem.specs.Refusal.{bare}
-use Rattle.misp_orgs.specs.Keys.{CallerFields as Caller}
-use Rattle.misp_orgs.specs.Admin.{AdminFields as Admin, who_of}
-use Rattle.misp_outside.specs.Held.{Held}
-use Rattle.misp_effects.specs.Effect.{Effect}
-use Rattle.misp_requests.specs.declared.ask.Ask.{Ask}
-use Rattle.misp_requests.specs.Permission.{permission_of, is_permitted, no_permission}
-use Rattle.misp_core.specs.Answers.{Asked}
-use Rattle.misp_core.specs.Effects.{refused, refused_by, asked_where, Did}
+use Rattle.misp_orgs.specs.Admin.{who_of}
+use Rattle.misp_rules.specs.Permission.{permission_of, no_permission}
+use Rattle.misp_core.specs.Prelude.{Admin, Ask, Asked, Caller, Did, Effect, Held, Host, RuleName, Seen, asked_where, bare, is_permitted, refused, seen_in}
 use Rattle.misp_core.specs.declared.reply.Reply.{Reply}
-use Rattle.misp_core.specs.declared.reply.Reply.TheVariants as replies
 use Rattle.misp_api.specs.declared.route.Route.{Route}
-use Rattle.misp_api.specs.declared.request.AskFault.{AskFault}
-use Rattle.misp_api.specs.declared.request.AskFault.TheVariants as stops
-use Rattle.misp_core.specs.Standing.{Host}
 use Rattle.misp_api.specs.Route.{route_of}
 use Rattle.misp_api.specs.Request.{RequestData, Reading, ask_of}
-use Rattle.misp_store.specs.Seen.{Seen, seen_in}
 
 -- who asks with a text as key, which may be none that a key could be
 abbrev pub caller_in : Admin → Option (List ℕ) → Option Caller
@@ -32,7 +19,7 @@ by_body caller (Ok ask) = Ok (caller, ask)
 by_body caller (Err refusal) = Err refusal
 
 abbrev pub by_key : Option Caller → Route → List ℕ → ℕ → Reading Asked
-by_key None route body word = Err (bare rules.NoKey)
+by_key None route body word = Err (bare RuleName.NoKey)
 by_key (Some caller) route body word = by_body caller (ask_of route body word)
 
 abbrev pub by_route : Result Route RuleName → Option Caller → List ℕ → ℕ → Reading Asked
@@ -54,11 +41,6 @@ permitted (Err refusal) = Err refusal
 -- what a request is by its form and the role of its caller
 abbrev pub form_of : Admin → RequestData → Reading Asked
 form_of admin request = permitted (read_of admin request)
-
--- the reply to a request that was not read
-abbrev pub fault_reply : AskFault → Reply
-fault_reply (stops.Refused refusal) = replies.Refused refusal
-fault_reply stops.NoMemory = refused_by rules.NoMemory
 
 -- ---- a request of this form
 

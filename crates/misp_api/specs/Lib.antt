@@ -1,7 +1,9 @@
-pub mod Route
-pub mod Request
-pub mod Refusing
-pub mod Answering
 pub mod Administering
+pub mod Answering
 pub mod Order
+pub mod Prelude
+pub mod Refusing
+pub mod Request
+pub mod Route
 pub mod Text
+pub mod Unread

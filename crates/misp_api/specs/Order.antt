@@ -1,28 +1,10 @@
 -- The one order of refusals: each rule in its place, with whether it refuses the request.
 use Rattle.std.specs.Prelude.{◌≡◌, ℕ, ◌==◌, Bool, true, false, not, bytes_eq, is_some, List, [], ◌∷◌, map, find, Option, None, Some, Result, Ok, Err, option_map}
-use Rattle.std.specs.Option.{option_map_or}
-use Rattle.misp_elem.specs.declared.refusal.RuleName.{RuleName}
-use Rattle.misp_elem.specs.declared.refusal.RuleName.TheVariants as rules
-use Rattle.misp_elem.specs.declared.row.RowFields.{RowFields as Row}
-use Rattle.misp_elem.specs.Refusal.{rule_number}
-use Rattle.misp_groups.specs.declared.group.GroupFields.{GroupFields as Group}
-use Rattle.misp_outside.specs.Held.{Held}
-use Rattle.misp_model.specs.Asking.{Rule}
-use Rattle.misp_model.specs.Acts.{ask_rules}
-use Rattle.misp_model.specs.Machine.{seeing}
-use Rattle.misp_store.specs.Seen.{Seen, seen_in}
-use Rattle.misp_requests.specs.Permission.{is_permitted}
-use Rattle.misp_store.specs.Reach.{reach_of}
+use Rattle.misp_rules.specs.Scene.{Rule}
 use Rattle.misp_edit.specs.Refusals.{named}
-use Rattle.misp_core.specs.Answers.{Asked, scene_at}
-use Rattle.misp_core.specs.Effects.{stop_in}
-use Rattle.misp_core.specs.declared.reply.Reply.{Reply}
-use Rattle.misp_core.specs.declared.reply.Reply.TheVariants as replies
-use Rattle.misp_api.specs.declared.route.Route.{Route}
-use Rattle.misp_core.specs.Standing.{Host}
+use Rattle.misp_core.specs.Prelude.{Asked, Group, Held, Host, Row, RuleName, Seen, ask_rules, is_permitted, option_map_or, reach_of, rule_number, scene_at, seeing, seen_in, stop_in}
+use Rattle.misp_api.specs.Prelude.{Reading, Reply, RequestData, Route, ask_of, caller_in, read_of}
 use Rattle.misp_api.specs.Route.{path_of, path_route, method_of}
-use Rattle.misp_api.specs.Request.{RequestData, Reading, ask_of}
-use Rattle.misp_api.specs.Answering.{caller_in, read_of}
 
 -- whether a rule refuses a request, and the rule
 abbrev pub Ground : Type 0
@@ -34,8 +16,8 @@ first_ground grounds = option_map (λ g. g.1) (find (λ g. g.0) grounds)
 
 -- the rule by which a reply refuses
 abbrev pub rule_of : Reply → Option RuleName
-rule_of (replies.Ok answer) = None
-rule_of (replies.Refused refusal) = Some refusal.name
+rule_of (Reply.Ok answer) = None
+rule_of (Reply.Refused refusal) = Some refusal.name
 
 -- a reply that nothing stopped refuses by the first of these rules that refuses, and is an answer
 -- where none does
@@ -52,12 +34,12 @@ abbrev pub row_grounds :
     Host → ℕ → Asked → List Group → Result (List Row) (List ℕ) → List Ground
 row_grounds host now it groups (Ok rows) =
     map ground_of (ask_rules (seeing (scene_at host now it.0 groups) rows) it.1)
-row_grounds host now it groups (Err name) = (true, rules.BadRow) ∷ []
+row_grounds host now it groups (Err name) = (true, RuleName.BadRow) ∷ []
 
 -- of what is asked, where this is seen: first the role of the caller must permit it
 abbrev pub grounds : Host → ℕ → Asked → Seen → List Ground
 grounds host now it seen =
-    (not (is_permitted it.0 it.1), rules.NoPermission)
+    (not (is_permitted it.0 it.1), RuleName.NoPermission)
     ∷ row_grounds host now it seen.groups (seen.rows (reach_of it.0.org it.1))
 
 -- ---- from the path on
@@ -90,10 +72,10 @@ asked_grounds host now (Err refusal) held = []
 -- of a request, at this moment and over what is held
 abbrev pub order : Host → ℕ → RequestData → Held → List Ground
 order host now request held =
-    (not (is_some (route_asked request)), rules.NoRoute)
-    ∷ (has_other_method request, rules.NoMethod)
-    ∷ (not (is_some (caller_in host.admin request.key)), rules.NoKey)
-    ∷ (body_breaks rules.BadJson request, rules.BadJson)
-    ∷ (body_breaks rules.BadField request, rules.BadField)
-    ∷ (body_breaks rules.BinaryType request, rules.BinaryType)
+    (not (is_some (route_asked request)), RuleName.NoRoute)
+    ∷ (has_other_method request, RuleName.NoMethod)
+    ∷ (not (is_some (caller_in host.admin request.key)), RuleName.NoKey)
+    ∷ (body_breaks RuleName.BadJson request, RuleName.BadJson)
+    ∷ (body_breaks RuleName.BadField request, RuleName.BadField)
+    ∷ (body_breaks RuleName.BinaryType request, RuleName.BinaryType)
     ∷ asked_grounds host now (read_of host.admin request) held

@@ -1,17 +1,12 @@
 -- What is refused by its form, over every keeper.
 use Rattle.std.specs.Prelude.{◌≡◌, ◌⊎◌, Ok, Err}
-use Rattle.misp_elem.specs.declared.refusal.Refusal.{Refusal}
-use Rattle.misp_elem.specs.declared.refusal.RuleName.TheVariants as rules
-use Rattle.misp_core.specs.Standing.{Standing}
-use Rattle.misp_core.specs.Effects.{refused_by, stop_in, by_keeper}
-use Rattle.misp_core.specs.declared.reply.Reply.{Reply}
-use Rattle.misp_core.specs.declared.reply.Reply.TheVariants as replies
-use Rattle.misp_api.specs.Request.{Reading}
+use Rattle.misp_ids.specs.declared.refusal.Refusal.{Refusal}
+use Rattle.misp_api.specs.Prelude.{Reading, Reply, RuleName, Standing, by_keeper, refused_by, stop_in}
 
 -- it is refused just so, unless memory ran out; it tells no fault of the keeper, and the instance
 -- stands as it stood, with what the keeper holds and its count of faults
 pub record IsTurnedAway (refusal : Refusal) (old new : Standing) (reply : Reply) : Type 0 where
-  pub just : (reply ≡ replies.Refused refusal) ⊎ (reply ≡ refused_by rules.NoMemory)
+  pub just : (reply ≡ Reply.Refused refusal) ⊎ (reply ≡ refused_by RuleName.NoMemory)
   pub no_fault : stop_in reply ≡ by_keeper → ⊥
   pub still : new ≡ old
 

@@ -1,26 +1,15 @@
 -- What a request is and asks, or the rule that its form breaks.
 use Rattle.std.specs.Prelude.{◌≡◌, ℕ, List, ◌∷◌, ◌++◌, Option, option_map, Result, Ok, Err}
-use Rattle.misp_fields.specs.declared.need.Need.{Need}
 use Rattle.misp_fields.specs.Needs.{need_words}
 use Rattle.misp_elem.specs.Draft.{SubmissionFields as Submission}
-use Rattle.misp_elem.specs.declared.refusal.Refusal.{Refusal}
-use Rattle.misp_elem.specs.declared.refusal.RuleName.TheVariants as rules
-use Rattle.misp_elem.specs.Refusal.{bare}
-use Rattle.misp_requests.specs.declared.ask.Ask.{Ask}
-use Rattle.misp_requests.specs.declared.ask.Ask.TheVariants.{View}
-use Rattle.misp_requests.specs.declared.ask.Ask.TheVariants as asks
-use Rattle.misp_requests.specs.declared.change.Change.TheVariants as changes
-use Rattle.misp_format.specs.declared.fault.FormatFault.{FormatFault}
-use Rattle.misp_format.specs.declared.fault.FormatFault.TheVariants as faults
-use Rattle.misp_format.specs.Rows.{◌>>=◌}
-use Rattle.misp_format.specs.Rows as rows
-use Rattle.misp_format.specs.Json.{json_in}
-use Rattle.misp_format.specs.Tables.{event_at}
+use Rattle.misp_format.specs.Prelude.{◌>>=◌, Need, event_at, json_in}
+use Rattle.misp_rules.specs.declared.change.Change.{Change}
+use Rattle.misp_core.specs.Prelude.{Ask, FormatFault, Refusal, RuleName, View, bare}
 use Rattle.misp_api.specs.declared.route.Route.{Route}
 use Rattle.misp_api.specs.declared.route.Route.TheVariants.{AddEvent, ViewEvent, Groups}
 use Rattle.misp_api.specs.declared.request.Request.{Request}
 use Rattle.misp_api.specs.declared.request.AskFault.{AskFault}
-use Rattle.misp_api.specs.declared.request.AskFault.TheVariants as stops
+use Rattle.misp_format.specs.Rows as rows
 
 -- a request: its key, its method, its target, its body, and the word of which it makes identifiers
 pub record RequestData : Type 0 where
@@ -47,8 +36,8 @@ Reading A = Result A Refusal
 -- What a function returned is what reading gives, unless memory ran out.
 abbrev pub Gives : {A : Type 0} → Result A AskFault → Reading A → Type 0
 Gives (Ok x) read = read ≡ Ok x
-Gives (Err (stops.Refused refusal)) read = read ≡ Err refusal
-Gives (Err stops.NoMemory) read = Unit {0}
+Gives (Err (AskFault.Refused refusal)) read = read ≡ Err refusal
+Gives (Err AskFault.NoMemory) read = Unit {0}
 
 -- the path of a faulty member, a space, and what was needed there
 abbrev pub field_place : List ℕ → Need → List ℕ
@@ -56,29 +45,23 @@ field_place path need = path ++ 32 ∷ need_words need
 
 -- the refusal of a body that is not of its form
 abbrev pub refusal_of : FormatFault → Refusal
-refusal_of faults.NoJson = bare rules.BadJson
-refusal_of (faults.BadField path need) =
-    record { name = rules.BadField; place = field_place path need }
-refusal_of (faults.BinaryType path) = record { name = rules.BinaryType; place = path }
-refusal_of faults.NoMemory = bare rules.NoMemory
+refusal_of FormatFault.NoJson = bare RuleName.BadJson
+refusal_of (FormatFault.BadField path need) =
+    record { name = RuleName.BadField; place = field_place path need }
+refusal_of (FormatFault.BinaryType path) = record { name = RuleName.BinaryType; place = path }
+refusal_of FormatFault.NoMemory = bare RuleName.NoMemory
 
 -- what a body is, or the refusal
 abbrev pub formed : {A : Type 0} → Result A FormatFault → Reading A
 formed (Ok x) = Ok x
 formed (Err fault) = Err (refusal_of fault)
 
--- the refusal is that of the fault, unless memory ran out
-abbrev pub Refuses : FormatFault → AskFault → Type 0
-Refuses faults.NoMemory (stops.Refused refusal) = ⊥
-Refuses fault (stops.Refused refusal) = refusal ≡ refusal_of fault
-Refuses fault stops.NoMemory = Unit {0}
-
 -- the event that a body is, or what is wrong with it
 abbrev pub event_in : List ℕ → ℕ → rows.Reading Submission
 event_in body word = json_in body >>= event_at word
 
 abbrev pub asked : Reading Submission → Reading Ask
-asked (Ok submission) = Ok (asks.Change (changes.AddEvent submission))
+asked (Ok submission) = Ok (Ask.Change (Change.AddEvent submission))
 asked (Err refusal) = Err refusal
 
 -- the event that a body adds
@@ -89,4 +72,4 @@ added body word = asked (formed (event_in body word))
 abbrev pub ask_of : Route → List ℕ → ℕ → Reading Ask
 ask_of AddEvent body word = added body word
 ask_of (ViewEvent event owner) body word = Ok (View event owner)
-ask_of Groups body word = Ok asks.Groups
+ask_of Groups body word = Ok Ask.Groups

@@ -1,11 +1,9 @@
 -- Which request a method and a target are.
 use Rattle.std.specs.Prelude.{ℕ, ◌+◌, ◌==◌, Bool, List, take, drop, position, codes, bytes_eq, Option, Some, None, option_map, Result, Ok, Err, if◌then◌else◌}
 use Rattle.std.specs.Option.{option_map_or}
-use Rattle.misp_ids.specs.declared.uid.Uid.{Uid}
-use Rattle.misp_ids.specs.declared.uid.OrgId.{OrgId}
 use Rattle.misp_ids.specs.Uid.{read_uid}
-use Rattle.misp_elem.specs.declared.refusal.RuleName.{RuleName}
-use Rattle.misp_elem.specs.declared.refusal.RuleName.TheVariants.{NoRoute, NoMethod}
+use Rattle.misp_ids.specs.declared.refusal.RuleName.TheVariants.{NoRoute, NoMethod}
+use Rattle.misp_groups.specs.Prelude.{OrgId, RuleName, Uid}
 use Rattle.misp_api.specs.declared.route.Route.{Route}
 use Rattle.misp_api.specs.declared.route.Route.TheVariants.{AddEvent, ViewEvent, Groups}
 
@@ -67,7 +65,7 @@ abbrev pub by_method : List ℕ → Option Route → Result Route RuleName
 by_method method None = Err NoRoute
 by_method method (Some route) = if bytes_eq method (method_of route) then Ok route else Err NoMethod
 
--- the route of a path and its method, whatever stands behind a `?`; a path that is none, or another
+-- the route of a path and its method, whatever is after a `?`; a path that is none, or another
 -- method, is refused
 unfoldable pub route_of : List ℕ → List ℕ → Result Route RuleName
 route_of method target = by_method method (path_route (path_of target))

@@ -1,24 +1,21 @@
 -- What is written for a reply.
 use Rattle.std.specs.Prelude.{ℕ, List, ◌∷◌, ◌++◌, codes, decimal}
-use Rattle.serde_json.specs.Written.{compact_text}
-use Rattle.misp_elem.specs.Refusal.{rule_status}
+use Rattle.misp_ids.specs.Refusal.{rule_status}
+use Rattle.misp_format.specs.Prelude.{body_data, compact_text}
 use Rattle.misp_format.specs.Replies.{saved_data, taken_data, refusal_data}
-use Rattle.misp_format.specs.Written.{body_data}
 use Rattle.misp_format.specs.WholeGroup.{groups_text}
 use Rattle.misp_core.specs.declared.reply.Answer.{Answer}
-use Rattle.misp_core.specs.declared.reply.Answer.TheVariants as answers
 use Rattle.misp_core.specs.declared.reply.Reply.{Reply}
-use Rattle.misp_core.specs.declared.reply.Reply.TheVariants as replies
 
 -- the body of an answer
 abbrev pub answer_text : Answer → List ℕ
-answer_text (answers.Saved elements event stamp) = compact_text (saved_data elements event stamp)
-answer_text (answers.Event event) = compact_text (body_data event)
-answer_text (answers.Groups groups) = groups_text groups
-answer_text (answers.Taken count) = compact_text (taken_data count)
+answer_text (Answer.Saved elements event stamp) = compact_text (saved_data elements event stamp)
+answer_text (Answer.Event event) = compact_text (body_data event)
+answer_text (Answer.Groups groups) = groups_text groups
+answer_text (Answer.Taken count) = compact_text (taken_data count)
 
 -- the status of a reply, a space and its body
 abbrev pub reply_text : Reply → List ℕ
-reply_text (replies.Ok answer) = codes "200 " ++ answer_text answer
-reply_text (replies.Refused refusal) =
+reply_text (Reply.Ok answer) = codes "200 " ++ answer_text answer
+reply_text (Reply.Refused refusal) =
     decimal (rule_status refusal.name) ++ 32 ∷ compact_text (refusal_data refusal)

@@ -51,7 +51,7 @@ pub fn administer<K: Keeper>(
     now: Stamp,
     request: &GroupRequest<'_>,
 ) -> Result<Reply, NoMemory>
-    // The text of the reply stands behind what stood there, with room for one byte behind it.
+    // The text of the reply is after what was there, with room for one byte after it.
     ensures text { IfOk result (λ reply. text.new.items ≡ text.old.items ++ reply_text reply) }
     ensures room { OnOk result (vec_len text.new < vec_capacity text.new) }
 

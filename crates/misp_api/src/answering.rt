@@ -4,7 +4,8 @@ ghost use Rattle.std.specs.Prelude.{◌≡◌, ◌<◌, ◌++◌, Err, IfOk, IsO
 ghost use Rattle.misp_outside.specs.Causes.{HasCause};
 ghost use Rattle.misp_core.specs.Answers.{IsBuilt};
 ghost use Rattle.misp_core.specs.Effects.{stop_in, by_keeper, IsRefused};
-ghost use Rattle.misp_api.specs.Answering.{caller_in, read_of, form_of, fault_reply, IsReplied};
+ghost use Rattle.misp_api.specs.Answering.{caller_in, read_of, form_of, IsReplied};
+ghost use Rattle.misp_api.specs.Unread.{fault_reply};
 ghost use Rattle.misp_api.specs.Order.{IsInOrder, order};
 ghost use Rattle.misp_core.specs.Standing.{host_of};
 ghost use Rattle.misp_api.specs.Request.{Gives, request_data};
@@ -15,11 +16,10 @@ use crate::request::{AskFault, Request, read_ask};
 use crate::route::Route;
 use crate::telling::{tell, told};
 use misp_core::{Instance, Reply};
-use misp_elem::{Refusal, RuleName};
-use misp_ids::{ApiKey, NoMemory, Stamp};
+use misp_ids::{ApiKey, NoMemory, Refusal, RuleName, Stamp};
 use misp_orgs::Caller;
 use misp_outside::Keeper;
-use misp_requests::Ask;
+use misp_rules::Ask;
 use std::alloc::Global;
 
 fn caller<K: Keeper>(instance: &Instance<K>, key: &Option<&str>) -> Option<Caller>
@@ -71,7 +71,7 @@ pub fn answer<K: Keeper>(
     now: Stamp,
     request: &Request<'_>,
 ) -> Result<Reply, NoMemory>
-    // The text of the reply stands behind what stood there, with room for one byte behind it.
+    // The text of the reply is after what was there, with room for one byte after it.
     ensures text { IfOk result (λ reply. text.new.items ≡ text.old.items ++ reply_text reply) }
     ensures room { OnOk result (vec_len text.new < vec_capacity text.new) }
 

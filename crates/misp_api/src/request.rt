@@ -1,17 +1,18 @@
 //! Requests, and what they ask, by their route and body.
 
 ghost use Rattle.std.specs.Prelude.{◌≡◌, ◌++◌, IfOk, OnOk, Ok, Err, Some, None, codes, string_bytes};
-ghost use Rattle.misp_elem.specs.declared.refusal.RuleName.TheVariants as rules;
+ghost use Rattle.misp_ids.specs.declared.refusal.RuleName.TheVariants as rules;
 ghost use Rattle.misp_format.specs.Rows as rows;
 ghost use Rattle.misp_core.specs.Answers.{IsBuilt};
-ghost use Rattle.misp_api.specs.Request.{Gives, Refuses, field_place, event_in, added, ask_of};
+ghost use Rattle.misp_api.specs.Request.{Gives, field_place, event_in, added, ask_of};
+ghost use Rattle.misp_api.specs.Unread.{Refuses};
 
 use crate::route::Route;
-use misp_elem::{Refusal, RuleName, Submission};
+use misp_elem::Submission;
 use misp_fields::{Need, write_need};
 use misp_format::{FormatFault, read_event, read_json};
-use misp_ids::Text;
-use misp_requests::{Ask, Change};
+use misp_ids::{Refusal, RuleName, Text};
+use misp_rules::{Ask, Change};
 use std::alloc::{AllocError, AllocFailed, Global};
 
 /// A request to an instance.

@@ -3,8 +3,7 @@
 ghost use Rattle.std.specs.Prelude.{◌≡◌, position};
 ghost use Rattle.misp_api.specs.Route.{path_of, view_at, view_in, path_route, method_of, route_of, is_slash};
 
-use misp_elem::RuleName;
-use misp_ids::{EventId, OrgId, Uid};
+use misp_ids::{EventId, OrgId, RuleName, Uid};
 
 /// What a request asks for, by its method and path.
 #[derive(Clone, Copy, Debug, PartialEq, Eq)]

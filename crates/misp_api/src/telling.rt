@@ -15,7 +15,7 @@ use misp_ids::NoMemory;
 use misp_outside::{Keeper, KeeperFault};
 use std::alloc::Global;
 
-/// Writes a reply, and takes room for one byte behind it.
+/// Writes a reply, and takes room for one byte after it.
 pub(crate) fn told(text: &mut Vec<u8>, alloc: Global, reply: Reply) -> Result<Reply, NoMemory>
     ensures reply { IfOk result (λ told. told ≡ reply) }
     ensures text { OnOk result (text.new.items ≡ text.old.items ++ reply_text reply) }
@@ -35,7 +35,7 @@ fn stop_text(alloc: Global, stop: KeeperFault) -> Result<Vec<u8>, NoMemory>
     Ok(text)
 }
 
-// Writes a text in place of what stands behind the start. It takes no memory.
+// Writes a text in place of what is after the start. It takes no memory.
 fn take_back(text: &mut Vec<u8>, start: usize, instead: &[u8])
     requires start { start ≤ vec_len text.old }
     requires room { start + length instead.now < vec_capacity text.old }
@@ -65,7 +65,7 @@ fn stop_texts(alloc: Global) -> Result<StopTexts, NoMemory>
     Ok(StopTexts { failed, no_memory })
 }
 
-// Takes room for either text behind what stands there, and for one byte behind that.
+// Takes room for either text after what is there, and for one byte after that.
 fn take_room(text: &mut Vec<u8>, stops: &StopTexts) -> Result<(), NoMemory>
     ensures text { text.new.items ≡ text.old.items }
     ensures failed { OnOk result
@@ -86,7 +86,7 @@ struct Written {
     stops: StopTexts,
 }
 
-// Writes an answer, with room for each refusal in place of it, and for one byte behind.
+// Writes an answer, with room for each refusal in place of it, and for one byte after.
 fn write_answer(text: &mut Vec<u8>, alloc: Global, answer: Answer) -> Result<Written, NoMemory>
     ensures reply { IfOk result (λ written. written.reply ≡ Answered.Ok answer) }
     ensures failed { IfOk result (λ written.

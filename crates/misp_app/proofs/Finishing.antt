@@ -1,24 +1,20 @@
--- Over keepers that hold nothing, where nothing fails, only the want of memory stops a run.
-use Rattle.std.proofs.Common.{◌≡◌, ℕ, zero, suc, ◌⊎◌, List, [], ◌∷◌, ◌<◌, ◌≤◌, true, nat_lt, length, take, Option, Some, None, refl, sym, ◌∙◌, inl, inr, arith}
-use Rattle.std.specs.Prelude.{IfSome, Ok, Err}
+-- Over keepers that hold nothing, where nothing fails, a run stops only where memory runs out.
+use Rattle.std.proofs.Common.{◌≡◌, ℕ, zero, suc, ◌⊎◌, List, [], ◌∷◌, ◌<◌, ◌≤◌, true, nat_lt, length, take, Option, Some, None, refl, sym, ◌∙◌, inl, inr, arith, IfSome, Ok, Err}
 use Rattle.std.proofs.lemmas.Bool.{cases_Bool}
 use Rattle.std.proofs.lemmas.Bool.Decides.{nat_tests}
-use Rattle.misp_outside.specs.Held.{nothing_held}
-use Rattle.misp_outside.specs.Stock.{Stock}
-use Rattle.misp_effects.specs.Stocks.{told, OneFailed}
-use Rattle.misp_effects.proofs.Stocks.{one_of_all}
-use Rattle.misp_script.specs.declared.description.Description.{Description}
 use Rattle.misp_script.specs.Faults.{Reading}
+use Rattle.misp_effects.specs.KeeperStates.{OneFailed}
+use Rattle.misp_effects.proofs.KeeperStates.{one_of_all}
 use Rattle.misp_store.specs.Sharing.{may_be_unsound}
+use Rattle.misp_net.specs.Prelude.{Description, KeeperState, nothing_held}
 use Rattle.misp_net.proofs.Openings.{nothing_is_sound}
 use Rattle.misp_app.specs.declared.status.Status.{Status}
-use Rattle.misp_app.specs.declared.status.Status.TheVariants as ends
 use Rattle.misp_app.specs.Status.{IsStopped}
 use Rattle.misp_app.specs.Limits.{source_limit}
 use Rattle.misp_app.specs.Source.{described, described_status, status_of, IsUnsound, HasFailed, HoldNothing}
 
 -- who holds nothing holds no row of the administration that is none
-none_unsound : (old : List Stock) (n : ℕ) → HoldNothing old → may_be_unsound (take n old) ≡ true → ⊥
+none_unsound : (old : List KeeperState) (n : ℕ) → HoldNothing old → may_be_unsound (take n old) ≡ true → ⊥
 none_unsound [] zero empty bad = cc
 none_unsound [] (suc n) empty bad = cc
 none_unsound (s ∷ old) zero empty bad = cc
@@ -27,26 +23,26 @@ none_unsound (s ∷ old) (suc n) empty bad =
     let rest : HoldNothing old = cc in
     none_unsound old n rest (rw (first, nothing_is_sound) at bad)
 
-unsound_none : (read : Reading Description) (old : List Stock) → HoldNothing old → IsUnsound read old → ⊥
+unsound_none : (read : Reading Description) (old : List KeeperState) → HoldNothing old → IsUnsound read old → ⊥
 unsound_none (Ok net) old empty bad = none_unsound old (length net.instances) empty bad
 unsound_none (Err fault) old empty bad = bad
 
-failed_one : (read : Reading Description) (old new : List Stock) → HasFailed read old new → OneFailed old new
+failed_one : (read : Reading Description) (old new : List KeeperState) → HasFailed read old new → OneFailed old new
 failed_one (Ok net) old new failed = one_of_all old new (length net.instances) failed
 failed_one (Err fault) old new failed = absurd failed
 
--- of all that stops a run, only the want of memory is left
-stopped_by : (status : Status) → IsStopped status → (status ≡ ends.ReadFault → ⊥) → (status ≡ ends.WriteFault → ⊥) → (status ≡ ends.KeeperFault → ⊥)
-    → (status ≡ ends.BadRow → ⊥) → status ≡ ends.OutOfMemory
-stopped_by ends.Done stopped read write keeper bad = absurd stopped
-stopped_by ends.Usage stopped read write keeper bad = absurd stopped
-stopped_by ends.ReadFault stopped read write keeper bad = absurd (read refl)
-stopped_by ends.WriteFault stopped read write keeper bad = absurd (write refl)
-stopped_by ends.BadDescription stopped read write keeper bad = absurd stopped
-stopped_by ends.OutOfMemory stopped read write keeper bad = refl
-stopped_by ends.TooMuch stopped read write keeper bad = absurd stopped
-stopped_by ends.KeeperFault stopped read write keeper bad = absurd (keeper refl)
-stopped_by ends.BadRow stopped read write keeper bad = absurd (bad refl)
+-- of all that stops a run, only running out of memory is left
+stopped_by : (status : Status) → IsStopped status → (status ≡ Status.ReadFault → ⊥) → (status ≡ Status.WriteFault → ⊥) → (status ≡ Status.KeeperFault → ⊥)
+    → (status ≡ Status.BadRow → ⊥) → status ≡ Status.OutOfMemory
+stopped_by Status.Done stopped read write keeper bad = absurd stopped
+stopped_by Status.Usage stopped read write keeper bad = absurd stopped
+stopped_by Status.ReadFault stopped read write keeper bad = absurd (read refl)
+stopped_by Status.WriteFault stopped read write keeper bad = absurd (write refl)
+stopped_by Status.BadDescription stopped read write keeper bad = absurd stopped
+stopped_by Status.OutOfMemory stopped read write keeper bad = refl
+stopped_by Status.TooMuch stopped read write keeper bad = absurd stopped
+stopped_by Status.KeeperFault stopped read write keeper bad = absurd (keeper refl)
+stopped_by Status.BadRow stopped read write keeper bad = absurd (bad refl)
 
 below : (m n : ℕ) → nat_lt m n ≡ true → m < n
 below m n is = grind (arith, nat_tests)
@@ -58,11 +54,11 @@ status_short source short = elim (cases_Bool (nat_lt source_limit (length source
   | inr less ↦ rw less refl
 ]
 
-module _ (status : Status) (old new : List Stock) (bytes : List ℕ) (short : length bytes ≤ source_limit)
-    (end : IsStopped status ⊎ (status ≡ described_status (described bytes))) (read : status ≡ ends.ReadFault → ⊥) (write : status ≡ ends.WriteFault → ⊥)
-    (keeper : status ≡ ends.KeeperFault → HasFailed (described bytes) old new) (failed : OneFailed old new → ⊥)
-    (bad : status ≡ ends.BadRow → IsUnsound (described bytes) old) (empty : HoldNothing old) where
-  pub finishes : (left : Option (List ℕ)) → IfSome left (λ source. bytes ≡ source) → IfSome left (λ source. (status ≡ ends.OutOfMemory) ⊎ (status ≡ status_of source))
+module _ (status : Status) (old new : List KeeperState) (bytes : List ℕ) (short : length bytes ≤ source_limit)
+    (end : IsStopped status ⊎ (status ≡ described_status (described bytes))) (read : status ≡ Status.ReadFault → ⊥) (write : status ≡ Status.WriteFault → ⊥)
+    (keeper : status ≡ Status.KeeperFault → HasFailed (described bytes) old new) (failed : OneFailed old new → ⊥)
+    (bad : status ≡ Status.BadRow → IsUnsound (described bytes) old) (empty : HoldNothing old) where
+  pub finishes : (left : Option (List ℕ)) → IfSome left (λ source. bytes ≡ source) → IfSome left (λ source. (status ≡ Status.OutOfMemory) ⊎ (status ≡ status_of source))
   finishes None is = tt
   finishes (Some source) is = elim end [
     | inl stopped ↦ inl (stopped_by status stopped read write

@@ -1,5 +1,6 @@
+pub mod Ends
 pub mod Limits
+pub mod Source
 pub mod Status
 pub mod Streams
 pub mod Words
-pub mod Source

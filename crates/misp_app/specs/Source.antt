@@ -1,21 +1,12 @@
 -- What a source describes, and the line that tells where it does not.
-use Rattle.std.specs.Prelude.{◌≡◌, ℕ, true, List, map, length, take, drop, nat_lt, codes, IfOk, Ok, Err, if◌then◌else◌}
-use Rattle.std.specs.declared.option.Option.TheVariants.{Some}
-use Rattle.misp_script.specs.declared.description.Description.{Description}
-use Rattle.misp_script.specs.declared.fault.DescFault.TheVariants as faults
+use Rattle.std.specs.Prelude.{◌≡◌, ℕ, true, List, map, length, take, drop, nat_lt, codes, IfOk, Ok, Err, if◌then◌else◌, Some}
+use Rattle.misp_script.specs.declared.fault.DescFault.{DescFault}
 use Rattle.misp_script.specs.Faults.{Reading}
-use Rattle.misp_script.specs.Network.{description_at}
 use Rattle.misp_script.specs.Directory.{directory_of}
 use Rattle.misp_script.specs.Source.{description_part, script_part}
-use Rattle.misp_outside.specs.Held.{nothing_held}
-use Rattle.misp_outside.specs.Stock.{Stock}
-use Rattle.misp_effects.specs.Stocks.{told, OneFailed}
-use Rattle.misp_core.specs.Standing.{Host}
-use Rattle.misp_net.specs.Hosts.{described_hosts}
+use Rattle.misp_effects.specs.KeeperStates.{told, OneFailed}
 use Rattle.misp_store.specs.Sharing.{may_be_sound, may_be_unsound}
-use Rattle.misp_net.specs.Lines.{Act, acts_of}
-use Rattle.misp_net.specs.History.{AreDistinct}
-use Rattle.misp_net.specs.Promise.{IsCut}
+use Rattle.misp_net.specs.Prelude.{Act, AreDistinct, Description, Host, IsCut, KeeperState, acts_of, described_hosts, description_at, nothing_held}
 use Rattle.misp_app.specs.declared.status.Status.{Status}
 use Rattle.misp_app.specs.declared.status.Status.TheVariants.{Done, BadDescription, TooMuch}
 use Rattle.misp_app.specs.Limits.{source_limit}
@@ -29,7 +20,7 @@ abbrev pub described_status : Reading Description → Status
 described_status (Ok net) = Done
 described_status (Err fault) = BadDescription
 
--- how a run of this source ends, unless a fault or the want of memory stops it
+-- how a run of this source ends, unless a fault stops it or memory runs out
 abbrev pub status_of : List ℕ → Status
 status_of source =
     if nat_lt source_limit (length source) then TooMuch else described_status (described source)
@@ -37,13 +28,13 @@ status_of source =
 -- of a description that has a fault, the line of its first fault was written so
 abbrev pub IsTold : Reading Description → (List ℕ → Type 0) → Type 0
 IsTold (Ok net) Writes = Unit {0}
-IsTold (Err (faults.Bad path need)) Writes = Writes (fault_line path need)
-IsTold (Err faults.NoMemory) Writes = ⊥
+IsTold (Err (DescFault.Bad path need)) Writes = Writes (fault_line path need)
+IsTold (Err DescFault.NoMemory) Writes = ⊥
 
 -- The script of a network was run over the keepers of its instances, and its lines were written so.
 -- This is said of them.
-pub record HasWritten (Says : List Host → List Act → List Stock → List Stock → List ℕ → Type 0)
-    (net : Description) (script : List ℕ) (old new : List Stock)
+pub record HasWritten (Says : List Host → List Act → List KeeperState → List KeeperState → List ℕ → Type 0)
+    (net : Description) (script : List ℕ) (old new : List KeeperState)
     (Writes : List ℕ → Type 0) : Type 0 where
   pub lines : List ℕ
   pub distinct : AreDistinct (described_hosts net)
@@ -52,44 +43,44 @@ pub record HasWritten (Says : List Host → List Act → List Stock → List Sto
   pub written : Writes lines
 
 -- the same of a source that describes a network
-abbrev pub HasRun : (List Host → List Act → List Stock → List Stock → List ℕ → Type 0)
-    → List ℕ → List Stock → List Stock → (List ℕ → Type 0) → Type 0
+abbrev pub HasRun : (List Host → List Act → List KeeperState → List KeeperState → List ℕ → Type 0)
+    → List ℕ → List KeeperState → List KeeperState → (List ℕ → Type 0) → Type 0
 HasRun Says source old new Writes =
     IfOk (described source) (λ net. HasWritten Says net (script_part source) old new Writes)
 
 -- where the source describes a network, the run of its script was cut short: the keepers of the
 -- instances are as some first lines left them
-abbrev pub IsCutShort : List ℕ → List Stock → List Stock → Type 0
+abbrev pub IsCutShort : List ℕ → List KeeperState → List KeeperState → Type 0
 IsCutShort source old new =
     IfOk (described source) (λ net.
     IsCut (described_hosts net) (acts_of (directory_of net) (script_part source))
     (take (length net.instances) old) (take (length net.instances) new))
 
 -- as far as the keepers of its instances tell, every row of the administration is a group
-abbrev pub IsSound : Reading Description → List Stock → Type 0
+abbrev pub IsSound : Reading Description → List KeeperState → Type 0
 IsSound (Ok net) old = may_be_sound (take (length net.instances) old) ≡ true
 IsSound (Err fault) old = Unit {0}
 
 -- the source describes a network, and as far as the keepers of its instances tell, one of them
 -- holds a row of the administration that is none
-abbrev pub IsUnsound : Reading Description → List Stock → Type 0
+abbrev pub IsUnsound : Reading Description → List KeeperState → Type 0
 IsUnsound (Ok net) old = may_be_unsound (take (length net.instances) old) ≡ true
 IsUnsound (Err fault) old = ⊥
 
 -- the source describes a network, and the count of faults of a keeper of its instances rose
-abbrev pub HasFailed : Reading Description → List Stock → List Stock → Type 0
+abbrev pub HasFailed : Reading Description → List KeeperState → List KeeperState → Type 0
 HasFailed (Ok net) old new =
     OneFailed (take (length net.instances) old) (take (length net.instances) new)
 HasFailed (Err fault) old new = ⊥
 
--- the keepers behind those of the instances are as they were
-abbrev pub OthersStay : Reading Description → List Stock → List Stock → Type 0
+-- the keepers after those of the instances are as they were
+abbrev pub OthersStay : Reading Description → List KeeperState → List KeeperState → Type 0
 OthersStay (Ok net) old new = drop (length net.instances) new ≡ drop (length net.instances) old
 OthersStay (Err fault) old new = new ≡ old
 
 -- all of them tell that they hold nothing
-abbrev pub HoldNothing : List Stock → Type 0
-HoldNothing old = told old ≡ map (λ stock. Some nothing_held) old
+abbrev pub HoldNothing : List KeeperState → Type 0
+HoldNothing old = told old ≡ map (λ state. Some nothing_held) old
 
 -- what is written of a description that has no fault
 abbrev pub ok_line : List ℕ

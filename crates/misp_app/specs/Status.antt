@@ -1,10 +1,7 @@
 -- How a run ends.
-use Rattle.std.specs.Prelude.{ℕ, List}
-use Rattle.std.specs.declared.option.Option.{Option}
-use Rattle.std.specs.declared.option.Option.TheVariants.{Some}
+use Rattle.std.specs.Prelude.{ℕ, List, Option, Some}
 use Rattle.std.specs.Io.KnownBytes.{Appends}
 use Rattle.misp_net.specs.declared.places.NetFault.{NetFault}
-use Rattle.misp_net.specs.declared.places.NetFault.TheVariants as faults
 use Rattle.misp_app.specs.declared.command.Command.{Command}
 use Rattle.misp_app.specs.declared.command.Command.TheVariants.{Net}
 use Rattle.misp_app.specs.declared.status.Status.{Status}
@@ -13,9 +10,9 @@ use Rattle.misp_app.specs.Streams.{AppendsSome}
 
 -- how a run ends where the run of its script ends so
 abbrev pub status_after : NetFault → Status
-status_after faults.KeeperFault = KeeperFault
-status_after faults.BadRow = BadRow
-status_after faults.NoMemory = OutOfMemory
+status_after NetFault.KeeperFault = KeeperFault
+status_after NetFault.BadRow = BadRow
+status_after NetFault.NoMemory = OutOfMemory
 
 -- the exit status of the program
 abbrev pub status_code : Status → ℕ
@@ -28,13 +25,6 @@ status_code OutOfMemory = 8
 status_code TooMuch = 9
 status_code KeeperFault = 10
 status_code BadRow = 11
-
--- the statuses with which reading ends
-abbrev pub IsReadEnd : Status → Type 0
-IsReadEnd ReadFault = Unit {0}
-IsReadEnd OutOfMemory = Unit {0}
-IsReadEnd TooMuch = Unit {0}
-IsReadEnd status = ⊥
 
 -- nothing was written
 abbrev pub IsSilent : Status → Type 0
@@ -52,29 +42,6 @@ Writes Done = Unit {0}
 Writes WriteFault = Unit {0}
 Writes status = ⊥
 
--- the statuses with which writing ends
-abbrev pub IsPutEnd : Status → Type 0
-IsPutEnd OutOfMemory = Unit {0}
-IsPutEnd status = Writes status
-
--- the statuses with which the telling of a fault ends
-abbrev pub IsFaultEnd : Status → Type 0
-IsFaultEnd WriteFault = Unit {0}
-IsFaultEnd BadDescription = Unit {0}
-IsFaultEnd OutOfMemory = Unit {0}
-IsFaultEnd status = ⊥
-
--- the statuses with which a check ends that has read its source
-abbrev pub IsSourceEnd : Status → Type 0
-IsSourceEnd Done = Unit {0}
-IsSourceEnd status = IsFaultEnd status
-
--- the same of a run
-abbrev pub IsRunEnd : Status → Type 0
-IsRunEnd KeeperFault = Unit {0}
-IsRunEnd BadRow = Unit {0}
-IsRunEnd status = IsSourceEnd status
-
 -- the instances did not open
 abbrev pub IsUnopened : Status → Type 0
 IsUnopened KeeperFault = Unit {0}
@@ -89,7 +56,7 @@ IsStill BadDescription = Unit {0}
 IsStill TooMuch = Unit {0}
 IsStill status = ⊥
 
--- a fault, a row that is none, or the want of memory stopped the run
+-- a fault or an invalid row stopped the run, or memory ran out
 abbrev pub IsStopped : Status → Type 0
 IsStopped ReadFault = Unit {0}
 IsStopped WriteFault = Unit {0}

@@ -1,6 +1,5 @@
 -- What whole reads and writes do.
-use Rattle.std.specs.Prelude.{ℕ, List, ◌++◌, take, codes}
-use Rattle.std.specs.declared.option.Option.{Option}
+use Rattle.std.specs.Prelude.{ℕ, List, ◌++◌, take, codes, Option}
 use Rattle.std.specs.Io.KnownBytes.{Appends}
 use Rattle.misp_script.specs.declared.fault.DescNeed.{DescNeed}
 use Rattle.misp_script.specs.Faults.{need_name}

@@ -4,7 +4,8 @@ ghost use Rattle.std.specs.Prelude.{◌≡◌, ◌⊎◌, IfOk};
 ghost use Rattle.misp_outside.specs.Causes.{Rose};
 ghost use Rattle.std.specs.Io.KnownBytes.{Appends};
 ghost use Rattle.misp_app.specs.Source.{described, described_status, IsTold, ok_line};
-ghost use Rattle.misp_app.specs.Status.{IsStopped, IsSilent, IsSourceEnd, TellsFault, Wrote};
+ghost use Rattle.misp_app.specs.Status.{IsStopped, IsSilent, TellsFault, Wrote};
+ghost use Rattle.misp_app.specs.Ends.{IsSourceEnd};
 
 use crate::Status;
 use crate::fault::{put, tell_fault};

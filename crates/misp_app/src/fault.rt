@@ -2,7 +2,8 @@
 
 ghost use Rattle.std.specs.Prelude.{◌≡◌, IfOk, string_bytes};
 ghost use Rattle.misp_outside.specs.Causes.{Rose};
-ghost use Rattle.misp_app.specs.Status.{IsSilent, IsPutEnd, IsFaultEnd, TellsFault, Writes, Wrote};
+ghost use Rattle.misp_app.specs.Status.{IsSilent, TellsFault, Writes, Wrote};
+ghost use Rattle.misp_app.specs.Ends.{IsPutEnd, IsFaultEnd};
 ghost use Rattle.misp_app.specs.Streams.{fault_line};
 
 use crate::Status;

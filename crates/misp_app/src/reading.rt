@@ -2,7 +2,7 @@
 
 ghost use Rattle.std.specs.Prelude.{◌≡◌, ◌<◌, ◌≤◌, length, IfOk, IfErr, IfSome, vec_len};
 ghost use Rattle.misp_app.specs.Limits.{source_limit};
-ghost use Rattle.misp_app.specs.Status.{IsReadEnd};
+ghost use Rattle.misp_app.specs.Ends.{IsReadEnd};
 ghost use Rattle.misp_outside.specs.Causes.{HasCause};
 
 use crate::{MAX_SOURCE, Status};

@@ -1,40 +1,24 @@
 -- Two scenes in which an ask comes to the same: over the rows within its reach and over all, and whatever the number of its act.
 use Rattle.std.proofs.Common.{◌≡◌, ℕ, List, [], ◌∷◌, refl, ap, ◌∙◌, map, cond, arith}
-use Rattle.std.proofs.lemmas.List.{length-map}
-use Rattle.std.proofs.lemmas.Simd.{map-map}
-use Rattle.misp_ids.specs.declared.uid.OrgId.{OrgId}
-use Rattle.misp_ids.specs.declared.uid.EventId.{EventId}
-use Rattle.misp_elem.specs.declared.row.RowFields.{RowFields as Row}
-use Rattle.misp_elem.specs.Row.{AreRows}
-use Rattle.misp_elem.specs.Spelling.{uid}
-use Rattle.misp_requests.specs.declared.ask.Ask.{Ask}
-use Rattle.misp_requests.specs.declared.ask.Ask.TheVariants.{View}
-use Rattle.misp_requests.specs.declared.ask.Ask.TheVariants as asks
-use Rattle.misp_requests.specs.declared.change.Change.TheVariants.{AddEvent}
-use Rattle.misp_orgs.specs.Admin.{AdminFields as Admin}
 use Rattle.misp_outside.specs.Held.{rows_named}
 use Rattle.misp_effects.specs.Effect.{effect}
-use Rattle.misp_model.specs.Names.{same_event}
-use Rattle.misp_model.specs.History.{Version, fresh_row}
-use Rattle.misp_model.specs.Asking.{Scene}
-use Rattle.misp_model.specs.Acts.{ask_rules, answer, ok_answer, brings, is_accepted, concerning}
-use Rattle.misp_model.specs.Acts as model
-use Rattle.misp_model.specs.Machine.{event_rows, seeing, event_asked}
-use Rattle.misp_model.specs.Numbers.{scene_as, version_as, versions_as, reply_as}
-use Rattle.misp_model.proofs.OneEventChanges.{ask_of_event}
-use Rattle.misp_model.proofs.Numbers.{accepted_as}
-use Rattle.misp_model.proofs.NumberedWrites.{answer_as, fresh_as}
+use Rattle.misp_rules.proofs.Prelude.{event_rows, length-map, map-map, ok_answer, uid}
+use Rattle.misp_rules.specs.Answers.{concerning}
+use Rattle.misp_rules.specs.Machine.{event_asked}
+use Rattle.misp_rules.specs.Numbers.{scene_as, version_as, versions_as, reply_as}
+use Rattle.misp_rules.proofs.OneEventChanges.{ask_of_event}
+use Rattle.misp_rules.proofs.Numbers.{accepted_as}
+use Rattle.misp_history.proofs.Prelude.{AddEvent, AreRows, Ask, EventId, OrgId, Row, Scene, Version, View, answer, ask_rules, brings, fresh_row, is_accepted, same_event}
+use Rattle.misp_history.proofs.NumberedWrites.{answer_as, fresh_as}
 use Rattle.misp_edit.proofs.RuleLemmas.{refusal_as}
 use Rattle.misp_edit.proofs.OwnCopy.{named_rows, IsAlike, add_named}
 use Rattle.misp_store.specs.Raw.{raw_row}
 use Rattle.misp_store.specs.declared.reach.Reach.{Reach}
-use Rattle.misp_store.specs.declared.reach.Reach.TheVariants as reaches
 use Rattle.misp_store.proofs.HeldRows.{rows_filtered}
-use Rattle.misp_store.specs.Reach.{reach_of}
-use Rattle.misp_core.specs.Answers.{IsBuilt, reply_of, reply_in, writes_in, event_saved, greatest, saved}
+use Rattle.misp_core.specs.Prelude.{Admin, Answer, IsBuilt, Reply, reach_of, reply_in, seeing, writes_in}
+use Rattle.misp_core.specs.Answers.{reply_of, event_saved, greatest, saved}
 use Rattle.misp_core.specs.Effects.{asked, row_batches}
-use Rattle.misp_core.specs.declared.reply.Answer.TheVariants as answers
-use Rattle.misp_core.specs.declared.reply.Reply.TheVariants as replies
+use Rattle.misp_rules.specs.Answers as model
 
 -- ---- rows of a name
 
@@ -51,14 +35,14 @@ named_rows_kept o e rows are = rows_filtered _ rows are
 
 -- of a table the rows within a reach
 abbrev pub table_within : Reach → List Row → List Row
-table_within reaches.Nothing rows = []
-table_within (reaches.Own o e) rows = named_rows o e rows
-table_within (reaches.Event e) rows = event_rows e rows
-table_within reaches.All rows = rows
+table_within Reach.Nothing rows = []
+table_within (Reach.Own o e) rows = named_rows o e rows
+table_within (Reach.Event e) rows = event_rows e rows
+table_within Reach.All rows = rows
 
 module _ (admin : Admin) (s : Scene) (rows others : List Row) (ask : Ask) (alike : IsAlike (seeing s rows) (seeing s others) ask) where
   reply_alike : (r : model.Reply) → reply_of admin (seeing s rows) ask r ≡ reply_of admin (seeing s others) ask r
-  reply_alike (model.Refused rule) = ap replies.Refused (alike.refusals rule)
+  reply_alike (model.Refused rule) = ap Reply.Refused (alike.refusals rule)
   reply_alike r = refl
 
   asked_alike : asked admin (seeing s rows) ask ≡ asked admin (seeing s others) ask
@@ -68,7 +52,7 @@ module _ (admin : Admin) (s : Scene) (rows others : List Row) (ask : Ask) (alike
       (row_batches (cond (alike.same.accepted i) (map fresh_row (alike.same.brought i)) []))
 
 -- the groups are told whatever the rows are
-groups_alike : (admin : Admin) (s : Scene) (rows others : List Row) → asked admin (seeing s rows) asks.Groups ≡ asked admin (seeing s others) asks.Groups
+groups_alike : (admin : Admin) (s : Scene) (rows others : List Row) → asked admin (seeing s rows) Ask.Groups ≡ asked admin (seeing s others) Ask.Groups
 unfolding reply_in writes_in ask_rules is_accepted answer ok_answer brings concerning
 groups_alike admin s rows others = refl
 
@@ -76,8 +60,8 @@ groups_alike admin s rows others = refl
 pub own_alike : (admin : Admin) (rows : List Row) (s : Scene) (ask : Ask) → IsBuilt ask → asked admin (seeing s (table_within (reach_of s.by ask) rows)) ask ≡ asked admin (seeing s rows) ask
 unfolding event_asked
 own_alike admin rows s (View e owner) built = asked_alike admin s (event_rows e rows) rows (View e owner) (record { same = ask_of_event e rows s (View e owner) refl; refusals = λ rule. refl })
-own_alike admin rows s (asks.Change (AddEvent b)) built = asked_alike admin s (named_rows s.by b.event rows) rows (asks.Change (AddEvent b)) (add_named b rows s)
-own_alike admin rows s asks.Groups built = groups_alike admin s [] rows
+own_alike admin rows s (Ask.Change (AddEvent b)) built = asked_alike admin s (named_rows s.by b.event rows) rows (Ask.Change (AddEvent b)) (add_named b rows s)
+own_alike admin rows s Ask.Groups built = groups_alike admin s [] rows
 own_alike admin rows s ask built = absurd built
 
 -- ---- the number of an act
@@ -86,17 +70,17 @@ module _ (n : ℕ) where
   -- as many versions, of the same stamps
   event_saved_as : (event : EventId) (vs : List Version) → event_saved event (versions_as n vs) ≡ event_saved event vs
   event_saved_as event vs = λ i.
-      replies.Ok (answers.Saved (length-map vs (version_as n) i) event (greatest (map-map (λ (v : Version). v.stamp) (version_as n) vs i)))
+      Reply.Ok (Answer.Saved (length-map vs (version_as n) i) event (greatest (map-map (λ (v : Version). v.stamp) (version_as n) vs i)))
 
   saved_as : (reach : Reach) (vs : List Version) → saved reach (versions_as n vs) ≡ saved reach vs
-  saved_as (reaches.Event event) vs = event_saved_as event vs
-  saved_as (reaches.Own org event) vs = event_saved_as event vs
+  saved_as (Reach.Event event) vs = event_saved_as event vs
+  saved_as (Reach.Own org event) vs = event_saved_as event vs
   saved_as reach vs = refl
 
 module _ (n : ℕ) (s : Scene) (admin : Admin) (ask : Ask) where
   reply_same : (r : model.Reply) → reply_of admin (scene_as n s) ask (reply_as n r) ≡ reply_of admin s ask r
   unfolding reply_as
-  reply_same (model.Refused rule) = ap replies.Refused (refusal_as n s ask rule)
+  reply_same (model.Refused rule) = ap Reply.Refused (refusal_as n s ask rule)
   reply_same (model.Saved vs) = saved_as n (reach_of s.by ask) vs
   reply_same r = refl
 

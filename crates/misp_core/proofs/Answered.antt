@@ -1,31 +1,15 @@
 -- What is planned for a request over a keeper that may not tell what it holds.
-use Rattle.std.proofs.Common.{◌≡◌, ℕ, List, Bool, true, false, if◌then◌else◌, refl, ap, sym, subst, inl, inr, ◌∙◌, Option, Some, None, Result, Ok, Err}
-use Rattle.std.specs.Prelude.{IfSome}
-use Rattle.std.proofs.lemmas.Option.{IfSome_then}
-use Rattle.misp_elem.specs.declared.refusal.Refusal.{Refusal}
-use Rattle.misp_elem.specs.declared.row.RowFields.{RowFields as Row}
-use Rattle.misp_requests.specs.declared.ask.Ask.{Ask}
-use Rattle.misp_groups.specs.declared.group.GroupFields.{GroupFields as Group}
-use Rattle.misp_outside.specs.Held.{Held}
-use Rattle.misp_effects.specs.Effect.{Effect}
-use Rattle.misp_model.specs.View.{IsTable}
-use Rattle.misp_model.specs.Machine.{seeing}
+use Rattle.std.proofs.Common.{◌≡◌, ℕ, List, Bool, true, false, if◌then◌else◌, refl, ap, sym, subst, inl, inr, ◌∙◌, Option, Some, None, Result, Ok, Err, IfSome}
+use Rattle.misp_rules.proofs.Prelude.{IfSome_then, IsTable}
 use Rattle.misp_store.specs.Loading.{NamesFault}
 use Rattle.misp_store.specs.Sharing.{HoldsGroups, or_none}
-use Rattle.misp_store.specs.Seen.{Seen, seen_in}
 use Rattle.misp_store.specs.declared.fault.LoadFault.{LoadFault}
-use Rattle.misp_store.specs.declared.fault.LoadFault.TheVariants as faults
-use Rattle.misp_requests.specs.Permission.{is_permitted, forbidden}
-use Rattle.misp_core.specs.Standing.{Standing, Host}
-use Rattle.misp_store.specs.Reach.{reach_of}
-use Rattle.misp_core.specs.Answers.{Asked, scene_at}
-use Rattle.misp_core.specs.Effects.{refused, asked, asked_over, asked_where, requested}
-use Rattle.misp_core.specs.Planning.{Plans, IsPlanned, IsUnread, IsBarred}
-use Rattle.misp_core.specs.declared.planning.Plan.{Plan}
+use Rattle.misp_core.specs.Prelude.{Ask, Asked, Effect, Group, Held, Host, IsPlanned, Plan, Plans, Refusal, Reply, Row, Seen, Standing, asked_over, asked_where, forbidden, is_permitted, reach_of, refused, requested, scene_at, seeing}
+use Rattle.misp_core.specs.Prelude.{seen_in}
+use Rattle.misp_core.specs.Effects.{asked}
+use Rattle.misp_core.specs.Planning.{IsBarred}
+use Rattle.misp_core.specs.Handing.{IsUnread}
 use Rattle.misp_core.specs.declared.planning.NoPlan.{NoPlan}
-use Rattle.misp_core.specs.declared.planning.NoPlan.TheVariants as why
-use Rattle.misp_core.specs.declared.reply.Reply.{Reply}
-use Rattle.misp_core.specs.declared.reply.Reply.TheVariants as replies
 use Rattle.misp_core.proofs.Carried.{is_planned}
 
 module _ (host : Host) (now : ℕ) (it : Asked) where
@@ -34,9 +18,9 @@ module _ (host : Host) (now : ℕ) (it : Asked) where
   by_role seen may is = ap (λ b. if b then asked_where host now it seen else refused (forbidden it.1)) is
 
   is_unread : (seen : Seen) (fault : LoadFault) → is_permitted it.0 it.1 ≡ true → NamesFault (seen.rows (reach_of it.0.org it.1)) fault → IsUnread fault (requested host now it seen)
-  is_unread seen (faults.BadRow name) may names = by_role seen true may ∙ ap (asked_over host now it seen.groups) names
-  is_unread seen faults.KeeperFault may names = tt
-  is_unread seen faults.NoMemory may names = tt
+  is_unread seen (LoadFault.BadRow name) may names = by_role seen true may ∙ ap (asked_over host now it seen.groups) names
+  is_unread seen LoadFault.KeeperFault may names = tt
+  is_unread seen LoadFault.NoMemory may names = tt
 
   -- what is not permitted is planned to be refused
   pub barred_planned : (old : Option Held) (why : NoPlan) → is_permitted it.0 it.1 ≡ false → Plans (Err why) (refused (forbidden it.1)) → IfSome old (λ held. IsPlanned (Err why) (requested host now it (seen_in held)))
@@ -67,9 +51,9 @@ not_both false yes_ no_ = absurd cc
 
 -- just so, and the keeper is as it was
 pub just_barred : (i : Standing) (ask : Ask) (no : NoPlan) → Plans (Err no) (refused (forbidden ask)) → IsBarred (forbidden ask) i i (Err no)
-just_barred i ask (why.Refused refusal) plans =
-    let just : replies.Refused refusal ≡ replies.Refused (forbidden ask) = sym (ap (λ (e : Effect Reply). e.reply) plans.is) in
+just_barred i ask (NoPlan.Refused refusal) plans =
+    let just : Reply.Refused refusal ≡ Reply.Refused (forbidden ask) = sym (ap (λ (e : Effect Reply). e.reply) plans.is) in
     let same : refusal ≡ forbidden ask = cc in
-    record { just = inl (ap (λ (r : Refusal). Err (why.Refused r)) same); still = refl }
-just_barred i ask why.KeeperFault plans = absurd plans
-just_barred i ask why.NoMemory plans = record { just = inr refl; still = refl }
+    record { just = inl (ap (λ (r : Refusal). Err (NoPlan.Refused r)) same); still = refl }
+just_barred i ask NoPlan.KeeperFault plans = absurd plans
+just_barred i ask NoPlan.NoMemory plans = record { just = inr refl; still = refl }

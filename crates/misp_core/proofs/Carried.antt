@@ -1,32 +1,16 @@
 -- What is done where a plan is carried out.
-use Rattle.std.proofs.Common.{◌≡◌, false, List, [], ◌∷◌, refl, ap, sym, subst, ◌∙◌, map, option_map, Option, Some, None, Result, Ok, Err}
-use Rattle.std.specs.Prelude.{IfSome, OnOk, OnErr}
-use Rattle.std.specs.List.{AllByRecursion}
-use Rattle.misp_elem.specs.Row.{AreRows}
-use Rattle.misp_groups.specs.declared.group.GroupFields.{GroupFields as Group}
-use Rattle.misp_groups.specs.Group.{IsGroup}
-use Rattle.misp_outside.specs.declared.fault.KeeperFault.{KeeperFault}
-use Rattle.misp_outside.specs.declared.fault.KeeperFault.TheVariants as faults
-use Rattle.misp_outside.specs.declared.row.AdminRow.{AdminRow}
-use Rattle.misp_outside.specs.Held.{Held, with_batch, put_admins}
-use Rattle.misp_effects.specs.declared.stop.Stop.TheVariants as stops
-use Rattle.misp_effects.specs.declared.stop.Side.TheVariants.{Here}
-use Rattle.misp_effects.specs.Batches.{Batch, AreReadable, put_batches}
-use Rattle.misp_effects.specs.Effect.{Effect, effect, left}
-use Rattle.misp_effects.specs.Effect as effects
-use Rattle.misp_levels.specs.Groups.{put_groups}
-use Rattle.misp_store.specs.Sharing.{HoldsGroups, group_row, groups_in, AreStorable}
-use Rattle.misp_store.specs.Batches.{spelled}
-use Rattle.misp_core.specs.Effects.{refused_by, by_keeper, rule_of_stop, Did}
-use Rattle.misp_core.specs.Planning.{batch_of, batches_of, rows_put, Plans, IsPlanned, unplanned, stop_planned}
-use Rattle.misp_core.specs.declared.planning.Plan.{Plan}
+use Rattle.std.proofs.Common.{◌≡◌, false, List, [], ◌∷◌, refl, ap, sym, subst, ◌∙◌, map, option_map, Option, Some, None, Result, Ok, Err, IfSome, OnOk, OnErr}
+use Rattle.misp_effects.specs.Prelude.{AdminRow, put_admins, put_groups, with_batch}
+use Rattle.misp_effects.specs.Effect.{effect}
+use Rattle.misp_store.specs.Prelude.{AllByRecursion, AreRows, Batch, Effect, Group, Held, Here, IsGroup, KeeperFault, Stop, groups_in, spelled}
+use Rattle.misp_store.specs.Sharing.{HoldsGroups, group_row, AreStorable}
+use Rattle.misp_store.proofs.GroupRows.{group_put}
+use Rattle.misp_core.specs.Prelude.{Answer, AreReadable, Did, IsPlanned, Plan, Plans, Reply, left, put_batches, refused_by}
+use Rattle.misp_core.specs.Effects.{by_keeper, rule_of_stop}
+use Rattle.misp_core.specs.Planning.{batch_of, batches_of, rows_put, unplanned, stop_planned}
 use Rattle.misp_core.specs.declared.planning.Batch.{Batch as Put}
 use Rattle.misp_core.specs.declared.planning.NoPlan.{NoPlan}
-use Rattle.misp_core.specs.declared.planning.NoPlan.TheVariants as no
-use Rattle.misp_core.specs.declared.reply.Answer.{Answer}
-use Rattle.misp_core.specs.declared.reply.Reply.{Reply}
-use Rattle.misp_core.specs.declared.reply.Reply.TheVariants as replies
-use Rattle.misp_store.proofs.GroupRows.{group_put}
+use Rattle.misp_effects.specs.Effect as effects
 
 -- a call over a keeper that may not tell what it holds
 abbrev pub DidThere : Effect Reply → Option Held → Reply → Option Held → Type 0
@@ -36,42 +20,42 @@ DidThere e old reply new = IfSome old (λ held. Did e held reply new)
 
 pub refused_did : (why : NoPlan) (e : Effect Reply) (old new : Option Held) → IsPlanned (Err why) e → new ≡ old → DidThere e old (unplanned why) new
 refused_did why e None new plans same = tt
-refused_did (no.Refused refusal) e (Some held) new plans same = record {
+refused_did (NoPlan.Refused refusal) e (Some held) new plans same = record {
   outcome = effects.Went;
   agree = sym plans.no_stop;
   reply_is = sym (ap (λ (x : Effect Reply). x.reply) plans.is);
   held_is = same ∙ sym (ap (λ (x : Effect Reply). Some (left spelled x held)) plans.is);
   fits = subst (λ (x : Effect Reply). AreReadable x.batches) (sym plans.is) tt;
 }
-refused_did no.KeeperFault e (Some held) new plans same =
-    record { outcome = effects.Stopped (stops.Keeper Here) 0 false; agree = refl; reply_is = refl; held_is = same; fits = tt }
-refused_did no.NoMemory e (Some held) new plans same =
-    record { outcome = effects.Stopped (stops.Memory Here) 0 false; agree = refl; reply_is = refl; held_is = same; fits = tt }
+refused_did NoPlan.KeeperFault e (Some held) new plans same =
+    record { outcome = effects.Stopped (Stop.Keeper Here) 0 false; agree = refl; reply_is = refl; held_is = same; fits = tt }
+refused_did NoPlan.NoMemory e (Some held) new plans same =
+    record { outcome = effects.Stopped (Stop.Memory Here) 0 false; agree = refl; reply_is = refl; held_is = same; fits = tt }
 
 -- what asks no keeper is planned
 pub is_planned : (planned : Result Plan NoPlan) (e : Effect Reply) → Plans planned e → IsPlanned planned e
-is_planned (Err no.KeeperFault) e plans = tt
+is_planned (Err NoPlan.KeeperFault) e plans = tt
 is_planned planned e plans = plans
 
 -- and it tells no fault of a keeper
 pub asks_none : (planned : Result Plan NoPlan) (e : Effect Reply) → Plans planned e → stop_planned planned ≡ by_keeper → ⊥
-asks_none (Err (no.Refused refusal)) e plans is = let both : None ≡ by_keeper = sym plans.no_stop ∙ is in absurd cc
-asks_none (Err no.KeeperFault) e plans is = plans
+asks_none (Err (NoPlan.Refused refusal)) e plans is = let both : None ≡ by_keeper = sym plans.no_stop ∙ is in absurd cc
+asks_none (Err NoPlan.KeeperFault) e plans is = plans
 asks_none planned e plans is = absurd cc
 
 -- ---- the keeper stopped
 
 pub stopped_did : (stop : KeeperFault) (e : Effect Reply) (old new : Option Held) → new ≡ old → DidThere e old (refused_by (rule_of_stop stop)) new
 stopped_did stop e None new same = tt
-stopped_did faults.Failed e (Some held) new same =
-    record { outcome = effects.Stopped (stops.Keeper Here) 0 false; agree = refl; reply_is = refl; held_is = same; fits = tt }
-stopped_did faults.NoMemory e (Some held) new same =
-    record { outcome = effects.Stopped (stops.Memory Here) 0 false; agree = refl; reply_is = refl; held_is = same; fits = tt }
+stopped_did KeeperFault.Failed e (Some held) new same =
+    record { outcome = effects.Stopped (Stop.Keeper Here) 0 false; agree = refl; reply_is = refl; held_is = same; fits = tt }
+stopped_did KeeperFault.NoMemory e (Some held) new same =
+    record { outcome = effects.Stopped (Stop.Memory Here) 0 false; agree = refl; reply_is = refl; held_is = same; fits = tt }
 
 -- ---- it was put
 
-went_did : (e : Effect Reply) (answer : Answer) (bs : List Batch) (old new : Option Held) → e ≡ effect (replies.Ok answer) bs
-    → new ≡ option_map (put_batches (map spelled bs)) old → AreReadable bs → DidThere e old (replies.Ok answer) new
+went_did : (e : Effect Reply) (answer : Answer) (bs : List Batch) (old new : Option Held) → e ≡ effect (Reply.Ok answer) bs
+    → new ≡ option_map (put_batches (map spelled bs)) old → AreReadable bs → DidThere e old (Reply.Ok answer) new
 went_did e answer bs None new is put fits = tt
 went_did e answer bs (Some held) new is put fits = record {
   outcome = effects.Went;
@@ -90,9 +74,9 @@ are_groups [] are = tt
 are_groups (g ∷ gs) are = (are.0.is_group, are_groups gs are.1)
 
 pub settled_did : (p : Plan) (put : Put) (e : Effect Reply) (old new : Option Held) → IsPlanned (Ok p) e → p.batch ≡ Some put → AreStorable put.groups
-    → new ≡ option_map (with_batch (spelled (batch_of put))) old → DidThere e old (replies.Ok p.answer) new
+    → new ≡ option_map (with_batch (spelled (batch_of put))) old → DidThere e old (Reply.Ok p.answer) new
 settled_did p put e old new plans some are is =
-    went_did e p.answer (batch_of put ∷ []) old new (plans.is ∙ ap (λ (b : Option Put). effect (replies.Ok p.answer) (batches_of b)) some)
+    went_did e p.answer (batch_of put ∷ []) old new (plans.is ∙ ap (λ (b : Option Put). effect (Reply.Ok p.answer) (batches_of b)) some)
     (is ∙ put_there (batch_of put) old)
     (record { rows = subst (λ (b : Option Put). AreRows (rows_put b)) some plans.are_rows; groups = are_groups put.groups are }, tt)
 

@@ -1,46 +1,26 @@
 -- A request to an instance whose keeper holds the tables is an act of the history.
 use Rattle.std.proofs.Common.{◌≡◌, ℕ, List, [], ◌∷◌, Bool, true, false, ltb, refl, sym, ap, subst, ◌∙◌, map, cond, Ok, inl, inr}
-use Rattle.std.specs.List.{list_all, AllByRecursion}
-use Rattle.std.specs.List.Sorted.{IsStrictlySortedBy}
 use Rattle.std.proofs.lemmas.Bool.{cases_Bool}
-use Rattle.misp_ids.specs.declared.uid.OrgId.{OrgId}
-use Rattle.misp_ids.specs.declared.uid.EventId.{EventId}
-use Rattle.misp_elem.specs.declared.row.RowFields.{RowFields as Row}
-use Rattle.misp_elem.specs.Row.{AreRows}
-use Rattle.misp_elem.specs.Spelling.{uid}
-use Rattle.misp_groups.specs.declared.group.GroupFields.{GroupFields as Group}
-use Rattle.misp_groups.specs.Group.{IsGroup}
-use Rattle.misp_requests.specs.declared.ask.Ask.{Ask}
-use Rattle.misp_requests.specs.declared.ask.Ask.TheVariants as asks
-use Rattle.misp_outside.specs.Held.{Held, rows_of, rows_named, put_rows, put_admins, with_batch}
-use Rattle.misp_effects.specs.Batches.{put_batches, AreReadable}
-use Rattle.misp_effects.specs.Effect.{Effect, left}
-use Rattle.misp_model.specs.Names.{Inst, same_inst}
-use Rattle.misp_model.specs.History.{tables, fresh_row}
-use Rattle.misp_model.specs.Machine.{put_all, event_rows, hands_in}
-use Rattle.misp_model.specs.Asking.{Scene}
-use Rattle.misp_model.specs.Acts.{World, Net, scene, known_at, step, brings, is_accepted}
-use Rattle.misp_model.specs.Acts as model
-use Rattle.misp_model.proofs.Steps.{step_accepted, step_refused}
-use Rattle.misp_model.proofs.Elsewhere.{tables_elsewhere}
-use Rattle.misp_model.proofs.Owners.{brings_here}
-use Rattle.misp_model.proofs.Puts.{put_ask}
-use Rattle.misp_levels.specs.Groups.{by_name}
-use Rattle.misp_store.specs.Raw.{raw_row, rows_in}
-use Rattle.misp_store.specs.Sharing.{or_none, groups_in, groups_of}
-use Rattle.misp_store.specs.Batches.{spelled}
-use Rattle.misp_store.specs.Seen.{seen_in}
-use Rattle.misp_store.specs.declared.reach.Reach.{Reach}
-use Rattle.misp_store.specs.declared.reach.Reach.TheVariants as reaches
-use Rattle.misp_store.specs.Reach.{reach_of}
-use Rattle.misp_core.specs.Answers.{Asked, IsBuilt, scene_at, writes_in}
-use Rattle.misp_core.specs.Standing.{Host}
-use Rattle.misp_core.specs.Effects.{row_batches, asked, asked_over, asked_where}
-use Rattle.misp_core.specs.Keeping.{caller_at, act_at, Keeps}
-use Rattle.misp_store.proofs.HeldRows.{rows_again, rows_of_event, rows_kept, rows_put, rows_put_held}
+use Rattle.misp_outside.specs.Held.{rows_of, rows_named, put_rows, put_admins, with_batch}
+use Rattle.misp_groups.specs.Groups.{by_name}
+use Rattle.misp_rules.proofs.Prelude.{AreRows, brings, event_rows, is_accepted, put_all, uid}
+use Rattle.misp_rules.specs.Machine.{hands_in}
+use Rattle.misp_rules.proofs.Owners.{brings_here}
+use Rattle.misp_history.specs.Acts.{Net, scene, known_at}
+use Rattle.misp_history.proofs.Steps.{step_accepted, step_refused}
+use Rattle.misp_history.proofs.Elsewhere.{tables_elsewhere}
+use Rattle.misp_history.proofs.Puts.{put_ask}
 use Rattle.misp_edit.proofs.OwnCopy.{named_rows}
-use Rattle.misp_core.specs.declared.reply.Reply.{Reply}
+use Rattle.misp_store.specs.Raw.{raw_row, rows_in}
+use Rattle.misp_store.specs.Sharing.{or_none}
+use Rattle.misp_store.specs.declared.reach.Reach.{Reach}
+use Rattle.misp_store.proofs.HeldRows.{rows_again, rows_of_event, rows_kept, rows_put, rows_put_held}
+use Rattle.misp_core.specs.Prelude.{AllByRecursion, AreReadable, Ask, Asked, Effect, EventId, Group, Held, Host, Inst, IsBuilt, IsGroup, IsStrictlySortedBy, Keeps, OrgId, Reply, Row, Scene, World, asked_over, asked_where, fresh_row}
+use Rattle.misp_core.specs.Prelude.{groups_in, groups_of, left, list_all, put_batches, reach_of, same_inst, scene_at, seen_in, spelled, step, tables, writes_in}
+use Rattle.misp_core.specs.Effects.{row_batches, asked}
+use Rattle.misp_core.specs.Keeping.{caller_at, act_at}
 use Rattle.misp_core.proofs.Alike.{rows_of_name, named_rows_kept, table_within, own_alike, asked_as}
+use Rattle.misp_history.specs.Acts as model
 
 -- a keeper that holds these rows and groups keeps an instance that has them
 pub keeps_by : (here : Inst) (v : World) (held : Held) (rows : List Row) (gs : List Group) → tables v.log here ≡ rows → v.groups here ≡ gs
@@ -75,10 +55,10 @@ module _ (here : Inst) (w : World) (held : Held) (keeps : Keeps here w held) whe
   -- what is read within a reach is what the tables have there
   read_there : (reach : Reach) → (seen_in held).rows reach ≡ Ok (table_within reach (tables w.log here))
   unfolding rows_in
-  read_there reaches.Nothing = refl
-  read_there (reaches.Own o e) = own_read o e
-  read_there (reaches.Event e) = event_read e
-  read_there reaches.All = ap rows_in keeps.rows ∙ rows_again _ keeps.are_rows
+  read_there Reach.Nothing = refl
+  read_there (Reach.Own o e) = own_read o e
+  read_there (Reach.Event e) = event_read e
+  read_there Reach.All = ap rows_in keeps.rows ∙ rows_again _ keeps.are_rows
 
 module _ (w : World) (host : Host) (now : ℕ) (it : Asked) (held : Held) (built : IsBuilt it.1) (keeps : Keeps host.name w held) where
   -- what it comes to is what it comes to over all rows of the instance, with its groups
@@ -95,7 +75,7 @@ module _ (w : World) (host : Host) (now : ℕ) (it : Asked) (held : Held) (built
 -- no request that is built hands in a package
 built_alone : (a : Ask) → IsBuilt a → hands_in a ≡ false
 unfolding hands_in
-built_alone (asks.TakePart part) built = absurd built
+built_alone (Ask.TakePart part) built = absurd built
 built_alone a built = refl
 
 -- rows that are put in their batch

@@ -1,31 +1,20 @@
 -- An administration of an instance whose keeper holds its groups is an act of the history.
-use Rattle.std.proofs.Common.{◌≡◌, ℕ, List, [], ◌∷◌, Bool, true, false, refl, sym, ap, subst, ◌∙◌, cond, Option, Some, None, Ok, inl, inr, is_some}
-use Rattle.std.specs.List.{AllByRecursion}
-use Rattle.std.specs.List.Sorted.{IsStrictlySortedBy}
+use Rattle.std.proofs.Common.{◌≡◌, ℕ, List, Bool, true, false, refl, sym, ap, subst, ◌∙◌, cond, Option, Some, None, Ok, inl, inr, is_some}
 use Rattle.std.proofs.lemmas.Bool.{cases_Bool}
 use Rattle.std.proofs.lemmas.Slice.Eq.{bytes_eq-Decides}
-use Rattle.misp_ids.specs.declared.uid.OrgId.{OrgId}
-use Rattle.misp_elem.specs.declared.refusal.RuleName.{RuleName}
-use Rattle.misp_groups.specs.declared.group.GroupFields.{GroupFields as Group}
-use Rattle.misp_groups.specs.Group.{IsGroup}
-use Rattle.misp_outside.specs.Held.{Held, put_rows, put_admins, with_batch}
-use Rattle.misp_effects.specs.Batches.{AreReadable}
-use Rattle.misp_effects.specs.Effect.{Effect, left}
-use Rattle.misp_model.specs.Names.{Inst, Stamp, same_inst}
-use Rattle.misp_model.specs.History.{tables}
-use Rattle.misp_model.specs.Acts.{World, Net, put_group, group_now, administered, administration_fails, step}
-use Rattle.misp_model.proofs.Steps.{step_administers, with_groups_here, with_groups_elsewhere}
-use Rattle.misp_levels.specs.Groups.{by_name, why_not}
-use Rattle.misp_levels.proofs.Administered.{fails_where}
-use Rattle.misp_levels.proofs.Sorted.{sorted_put, all_put}
-use Rattle.misp_store.specs.Sharing.{groups_in, groups_of}
-use Rattle.misp_store.specs.Batches.{spelled}
-use Rattle.misp_core.specs.Administering.{effect_by}
-use Rattle.misp_core.specs.Administering as core
-use Rattle.misp_core.specs.Keeping.{Keeps, act_of}
+use Rattle.misp_outside.specs.Held.{put_rows, put_admins, with_batch}
+use Rattle.misp_groups.specs.Changes.{put_group, group_now, administered, administration_fails}
+use Rattle.misp_groups.specs.Groups.{by_name, why_not}
+use Rattle.misp_groups.proofs.Administered.{fails_where}
+use Rattle.misp_groups.proofs.Sorted.{sorted_put, all_put}
+use Rattle.misp_history.specs.Acts.{Net}
+use Rattle.misp_history.proofs.Steps.{step_administers, with_groups_here, with_groups_elsewhere}
 use Rattle.misp_store.proofs.GroupRows.{AreReadBack, group_again, group_put}
-use Rattle.misp_core.specs.declared.reply.Reply.{Reply}
+use Rattle.misp_core.specs.Prelude.{AllByRecursion, AreReadable, Effect, Group, Held, Inst, IsGroup, IsStrictlySortedBy, Keeps, OrgId, Reply, RuleName, Stamp, World, groups_in, groups_of, left, same_inst, spelled, step, tables}
+use Rattle.misp_core.specs.Administering.{effect_by}
+use Rattle.misp_core.specs.Keeping.{act_of}
 use Rattle.misp_core.proofs.Keeping.{keeps_by, groups_there}
+use Rattle.misp_core.specs.Administering as core
 
 same_apart : (i j : Inst) → same_inst i j ≡ false → same_inst j i ≡ false
 unfolding same_inst

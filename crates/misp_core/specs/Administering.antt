@@ -1,22 +1,16 @@
 -- The administration of groups: why it is refused, and what it comes to.
 use Rattle.std.specs.Prelude.{Bool, List, [], ◌∷◌, Option, None, Some}
-use Rattle.misp_ids.specs.declared.uid.OrgId.{OrgId}
-use Rattle.misp_elem.specs.declared.refusal.RuleName.{RuleName}
+use Rattle.misp_groups.specs.Prelude.{OrgId, RuleName, Stamp, bare, group_now, why_not}
 use Rattle.misp_groups.specs.declared.group.GroupFields.{GroupFields as Group}
-use Rattle.misp_elem.specs.Refusal.{bare}
 use Rattle.misp_effects.specs.Batches.{batch}
 use Rattle.misp_effects.specs.Effect.{Effect, effect}
 use Rattle.misp_core.specs.Effects.{refused}
-use Rattle.misp_model.specs.Names.{Stamp}
-use Rattle.misp_model.specs.Acts.{group_now}
-use Rattle.misp_levels.specs.Groups.{why_not}
-use Rattle.misp_core.specs.declared.reply.Answer.TheVariants as answers
+use Rattle.misp_core.specs.declared.reply.Answer.{Answer}
 use Rattle.misp_core.specs.declared.reply.Reply.{Reply}
-use Rattle.misp_core.specs.declared.reply.Reply.TheVariants as replies
 
 -- the group is put, and one group was taken
 abbrev pub taken : Group → Effect Reply
-taken g = effect (replies.Ok (answers.Taken 1)) (batch [] (g ∷ []) ∷ [])
+taken g = effect (Reply.Ok (Answer.Taken 1)) (batch [] (g ∷ []) ∷ [])
 
 -- what it comes to where this is the first rule against it, if there is one
 abbrev pub effect_by : Option RuleName → Group → Effect Reply

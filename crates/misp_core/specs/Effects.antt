@@ -1,50 +1,36 @@
 -- What a request comes to, and how a stop of it is told.
 use Rattle.std.specs.Prelude.{ℕ, ◌==◌, List, [], ◌∷◌, Option, None, Some, Result, Ok, Err, if◌then◌else◌}
-use Rattle.misp_elem.specs.declared.refusal.Refusal.{Refusal}
-use Rattle.misp_elem.specs.declared.refusal.RuleName.{RuleName}
-use Rattle.misp_elem.specs.declared.refusal.RuleName.TheVariants as rules
-use Rattle.misp_elem.specs.Refusal.{rule_number, bare}
-use Rattle.misp_elem.specs.declared.row.RowFields.{RowFields as Row}
-use Rattle.misp_groups.specs.declared.group.GroupFields.{GroupFields as Group}
-use Rattle.misp_requests.specs.declared.ask.Ask.{Ask}
-use Rattle.misp_orgs.specs.Admin.{AdminFields as Admin}
-use Rattle.misp_outside.specs.declared.fault.KeeperFault.{KeeperFault}
-use Rattle.misp_outside.specs.declared.fault.KeeperFault.TheVariants as keepers
-use Rattle.misp_outside.specs.Held.{Held}
-use Rattle.misp_effects.specs.declared.stop.Stop.{Stop}
-use Rattle.misp_effects.specs.declared.stop.Stop.TheVariants as stops
-use Rattle.misp_effects.specs.declared.stop.Side.TheVariants.{Here}
-use Rattle.misp_effects.specs.Batches.{Batch, batch}
-use Rattle.misp_effects.specs.Effect.{Effect, effect, Telling, nothing_of, Does}
-use Rattle.misp_model.specs.Asking.{Scene}
-use Rattle.misp_model.specs.Machine.{seeing}
-use Rattle.misp_store.specs.Batches.{spelled}
+use Rattle.misp_ids.specs.Refusal.{rule_number, bare}
+use Rattle.misp_effects.specs.Batches.{batch}
+use Rattle.misp_effects.specs.Effect.{effect, Telling, nothing_of, Does}
+use Rattle.misp_rules.specs.declared.ask.Ask.{Ask}
+use Rattle.misp_rules.specs.Scene.{Scene}
+use Rattle.misp_rules.specs.Machine.{seeing}
+use Rattle.misp_rules.specs.Permission.{is_permitted, forbidden}
+use Rattle.misp_store.specs.Prelude.{Admin, Batch, Effect, Group, Held, Here, KeeperFault, Refusal, Row, RuleName, Stop, reach_of, spelled}
 use Rattle.misp_store.specs.Seen.{Seen}
-use Rattle.misp_requests.specs.Permission.{is_permitted, forbidden}
-use Rattle.misp_store.specs.Reach.{reach_of}
 use Rattle.misp_core.specs.Answers.{Asked, scene_at, reply_in, writes_in, bad_row}
 use Rattle.misp_core.specs.Standing.{Host}
 use Rattle.misp_core.specs.declared.reply.Reply.{Reply}
-use Rattle.misp_core.specs.declared.reply.Reply.TheVariants as replies
 
 -- ---- refusals
 
 -- the refusal by a rule that has no place
 abbrev pub refused_by : RuleName → Reply
-refused_by rule = replies.Refused (bare rule)
+refused_by rule = Reply.Refused (bare rule)
 
 -- the reply is a refusal
 abbrev pub IsRefused : Reply → Type 0
-IsRefused (replies.Refused refusal) = Unit {0}
-IsRefused (replies.Ok answer) = ⊥
+IsRefused (Reply.Refused refusal) = Unit {0}
+IsRefused (Reply.Ok answer) = ⊥
 
 -- ---- stops
 
 -- the rule that tells a stop
 abbrev pub rule_told : Stop → RuleName
-rule_told (stops.Keeper side) = rules.KeeperFault
-rule_told (stops.Memory side) = rules.NoMemory
-rule_told stops.Carry = rules.LinkFault
+rule_told (Stop.Keeper side) = RuleName.KeeperFault
+rule_told (Stop.Memory side) = RuleName.NoMemory
+rule_told Stop.Carry = RuleName.LinkFault
 
 -- whole or not at all: a stop is refused by its rule
 abbrev pub telling : Telling Reply
@@ -53,28 +39,28 @@ telling = nothing_of (λ stop. refused_by (rule_told stop))
 -- the stop that a rule tells
 abbrev pub stop_by : RuleName → Option Stop
 stop_by name =
-    if rule_number name == 26 then Some (stops.Keeper Here)
-    else if rule_number name == 27 then Some (stops.Memory Here) else None
+    if rule_number name == 26 then Some (Stop.Keeper Here)
+    else if rule_number name == 27 then Some (Stop.Memory Here) else None
 
 -- read off the reply
 abbrev pub stop_in : Reply → Option Stop
-stop_in (replies.Ok answer) = None
-stop_in (replies.Refused refusal) = stop_by refusal.name
+stop_in (Reply.Ok answer) = None
+stop_in (Reply.Refused refusal) = stop_by refusal.name
 
 -- the stop by the keeper of the instance
 abbrev pub by_keeper : Option Stop
-by_keeper = Some (stops.Keeper Here)
+by_keeper = Some (Stop.Keeper Here)
 
 -- the rule by which what a keeper stopped is refused
 abbrev pub rule_of_stop : KeeperFault → RuleName
-rule_of_stop keepers.Failed = rules.KeeperFault
-rule_of_stop keepers.NoMemory = rules.NoMemory
+rule_of_stop KeeperFault.Failed = RuleName.KeeperFault
+rule_of_stop KeeperFault.NoMemory = RuleName.NoMemory
 
 -- ---- requests
 
 -- a refusal puts nothing
 abbrev pub refused : Refusal → Effect Reply
-refused refusal = effect (replies.Refused refusal) []
+refused refusal = effect (Reply.Refused refusal) []
 
 -- rows are one batch, and no rows are none
 abbrev pub row_batches : List Row → List Batch

@@ -1,22 +1,14 @@
 -- An instance in a network: whose act a request is, and what its keeper holds of the history.
 use Rattle.std.specs.Prelude.{◌≡◌, ℕ, map, Bool, Ok}
-use Rattle.std.specs.List.{AllByRecursion}
-use Rattle.std.specs.List.Sorted.{IsStrictlySortedBy}
-use Rattle.misp_ids.specs.declared.uid.OrgId.{OrgId}
-use Rattle.misp_elem.specs.Row.{AreRows}
-use Rattle.misp_groups.specs.declared.group.GroupFields.{GroupFields as Group}
-use Rattle.misp_groups.specs.Group.{IsGroup}
-use Rattle.misp_orgs.specs.Admin.{AdminFields as Admin}
+use Rattle.misp_ids.specs.Same.{Inst}
+use Rattle.misp_groups.specs.Prelude.{IsStrictlySortedBy, OrgId, Stamp, by_name}
 use Rattle.misp_orgs.specs.Keys.{CallerFields as Caller}
-use Rattle.misp_outside.specs.Held.{Held}
-use Rattle.misp_model.specs.Names.{Inst, Stamp}
-use Rattle.misp_model.specs.History.{tables}
-use Rattle.misp_model.specs.Acts as model
-use Rattle.misp_levels.specs.Groups.{by_name}
+use Rattle.misp_history.specs.History.{tables}
+use Rattle.misp_store.specs.Prelude.{Admin, AllByRecursion, AreRows, Group, Held, IsGroup, groups_in}
 use Rattle.misp_store.specs.Raw.{raw_row}
-use Rattle.misp_store.specs.Sharing.{groups_in}
 use Rattle.misp_core.specs.Answers.{Asked, name_in}
 use Rattle.misp_core.specs.Standing.{Host}
+use Rattle.misp_history.specs.Acts as model
 
 -- who asks, with the name by which an instance of this administration knows the organisation
 abbrev pub caller_at : Admin → Caller → model.Caller
@@ -25,11 +17,11 @@ caller_at admin caller = record { org = caller.org; name = name_in admin caller.
 -- a request there, as an act
 abbrev pub act_at : Host → ℕ → Asked → model.Act
 act_at host now it =
-    record { at = host.name; now = now; deed = model.Asks (caller_at host.admin it.0) it.1 }
+    record { at = host.name; now = now; command = model.Asks (caller_at host.admin it.0) it.1 }
 
 -- an administration there, as an act
 abbrev pub act_of : Inst → Stamp → OrgId → Bool → Group → model.Act
-act_of here now by add g = record { at = here; now = now; deed = model.Administers by add g }
+act_of here now by add g = record { at = here; now = now; command = model.Administers by add g }
 
 -- the keeper holds the tables of the instance and its groups, as bytes; the groups are in the order
 -- of their names

@@ -1,6 +1,8 @@
-pub mod Standing
+pub mod Administering
 pub mod Answers
 pub mod Effects
-pub mod Planning
-pub mod Administering
+pub mod Handing
 pub mod Keeping
+pub mod Planning
+pub mod Prelude
+pub mod Standing

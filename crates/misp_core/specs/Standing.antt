@@ -1,7 +1,6 @@
 -- What an instance is seen as.
 use Rattle.std.specs.Prelude.{ℕ, List, Option}
-use Rattle.misp_orgs.specs.Admin.{AdminFields as Admin}
-use Rattle.misp_outside.specs.Held.{Held}
+use Rattle.misp_store.specs.Prelude.{Admin, Held}
 
 -- its name, its administration, what its keeper holds, where the keeper tells it, and how often the
 -- keeper has failed

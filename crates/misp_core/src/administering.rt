@@ -1,17 +1,15 @@
 //! How a group is planned to be added or edited.
 
 ghost use Rattle.std.specs.Prelude.{◌≡◌, None, Some, IfOk, IfErr, OnOk};
-ghost use Rattle.misp_model.specs.Acts.{group_now};
-ghost use Rattle.misp_levels.specs.Groups.{why_not};
+ghost use Rattle.misp_groups.specs.Changes.{group_now};
+ghost use Rattle.misp_groups.specs.Groups.{why_not};
 ghost use Rattle.misp_core.specs.Administering.{taken, administered};
 ghost use Rattle.misp_core.specs.Planning.{Plans};
 
 use crate::planning::{Batch, NoPlan, Plan};
 use crate::reply::Answer;
-use misp_elem::{Refusal, RuleName};
-use misp_groups::Group;
-use misp_ids::{Items, OrgId, Stamp};
-use misp_levels::Groups;
+use misp_groups::{Group, Groups};
+use misp_ids::{Items, OrgId, Refusal, RuleName, Stamp};
 use std::alloc::Global;
 
 // The plan that puts a group.

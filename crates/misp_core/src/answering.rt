@@ -3,16 +3,17 @@
 ghost use Rattle.std.specs.Prelude.{◌≡◌, Err};
 ghost use Rattle.misp_effects.specs.Effect.{Effect};
 ghost use Rattle.misp_core.specs.Answers.{bad_row};
-ghost use Rattle.misp_requests.specs.Permission.{no_permission};
+ghost use Rattle.misp_rules.specs.Permission.{no_permission};
 ghost use Rattle.misp_core.specs.Effects.{refused, by_keeper};
-ghost use Rattle.misp_core.specs.Planning.{Plans, IsPlanned, IsUnread, stop_planned};
+ghost use Rattle.misp_core.specs.Planning.{Plans, IsPlanned, stop_planned};
+ghost use Rattle.misp_core.specs.Handing.{IsUnread};
 ghost use Rattle.misp_core.specs.declared.reply.Reply.{Reply as Answered};
 
 use crate::planning::NoPlan;
-use misp_elem::{NoMemory, Refusal, RuleName};
-use misp_ids::Text;
+use misp_elem::NoMemory;
+use misp_ids::{Refusal, RuleName, Text};
 use misp_orgs::Perm;
-use misp_requests::no_permission;
+use misp_rules::no_permission;
 use misp_store::LoadFault;
 use std::alloc::Global;
 

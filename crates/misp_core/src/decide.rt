@@ -2,26 +2,28 @@
 
 ghost use Rattle.std.specs.Prelude.{◌≡◌, ◌≤◌, List, None, IfOk, map, length};
 ghost use Rattle.misp_elem.specs.declared.row.RowFields.{RowFields};
-ghost use Rattle.misp_model.specs.View.{IsTable};
-ghost use Rattle.misp_model.specs.Machine.{seeing};
-ghost use Rattle.misp_requests.specs.declared.ask.Ask.TheVariants.{View};
-ghost use Rattle.misp_requests.specs.declared.ask.Ask.TheVariants as asks;
-ghost use Rattle.misp_requests.specs.declared.change.Change.TheVariants.{AddEvent};
+ghost use Rattle.misp_rules.specs.View.{IsTable};
+ghost use Rattle.misp_rules.specs.Machine.{seeing};
+ghost use Rattle.misp_rules.specs.declared.ask.Ask.TheVariants.{View};
+ghost use Rattle.misp_rules.specs.declared.ask.Ask.TheVariants as asks;
+ghost use Rattle.misp_rules.specs.declared.change.Change.TheVariants.{AddEvent};
 ghost use Rattle.misp_core.specs.declared.reply.Answer.TheVariants as answers;
-ghost use Rattle.misp_core.specs.Answers.{scene_in, knowing, IsAdded, IsBuilt, named_event, name_in, greatest};
+ghost use Rattle.misp_core.specs.Answers.{IsAdded, IsBuilt, named_event, name_in, greatest};
+ghost use Rattle.misp_core.specs.Handing.{scene_in, knowing};
 ghost use Rattle.misp_core.specs.Effects.{asked, row_batches, by_keeper};
 ghost use Rattle.misp_core.specs.Planning.{Plans, batches_of, rows_put, stop_planned};
 
 use crate::planning::{Batch, NoPlan, Plan};
 use crate::reply::Answer;
 use crate::site::Site;
+use misp_copies::known;
 use misp_edit::{AddFault, add_event};
-use misp_elem::{NoMemory, Refusal, Row, RuleName, Submission, VisibleEvent};
-use misp_ids::{EventId, Items, OrgId, Stamp, Text};
-use misp_levels::Groups;
+use misp_elem::{NoMemory, Row, Submission, VisibleEvent};
+use misp_groups::Groups;
+use misp_ids::{EventId, Items, OrgId, Refusal, RuleName, Stamp, Text};
 use misp_orgs::{Admin, Caller};
-use misp_requests::{Ask, Change};
-use misp_view::{concerning, group_names, known, shown};
+use misp_rules::{Ask, Change};
+use misp_view::{concerning, group_names, shown};
 use std::alloc::Global;
 
 // An answer for which nothing is put.

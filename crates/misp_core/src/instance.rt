@@ -9,7 +9,7 @@ ghost use Rattle.misp_store.specs.Seen.{seen_in};
 ghost use Rattle.misp_core.specs.Answers.{IsBuilt};
 ghost use Rattle.misp_core.specs.Standing.{standing, host_of};
 ghost use Rattle.misp_store.specs.Loading.{NamesFault};
-ghost use Rattle.misp_requests.specs.Permission.{is_permitted, forbidden};
+ghost use Rattle.misp_rules.specs.Permission.{is_permitted, forbidden};
 ghost use Rattle.misp_core.specs.Effects.{requested, by_keeper};
 ghost use Rattle.misp_core.specs.Planning.{Plans, IsPlanned, batch_of, stop_planned, IsBarred};
 ghost use Rattle.misp_core.specs.Administering.{administered};
@@ -22,12 +22,11 @@ use crate::decide::plan_request;
 use crate::planning::{Batch, NoPlan, Plan};
 use crate::settling::settle;
 use crate::site::Site;
-use misp_groups::Group;
+use misp_groups::{Group, Groups};
 use misp_ids::{ApiKey, InstId, OrgId, Stamp};
-use misp_levels::Groups;
 use misp_orgs::{Admin, Caller, Link, may};
 use misp_outside::{Keeper, KeeperFault};
-use misp_requests::{Ask, permission_for};
+use misp_rules::{Ask, permission_for};
 use misp_store::{LoadFault, Reach, load, load_groups};
 use std::alloc::Global;
 use std::marker::Model;
@@ -50,13 +49,13 @@ impl<K: Keeper> Model for Instance<K> {
     ghost view = { λ a. record {
       name = a.name;
       admin = a.admin;
-      held = (K.stock a.keeper).held;
-      faults = (K.stock a.keeper).faults;
+      held = (K.state a.keeper).held;
+      faults = (K.state a.keeper).faults;
     } };
 
     ghost use Rattle.misp_store.specs.Sharing.{HoldsGroups};
 
-    ghost invariant = { λ a. HoldsGroups (K.stock a.keeper).held a.groups };
+    ghost invariant = { λ a. HoldsGroups (K.state a.keeper).held a.groups };
 }
 
 impl<K: Keeper> Instance<K> {
@@ -69,15 +68,15 @@ impl<K: Keeper> Instance<K> {
         keeper: K,
     ) -> Result<Instance<K>, (LoadFault, K)>
         ensures ok { IfOk result (λ instance.
-            instance ≡ standing name admin (K.stock keeper).held instance.faults) }
+            instance ≡ standing name admin (K.state keeper).held instance.faults) }
         ensures groups { OnOk result
-            (IfSome (K.stock keeper).held (λ held. IsOk (groups_in held.admin))) }
-        ensures count { IfOk result (λ instance. (K.stock keeper).faults ≤ instance.faults) }
-        ensures back { IfErr result (λ e. (K.stock e.1).held ≡ (K.stock keeper).held) }
+            (IfSome (K.state keeper).held (λ held. IsOk (groups_in held.admin))) }
+        ensures count { IfOk result (λ instance. (K.state keeper).faults ≤ instance.faults) }
+        ensures back { IfErr result (λ e. (K.state e.1).held ≡ (K.state keeper).held) }
         ensures bad { IfErr result (λ e.
-            IfSome (K.stock keeper).held (λ held. NamesFault (groups_in held.admin) e.0)) }
+            IfSome (K.state keeper).held (λ held. NamesFault (groups_in held.admin) e.0)) }
         ensures cause { IfErr result (λ e.
-            HasCause (K.stock keeper).faults (K.stock e.1).faults (e.0 ≡ faults.KeeperFault)) }
+            HasCause (K.state keeper).faults (K.state e.1).faults (e.0 ≡ faults.KeeperFault)) }
     {
         let mut keeper = keeper;
         match load_groups(&mut keeper, alloc) {
@@ -93,8 +92,8 @@ impl<K: Keeper> Instance<K> {
 
     /// Gives the keeper back.
     pub fn into_keeper(self) -> K
-        ensures held { (K.stock result).held ≡ self.held }
-        ensures faults { (K.stock result).faults ≡ self.faults }
+        ensures held { (K.state result).held ≡ self.held }
+        ensures faults { (K.state result).faults ≡ self.faults }
     {
         self.keeper
     }

@@ -3,9 +3,9 @@
 ghost use Rattle.std.specs.Prelude.{◌≡◌};
 
 use crate::reply::Answer;
-use misp_elem::{NoMemory, Refusal, Row};
+use misp_elem::{NoMemory, Row};
 use misp_groups::Group;
-use misp_ids::Items;
+use misp_ids::{Items, Refusal};
 use std::alloc::{AllocError, AllocFailed};
 
 /// What is put at once.

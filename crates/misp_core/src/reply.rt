@@ -5,9 +5,9 @@ ghost use Rattle.misp_core.specs.Effects.{refused_by, rule_of_stop};
 ghost use Rattle.misp_core.specs.Planning.{unplanned};
 
 use crate::planning::NoPlan;
-use misp_elem::{Refusal, RuleName, VisibleEvent};
+use misp_elem::VisibleEvent;
 use misp_groups::Group;
-use misp_ids::{EventId, Items, Stamp};
+use misp_ids::{EventId, Items, Refusal, RuleName, Stamp};
 use misp_outside::KeeperFault;
 use std::alloc::Global;
 

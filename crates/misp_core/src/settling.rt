@@ -4,14 +4,13 @@ ghost use Rattle.std.specs.Prelude.{◌≡◌, ◌≤◌, Err, length, OnOk, OnE
 ghost use Rattle.misp_groups.specs.declared.group.GroupFields.{GroupFields};
 ghost use Rattle.misp_outside.specs.Causes.{HasCause};
 ghost use Rattle.misp_outside.specs.Held.{with_batch};
-ghost use Rattle.misp_levels.specs.Groups.{put_groups};
+ghost use Rattle.misp_groups.specs.Groups.{put_groups};
 ghost use Rattle.misp_store.specs.Sharing.{AreStorable};
 ghost use Rattle.misp_store.specs.Batches.{spelled};
 ghost use Rattle.misp_core.specs.Planning.{batch_of};
 
 use crate::planning::Batch;
-use misp_groups::Group;
-use misp_levels::{Groups, Room};
+use misp_groups::{Group, Groups, Room};
 use misp_outside::{Keeper, KeeperFault};
 use misp_store::spell;
 use std::alloc::Global;
@@ -33,13 +32,13 @@ pub(crate) fn settle<K: Keeper>(
     alloc: Global,
     put: Batch,
 ) -> Result<(), KeeperFault>
-    ensures put { OnOk result ((K.stock keeper.new).held
-        ≡ option_map (with_batch (spelled (batch_of put))) (K.stock keeper.old).held) }
+    ensures put { OnOk result ((K.state keeper.new).held
+        ≡ option_map (with_batch (spelled (batch_of put))) (K.state keeper.old).held) }
     ensures groups { OnOk result (groups.new ≡ put_groups groups.old put.groups) }
     ensures storable { OnOk result (AreStorable put.groups) }
-    ensures err { OnErr result ((K.stock keeper.new).held ≡ (K.stock keeper.old).held) }
+    ensures err { OnErr result ((K.state keeper.new).held ≡ (K.state keeper.old).held) }
     ensures same { OnErr result (groups.new ≡ groups.old) }
-    ensures cause { HasCause (K.stock keeper.old).faults (K.stock keeper.new).faults
+    ensures cause { HasCause (K.state keeper.old).faults (K.state keeper.new).faults
         (result ≡ Err KeeperFault.Failed) }
 {
     let raw = spell(alloc, put.rows.as_slice(), put.groups.as_slice())?;

@@ -1,7 +1,7 @@
 //! Where and when a request is answered.
 
+use misp_groups::Groups;
 use misp_ids::{InstId, Stamp};
-use misp_levels::Groups;
 use misp_orgs::{Admin, Caller};
 
 /// Where and when a request is answered, and whose it is.

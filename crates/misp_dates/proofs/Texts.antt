@@ -1,10 +1,8 @@
 -- What is written is read again.
-use Rattle.std.proofs.Common.{◌≡◌, ℕ, ◌+◌, ◌*◌, ◌/◌, ◌%◌, ◌≤◌, ◌<◌, true, refl, arith}
-use Rattle.std.specs.Prelude.{Some}
+use Rattle.std.proofs.Common.{◌≡◌, ℕ, ◌+◌, ◌*◌, ◌/◌, ◌%◌, ◌≤◌, ◌<◌, true, refl, arith, Some}
 use Rattle.std.proofs.lemmas.Bool.Decides.{nat_tests}
-use Rattle.misp_ids.specs.declared.stamp.TheConstants.{LAST_SECOND}
 use Rattle.misp_dates.specs.declared.day.Day.{Day}
-use Rattle.misp_dates.specs.Dates.{days_in_month, are_digits, two_digits, day_in, is_day, is_date, nth_day, date_text, date_of}
+use Rattle.misp_dates.specs.Dates.{days_in_month, are_digits, two_digits, day_in, is_day, is_date, nth_day, date_text, last_second, date_of}
 use Rattle.misp_dates.proofs.Days.{IsNth, nth_day-is}
 
 two_digits-back : (n : ℕ) → two_digits (48 + n / 10) (48 + n % 10) ≡ n
@@ -37,6 +35,6 @@ is_date-written n d is =
     rw (read_back d.year d.month d.day (omega (arith, is.year)) (omega (arith, is.month)) small) (is_day-nth n d is)
 
 -- the date of a moment is a date
-pub is_date-date_of : (now : ℕ) → now ≤ LAST_SECOND → is_date (date_of now) ≡ true
+pub is_date-date_of : (now : ℕ) → now ≤ last_second → is_date (date_of now) ≡ true
 unfolding date_of
 is_date-date_of now h = is_date-written (now / 86400) (nth_day (now / 86400)) (nth_day-is (now / 86400) (omega arith))

@@ -78,6 +78,10 @@ date_text d =
 
 -- ---- moments
 
+-- the last second of the year 9999, counted from 1970
+abbrev pub last_second : ℕ
+last_second = 253402300799
+
 -- the date of a moment in UTC, of which each day has 86400 seconds
 unfoldable pub date_of : ℕ → List ℕ
 date_of now = date_text (nth_day (now / 86400))

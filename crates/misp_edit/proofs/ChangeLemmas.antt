@@ -1,72 +1,15 @@
 -- The rules that refuse a change of one row, by what the caller has.
-use Rattle.std.proofs.Common.{◌≡◌, ℕ, List, [], ◌∷◌, ◌++◌, Bool, true, false, refl, ap, sym, ◌∙◌, arith, map, cond, eqb, ◌≢◌}
-use Rattle.std.specs.Prelude.{◌&&◌, ◌||◌, not, max, ◌+◌, Option, Some, None, is_some, option_to_list}
-use Rattle.std.specs.List.{list_any, find}
-use Rattle.std.proofs.lemmas.Bool.{and_parts, false≢true, false_from_ne_true, eqb-true, eq-eqb}
-use Rattle.misp_ids.specs.declared.uid.OrgId.{OrgId}
-use Rattle.misp_ids.specs.declared.uid.EventId.{EventId}
-use Rattle.misp_ids.specs.declared.label.Label.{Label}
-use Rattle.misp_ids.specs.declared.label.Label.TheVariants as labels
-use Rattle.misp_elem.specs.declared.key.Place.{Place}
-use Rattle.misp_elem.specs.declared.key.KeyForm.{KeyForm as Key}
-use Rattle.misp_elem.specs.declared.key.KeyForm.TheVariants.{Element, Reference, Proposal, Verdict, Sighting}
-use Rattle.misp_elem.specs.declared.content.Content.{Content}
-use Rattle.misp_elem.specs.declared.row.RowFields.{RowFields as Row}
-use Rattle.misp_groups.specs.declared.group.GroupFields.{GroupFields as Group}
-use Rattle.misp_requests.specs.declared.change.Change.{Change}
-use Rattle.misp_requests.specs.declared.change.Change.TheVariants.{Publish}
-use Rattle.misp_publish.specs.Copies.{AreOf, is_event_row}
-use Rattle.misp_publish.proofs.ReleaseLemmas.{finds_are}
-use Rattle.misp_model.specs.Names.{Inst, Stamp, same_key, event_key}
-use Rattle.misp_model.specs.View.{is_row_of, is_mark, has_copy, has_home, element_granted, granted, granted_by, granted_somewhere}
-use Rattle.misp_model.specs.History.{is_statement, is_gone, is_published, fresh_row}
-use Rattle.misp_model.specs.Asking.{Scene, Rule, first_rule, holds_copy, holds_home, sees, bars, is_usable, wants_unusable, own_row, own_row_is, row_passes, is_newer_than, is_at_limit, is_too_long, last_stamp, next_stamp, written, changed, changed_row, edit_rules, change_rules, change_writes}
-use Rattle.misp_model.specs.Asking as rule
-use Rattle.misp_model.proofs.Same.{same_org-sound, same_key-sound}
-use Rattle.misp_model.proofs.Lists.{find_passes}
-use Rattle.misp_model.proofs.Growing.{any_implies}
-use Rattle.misp_model.proofs.Among.{and_where}
+use Rattle.std.proofs.Common.{◌≡◌, ℕ, List, [], ◌∷◌, ◌++◌, Bool, true, false, refl, ap, sym, ◌∙◌, map, cond, eqb, ◌≢◌, ◌||◌, not, max, ◌+◌, Option, Some, None, is_some, option_to_list, find, eqb-true, eq-eqb}
+use Rattle.misp_rules.specs.Prelude.{Stamp, edit_rules, first_rule, granted_somewhere, has_home, is_newer_than, is_too_long, is_usable, row_passes, wants_unusable}
+use Rattle.misp_history.proofs.Prelude.{Change, Content, Element, EventId, Group, Inst, Key, Label, OrgId, Place, Row, Rule, Scene, and_parts, bars, change_rules, change_writes, changed, changed_row, event_key, false_from_ne_true}
+use Rattle.misp_history.proofs.Prelude.{false≢true, find_passes, fresh_row, has_copy, is_at_limit, is_gone, is_published, is_row_of, is_statement, last_stamp, next_stamp, own_row, own_row_is, same_key-sound, same_org-sound, written}
+use Rattle.misp_copies.proofs.Barred.{first_of, bars_are, refuses_first}
+use Rattle.misp_copies.specs.Barring.{rule_of, Refuses, barring, or_else}
+use Rattle.misp_copies.specs.declared.change_fault.ChangeFault.{ChangeFault}
+use Rattle.misp_copies.specs.declared.change_fault.ChangeFault.TheVariants.{NotGranted, NotOwner, LockedCopy, GroupNotUsable, OlderTime, TimeLimit, ElementFull, NoMemory}
 use Rattle.misp_edit.specs.Labels.{is_unusable}
-use Rattle.misp_edit.specs.Changing.{rule_of, Refuses, Changes, ruling, IsFull, barring, unusable_given, late_rules, renewed, or_else}
-use Rattle.misp_edit.specs.declared.change_fault.ChangeFault.{ChangeFault}
-use Rattle.misp_edit.specs.declared.change_fault.ChangeFault.TheVariants.{NotGranted, NotOwner, LockedCopy, GroupNotUsable, OlderTime, TimeLimit, ElementFull, NoMemory}
-
--- ---- the first of rules
-
-pub first_of : (xs ys : List (Bool × Rule)) → first_rule (xs ++ ys) ≡ or_else (first_rule xs) (first_rule ys)
-unfolding first_rule or_else
-first_of [] ys = refl
-first_of (x ∷ xs) ys = one x.0 (first_of xs ys)
-  where
-    one : (b : Bool) → first_rule (xs ++ ys) ≡ or_else (first_rule xs) (first_rule ys) →
-        (elim b as (λ t. Option Rule) [ true ↦ Some x.1 | false ↦ first_rule (xs ++ ys) ]) ≡ or_else (elim b as (λ t. Option Rule) [ true ↦ Some x.1 | false ↦ first_rule xs ]) (first_rule ys)
-    one true ih = refl
-    one false ih = ih
-
-bars_by : (home copy seen fits : Bool) → (home ≡ true → copy ≡ true) →
-    first_rule ((not copy && not seen || home && not fits, rule.NotGranted) ∷ (not copy && seen, rule.NotOwner) ∷ (copy && not home, rule.LockedCopy) ∷ []) ≡ barring home copy seen fits
-unfolding first_rule barring
-bars_by true true seen true h = refl
-bars_by true true seen false h = refl
-bars_by true false seen fits h = absurd (false≢true (h refl))
-bars_by false true seen fits h = refl
-bars_by false false true fits h = refl
-bars_by false false false fits h = refl
-
-keep_two : (a b c : Bool) → (a && (b && c)) ≡ true → (a && b) ≡ true
-keep_two true true c h = refl
-keep_two true false c h = h
-keep_two false b c h = h
-
-home_is_copy : (rows : List Row) (o : OrgId) (e : EventId) → has_home rows o e ≡ true → has_copy rows o e ≡ true
-unfolding has_home has_copy
-home_is_copy rows o e h =
-    any_implies (λ row. is_row_of o (event_key e) row && (not (is_mark row) && not row.carried)) (λ row. is_row_of o (event_key e) row && not (is_mark row))
-    (λ row g. keep_two (is_row_of o (event_key e) row) (not (is_mark row)) (not row.carried) g) rows h
-
-pub bars_are : (s : Scene) (e : EventId) (fits : Bool) → first_rule (bars s e fits) ≡ barring (has_home s.rows s.by e) (has_copy s.rows s.by e) (granted_somewhere s.rows s.groups s.at s.by (event_key e)) fits
-unfolding bars holds_copy holds_home sees
-bars_are s e fits = bars_by (has_home s.rows s.by e) (has_copy s.rows s.by e) (granted_somewhere s.rows s.groups s.at s.by (event_key e)) fits (home_is_copy s.rows s.by e)
+use Rattle.misp_edit.specs.Changing.{Changes, ruling, IsFull, unusable_given, late_rules, renewed}
+use Rattle.misp_rules.specs.Scene as rule
 
 -- ---- the later rules
 
@@ -88,12 +31,12 @@ one_found p x = by (p x)
 
 usable_is : (s : Scene) (l : Label) → is_unusable s.groups s.at s.by l ≡ not (is_usable s l)
 unfolding is_unusable is_usable
-usable_is s (labels.Group g) = refl
-usable_is s labels.Own = refl
-usable_is s labels.Community = refl
-usable_is s labels.Connected = refl
-usable_is s labels.All = refl
-usable_is s labels.Inherit = refl
+usable_is s (Label.Group g) = refl
+usable_is s Label.Own = refl
+usable_is s Label.Community = refl
+usable_is s Label.Connected = refl
+usable_is s Label.All = refl
+usable_is s Label.Inherit = refl
 
 given_is : (s : Scene) (l : Option Label) → is_some (unusable_given s.groups s.at s.by l) ≡ wants_unusable s l
 unfolding unusable_given wants_unusable
@@ -117,25 +60,6 @@ edit_is s e k fits l t f =
 
     full : List (Bool × Rule)
     full = (row_passes (λ row. is_too_long (f row.content)) (own_row s k), rule.ElementFull) ∷ []
-
--- ---- faults
-
--- the fault of the first rules
-pub refuses_first : (fault : ChangeFault) (a b : Option Rule) (rules : List (Bool × Rule)) → first_rule rules ≡ or_else a b → rule_of fault ≡ a → Refuses rules fault
-unfolding or_else rule_of
-refuses_first NoMemory a b rules h k = tt
-refuses_first NotGranted a b rules h k = h ∙ ap (λ x. or_else x b) (sym k)
-refuses_first NotOwner a b rules h k = h ∙ ap (λ x. or_else x b) (sym k)
-refuses_first LockedCopy a b rules h k = h ∙ ap (λ x. or_else x b) (sym k)
-refuses_first (GroupNotUsable g) a b rules h k = h ∙ ap (λ x. or_else x b) (sym k)
-refuses_first OlderTime a b rules h k = h ∙ ap (λ x. or_else x b) (sym k)
-refuses_first TimeLimit a b rules h k = h ∙ ap (λ x. or_else x b) (sym k)
-refuses_first ElementFull a b rules h k = h ∙ ap (λ x. or_else x b) (sym k)
-
--- the fault of the next, where the first do not refuse
-pub refuses_next : (fault : ChangeFault) (a b c : Option Rule) (rules : List (Bool × Rule)) → first_rule rules ≡ or_else a (or_else b c) → None ≡ a → rule_of fault ≡ b → Refuses rules fault
-unfolding or_else
-refuses_next fault a b c rules h n k = refuses_first fault b c rules (h ∙ ap (λ x. or_else x (or_else b c)) (sym n)) k
 
 -- ---- an edit of one row
 
@@ -166,12 +90,6 @@ module _ (s : Scene) (c : Change) (e : EventId) (k : Key) (fits : Bool) (l : Opt
 
   rules_are : first_rule (change_rules s c) ≡ or_else early (or_else (late (own_row s k)) (first_rule ((row_passes (λ row. is_too_long (f row.content)) (own_row s k), rule.ElementFull) ∷ [])))
   rules_are = ap first_rule rules ∙ edit_is s e k fits l t f
-
-  pub barred : (fault : ChangeFault) → rule_of fault ≡ early → Refuses (change_rules s c) fault
-  barred fault h = refuses_first fault early _ (change_rules s c) rules_are h
-
-  pub too_late : (own : Option Row) → own ≡ own_row s k → (fault : ChangeFault) → None ≡ early → rule_of fault ≡ late own → Refuses (change_rules s c) fault
-  too_late own o fault n h = refuses_next fault early (late (own_row s k)) _ (change_rules s c) rules_are n (h ∙ ap late o)
 
   left : None ≡ early → None ≡ late (own_row s k) → first_rule (change_rules s c) ≡ first_rule ((row_passes (λ row. is_too_long (f row.content)) (own_row s k), rule.ElementFull) ∷ [])
   unfolding or_else
@@ -320,24 +238,6 @@ module _ (s : Scene) (c : Change) (e : EventId) (p : Place) (fits : Bool) (l : O
         let done : Changes s c (renewed s.now row (label_of row) (f row.content) ∷ []) = one_changed s c e (Element e p) fits l t f label_of rules writes row (sym own) (ruled_none h).0 late_none (f row.content) refl fits_in in
         (done.0, same ∙ done.1)
 
--- ---- who sees an event
-
-itself_granted : (rows : List Row) (groups : List Group) (i : Inst) (o : OrgId) (e : EventId) (row : Row) → same_key row.key (event_key e) ≡ true →
-    granted rows groups i o row ≡ element_granted rows groups i o row
-unfolding granted granted_by same_key event_key
-itself_granted rows groups i o e row h = by_key row.key h
-  where
-    by_key : (k : Key) → same_key k (event_key e) ≡ true → granted_by rows groups i o row.owner (element_granted rows groups i o row) k ≡ element_granted rows groups i o row
-    by_key (Element f p) h = refl
-    by_key (Reference f x t u) h = refl
-    by_key (Proposal f n) h = absurd (false≢true h)
-    by_key (Verdict f n j v) h = absurd (false≢true h)
-    by_key (Sighting f t j v u) h = absurd (false≢true h)
-
-pub seen_is : (rows all : List Row) (groups : List Group) (i : Inst) (o : OrgId) (e : EventId) →
-    list_any (λ row. same_key row.key (event_key e) && granted all groups i o row) rows ≡ list_any (λ row. same_key row.key (event_key e) && element_granted all groups i o row) rows
-seen_is rows all groups i o e = λ j. list_any (λ row. and_where (same_key row.key (event_key e)) (granted all groups i o row) (element_granted all groups i o row) (itself_granted all groups i o e row) j) rows
-
 -- ---- the last stamp
 
 pub limit_is : (row : Row) (inside n : ℕ) → n ≡ inside → inside ≡ row.stamp → n ≡ 253402300799 → eqb row.stamp last_stamp ≡ true
@@ -358,47 +258,3 @@ or_first (Some r) b c s h = ap (λ x. or_else x c) h
 pub or_second : (a b c : Option Rule) → None ≡ b → a ≡ c → a ≡ or_else b c
 unfolding or_else
 or_second a b c n h = h ∙ ap (λ x. or_else x c) n
-
--- ---- publishing
-
-home_of : (a b c d : Bool) → None ≡ barring a b c d → (a ≡ true) × (d ≡ true)
-unfolding barring
-home_of true b c true h = (refl, refl)
-home_of true b c false h = absurd (false≢true (ap is_some h))
-home_of false true c d h = absurd (false≢true (ap is_some h))
-home_of false false true d h = absurd (false≢true (ap is_some h))
-home_of false false false d h = absurd (false≢true (ap is_some h))
-
-found_some : (p q : Row → Bool) (rows : List Row) → list_any (λ row. p row && q row) rows ≡ true → is_some (find p rows) ≡ true
-found_some p q [] h = absurd (false≢true h)
-found_some p q (row ∷ rows) h = grind (arith, found_some p q rows)
-
--- an event that may be changed has its caller's row
-pub own_there : (s : Scene) (e : EventId) → AreOf e s.rows → None ≡ barring (has_home s.rows s.by e) (has_copy s.rows s.by e) (granted_somewhere s.rows s.groups s.at s.by (event_key e)) true → is_some (find (is_event_row s.by) s.rows) ≡ true
-unfolding has_home
-own_there s e are h =
-    ap is_some (sym (finds_are s e s.rows are))
-    ∙ found_some (is_row_of s.by (event_key e)) (λ row. not (is_mark row) && not row.carried) s.rows (home_of (has_home s.rows s.by e) (has_copy s.rows s.by e) (granted_somewhere s.rows s.groups s.at s.by (event_key e)) true h).0
-
-module _ (s : Scene) (e : EventId) where
-  abbrev may : Option Rule
-  may = barring (has_home s.rows s.by e) (has_copy s.rows s.by e) (granted_somewhere s.rows s.groups s.at s.by (event_key e)) true
-
-  publish_rules : first_rule (change_rules s (Publish e)) ≡ or_else may (first_rule ((is_at_limit s (event_key e), rule.TimeLimit) ∷ []))
-  unfolding change_rules
-  publish_rules = first_of (bars s e true) ((is_at_limit s (event_key e), rule.TimeLimit) ∷ []) ∙ ap (λ x. or_else x (first_rule ((is_at_limit s (event_key e), rule.TimeLimit) ∷ []))) (bars_are s e true)
-
-  pub publish_refused : (fault : ChangeFault) → rule_of fault ≡ may → Refuses (change_rules s (Publish e)) fault
-  publish_refused fault h = refuses_first fault may (first_rule ((is_at_limit s (event_key e), rule.TimeLimit) ∷ [])) (change_rules s (Publish e)) publish_rules h
-
-  publish_left : (b : Bool) → None ≡ may → is_at_limit s (event_key e) ≡ b → first_rule (change_rules s (Publish e)) ≡ first_rule ((b, rule.TimeLimit) ∷ [])
-  unfolding or_else
-  publish_left b n h = publish_rules ∙ (λ i. or_else (sym n i) (first_rule ((h i, rule.TimeLimit) ∷ [])))
-
-  pub publish_late : None ≡ may → is_at_limit s (event_key e) ≡ true → first_rule (change_rules s (Publish e)) ≡ Some rule.TimeLimit
-  unfolding first_rule
-  publish_late n h = publish_left true n h
-
-  pub publish_free : None ≡ may → is_at_limit s (event_key e) ≡ false → first_rule (change_rules s (Publish e)) ≡ None
-  unfolding first_rule
-  publish_free n h = publish_left false n h

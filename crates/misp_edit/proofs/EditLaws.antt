@@ -1,13 +1,10 @@
 -- Deleting an element and editing an attribute, by what the caller has.
-use Rattle.std.proofs.Common.{◌≡◌, refl}
-use Rattle.std.specs.Prelude.{None}
-use Rattle.misp_ids.specs.declared.uid.EventId.{EventId}
-use Rattle.misp_elem.specs.declared.key.Place.{Place}
-use Rattle.misp_elem.specs.declared.key.KeyForm.TheVariants.{Element}
-use Rattle.misp_requests.specs.declared.change.Change.TheVariants.{Delete, EditAttribute}
-use Rattle.misp_requests.specs.declared.edit.AttributeEdit.{AttributeEdit}
-use Rattle.misp_model.specs.Asking.{Scene, own_live, edit_rules, changed_row, change_rules, change_writes, as_deleted, at_attribute, edited, given}
-use Rattle.misp_edit.specs.Changing.{has_live}
+use Rattle.std.proofs.Common.{◌≡◌, refl, None}
+use Rattle.misp_rules.specs.Prelude.{Element, EventId, Place, Scene, as_deleted, at_attribute, change_rules, change_writes, changed_row, edit_rules, edited, own_live}
+use Rattle.misp_rules.specs.declared.change.Change.TheVariants.{Delete, EditAttribute}
+use Rattle.misp_rules.specs.declared.edit.AttributeEditFields.{AttributeEditFields as AttributeEdit}
+use Rattle.misp_rules.specs.Edits.{given}
+use Rattle.misp_copies.specs.OwnRows.{has_live}
 
 module _ (s : Scene) (e : EventId) (p : Place) where
   pub delete_rules : change_rules s (Delete e p) ≡ edit_rules s e (Element e p) (has_live s.rows s.by (Element e p)) None None as_deleted

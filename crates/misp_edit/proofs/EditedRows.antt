@@ -1,26 +1,12 @@
 -- What an edit makes of an attribute's row is a row, where its texts are not too long.
-use Rattle.std.proofs.Common.{◌≡◌, ℕ, ◌+◌, ◌-◌, ◌≤◌, List, [], ◌∷◌, length, Bool, true, false, refl, ap, sym, subst, ◌∙◌, arith, eqb, min}
-use Rattle.std.specs.Prelude.{◌&&◌, ◌||◌, not, nat_le, ◌==◌, sum_by, Option, Some, None}
-use Rattle.std.specs.Str.{is_utf8}
-use Rattle.std.proofs.lemmas.Bool.Decides.{nat_tests}
+use Rattle.std.proofs.Common.{◌≡◌, ℕ, ◌+◌, ◌-◌, ◌≤◌, List, [], ◌∷◌, length, Bool, true, false, refl, ap, sym, subst, ◌∙◌, arith, eqb, min, ◌&&◌, ◌||◌, not, nat_le, ◌==◌, sum_by, Option, Some, None, ltb-false}
 use Rattle.std.proofs.lemmas.List.Sums.{sum_by-cons}
-use Rattle.misp_types.specs.Values.{is_kept}
-use Rattle.std.proofs.lemmas.Bool.{and_parts, and_from, ltb-false, false≢true}
-use Rattle.misp_ids.specs.declared.uid.EventId.{EventId}
-use Rattle.misp_ids.specs.declared.label.Label.{Label}
-use Rattle.misp_elem.specs.declared.key.Place.{Place}
-use Rattle.misp_elem.specs.declared.key.Place.TheVariants as places
-use Rattle.misp_elem.specs.declared.key.KeyForm.{KeyForm as Key}
-use Rattle.misp_elem.specs.declared.key.KeyForm.TheVariants.{Element, Reference, Proposal, Verdict, Sighting}
-use Rattle.misp_elem.specs.declared.content.Tag.{Tag}
-use Rattle.misp_elem.specs.declared.content.Content.{Content}
-use Rattle.misp_elem.specs.declared.content.Content.TheVariants as contents
+use Rattle.misp_elem.specs.Prelude.{AreTags, AreTagsAfter, IsAttributeBody, IsBetween, IsLabel, IsLabelBut, IsTagName, IsText, IsValue, barred_labels, is_after, is_kept, is_text, is_utf8, text_limit, text_size}
 use Rattle.misp_elem.specs.declared.content.AttributeBody.{AttributeBody}
-use Rattle.misp_elem.specs.declared.row.RowFields.{RowFields as Row}
-use Rattle.misp_elem.specs.Row.{is_text, is_after, IsTagName, IsText, IsValue, IsBetween, IsStamp, IsLabel, IsRow, IsContent, AreTags, AreTagsAfter, IsAttributeBody, tags_size, text_size, text_limit, fits, content_kind, may_remove, label_kind, barred_labels, IsLabelBut}
-use Rattle.misp_requests.specs.declared.edit.AttributeEdit.{AttributeEdit}
-use Rattle.misp_model.specs.History.{is_statement, is_gone}
-use Rattle.misp_model.specs.Asking.{given, edited, at_attribute, is_too_long, last_stamp}
+use Rattle.misp_elem.specs.Fields.{tags_size}
+use Rattle.misp_rules.proofs.Prelude.{Content, Element, EventId, IsContent, IsRow, IsStamp, Key, Label, Place, Proposal, Reference, Row, Sighting, Tag, Verdict, and_from, and_parts, at_attribute, content_kind, edited, false≢true, fits}
+use Rattle.misp_rules.proofs.Prelude.{given, is_gone, is_statement, is_too_long, label_kind, last_stamp, may_remove, nat_tests}
+use Rattle.misp_rules.specs.declared.edit.AttributeEditFields.{AttributeEditFields as AttributeEdit}
 use Rattle.misp_edit.specs.Changing.{renewed}
 use Rattle.misp_edit.specs.Edits.{IsGiven, IsKindValue, IsAttributeEdit, is_attribute_place, is_attribute_key}
 use Rattle.misp_edit.proofs.RenewedRows.{later_stamp}
@@ -65,7 +51,7 @@ fit_tags old room ts a k = (a.0, fit_after old room [] ts a.1 k)
 
 -- the parts of an attribute, where together they are not too long
 pub attribute_fits : (b : AttributeBody) (m n old : ℕ) → IsText 1 100 b.kind → IsBetween 0 15 b.category → IsText 0 m b.comment → IsValue n b.kind b.value → AreTags old b.tags →
-    is_too_long (contents.Attribute b) ≡ false → IsAttributeBody b
+    is_too_long (Content.Attribute b) ≡ false → IsAttributeBody b
 unfolding is_too_long text_size
 attribute_fits b m n old kind category comment value tags h =
     let size : length b.kind + length b.comment + length b.value + tags_size b.tags ≤ 16384 = ltb-false 16384 (length b.kind + length b.comment + length b.value + tags_size b.tags) h in (
@@ -108,38 +94,38 @@ module _ (e : AttributeEdit) (b : AttributeBody) (ok : IsAttributeEdit e) (is : 
   category_is : IsBetween 0 15 (given e.category b.category)
   category_is = given_holds (IsBetween 0 15) e.category b.category ok.1.0 is.1.0
 
-  these_fit : (k : Option (List ℕ × List ℕ)) (c : Option (List ℕ)) → IsGiven IsKindValue k → IsGiven (IsText 0 text_limit) c → is_too_long (contents.Attribute (with_these k c)) ≡ false → IsAttributeBody (with_these k c)
+  these_fit : (k : Option (List ℕ × List ℕ)) (c : Option (List ℕ)) → IsGiven IsKindValue k → IsGiven (IsText 0 text_limit) c → is_too_long (Content.Attribute (with_these k c)) ≡ false → IsAttributeBody (with_these k c)
   unfolding given
   these_fit None None g d h = attribute_fits (with_these None None) _ _ _ is.0 category_is is.1.1.1.0 is.1.1.1.1.1.0 is.1.1.1.1.1.1 h
   these_fit None (Some c) g d h = attribute_fits (with_these None (Some c)) _ _ _ is.0 category_is d is.1.1.1.1.1.0 is.1.1.1.1.1.1 h
   these_fit (Some p) None g d h = attribute_fits (with_these (Some p) None) _ _ _ g.0 category_is is.1.1.1.0 g.1 is.1.1.1.1.1.1 h
   these_fit (Some p) (Some c) g d h = attribute_fits (with_these (Some p) (Some c)) _ _ _ g.0 category_is d g.1 is.1.1.1.1.1.1 h
 
-  edited_fits : is_too_long (contents.Attribute (edited e b)) ≡ false → IsAttributeBody (edited e b)
+  edited_fits : is_too_long (Content.Attribute (edited e b)) ≡ false → IsAttributeBody (edited e b)
   unfolding edited
   edited_fits h = these_fit e.kind_value e.comment ok.1.1.1 ok.1.1.0 h
 
 edited_content : (e : AttributeEdit) (may : Bool) (c : Content) → IsAttributeEdit e → IsContent may c → is_too_long (at_attribute (edited e) c) ≡ false → IsContent may (at_attribute (edited e) c)
 unfolding at_attribute
-edited_content e may (contents.Attribute b) ok is h = edited_fits e b ok is h
-edited_content e may (contents.Event b) ok is h = is
-edited_content e may (contents.Object b) ok is h = is
-edited_content e may (contents.Reference b) ok is h = is
-edited_content e may (contents.Proposal b) ok is h = is
-edited_content e may (contents.Verdict b) ok is h = is
-edited_content e may (contents.Sighting b) ok is h = is
-edited_content e may contents.Gone ok is h = is
+edited_content e may (Content.Attribute b) ok is h = edited_fits e b ok is h
+edited_content e may (Content.Event b) ok is h = is
+edited_content e may (Content.Object b) ok is h = is
+edited_content e may (Content.Reference b) ok is h = is
+edited_content e may (Content.Proposal b) ok is h = is
+edited_content e may (Content.Verdict b) ok is h = is
+edited_content e may (Content.Sighting b) ok is h = is
+edited_content e may Content.Gone ok is h = is
 
 edited_kind : (e : AttributeEdit) (c : Content) → content_kind (at_attribute (edited e) c) ≡ content_kind c
 unfolding at_attribute
-edited_kind e (contents.Attribute b) = refl
-edited_kind e (contents.Event b) = refl
-edited_kind e (contents.Object b) = refl
-edited_kind e (contents.Reference b) = refl
-edited_kind e (contents.Proposal b) = refl
-edited_kind e (contents.Verdict b) = refl
-edited_kind e (contents.Sighting b) = refl
-edited_kind e contents.Gone = refl
+edited_kind e (Content.Attribute b) = refl
+edited_kind e (Content.Event b) = refl
+edited_kind e (Content.Object b) = refl
+edited_kind e (Content.Reference b) = refl
+edited_kind e (Content.Proposal b) = refl
+edited_kind e (Content.Verdict b) = refl
+edited_kind e (Content.Sighting b) = refl
+edited_kind e Content.Gone = refl
 
 -- a row of an attribute may have any label
 attribute_row : (now : ℕ) (row : Row) (e : EventId) (p : Place) (l : Label) (c : Content) → row.key ≡ Element e p → is_attribute_place p ≡ true → IsStamp now → IsRow row → eqb row.stamp last_stamp ≡ false →
@@ -156,7 +142,8 @@ attribute_row now row e p l c k a s is t label kind content = (
         (
           tt,
           (
-            subst (λ key. fits key (label_kind l) (not (is_statement row.key || is_gone c), false) (content_kind c) ≡ true) (sym k) (any_fits p a (subst (λ key. fits key (label_kind row.label) (row.held, row.carried) (content_kind row.content) ≡ true) k is.1.1.1.1.1.0)),
+            subst (λ key. fits key (label_kind l) (not (is_statement row.key || is_gone c), false) (content_kind c) ≡ true) (sym k)
+                (any_fits p a (subst (λ key. fits key (label_kind row.label) (row.held, row.carried) (content_kind row.content) ≡ true) k is.1.1.1.1.1.0)),
             content,
           ),
         ),
@@ -166,17 +153,17 @@ attribute_row now row e p l c k a s is t label kind content = (
 )
   where
     any_label : (p : Place) → is_attribute_place p ≡ true → IsLabelBut (barred_labels (Element e p)) l
-    any_label places.Event a = absurd (false≢true a)
-    any_label (places.Object x) a = absurd (false≢true a)
-    any_label (places.Attribute x) a = (refl, label)
-    any_label (places.ObjectAttribute x y) a = (refl, label)
+    any_label Place.Event a = absurd (false≢true a)
+    any_label (Place.Object x) a = absurd (false≢true a)
+    any_label (Place.Attribute x) a = (refl, label)
+    any_label (Place.ObjectAttribute x y) a = (refl, label)
 
     any_fits : (p : Place) → is_attribute_place p ≡ true → fits (Element e p) (label_kind row.label) (row.held, row.carried) (content_kind row.content) ≡ true →
         fits (Element e p) (label_kind l) (not (is_statement row.key || is_gone c), false) (content_kind c) ≡ true
-    any_fits places.Event a g = absurd (false≢true a)
-    any_fits (places.Object x) a g = absurd (false≢true a)
-    any_fits (places.Attribute x) a g = ap (λ n. n == 2) kind ∙ g
-    any_fits (places.ObjectAttribute x y) a g = ap (λ n. n == 2) kind ∙ g
+    any_fits Place.Event a g = absurd (false≢true a)
+    any_fits (Place.Object x) a g = absurd (false≢true a)
+    any_fits (Place.Attribute x) a g = ap (λ n. n == 2) kind ∙ g
+    any_fits (Place.ObjectAttribute x y) a g = ap (λ n. n == 2) kind ∙ g
 
 pub edited_row : (now : ℕ) (row : Row) (e : EventId) (p : Place) (edit : AttributeEdit) → row.key ≡ Element e p → is_attribute_place p ≡ true → IsStamp now → IsRow row → eqb row.stamp last_stamp ≡ false →
     IsAttributeEdit edit → is_too_long (at_attribute (edited edit) row.content) ≡ false → IsRow (renewed now row (given edit.label row.label) (at_attribute (edited edit) row.content))

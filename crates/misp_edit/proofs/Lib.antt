@@ -1,5 +1,4 @@
 pub mod ListLemmas
-pub mod SortLemmas
 pub mod UuidLemmas
 pub mod TargetLemmas
 pub mod RuleLemmas
@@ -9,5 +8,5 @@ pub mod ChangeLemmas
 pub mod RenewedRows
 pub mod EditedRows
 pub mod EditLaws
-pub mod MarkLemmas
+pub mod TombstoneLemmas
 pub mod TaggedRows

@@ -1,16 +1,8 @@
 -- Lists of rows, and searches in lists.
-use Rattle.std.proofs.Common.{◌≡◌, ◌∙◌, ℕ, ◌+◌, ◌<◌, Bool, ◌||◌, Option, Some, None, List, [], ◌∷◌, ◌++◌, map, take, length, get_or, ap, sym, refl, arith, append_assoc, append-nil}
-use Rattle.std.specs.List.{list_any, find, filter_map, cons_option}
-use Rattle.std.specs.Option.{is_some}
+use Rattle.std.proofs.Common.{◌≡◌, ◌∙◌, ℕ, ◌+◌, ◌<◌, Bool, ◌||◌, Option, Some, None, List, [], ◌∷◌, ◌++◌, map, take, length, get_or, ap, sym, refl, arith, append_assoc, append-nil, filter_map}
+use Rattle.std.specs.List.{list_any, cons_option}
 use Rattle.std.proofs.lemmas.List.{map-append, map_more, take_more}
 use Rattle.std.proofs.lemmas.List.Elements.{filter_map-append}
-use Rattle.misp_elem.specs.declared.row.RowFields.{RowFields as Row}
-use Rattle.misp_elem.specs.Row.{IsRow, AreRows}
-
--- one more row at the end
-pub are_rows_push : (rows : List Row) (row : Row) → AreRows rows → IsRow row → AreRows (rows ++ row ∷ [])
-are_rows_push [] row all is = (is, tt)
-are_rows_push (r ∷ rows) row all is = (all.0, are_rows_push rows row all.1 is)
 
 module _ {A B : Type 0} where
   -- one more item at the end of a list that is mapped after another
@@ -24,31 +16,11 @@ module _ {A B : Type 0} where
   map_next f after xs i x y l e g h =
       (λ j. h j ++ (g ∙ ap f e) j ∷ []) ∙ sym (map_more f xs i x l)
 
-  -- a test after a function
-  pub any_map : (p : B → Bool) (f : A → B) (xs : List A) → list_any p (map f xs) ≡ list_any (λ x. p (f x)) xs
-  any_map p f [] = refl
-  any_map p f (x ∷ xs) = ap (λ b. p (f x) || b) (any_map p f xs)
-
--- one function after another
-pub map_twice : {A B C : Type 0} (g : B → C) (f : A → B) (xs : List A) → map g (map f xs) ≡ map (λ x. g (f x)) xs
-map_twice g f [] = refl
-map_twice g f (x ∷ xs) = ap (λ ys. g (f x) ∷ ys) (map_twice g f xs)
-
 module _ {X : Type 0} where
   -- a list that is mapped to itself
   pub map_same : (xs : List X) → map (λ x. x) xs ≡ xs
   map_same [] = refl
   map_same (x ∷ xs) = ap (λ ys. x ∷ ys) (map_same xs)
-
-  -- a search by tests that agree
-  pub find_same : (p q : X → Bool) (xs : List X) → ((x : X) → p x ≡ q x) → find p xs ≡ find q xs
-  find_same p q [] h = refl
-  find_same p q (x ∷ xs) h = grind (arith, h x, find_same p q xs h)
-
-  -- something is found where something passes
-  pub find_any : (p : X → Bool) (xs : List X) → is_some (find p xs) ≡ list_any p xs
-  find_any p [] = refl
-  find_any p (x ∷ xs) = grind (arith, find_any p xs)
 
   -- something passes one of two tests where something passes the one or the other
   pub any_or : (p q : X → Bool) (xs : List X) → list_any (λ x. p x || q x) xs ≡ (list_any p xs || list_any q xs)
@@ -60,7 +32,7 @@ pub map_all : {A B : Type 0} (f : A → B) (before after : List B) (xs ys : List
     map (λ x. x) xs ≡ ys → after ≡ before ++ map f xs → after ≡ before ++ map f ys
 map_all f before after xs ys e h = h ∙ ap (λ zs. before ++ map f zs) (sym (map_same xs) ∙ e)
 
--- one of a list that is filtered, behind those before it
+-- one of a list that is filtered, after those before it
 module _ {X Y : Type 0} (f : X → Option Y) where
   filter_map_more : (xs : List X) (i : ℕ) (d : X) → i < length xs → filter_map f (take (i + 1) xs) ≡ filter_map f (take i xs) ++ cons_option (f (get_or xs i d)) []
   filter_map_more xs i d l = ap (filter_map f) (take_more xs i d l) ∙ filter_map-append f (take i xs) (get_or xs i d ∷ [])

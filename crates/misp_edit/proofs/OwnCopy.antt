@@ -1,40 +1,18 @@
 -- An addition is refused, answered and written from what its caller has of the event as from all rows.
-use Rattle.std.proofs.Common.{◌≡◌, ℕ, List, [], ◌∷◌, ◌++◌, Bool, true, false, length, nat_eq, refl, sym, ap, subst, ◌∙◌, map, eqb, arith}
-use Rattle.std.specs.Prelude.{◌&&◌, ◌||◌, not, Option, Some, None, option_map, option_to_list, is_some, bytes_eq}
-use Rattle.std.specs.List.{filter, filter_map, find, list_any, starts_with}
-use Rattle.std.proofs.lemmas.Bool.{and_parts, and_from, or_left}
-use Rattle.std.proofs.lemmas.Bool.Decides.{nat_tests}
-use Rattle.std.proofs.lemmas.List.{take_at}
-use Rattle.std.proofs.lemmas.Slice.Eq.{bytes_eq-Decides}
-use Rattle.misp_ids.specs.declared.uid.OrgId.{OrgId}
-use Rattle.misp_ids.specs.declared.uid.EventId.{EventId}
-use Rattle.misp_ids.specs.declared.uid.ElemId.{ElemId}
-use Rattle.misp_ids.specs.declared.label.Label.TheVariants as label
-use Rattle.misp_elem.specs.declared.key.Place.{Place}
-use Rattle.misp_elem.specs.declared.key.KeyForm.{KeyForm as Key}
-use Rattle.misp_elem.specs.declared.key.KeyForm.TheVariants.{Reference}
-use Rattle.misp_elem.specs.declared.content.Content.TheVariants as content
-use Rattle.misp_elem.specs.declared.row.RowFields.{RowFields as Row}
-use Rattle.misp_elem.specs.Draft.{ReferenceDraftFields as ReferenceDraft}
-use Rattle.misp_elem.specs.Draft.{SubmissionFields as Submission}
-use Rattle.misp_elem.specs.Spelling.{uid, key}
-use Rattle.misp_groups.specs.declared.group.GroupFields.{GroupFields as Group}
-use Rattle.misp_requests.specs.declared.change.Change.TheVariants.{AddEvent}
-use Rattle.misp_requests.specs.declared.ask.Ask.{Ask}
-use Rattle.misp_requests.specs.declared.ask.Ask.TheVariants as ask
-use Rattle.misp_model.specs.Names.{Inst, same_org, same_event, event_of, event_key, parents}
-use Rattle.misp_model.specs.View.{is_row_of, is_mark, is_deleted, has_copy, has_gone, is_live, granted, is_known, known}
-use Rattle.misp_model.specs.Order.{in_order}
-use Rattle.misp_model.specs.Asking.{Scene, Rule, EventExists, EventGone, ElementExists, GroupNotUsable, holds_copy, holds_mark, is_target_key, place_in, is_place_of, takes_uuid, is_taken, target_in_copy, target_of, has_target, uuid_at, written, new_event, part_version, reference_key, reference_version, parts_written, event_written, change_rules, change_writes}
-use Rattle.misp_model.specs.Acts.{Saved, answer, ask_rules, brings, is_accepted, ok_answer}
-use Rattle.misp_model.specs.Machine.{is_of_copy, seeing, name_bytes}
-use Rattle.misp_model.proofs.Lists.{all_same, any_cut, find_within, filter_within}
-use Rattle.misp_model.proofs.Same.{same_key-keeps, same_org-sound}
-use Rattle.misp_model.proofs.Members.{same_org-refl}
-use Rattle.misp_model.proofs.Knowing.{event_kept}
-use Rattle.misp_model.proofs.Local.{of_event, event_is_closed}
-use Rattle.misp_model.proofs.ShownHere.{key_here}
-use Rattle.misp_model.proofs.OneEvent.{IsSame, from_rules, accepted_from}
+use Rattle.std.proofs.Common.{◌≡◌, ℕ, List, [], ◌∷◌, ◌++◌, Bool, true, false, length, nat_eq, refl, sym, ap, subst, ◌∙◌, map, eqb, arith, ◌&&◌, ◌||◌, not, Option, Some, None, option_map, option_to_list, is_some, bytes_eq, filter}
+use Rattle.std.proofs.Common.{filter_map, find, take_at}
+use Rattle.std.specs.List.{starts_with}
+use Rattle.misp_elem.specs.Spelling.{key}
+use Rattle.misp_rules.proofs.Prelude.{Content, ElementExists, ElemId, EventExists, EventGone, EventId, Group, GroupNotUsable, Inst, Key, Label, OrgId, Place, Reference, ReferenceDraft, Row, Rule, Saved, Scene, Submission, all_same}
+use Rattle.misp_rules.proofs.Prelude.{and_from, and_parts, answer, any_cut, ask_rules, brings, bytes_eq-Decides, change_rules, change_writes, event_is_closed, event_kept, event_key, event_of, event_written, filter_within, find_within}
+use Rattle.misp_rules.proofs.Prelude.{granted, has_copy, has_gone, has_target, holds_copy, in_order, is_accepted, is_deleted, is_known, is_live, is_place_of, is_row_of, is_taken, is_target_key, is_tombstone, known, list_any, name_bytes}
+use Rattle.misp_rules.proofs.Prelude.{nat_tests, new_event, of_event, ok_answer, or_left, parents, part_version, parts_written, place_in, reference_key, reference_version, same_event, same_key-keeps, same_org, same_org-refl}
+use Rattle.misp_rules.proofs.Prelude.{same_org-sound, seeing, takes_uuid, target_in_copy, target_of, uid, uuid_at, written}
+use Rattle.misp_rules.specs.Scene.{holds_tombstone}
+use Rattle.misp_rules.specs.Machine.{is_of_copy}
+use Rattle.misp_rules.proofs.ShownHere.{key_here}
+use Rattle.misp_rules.proofs.OneEvent.{IsSame, from_rules, accepted_from}
+use Rattle.misp_history.proofs.Prelude.{AddEvent, Ask}
 use Rattle.misp_edit.specs.Adding.{numbered_uuids, is_read_before, read_uuids, with_those_before, is_clash, first_clash, labels_of, first_unusable}
 use Rattle.misp_edit.specs.Refusals.{named, added_place, refusal_of}
 use Rattle.misp_edit.proofs.RuleLemmas.{clash_known, unusable_known, usable}
@@ -66,11 +44,11 @@ module _ (o : OrgId) (e : EventId) (rows : List Row) where
 
   copy_has : (w : OrgId) (f : EventId) → same_org w o ≡ true → of_event e (event_key f) ≡ true → has_copy copy w f ≡ has_copy rows w f
   unfolding has_copy
-  copy_has w f h g = copy_any w (event_key f) (λ row. not (is_mark row)) h g
+  copy_has w f h g = copy_any w (event_key f) (λ row. not (is_tombstone row)) h g
 
   copy_gone : (w : OrgId) (f : EventId) → same_org w o ≡ true → of_event e (event_key f) ≡ true → has_gone copy w f ≡ has_gone rows w f
   unfolding has_gone
-  copy_gone w f h g = copy_any w (event_key f) is_mark h g
+  copy_gone w f h g = copy_any w (event_key f) is_tombstone h g
 
   copy_live : (row : Row) → is_of_copy o e row ≡ true → is_live copy row ≡ is_live rows row
   unfolding is_live is_of_copy of_event
@@ -85,7 +63,7 @@ module _ (o : OrgId) (e : EventId) (rows : List Row) where
 -- ---- an addition from the copy alone
 
 abbrev add : Submission → Ask
-add b = ask.Change (AddEvent b)
+add b = Ask.Change (AddEvent b)
 
 module _ (b : Submission) (s : Scene) where
   -- the same surroundings with what the caller has of the event alone
@@ -130,7 +108,7 @@ module _ (b : Submission) (s : Scene) where
   unusable_mine = λ i. find (λ l. (usable mine b l ∙ sym (usable s b l)) i) (labels_of b)
 
   rules_mine : change_rules mine (AddEvent b) ≡ change_rules s (AddEvent b)
-  unfolding change_rules holds_copy holds_mark
+  unfolding change_rules holds_copy holds_tombstone
   rules_mine = λ i.
       (copy_has s.by b.event s.rows s.by b.event (same_org-refl s.by) (key_here b.event) i, EventExists)
       ∷ (copy_gone s.by b.event s.rows s.by b.event (same_org-refl s.by) (key_here b.event) i, EventGone)
@@ -140,12 +118,12 @@ module _ (b : Submission) (s : Scene) where
   reference_mine : (r : ReferenceDraft) → reference_version mine b.event b.parts r ≡ reference_version s b.event b.parts r
   unfolding reference_version reference_key written
   reference_mine r = λ i.
-      option_map (λ k. written s k s.now label.Inherit (content.Reference r.body)) (option_map (λ t. Reference b.event r.object t r.uuid) (target_mine r.referenced i))
+      option_map (λ k. written s k s.now Label.Inherit (Content.Reference r.body)) (option_map (λ t. Reference b.event r.object t r.uuid) (target_mine r.referenced i))
 
   writes_mine : change_writes mine (AddEvent b) ≡ change_writes s (AddEvent b)
   unfolding change_writes event_written parts_written part_version new_event written
   writes_mine = λ i.
-      map (λ d. written s (event_key b.event) s.now b.label (content.Event (new_event s d))) (option_to_list b.body)
+      map (λ d. written s (event_key b.event) s.now b.label (Content.Event (new_event s d))) (option_to_list b.body)
       ++ (map (part_version s b.event) b.parts ++ filter_map (λ r. reference_mine r i) b.references)
 
   add_mine : IsSame mine s (add b)
@@ -181,7 +159,9 @@ module _ (o : OrgId) (e : EventId) where
   -- and all of it is known
   own_is_known : (rows : List Row) (groups : List Group) (i : Inst) → copy o e (known rows groups i o) ≡ copy o e rows
   unfolding known is_known is_of_copy
-  own_is_known rows groups i = filter_within (is_of_copy o e) (is_of_copy o e) (is_known rows groups i o) (λ row h. refl) (λ row h. or_left (same_org row.owner o) (granted rows groups i o row) (and_parts (same_org row.owner o) (same_event (event_of row.key) e) h).0) rows
+  own_is_known rows groups i =
+      filter_within (is_of_copy o e) (is_of_copy o e) (is_known rows groups i o) (λ row h. refl)
+      (λ row h. or_left (same_org row.owner o) (granted rows groups i o row) (and_parts (same_org row.owner o) (same_event (event_of row.key) e) h).0) rows
 
 -- two scenes in which an ask is answered, written and refused the same
 pub record IsAlike (s t : Scene) (a : Ask) : Type 0 where

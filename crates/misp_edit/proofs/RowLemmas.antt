@@ -1,22 +1,10 @@
 -- The rows of what adding an event writes.
-use Rattle.std.proofs.Common.{◌≡◌, ℕ, List, [], ◌∷◌, ◌++◌, map, Option, Some, None, option_map, option_to_list, ap, refl, ◌∙◌, append_assoc}
-use Rattle.std.specs.List.{filter_map, cons_option}
-use Rattle.misp_ids.specs.declared.uid.OrgId.{OrgId}
-use Rattle.misp_ids.specs.declared.uid.EventId.{EventId}
-use Rattle.misp_ids.specs.declared.uid.ElemId.{ElemId}
-use Rattle.misp_ids.specs.declared.label.Label.{Label}
-use Rattle.misp_ids.specs.declared.label.Label.TheVariants as labels
-use Rattle.misp_elem.specs.declared.content.Content.{Content}
-use Rattle.misp_elem.specs.declared.content.Content.TheVariants as contents
-use Rattle.misp_elem.specs.declared.key.KeyForm.TheVariants.{Element, Reference}
-use Rattle.misp_elem.specs.declared.key.Place.{Place}
-use Rattle.misp_elem.specs.declared.row.RowFields.{RowFields as Row}
-use Rattle.misp_elem.specs.Draft.{DraftFields as Draft, EventDraftFields as EventDraft, ReferenceDraftFields as ReferenceDraft, SubmissionFields as Submission}
-use Rattle.misp_groups.specs.declared.group.GroupFields.{GroupFields as Group}
-use Rattle.misp_model.specs.Names.{Inst, Stamp, event_key}
-use Rattle.misp_model.specs.History.{fresh_row, is_gone, is_statement, is_published}
-use Rattle.misp_model.specs.Asking.{Scene, written, part_version, target_of, reference_key, reference_version, parts_written, new_event, event_written}
-use Rattle.misp_edit.specs.Adding.{scene_of}
+use Rattle.std.proofs.Common.{◌≡◌, ℕ, List, [], ◌∷◌, ◌++◌, map, Option, Some, None, option_map, option_to_list, refl, ◌∙◌, append_assoc, filter_map}
+use Rattle.misp_rules.proofs.Prelude.{Content, Draft, Element, ElemId, EventId, Group, Inst, Label, OrgId, Place, Reference, ReferenceDraft, Row, Scene, Submission, cons_option, event_key, event_written, is_gone, is_published}
+use Rattle.misp_rules.proofs.Prelude.{is_statement, map-append, new_event, part_version, parts_written, reference_key, reference_version, target_of, written}
+use Rattle.misp_rules.specs.Prelude.{EventDraft, Stamp}
+use Rattle.misp_history.specs.History.{fresh_row}
+use Rattle.misp_copies.specs.Scenes.{scene_of}
 use Rattle.misp_edit.specs.Rows.{new_row, part_row, reference_row, row_with_target, event_row, body_of, added_rows}
 
 -- one list after two others
@@ -24,35 +12,31 @@ map_both : {A B C : Type 0} (f : B → C) (g : A → B) (h : A → C) (xs : List
 map_both f g h [] k = refl
 map_both f g h (x ∷ xs) k = rw (k x, map_both f g h xs k) refl
 
-map_after : {A B : Type 0} (f : A → B) (xs ys : List A) → map f (xs ++ ys) ≡ map f xs ++ map f ys
-map_after f [] ys = refl
-map_after f (x ∷ xs) ys = ap (λ zs. f x ∷ zs) (map_after f xs ys)
-
 module _ (act : ℕ) (at : Inst) (w : OrgId) (name : List ℕ) (now : Stamp) (today : List ℕ) (groups : List Group) (rows : List Row) where
   -- a written version's row
   new_row_is : (e : EventId) (p : Place) (l : Label) (c : Content) →
       new_row w e now p l c ≡ fresh_row (written (scene_of act at w name now today groups rows) (Element e p) now l c)
   unfolding new_row fresh_row written is_statement is_gone is_published
-  new_row_is e p l contents.Gone = refl
-  new_row_is e p l (contents.Event b) = refl
-  new_row_is e p l (contents.Object b) = refl
-  new_row_is e p l (contents.Attribute b) = refl
-  new_row_is e p l (contents.Reference b) = refl
-  new_row_is e p l (contents.Proposal b) = refl
-  new_row_is e p l (contents.Verdict b) = refl
-  new_row_is e p l (contents.Sighting b) = refl
+  new_row_is e p l Content.Gone = refl
+  new_row_is e p l (Content.Event b) = refl
+  new_row_is e p l (Content.Object b) = refl
+  new_row_is e p l (Content.Attribute b) = refl
+  new_row_is e p l (Content.Reference b) = refl
+  new_row_is e p l (Content.Proposal b) = refl
+  new_row_is e p l (Content.Verdict b) = refl
+  new_row_is e p l (Content.Sighting b) = refl
 
   part_row_is : (e : EventId) (d : Draft) → part_row w e now d ≡ fresh_row (part_version (scene_of act at w name now today groups rows) e d)
   unfolding part_row part_version
   part_row_is e d = new_row_is e d.place d.label d.content
 
   event_row_is : (e : EventId) (l : Label) (d : EventDraft) →
-      event_row w name today e now l d ≡ fresh_row (written (scene_of act at w name now today groups rows) (event_key e) now l (contents.Event (new_event (scene_of act at w name now today groups rows) d)))
+      event_row w name today e now l d ≡ fresh_row (written (scene_of act at w name now today groups rows) (event_key e) now l (Content.Event (new_event (scene_of act at w name now today groups rows) d)))
   unfolding event_row event_key body_of new_event
   event_row_is e l d = new_row_is e _ l _
 
   reference_row_is : (e : EventId) (r : ReferenceDraft) (t : Place) →
-      reference_row w e now r t ≡ fresh_row (written (scene_of act at w name now today groups rows) (Reference e r.object t r.uuid) now labels.Inherit (contents.Reference r.body))
+      reference_row w e now r t ≡ fresh_row (written (scene_of act at w name now today groups rows) (Reference e r.object t r.uuid) now Label.Inherit (Content.Reference r.body))
   unfolding reference_row fresh_row written is_statement is_gone is_published
   reference_row_is e r t = refl
 
@@ -68,7 +52,7 @@ module _ (act : ℕ) (at : Inst) (w : OrgId) (name : List ℕ) (now : Stamp) (to
 
         one : (t : Option Place) → filter_map (row_with_target target w b.event now) rs ≡ map fresh_row (filter_map (reference_version s b.event b.parts) rs) →
             cons_option (option_map (reference_row w b.event now r) t) (filter_map (row_with_target target w b.event now) rs)
-            ≡ map fresh_row (cons_option (option_map (λ k. written s k now labels.Inherit (contents.Reference r.body)) (option_map (λ p. Reference b.event r.object p r.uuid) t)) (filter_map (reference_version s b.event b.parts) rs))
+            ≡ map fresh_row (cons_option (option_map (λ k. written s k now Label.Inherit (Content.Reference r.body)) (option_map (λ p. Reference b.event r.object p r.uuid) t)) (filter_map (reference_version s b.event b.parts) rs))
         one None ih = ih
         one (Some p) ih = λ i. reference_row_is b.event r p i ∷ ih i
 
@@ -79,11 +63,12 @@ module _ (act : ℕ) (at : Inst) (w : OrgId) (name : List ℕ) (now : Stamp) (to
         let s : Scene = scene_of act at w name now today groups rows in
         append_assoc (map (event_row w name today b.event now b.label) (option_to_list b.body)) (map (part_row w b.event now) b.parts) (filter_map (row_with_target target w b.event now) b.references)
         ∙ rw (
-          map_after fresh_row (map (λ d. written s (event_key b.event) now b.label (contents.Event (new_event s d))) (option_to_list b.body)) (map (part_version s b.event) b.parts ++ filter_map (reference_version s b.event b.parts) b.references),
-          map_after fresh_row (map (part_version s b.event) b.parts) (filter_map (reference_version s b.event b.parts) b.references),
+          map-append fresh_row (map (λ d. written s (event_key b.event) now b.label (Content.Event (new_event s d))) (option_to_list b.body))
+              (map (part_version s b.event) b.parts ++ filter_map (reference_version s b.event b.parts) b.references),
+          map-append fresh_row (map (part_version s b.event) b.parts) (filter_map (reference_version s b.event b.parts) b.references),
         )
         (rw (
-          map_both fresh_row (λ d. written s (event_key b.event) now b.label (contents.Event (new_event s d))) (event_row w name today b.event now b.label) (option_to_list b.body) (event_row_is b.event b.label),
+          map_both fresh_row (λ d. written s (event_key b.event) now b.label (Content.Event (new_event s d))) (event_row w name today b.event now b.label) (option_to_list b.body) (event_row_is b.event b.label),
           map_both fresh_row (part_version s b.event) (part_row w b.event now) b.parts (part_row_is b.event),
           references_are b.references,
         ) refl)

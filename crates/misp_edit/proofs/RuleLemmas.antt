@@ -1,32 +1,21 @@
 -- Which rule refuses to add an event, and what the refusal names.
-use Rattle.std.proofs.Common.{◌≡◌, ◌∙◌, ℕ, Bool, true, false, not, ◌||◌, [], ◌∷◌, map, Option, Some, None, option_map, BTreeMap, ap, sym, refl}
-use Rattle.std.specs.List.{list_any, find}
-use Rattle.std.specs.Option.{is_some}
-use Rattle.misp_ids.specs.declared.uid.ElemId.{ElemId}
-use Rattle.misp_ids.specs.declared.uid.GroupId.{GroupId}
-use Rattle.misp_ids.specs.declared.label.Label.{Label}
-use Rattle.misp_ids.specs.declared.label.Label.TheVariants as labels
+use Rattle.std.proofs.Common.{◌≡◌, ◌∙◌, ℕ, Bool, true, false, not, ◌||◌, [], ◌∷◌, map, Option, Some, None, option_map, BTreeMap, ap, sym, refl, find, is_some}
 use Rattle.misp_ids.specs.Uid.{text_of}
-use Rattle.misp_elem.specs.declared.key.Place.{Place}
-use Rattle.misp_elem.specs.declared.refusal.Refusal.{Refusal}
-use Rattle.misp_elem.specs.declared.refusal.RuleName.TheVariants as rules
-use Rattle.misp_elem.specs.Refusal.{bare}
-use Rattle.misp_elem.specs.Draft.{SubmissionFields as Submission}
-use Rattle.misp_requests.specs.declared.ask.Ask.{Ask}
-use Rattle.misp_requests.specs.declared.ask.Ask.TheVariants.{Change}
-use Rattle.misp_requests.specs.declared.change.Change.TheVariants.{AddEvent}
-use Rattle.misp_model.specs.Order.{in_order}
-use Rattle.misp_model.specs.View.{has_copy, has_gone}
-use Rattle.misp_model.specs.Asking.{Scene, Rule, first_rule, change_rules, holds_copy, holds_mark, target_in_copy, target_of, has_target, is_taken, are_distinct, is_usable, clashes, has_unusable, EventExists, EventGone, ElementExists, GroupNotUsable}
-use Rattle.misp_model.specs.Numbers.{scene_as}
-use Rattle.misp_model.proofs.Numbers.{usable_as}
+use Rattle.misp_lists.proofs.Lists.{any_found, any_map, find_by}
+use Rattle.misp_ids.specs.declared.refusal.Refusal.{Refusal}
+use Rattle.misp_groups.specs.Prelude.{RuleName, bare}
+use Rattle.misp_rules.specs.Prelude.{ElementExists, ElemId, EventExists, EventGone, GroupId, GroupNotUsable, Label, Place, Rule, Scene, Submission, change_rules, clashes, first_rule, has_copy, has_gone, has_unusable, holds_copy}
+use Rattle.misp_rules.specs.Prelude.{holds_tombstone, in_order, is_taken, is_usable, list_any, scene_as, target_in_copy}
+use Rattle.misp_rules.specs.declared.ask.Ask.TheVariants.{Change}
+use Rattle.misp_rules.specs.Adding.{target_of, has_target, are_distinct}
+use Rattle.misp_rules.proofs.Numbers.{usable_as}
+use Rattle.misp_history.proofs.Prelude.{AddEvent, Ask}
 use Rattle.misp_edit.specs.declared.fault.AddFault.TheVariants.{Refused}
 use Rattle.misp_edit.specs.Adding.{refusing, numbered_uuids, is_read_before, read_uuids, is_clash, first_clash, labels_of, first_unusable}
 use Rattle.misp_edit.specs.Refusals.{named, added_place, refusal_of, uuid_text, group_text, Refuses}
 use Rattle.misp_edit.specs.Labels.{is_unusable}
 use Rattle.misp_edit.specs.Uuids.{has_uuid, is_used, numbered_in, clash_in}
 use Rattle.misp_edit.specs.Targets.{target_places, target_in, AreTargets}
-use Rattle.misp_edit.proofs.ListLemmas.{find_same, find_any, any_map}
 use Rattle.misp_edit.proofs.UuidLemmas.{is_clash_in, first_clash_is, any_in_order, distinct_in_order, unnumbered, numbered_is}
 use Rattle.misp_edit.proofs.TargetLemmas.{target_is}
 
@@ -50,16 +39,16 @@ module _ (s : Scene) (b : Submission) where
   pub unusable_known : is_some (first_unusable s b) ≡ has_unusable s b
   unfolding first_unusable labels_of has_unusable
   unusable_known =
-      find_any (λ l. not (is_usable s l)) (b.label ∷ map (λ d. d.label) b.parts)
-      ∙ ap (λ x. not (is_usable s b.label) || x) (any_map (λ l. not (is_usable s l)) (λ d. d.label) b.parts)
+      sym (any_found (λ l. not (is_usable s l)) (b.label ∷ map (λ d. d.label) b.parts))
+      ∙ ap (λ x. not (is_usable s b.label) || x) (any_map (λ d. d.label) (λ l. not (is_usable s l)) b.parts)
 
 -- the first of the four rules
-abbrev first_of : (copy mark clash group : Bool) → Option Rule
-first_of copy mark clash group = first_rule ((copy, EventExists) ∷ (mark, EventGone) ∷ (clash, ElementExists) ∷ (group, GroupNotUsable) ∷ [])
+abbrev first_of : (copy tombstone clash group : Bool) → Option Rule
+first_of copy tombstone clash group = first_rule ((copy, EventExists) ∷ (tombstone, EventGone) ∷ (clash, ElementExists) ∷ (group, GroupNotUsable) ∷ [])
 
 -- the rule, by what is found
 rule_is : (s : Scene) (b : Submission) →
-    refusing s b ≡ first_of (holds_copy s b.event) (holds_mark s b.event) (is_some (first_clash s b)) (is_some (first_unusable s b))
+    refusing s b ≡ first_of (holds_copy s b.event) (holds_tombstone s b.event) (is_some (first_clash s b)) (is_some (first_unusable s b))
 unfolding change_rules
 rule_is s b = rw (clash_known s b, unusable_known s b) refl
 
@@ -70,25 +59,25 @@ module _ (s : Scene) (b : Submission) where
 
   pub usable : (l : Label) → not (is_usable s l) ≡ bars l
   unfolding is_usable is_unusable
-  usable (labels.Group g) = refl
+  usable (Label.Group g) = refl
   usable l = refl
 
   unusable_by : (found : Option Label) → find bars (b.label ∷ map (λ d. d.label) b.parts) ≡ found → first_unusable s b ≡ found
   unfolding first_unusable labels_of
-  unusable_by found h = find_same (λ l. not (is_usable s l)) bars (b.label ∷ map (λ d. d.label) b.parts) usable ∙ h
+  unusable_by found h = find_by (λ l. not (is_usable s l)) bars usable (b.label ∷ map (λ d. d.label) b.parts) ∙ h
 
   -- the refusal by the first rule that refuses
   by_rule : (rule : Rule) → refusing s b ≡ Some rule → Refuses s b (Refused (refusal_of s (Change (AddEvent b)) rule))
   by_rule rule h = ap (option_map (refusal_of s (Change (AddEvent b)))) h
 
   -- the caller has the event
-  pub exists : has_copy s.rows s.by b.event ≡ true → Refuses s b (Refused (bare rules.EventExists))
+  pub exists : has_copy s.rows s.by b.event ≡ true → Refuses s b (Refused (bare RuleName.EventExists))
   unfolding first_rule holds_copy
   exists h = by_rule EventExists (rule_is s b ∙ rw h refl)
 
-  -- the caller has its mark
-  pub gone : has_copy s.rows s.by b.event ≡ false → has_gone s.rows s.by b.event ≡ true → Refuses s b (Refused (bare rules.EventGone))
-  unfolding first_rule holds_copy holds_mark
+  -- the caller has its tombstone
+  pub gone : has_copy s.rows s.by b.event ≡ false → has_gone s.rows s.by b.event ≡ true → Refuses s b (Refused (bare RuleName.EventGone))
+  unfolding first_rule holds_copy holds_tombstone
   gone h k = by_rule EventGone (rule_is s b ∙ rw (h, k) refl)
 
   -- with what the references name
@@ -110,24 +99,24 @@ module _ (s : Scene) (b : Submission) where
 
     module _ (h : has_copy s.rows s.by b.event ≡ false) (k : has_gone s.rows s.by b.event ≡ false) where
       -- a uuid clashes
-      pub clash : (u : ℕ) → found_clash ≡ Some u → Refuses s b (Refused (record { name = rules.ElementExists; place = text_of (record { 0 = u }) }))
-      unfolding first_rule holds_copy holds_mark
+      pub clash : (u : ℕ) → found_clash ≡ Some u → Refuses s b (Refused (record { name = RuleName.ElementExists; place = text_of (record { 0 = u }) }))
+      unfolding first_rule holds_copy holds_tombstone
       clash u e =
           by_rule ElementExists (rule_is s b ∙ rw (h, k, clash_by _ e) refl)
-          ∙ ap {B = Option Refusal} (λ (c : Option ℕ). Some (record { name = rules.ElementExists; place = uuid_text c })) (clash_by _ e)
+          ∙ ap {B = Option Refusal} (λ (c : Option ℕ). Some (record { name = RuleName.ElementExists; place = uuid_text c })) (clash_by _ e)
 
       module _ (e : found_clash ≡ None) where
         -- a label is that of a group that is not usable
-        pub group : (g : GroupId) → find bars (b.label ∷ map (λ d. d.label) b.parts) ≡ Some (labels.Group g) →
-            Refuses s b (Refused (record { name = rules.GroupNotUsable; place = text_of g.uuid }))
-        unfolding first_rule holds_copy holds_mark
+        pub group : (g : GroupId) → find bars (b.label ∷ map (λ d. d.label) b.parts) ≡ Some (Label.Group g) →
+            Refuses s b (Refused (record { name = RuleName.GroupNotUsable; place = text_of g.uuid }))
+        unfolding first_rule holds_copy holds_tombstone
         group g f =
             by_rule GroupNotUsable (rule_is s b ∙ rw (h, k, clash_by _ e, unusable_by _ f) refl)
-            ∙ ap {B = Option Refusal} (λ (l : Option Label). Some (record { name = rules.GroupNotUsable; place = group_text l })) (unusable_by _ f)
+            ∙ ap {B = Option Refusal} (λ (l : Option Label). Some (record { name = RuleName.GroupNotUsable; place = group_text l })) (unusable_by _ f)
 
         -- nothing refuses
         pub free : find bars (b.label ∷ map (λ d. d.label) b.parts) ≡ None → refusing s b ≡ None
-        unfolding first_rule holds_copy holds_mark
+        unfolding first_rule holds_copy holds_tombstone
         free f = rule_is s b ∙ rw (h, k, clash_by _ e, unusable_by _ f) refl
 
 -- a refusal does not depend on the number of its act

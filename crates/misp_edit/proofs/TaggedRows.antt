@@ -1,24 +1,11 @@
 -- What a tag more or less makes of a row is a row.
-use Rattle.std.proofs.Common.{◌≡◌, ℕ, ◌+◌, ◌-◌, ◌≤◌, ◌<◌, List, [], ◌∷◌, length, Bool, true, false, refl, ap, sym, subst, ◌∙◌, arith, eqb, min, cond, inl, inr}
-use Rattle.std.specs.Prelude.{◌&&◌, ◌||◌, not, nat_le, sum_by, bytes_eq, ◌⊎◌}
-use Rattle.std.specs.List.{filter, list_all}
-use Rattle.std.specs.Str.{is_utf8}
-use Rattle.std.specs.Ordering.{nat_cmp, is_lt}
-use Rattle.std.specs.Cmp.Lexicographic.{slice_cmp}
-use Rattle.std.proofs.lemmas.Bool.{and_parts, and_from, ltb-false, false≢true, not-true}
-use Rattle.std.proofs.lemmas.Bool.Decides.{nat_tests}
-use Rattle.std.proofs.lemmas.List.Sums.{sum_by-cons}
-use Rattle.std.proofs.lemmas.Slice.Eq.{bytes_eq-Decides}
-use Rattle.misp_elem.specs.declared.content.Tag.{Tag}
-use Rattle.misp_elem.specs.declared.content.Content.{Content}
-use Rattle.misp_elem.specs.declared.content.Content.TheVariants as contents
-use Rattle.misp_elem.specs.declared.row.RowFields.{RowFields as Row}
-use Rattle.misp_elem.specs.Row.{is_text, is_after, IsTagName, IsTag, AreTags, AreTagsAfter, IsStamp, IsRow, IsContent, content_kind, may_remove, tags_size, text_size, text_limit}
-use Rattle.misp_model.specs.Order.{put, is_less}
-use Rattle.misp_model.specs.Asking.{tagged, untagged, at_tags, is_too_long, last_stamp}
-use Rattle.misp_model.proofs.Ordering.{less_on}
-use Rattle.misp_model.proofs.NameOrder.{less_is}
-use Rattle.misp_model.proofs.Putting.{less_or}
+use Rattle.std.proofs.Common.{◌≡◌, ℕ, ◌+◌, ◌-◌, ◌≤◌, List, [], ◌∷◌, length, Bool, true, false, refl, sym, ◌∙◌, arith, eqb, min, cond, inl, inr, ◌&&◌, not, nat_le, sum_by, bytes_eq, filter, ltb-false}
+use Rattle.misp_lists.proofs.Prelude.{is_utf8, sum_by-cons}
+use Rattle.misp_lists.proofs.Orders.{bytes_on}
+use Rattle.misp_elem.specs.Fields.{is_text, is_after, IsTagName, IsTag, AreTags, AreTagsAfter, tags_size, text_limit}
+use Rattle.misp_elem.specs.Contents.{text_size}
+use Rattle.misp_rules.proofs.Prelude.{Content, IsContent, IsRow, IsStamp, Row, Tag, and_from, and_parts, at_tags, bytes_eq-Decides, content_kind, false≢true, is_less, is_too_long, last_stamp, less_is, less_or, list_all, may_remove}
+use Rattle.misp_rules.proofs.Prelude.{nat_tests, not-true, put, tagged, untagged}
 use Rattle.misp_edit.proofs.EditedRows.{fit_name}
 use Rattle.misp_edit.proofs.RenewedRows.{renewed_row}
 use Rattle.misp_edit.specs.Changing.{renewed}
@@ -31,10 +18,7 @@ Named before (t ∷ ts) = IsTag 255 before t × Named t.name ts
 after_is : (a b : List ℕ) → is_after a b ≡ is_less a b
 after_is a b = sym (less_is a b)
 
-after_on : (a b c : List ℕ) → is_after a b ≡ true → is_after b c ≡ true → is_after a c ≡ true
-after_on a b c h k = after_is a c ∙ less_on a b c (sym (after_is a b) ∙ h) (sym (after_is b c) ∙ k)
-
--- what stands behind a name stands behind those before it
+-- what is after a name is after those before it
 named_before : (a b : List ℕ) (ts : List Tag) → is_after a b ≡ true → Named b ts → Named a ts
 named_before a b [] h n = tt
 named_before a b (t ∷ ts) h n = ((further n.0.0, n.0.1), n.1)
@@ -42,7 +26,7 @@ named_before a b (t ∷ ts) h n = ((further n.0.0, n.0.1), n.1)
     further : IsTagName 255 b t.name → IsTagName 255 a t.name
     further g =
         let p : (is_text 1 (min 255 255) t.name ≡ true) × (is_after b t.name ≡ true) = and_parts (is_text 1 (min 255 255) t.name) (is_after b t.name) g in
-        and_from (is_text 1 (min 255 255) t.name) (is_after a t.name) p.0 (after_on a b t.name h p.1)
+        and_from (is_text 1 (min 255 255) t.name) (is_after a t.name) p.0 (bytes_on a b t.name h p.1)
 
 name_after : (before : List ℕ) (t : Tag) → IsTag 255 before t → is_after before t.name ≡ true
 name_after before t h = (and_parts (is_text 1 (min 255 255) t.name) (is_after before t.name) h.0).1
@@ -140,7 +124,7 @@ tagged_named tag ts g n = named_put tag [] (filter (λ t. not (bytes_eq t.name t
 module _ (f : List Tag → List Tag) (keeps : (ts : List Tag) → Named [] ts → Named [] (f ts)) where
   tags_content : (may : Bool) (c : Content) → IsContent may c → is_too_long (at_tags f c) ≡ false → IsContent may (at_tags f c)
   unfolding at_tags is_too_long text_size
-  tags_content may (contents.Event b) h s =
+  tags_content may (Content.Event b) h s =
       let size : length b.info + tags_size (f b.tags) ≤ 16384 = ltb-false 16384 (length b.info + tags_size (f b.tags)) s in (
         h.0,
         (
@@ -166,7 +150,7 @@ module _ (f : List Tag → List Tag) (keeps : (ts : List Tag) → Named [] ts �
           ),
         ),
       )
-  tags_content may (contents.Attribute b) h s =
+  tags_content may (Content.Attribute b) h s =
       let size : length b.kind + length b.comment + length b.value + tags_size (f b.tags) ≤ 16384 = ltb-false 16384 (length b.kind + length b.comment + length b.value + tags_size (f b.tags)) s in
       let room : ℕ = text_limit - length b.kind - length b.comment - length b.value in (
         h.0,
@@ -187,23 +171,23 @@ module _ (f : List Tag → List Tag) (keeps : (ts : List Tag) → Named [] ts �
           ),
         ),
       )
-  tags_content may (contents.Object b) h s = h
-  tags_content may (contents.Reference b) h s = h
-  tags_content may (contents.Proposal b) h s = h
-  tags_content may (contents.Verdict b) h s = h
-  tags_content may (contents.Sighting b) h s = h
-  tags_content may contents.Gone h s = h
+  tags_content may (Content.Object b) h s = h
+  tags_content may (Content.Reference b) h s = h
+  tags_content may (Content.Proposal b) h s = h
+  tags_content may (Content.Verdict b) h s = h
+  tags_content may (Content.Sighting b) h s = h
+  tags_content may Content.Gone h s = h
 
   tags_kind : (c : Content) → content_kind (at_tags f c) ≡ content_kind c
   unfolding at_tags
-  tags_kind (contents.Event b) = refl
-  tags_kind (contents.Attribute b) = refl
-  tags_kind (contents.Object b) = refl
-  tags_kind (contents.Reference b) = refl
-  tags_kind (contents.Proposal b) = refl
-  tags_kind (contents.Verdict b) = refl
-  tags_kind (contents.Sighting b) = refl
-  tags_kind contents.Gone = refl
+  tags_kind (Content.Event b) = refl
+  tags_kind (Content.Attribute b) = refl
+  tags_kind (Content.Object b) = refl
+  tags_kind (Content.Reference b) = refl
+  tags_kind (Content.Proposal b) = refl
+  tags_kind (Content.Verdict b) = refl
+  tags_kind (Content.Sighting b) = refl
+  tags_kind Content.Gone = refl
 
   tags_row : (now : ℕ) (row : Row) → IsStamp now → IsRow row → eqb row.stamp last_stamp ≡ false → is_too_long (at_tags f row.content) ≡ false → IsRow (renewed now row row.label (at_tags f row.content))
   tags_row now row s is t h = renewed_row now row (at_tags f row.content) s is t (tags_kind row.content) (tags_content (may_remove row.key) row.content is.1.1.1.1.1.1 h)

@@ -1,49 +1,30 @@
 -- What references name.
-use Rattle.std.proofs.Common.{◌≡◌, ◌∙◌, ℕ, Bool, true, false, not, ◌&&◌, ◌==◌, cond, List, [], ◌∷◌, ◌++◌, map, Option, Some, None, option_map, ap, sym, refl, arith, BTreeMap}
-use Rattle.std.specs.List.{list_any, list_all, find, filter_map, cons_option}
-use Rattle.std.specs.Option.{IfSome}
-use Rattle.std.proofs.lemmas.Bool.{false≢true}
-use Rattle.misp_ids.specs.declared.uid.OrgId.{OrgId}
-use Rattle.misp_ids.specs.declared.uid.EventId.{EventId}
-use Rattle.misp_ids.specs.declared.uid.ElemId.{ElemId}
-use Rattle.misp_elem.specs.declared.key.Place.{Place}
-use Rattle.misp_elem.specs.declared.key.Place.TheVariants as places
-use Rattle.misp_elem.specs.declared.key.KeyForm.{KeyForm as Key}
-use Rattle.misp_elem.specs.declared.key.KeyForm.TheVariants.{Element, Reference, Proposal, Verdict, Sighting}
-use Rattle.misp_elem.specs.declared.row.RowFields.{RowFields as Row}
+use Rattle.std.proofs.Common.{◌≡◌, ◌∙◌, ℕ, Bool, true, false, not, ◌&&◌, ◌==◌, cond, List, [], ◌∷◌, ◌++◌, map, Option, Some, None, option_map, ap, sym, refl, arith, BTreeMap, find, filter_map, IfSome}
+use Rattle.misp_lists.proofs.Lists.{none_either}
 use Rattle.misp_elem.specs.Key.{place_kind, of_reference}
-use Rattle.misp_elem.specs.Draft.{DraftFields as Draft}
-use Rattle.misp_model.specs.Names.{same_org, same_event, event_of, event_key, above, parents}
-use Rattle.misp_model.specs.View.{is_row_of, is_mark, is_deleted, is_live, has_copy, has_gone}
-use Rattle.misp_model.specs.Asking.{Scene, is_place_of, is_target_key, place_in, target_in_copy, target_of}
-use Rattle.misp_model.proofs.Same.{same_org-sound, same_event-sound}
-use Rattle.misp_model.proofs.Lists.{any_weaker, find_passes}
+use Rattle.misp_rules.proofs.Prelude.{Draft, Element, ElemId, EventId, Key, OrgId, Place, Proposal, Reference, Row, Scene, Sighting, Verdict, above, any_weaker, cons_option, event_key, event_of, false≢true, find_passes, has_copy, has_gone}
+use Rattle.misp_rules.proofs.Prelude.{is_deleted, is_live, is_place_of, is_row_of, is_target_key, is_tombstone, list_all, list_any, parents, place_in, same_event, same_event-sound, same_org, same_org-sound, target_in_copy, target_of}
 use Rattle.misp_edit.specs.Targets.{element_place, live_place, kept_place, target_places, or_place, target_in, AreTargets, is_deleted_object, is_under}
 
--- neither with a mark nor without is none
-none_either : {X : Type 0} (p q : X → Bool) (xs : List X) → list_any (λ x. p x && not (q x)) xs ≡ false → list_any (λ x. p x && q x) xs ≡ false → list_any p xs ≡ false
-none_either p q [] h k = refl
-none_either p q (x ∷ xs) h k = grind (arith, none_either p q xs)
-
-module _ (rows : List Row) (w : OrgId) (e : EventId) (no_copy : has_copy rows w e ≡ false) (no_mark : has_gone rows w e ≡ false)
+module _ (rows : List Row) (w : OrgId) (e : EventId) (no_copy : has_copy rows w e ≡ false) (no_tombstone : has_gone rows w e ≡ false)
     (deleted : ℕ → Bool) (are_deleted : (x : ElemId) → deleted x.0.0 ≡ list_any (is_deleted_object w e x) rows) where
   -- the owner has no row of the event itself
   no_event_row : list_any (is_row_of w (event_key e)) rows ≡ false
   unfolding has_copy has_gone
-  no_event_row = none_either (is_row_of w (event_key e)) is_mark rows no_copy no_mark
+  no_event_row = none_either (is_row_of w (event_key e)) is_tombstone rows no_copy no_tombstone
 
   -- so none that is deleted
-  none_deleted : list_any (λ r. is_row_of w (Element e places.Event) r && is_deleted r) rows ≡ false
+  none_deleted : list_any (λ r. is_row_of w (Element e Place.Event) r && is_deleted r) rows ≡ false
   unfolding event_key
-  none_deleted = any_weaker (is_row_of w (Element e places.Event)) (λ r. is_row_of w (Element e places.Event) r && is_deleted r) (λ r h. ap (λ b. b && is_deleted r) h) rows no_event_row
+  none_deleted = any_weaker (is_row_of w (Element e Place.Event)) (λ r. is_row_of w (Element e Place.Event) r && is_deleted r) (λ r h. ap (λ b. b && is_deleted r) h) rows no_event_row
 
   -- the parents of a place are there, where its object is not deleted
   parents_there : (p : Place) → list_all (λ k. not (list_any (λ r. is_row_of w k r && is_deleted r) rows)) (above e p) ≡ not (is_under deleted p)
   unfolding above is_under is_deleted_object
-  parents_there places.Event = refl
-  parents_there (places.Object x) = rw none_deleted refl
-  parents_there (places.Attribute a) = rw none_deleted refl
-  parents_there (places.ObjectAttribute x a) = rw (none_deleted, are_deleted x) (one (list_any (λ r. is_row_of w (Element e (places.Object x)) r && is_deleted r) rows))
+  parents_there Place.Event = refl
+  parents_there (Place.Object x) = rw none_deleted refl
+  parents_there (Place.Attribute a) = rw none_deleted refl
+  parents_there (Place.ObjectAttribute x a) = rw (none_deleted, are_deleted x) (one (list_any (λ r. is_row_of w (Element e (Place.Object x)) r && is_deleted r) rows))
     where
       one : (b : Bool) → (not b && true) ≡ not b
       one true = refl
@@ -53,7 +34,7 @@ module _ (rows : List Row) (w : OrgId) (e : EventId) (no_copy : has_copy rows w 
       (not b && not (has_gone rows o (event_of k)) && list_all (λ j. not (list_any (λ r. is_row_of o j r && is_deleted r) rows)) (parents k))
       ≡ (not b && not (is_under deleted p))
   unfolding parents event_of
-  live_at b o k p g h = rw (g, h, no_mark, parents_there p) (one b (is_under deleted p))
+  live_at b o k p g h = rw (g, h, no_tombstone, parents_there p) (one b (is_under deleted p))
     where
       one : (b c : Bool) → (not b && true && not c) ≡ (not b && not c)
       one true c = refl
@@ -146,10 +127,10 @@ module _ (s : Scene) (e : EventId) (u : ElemId) where
 -- a place of a uuid is not the event
 pub not_the_event : (u : ElemId) (p : Place) → is_place_of u p ≡ true → list_any (λ kind. kind == place_kind p) of_reference ≡ false
 unfolding is_place_of
-not_the_event u places.Event h = absurd (false≢true h)
-not_the_event u (places.Object x) h = refl
-not_the_event u (places.Attribute a) h = refl
-not_the_event u (places.ObjectAttribute x a) h = refl
+not_the_event u Place.Event h = absurd (false≢true h)
+not_the_event u (Place.Object x) h = refl
+not_the_event u (Place.Attribute a) h = refl
+not_the_event u (Place.ObjectAttribute x a) h = refl
 
 -- what is found is of the uuid
 pub found_is : (u : ElemId) (ps : List Place) → IfSome (find (is_place_of u) ps) (λ p. is_place_of u p ≡ true)
@@ -161,7 +142,7 @@ found_is u ps = one (find (is_place_of u) ps) refl
 
 -- ---- loops
 
--- one place more behind the others
+-- one place more after the others
 pub find_push : (u : ElemId) (ps : List Place) (p : Place) → find (is_place_of u) (ps ++ p ∷ []) ≡ or_place u p (find (is_place_of u) ps)
 unfolding or_place
 find_push u [] p = refl

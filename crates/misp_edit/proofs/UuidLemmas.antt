@@ -1,17 +1,12 @@
 -- Uuids that stand twice.
-use Rattle.std.proofs.Common.{◌≡◌, ◌∙◌, ℕ, ◌+◌, ◌<◌, Bool, true, false, eqb, not, ◌&&◌, ◌||◌, cond, List, [], ◌∷◌, ◌++◌, length, drop, get_or, map, Option, Some, None, option_map, ap, sym, refl, arith}
-use Rattle.std.specs.List.{list_any, find, filter, filter_map, cons_option}
-use Rattle.std.specs.Option.{is_some}
-use Rattle.std.proofs.lemmas.Bool.Decides.{nat_tests}
-use Rattle.std.proofs.lemmas.List.{at_drop_more, map-append}
-use Rattle.misp_ids.specs.declared.uid.ElemId.{ElemId}
-use Rattle.misp_elem.specs.declared.key.Place.{Place}
-use Rattle.misp_elem.specs.Draft.{DraftFields as Draft, ReferenceDraftFields as ReferenceDraft, SubmissionFields as Submission}
-use Rattle.misp_model.specs.Order.{put, in_order}
-use Rattle.misp_model.specs.Asking.{Scene, uuid_at, target_of, has_target, uuids_of, are_distinct}
+use Rattle.std.proofs.Common.{◌≡◌, ◌∙◌, ℕ, ◌+◌, ◌<◌, Bool, true, false, eqb, not, ◌&&◌, ◌||◌, cond, List, [], ◌∷◌, ◌++◌, length, drop, get_or, map, Option, Some, None, option_map, ap, sym, refl, arith, find, filter, filter_map, is_some}
+use Rattle.std.proofs.lemmas.List.{at_drop_more}
+use Rattle.misp_lists.proofs.Lists.{map_twice}
+use Rattle.misp_lists.proofs.Ordering.{any_put as placed, any_in_order as ordered}
+use Rattle.misp_rules.proofs.Prelude.{Draft, ElemId, Place, ReferenceDraft, Scene, Submission, any_map, are_distinct, cons_option, has_target, in_order, list_any, map-append, nat_tests, put, target_of, uuid_at, uuids_of}
 use Rattle.misp_edit.specs.Uuids.{part_uuid, reference_uuid, numbered_in, clash_in}
 use Rattle.misp_edit.specs.Adding.{numbered_uuids, with_those_before}
-use Rattle.misp_edit.proofs.ListLemmas.{any_or, map_twice}
+use Rattle.misp_edit.proofs.ListLemmas.{any_or}
 
 -- what is used alike clashes alike
 pub clash_same : (f g : ℕ → Bool) (us : List ℕ) → ((u : ℕ) → f u ≡ g u) → clash_in f us ≡ clash_in g us
@@ -19,18 +14,13 @@ unfolding clash_in
 clash_same f g [] h = refl
 clash_same f g (u ∷ us) h = grind (arith, h u, clash_same (λ v. eqb u v || f v) (λ v. eqb u v || g v) us (λ v. ap (λ b. eqb u v || b) (h v)))
 
--- the first of these, where it is used
-pub clash_found : (used : ℕ → Bool) (u : ℕ) (us : List ℕ) → used u ≡ true → clash_in used (u ∷ us) ≡ Some u
-unfolding clash_in
-clash_found used u us h = rw h refl
-
 -- the others, where it is not
 pub clash_next : (used more : ℕ → Bool) (u : ℕ) (us : List ℕ) → used u ≡ false → ((q : ℕ) → more q ≡ (eqb u q || used q)) →
     clash_in used (u ∷ us) ≡ clash_in more us
 unfolding clash_in
 clash_next used more u us h k = rw h (sym (clash_same more (λ q. eqb u q || used q) us k))
 
--- the next uuid stands in front of the others
+-- the next uuid is before the others
 pub clash_at : (used : ℕ → Bool) (pairs : List (ℕ × ℕ)) (i : ℕ) (d : ℕ × ℕ) → i < length pairs →
     clash_in used (map (λ p. p.1) (drop i pairs)) ≡ clash_in used ((get_or pairs i d).1 ∷ map (λ p. p.1) (drop (i + 1) pairs))
 clash_at used pairs i d l = at_drop_more (λ ps. clash_in used (map (λ p. p.1) ps)) pairs i d l
@@ -52,25 +42,11 @@ first_clash_is used before (u ∷ us) =
 
 module _ {X : Type 0} (before : X → X → Bool) (f : X → ℕ) where
   any_put : (p : ℕ → Bool) (x : X) (ys : List X) → list_any p (map f (put before x ys)) ≡ (p (f x) || list_any p (map f ys))
-  unfolding put
-  any_put p x [] = refl
-  any_put p x (y ∷ ys) = one (before x y) (any_put p x ys)
-    where
-      swap : (a b c : Bool) → (b || (a || c)) ≡ (a || (b || c))
-      swap true true c = refl
-      swap true false c = refl
-      swap false b c = refl
-
-      one : (b : Bool) → list_any p (map f (put before x ys)) ≡ (p (f x) || list_any p (map f ys)) →
-          list_any p (map f (cond b (x ∷ y ∷ ys) (y ∷ put before x ys))) ≡ (p (f x) || list_any p (map f (y ∷ ys)))
-      one true ih = refl
-      one false ih = ap (λ t. p (f y) || t) ih ∙ swap (p (f x)) (p (f y)) (list_any p (map f ys))
+  any_put p x ys = any_map f p (put before x ys) ∙ placed before (λ y. p (f y)) x ys ∙ ap (λ t. p (f x) || t) (sym (any_map f p ys))
 
   -- the order of a list does not matter to a search
   pub any_in_order : (p : ℕ → Bool) (xs : List X) → list_any p (map f (in_order before xs)) ≡ list_any p (map f xs)
-  unfolding in_order
-  any_in_order p [] = refl
-  any_in_order p (x ∷ xs) = any_put p x (in_order before xs) ∙ ap (λ t. p (f x) || t) (any_in_order p xs)
+  any_in_order p xs = any_map f p (in_order before xs) ∙ ordered before (λ y. p (f y)) xs ∙ sym (any_map f p xs)
 
   distinct_put : (x : X) (ys : List X) → are_distinct (map f (put before x ys)) ≡ (not (list_any (eqb (f x)) (map f ys)) && are_distinct (map f ys))
   unfolding put are_distinct
@@ -108,7 +84,8 @@ module _ (s : Scene) (b : Submission) where
   unfolding numbered_uuids uuids_of
   unnumbered =
       map-append (λ (p : ℕ × ℕ). p.1) (map (λ d. (d.number, uuid_at b.event d.place)) b.parts) (map (λ r. (r.number, r.uuid.0.0)) (filter (has_target s b) b.references))
-      ∙ (λ i. map_twice (λ (p : ℕ × ℕ). p.1) (λ (d : Draft). (d.number, uuid_at b.event d.place)) b.parts i ++ map_twice (λ (p : ℕ × ℕ). p.1) (λ (r : ReferenceDraft). (r.number, r.uuid.0.0)) (filter (has_target s b) b.references) i)
+      ∙ (λ i. map_twice (λ (d : Draft). (d.number, uuid_at b.event d.place)) (λ (p : ℕ × ℕ). p.1) (λ d. uuid_at b.event d.place) (λ d. refl) b.parts i
+      ++ map_twice (λ (r : ReferenceDraft). (r.number, r.uuid.0.0)) (λ (p : ℕ × ℕ). p.1) (λ r. r.uuid.0.0) (λ r. refl) (filter (has_target s b) b.references) i)
 
   module _ (target : ElemId → Option Place) (is : (u : ElemId) → target u ≡ target_of s b.event b.parts u) where
     references_numbered : (rs : List ReferenceDraft) → map (λ r. (r.number, r.uuid.0.0)) (filter (has_target s b) rs) ≡ filter_map (reference_uuid target) rs

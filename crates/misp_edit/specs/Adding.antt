@@ -1,32 +1,9 @@
 -- Adding an event: what the caller has, brings and is refused.
-use Rattle.std.specs.Prelude.{◌≡◌, ℕ, Bool, eqb, leb, not, ◌||◌, List, [], ◌∷◌, ◌++◌, map, filter, Option, None, option_map}
-use Rattle.std.specs.List.{list_any, find}
-use Rattle.misp_ids.specs.declared.uid.OrgId.{OrgId}
-use Rattle.misp_ids.specs.declared.uid.EventId.{EventId}
-use Rattle.misp_ids.specs.declared.label.Label.{Label}
-use Rattle.misp_elem.specs.declared.row.RowFields.{RowFields as Row}
-use Rattle.misp_elem.specs.Draft.{SubmissionFields as Submission}
-use Rattle.misp_groups.specs.declared.group.GroupFields.{GroupFields as Group}
-use Rattle.misp_requests.specs.declared.change.Change.TheVariants.{AddEvent}
-use Rattle.misp_model.specs.Names.{Inst, Stamp}
-use Rattle.misp_model.specs.Order.{in_order}
-use Rattle.misp_model.specs.History.{fresh_row}
-use Rattle.misp_model.specs.Asking.{Scene, Rule, first_rule, change_rules, event_written, has_target, is_taken, is_usable, uuid_at}
-
--- the surroundings of a request
-abbrev pub scene_of :
-    ℕ → Inst → OrgId → List ℕ → Stamp → List ℕ → List Group → List Row → Scene
-scene_of act at by by_name now today groups rows =
-    record {
-      act = act;
-      at = at;
-      by = by;
-      by_name = by_name;
-      now = now;
-      today = today;
-      rows = rows;
-      groups = groups;
-    }
+use Rattle.std.specs.Prelude.{◌≡◌, ℕ, Bool, eqb, leb, not, ◌||◌, List, [], ◌∷◌, ◌++◌, map, filter, Option, None, option_map, find}
+use Rattle.misp_rules.specs.Prelude.{EventId, Label, Row, Rule, Scene, Submission, change_rules, first_rule, in_order, is_taken, is_usable, list_any, uuid_at}
+use Rattle.misp_rules.specs.declared.change.Change.TheVariants.{AddEvent}
+use Rattle.misp_rules.specs.Adding.{event_written, has_target}
+use Rattle.misp_history.specs.History.{fresh_row}
 
 -- the rule that refuses to add the event, if there is one
 abbrev pub refusing : Scene → Submission → Option Rule
@@ -39,7 +16,7 @@ numbered_uuids s b =
     map (λ d. (d.number, uuid_at b.event d.place)) b.parts
     ++ map (λ r. (r.number, r.uuid.0.0)) (filter (has_target s b) b.references)
 
--- one place is not behind another
+-- one place is not after another
 abbrev pub is_read_before : ℕ × ℕ → ℕ × ℕ → Bool
 is_read_before p q = leb p.0 q.0
 

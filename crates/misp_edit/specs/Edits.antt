@@ -1,11 +1,8 @@
 -- Edits, each given part of which is such as a row may have.
 use Rattle.std.specs.Prelude.{ℕ, Bool, true, false, List, Option, Some, None}
-use Rattle.misp_elem.specs.declared.key.Place.{Place}
-use Rattle.misp_elem.specs.declared.key.Place.TheVariants as places
-use Rattle.misp_elem.specs.declared.key.KeyForm.{KeyForm as Key}
-use Rattle.misp_elem.specs.declared.key.KeyForm.TheVariants.{Element, Reference, Proposal, Verdict, Sighting}
-use Rattle.misp_elem.specs.Row.{IsText, IsBetween, IsValue, IsLabel, text_limit}
-use Rattle.misp_requests.specs.declared.edit.AttributeEdit.{AttributeEdit}
+use Rattle.misp_elem.specs.Prelude.{IsBetween, IsLabel, IsText, IsValue, text_limit}
+use Rattle.misp_rules.specs.Prelude.{Element, Key, Place, Proposal, Reference, Sighting, Verdict}
+use Rattle.misp_rules.specs.declared.edit.AttributeEditFields.{AttributeEditFields as AttributeEdit}
 
 -- what is given is so
 abbrev pub IsGiven : {A : Type 0} → (A → Type 0) → Option A → Type 0
@@ -25,10 +22,10 @@ IsAttributeEdit e =
 
 -- a place of an attribute
 unfoldable pub is_attribute_place : Place → Bool
-is_attribute_place places.Event = false
-is_attribute_place (places.Object x) = false
-is_attribute_place (places.Attribute a) = true
-is_attribute_place (places.ObjectAttribute x a) = true
+is_attribute_place Place.Event = false
+is_attribute_place (Place.Object x) = false
+is_attribute_place (Place.Attribute a) = true
+is_attribute_place (Place.ObjectAttribute x a) = true
 
 -- the key of an attribute
 unfoldable pub is_attribute_key : Key → Bool

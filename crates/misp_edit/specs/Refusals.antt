@@ -1,35 +1,30 @@
 -- What the refusal of an ask says: its rule, and the place of what is refused.
 use Rattle.std.specs.Prelude.{◌≡◌, ℕ, List, [], Option, Some, None, option_map}
-use Rattle.misp_ids.specs.declared.label.Label.{Label}
-use Rattle.misp_ids.specs.declared.label.Label.TheVariants as labels
 use Rattle.misp_ids.specs.Uid.{text_of}
-use Rattle.misp_elem.specs.declared.refusal.Refusal.{Refusal}
-use Rattle.misp_elem.specs.declared.refusal.RuleName.{RuleName}
-use Rattle.misp_elem.specs.declared.refusal.RuleName.TheVariants as rules
-use Rattle.misp_elem.specs.Draft.{SubmissionFields as Submission}
-use Rattle.misp_requests.specs.declared.ask.Ask.{Ask}
-use Rattle.misp_requests.specs.declared.ask.Ask.TheVariants.{Change}
-use Rattle.misp_requests.specs.declared.change.Change.TheVariants.{AddEvent}
-use Rattle.misp_model.specs.Asking.{Scene, Rule}
-use Rattle.misp_model.specs.Asking as asking
+use Rattle.misp_ids.specs.declared.refusal.Refusal.{Refusal}
+use Rattle.misp_ids.specs.declared.refusal.RuleName.{RuleName}
+use Rattle.misp_rules.specs.Prelude.{Label, Rule, Scene, Submission}
+use Rattle.misp_rules.specs.declared.ask.Ask.{Ask}
+use Rattle.misp_rules.specs.declared.ask.Ask.TheVariants.{Change}
+use Rattle.misp_rules.specs.declared.change.Change.TheVariants.{AddEvent}
 use Rattle.misp_edit.specs.Adding.{refusing, first_clash, first_unusable}
 use Rattle.misp_edit.specs.declared.fault.AddFault.{AddFault}
-use Rattle.misp_edit.specs.declared.fault.AddFault.TheVariants as faults
+use Rattle.misp_rules.specs.Scene as asking
 
 -- a rule of the requests, as a reply names it
 abbrev pub named : Rule → RuleName
-named asking.NotGranted = rules.NotGranted
-named asking.NotOwner = rules.NotOwner
-named asking.LockedCopy = rules.LockedCopy
-named asking.EventExists = rules.EventExists
-named asking.EventGone = rules.EventGone
-named asking.ElementExists = rules.ElementExists
-named asking.GroupNotUsable = rules.GroupNotUsable
-named asking.OlderTime = rules.OlderTime
-named asking.TimeLimit = rules.TimeLimit
-named asking.ProposalExists = rules.ProposalExists
-named asking.ProposalClosed = rules.ProposalClosed
-named asking.ElementFull = rules.ElementFull
+named asking.NotGranted = RuleName.NotGranted
+named asking.NotOwner = RuleName.NotOwner
+named asking.LockedCopy = RuleName.LockedCopy
+named asking.EventExists = RuleName.EventExists
+named asking.EventGone = RuleName.EventGone
+named asking.ElementExists = RuleName.ElementExists
+named asking.GroupNotUsable = RuleName.GroupNotUsable
+named asking.OlderTime = RuleName.OlderTime
+named asking.TimeLimit = RuleName.TimeLimit
+named asking.ProposalExists = RuleName.ProposalExists
+named asking.ProposalClosed = RuleName.ProposalClosed
+named asking.ElementFull = RuleName.ElementFull
 
 -- the text of a uuid, where there is one
 abbrev pub uuid_text : Option ℕ → List ℕ
@@ -38,7 +33,7 @@ uuid_text (Some u) = text_of (record { 0 = u })
 
 -- the text of the uuid of the group that a label names
 abbrev pub group_text : Option Label → List ℕ
-group_text (Some (labels.Group g)) = text_of g.uuid
+group_text (Some (Label.Group g)) = text_of g.uuid
 group_text label = []
 
 -- of a body that brings a uuid again that uuid, of one with a label that is not usable its group
@@ -58,6 +53,6 @@ refusal_of s ask rule = record { name = named rule; place = place_of s ask rule 
 
 -- the fault is the refusal by the first rule that refuses to add the event, or memory ran out
 abbrev pub Refuses : Scene → Submission → AddFault → Type 0
-Refuses s b (faults.Refused refusal) =
+Refuses s b (AddFault.Refused refusal) =
     option_map (refusal_of s (Change (AddEvent b))) (refusing s b) ≡ Some refusal
-Refuses s b faults.NoMemory = Unit {0}
+Refuses s b AddFault.NoMemory = Unit {0}

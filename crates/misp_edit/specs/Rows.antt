@@ -1,21 +1,7 @@
 -- The rows of an added event, by the fields of what is added.
-use Rattle.std.specs.Prelude.{ℕ, true, false, not, List, Option, Some, None, map, ◌++◌, option_map, option_to_list}
-use Rattle.std.specs.List.{filter_map}
-use Rattle.misp_ids.specs.declared.uid.OrgId.{OrgId}
-use Rattle.misp_ids.specs.declared.uid.EventId.{EventId}
-use Rattle.misp_ids.specs.declared.uid.ElemId.{ElemId}
-use Rattle.misp_ids.specs.declared.label.Label.{Label}
-use Rattle.misp_ids.specs.declared.label.Label.TheVariants as labels
-use Rattle.misp_elem.specs.declared.content.Content.{Content}
-use Rattle.misp_elem.specs.declared.content.Content.TheVariants as contents
+use Rattle.std.specs.Prelude.{ℕ, true, false, not, List, Option, Some, None, map, ◌++◌, option_map, option_to_list, filter_map}
 use Rattle.misp_elem.specs.declared.content.EventBody.{EventBody}
-use Rattle.misp_elem.specs.declared.key.Place.{Place}
-use Rattle.misp_elem.specs.declared.key.Place.TheVariants as places
-use Rattle.misp_elem.specs.declared.key.KeyForm.{KeyForm as Key}
-use Rattle.misp_elem.specs.declared.key.KeyForm.TheVariants.{Element, Reference}
-use Rattle.misp_elem.specs.declared.row.RowFields.{RowFields as Row}
-use Rattle.misp_elem.specs.Draft.{DraftFields as Draft, EventDraftFields as EventDraft, ReferenceDraftFields as ReferenceDraft, SubmissionFields as Submission}
-use Rattle.misp_model.specs.History.{is_gone}
+use Rattle.misp_rules.specs.Prelude.{Content, Draft, Element, ElemId, EventDraft, EventId, Key, Label, OrgId, Place, Reference, ReferenceDraft, Row, Submission, is_gone}
 
 -- a row that is not published
 abbrev pub held_row : OrgId → Key → ℕ → Label → Content → Row
@@ -61,12 +47,12 @@ body_of w name today d =
 -- the event's own row
 unfoldable pub event_row : OrgId → List ℕ → List ℕ → EventId → ℕ → Label → EventDraft → Row
 event_row w name today e now l d =
-    new_row w e now places.Event l (contents.Event (body_of w name today d))
+    new_row w e now Place.Event l (Content.Event (body_of w name today d))
 
 -- the row of a reference that has this target
 unfoldable pub reference_row : OrgId → EventId → ℕ → ReferenceDraft → Place → Row
 reference_row w e now r t =
-    held_row w (Reference e r.object t r.uuid) now labels.Inherit (contents.Reference r.body)
+    held_row w (Reference e r.object t r.uuid) now Label.Inherit (Content.Reference r.body)
 
 -- the same, where it has a target
 unfoldable pub row_with_target :

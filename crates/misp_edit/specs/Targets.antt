@@ -1,22 +1,10 @@
 -- What references can name, without a scene.
-use Rattle.std.specs.Prelude.{◌≡◌, ℕ, Bool, false, not, cond, ◌&&◌, List, [], ◌∷◌, ◌++◌, map, Option, Some, None, true, IfSome}
-use Rattle.std.specs.List.{list_any, find, filter_map}
-use Rattle.std.specs.Ordering.{nat_cmp}
-use Rattle.std.specs.BTreeSet.{BTreeSet, contains}
-use Rattle.std.specs.BTreeMap as tree
+use Rattle.std.specs.Prelude.{◌≡◌, ℕ, Bool, false, not, cond, ◌&&◌, List, [], ◌∷◌, ◌++◌, map, Option, Some, None, true, IfSome, find, filter_map}
 use Rattle.std.specs.BTreeMap.{BTreeMap}
-use Rattle.misp_ids.specs.declared.uid.OrgId.{OrgId}
-use Rattle.misp_ids.specs.declared.uid.EventId.{EventId}
-use Rattle.misp_ids.specs.declared.uid.ElemId.{ElemId}
-use Rattle.misp_elem.specs.declared.key.Place.{Place}
-use Rattle.misp_elem.specs.declared.key.Place.TheVariants as places
-use Rattle.misp_elem.specs.declared.key.KeyForm.{KeyForm as Key}
-use Rattle.misp_elem.specs.declared.key.KeyForm.TheVariants.{Element, Reference, Proposal, Verdict, Sighting}
-use Rattle.misp_elem.specs.declared.row.RowFields.{RowFields as Row}
-use Rattle.misp_elem.specs.Draft.{DraftFields as Draft}
-use Rattle.misp_model.specs.Names.{same_org, same_event, event_of}
-use Rattle.misp_model.specs.View.{is_row_of, is_deleted, is_live}
-use Rattle.misp_model.specs.Asking.{is_place_of, place_in}
+use Rattle.misp_rules.specs.Prelude.{BTreeSet, Draft, Element, ElemId, EventId, Key, OrgId, Place, Proposal, Reference, Row, Sighting, Verdict, contains, event_of, is_deleted, is_live, is_place_of, is_row_of, list_any, nat_cmp, same_event}
+use Rattle.misp_rules.specs.Prelude.{same_org}
+use Rattle.misp_rules.specs.Adding.{place_in}
+use Rattle.std.specs.BTreeMap as tree
 
 -- the place of an element
 unfoldable pub element_place : Key → Option Place
@@ -57,7 +45,7 @@ AreTargets targets places = (u : ElemId) → target_in targets u ≡ find (is_pl
 
 -- the owner's row of the object is deleted
 unfoldable pub is_deleted_object : OrgId → EventId → ElemId → Row → Bool
-is_deleted_object w e x row = is_row_of w (Element e (places.Object x)) row && is_deleted row
+is_deleted_object w e x row = is_row_of w (Element e (Place.Object x)) row && is_deleted row
 
 -- a set has the deleted objects of the owner's copy
 abbrev pub AreDeleted : BTreeSet ℕ → List Row → OrgId → EventId → Type 0
@@ -66,10 +54,10 @@ AreDeleted deleted rows w e =
 
 -- an attribute of an object that a set has
 unfoldable pub is_under : (ℕ → Bool) → Place → Bool
-is_under deleted places.Event = false
-is_under deleted (places.Object x) = false
-is_under deleted (places.Attribute a) = false
-is_under deleted (places.ObjectAttribute x a) = deleted x.0.0
+is_under deleted Place.Event = false
+is_under deleted (Place.Object x) = false
+is_under deleted (Place.Attribute a) = false
+is_under deleted (Place.ObjectAttribute x a) = deleted x.0.0
 
 -- the place of an element of the owner's copy, where neither it nor its object is deleted,
 -- of which a set has the deleted ones

@@ -1,14 +1,6 @@
 -- Uuids that stand twice, without a scene.
-use Rattle.std.specs.Prelude.{ℕ, Bool, false, eqb, cond, ◌&&◌, ◌||◌, List, [], ◌∷◌, ◌++◌, Option, Some, None, option_map, map}
-use Rattle.std.specs.List.{list_any, filter_map}
-use Rattle.misp_ids.specs.declared.uid.OrgId.{OrgId}
-use Rattle.misp_ids.specs.declared.uid.EventId.{EventId}
-use Rattle.misp_ids.specs.declared.uid.ElemId.{ElemId}
-use Rattle.misp_elem.specs.declared.key.Place.{Place}
-use Rattle.misp_elem.specs.declared.row.RowFields.{RowFields as Row}
-use Rattle.misp_elem.specs.Draft.{DraftFields as Draft, ReferenceDraftFields as ReferenceDraft, SubmissionFields as Submission}
-use Rattle.misp_model.specs.Names.{same_org, same_event, event_of}
-use Rattle.misp_model.specs.Asking.{takes_uuid, uuid_at}
+use Rattle.std.specs.Prelude.{ℕ, Bool, false, eqb, cond, ◌&&◌, ◌||◌, List, [], ◌∷◌, ◌++◌, Option, Some, None, option_map, map, filter_map}
+use Rattle.misp_rules.specs.Prelude.{Draft, ElemId, EventId, OrgId, Place, ReferenceDraft, Row, Submission, event_of, list_any, same_event, same_org, takes_uuid, uuid_at}
 
 -- the number is there, and is this one
 abbrev pub is_at : Option ℕ → ℕ → Bool

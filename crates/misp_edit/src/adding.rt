@@ -2,16 +2,18 @@
 
 ghost use Rattle.std.specs.Prelude.{◌≡◌, ℕ, IfOk, IfErr, is_some, true};
 ghost use Rattle.misp_dates.specs.Dates.{date_of};
-ghost use Rattle.misp_elem.specs.Row.{IsText, AreRows};
-ghost use Rattle.misp_edit.specs.Adding.{scene_of, Adds};
+ghost use Rattle.misp_elem.specs.Fields.{IsText};
+ghost use Rattle.misp_elem.specs.Row.{AreRows};
+ghost use Rattle.misp_edit.specs.Adding.{Adds};
+ghost use Rattle.misp_copies.specs.Scenes.{scene_of};
 ghost use Rattle.misp_edit.specs.Refusals.{Refuses};
 
 use crate::fault::AddFault;
 use crate::refusing::admitted;
 use crate::rows::added_rows;
 use misp_elem::{Row, Submission};
+use misp_groups::Groups;
 use misp_ids::{InstId, OrgId, Stamp, Text};
-use misp_levels::Groups;
 use std::alloc::Global;
 
 /// The rows that adding an event writes: the event's own, those of its parts in their order, and

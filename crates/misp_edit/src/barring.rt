@@ -1,76 +1,23 @@
-//! Who may not change an event, and which edits of a row are refused.
+//! Which edits of a row are refused.
 
-ghost use Rattle.std.specs.Prelude.{◌≡◌, true, is_some, IfErr, IfOk, Option};
+ghost use Rattle.std.specs.Prelude.{◌≡◌, IfErr, IfOk};
 ghost use Rattle.std.specs.List.{find};
 ghost use Rattle.std.specs.Option.{option_copied, option_map, option_to_list};
-ghost use Rattle.misp_ids.specs.declared.label.Label as label_of;
 ghost use Rattle.misp_ids.specs.declared.label.Label.TheVariants as labels;
 ghost use Rattle.misp_elem.specs.declared.key.KeyForm.TheVariants.{Element};
-ghost use Rattle.misp_model.specs.Asking.{first_rule, is_newer_than};
-ghost use Rattle.misp_model.specs.View.{is_row_of, has_copy, has_home, granted_somewhere};
-ghost use Rattle.misp_model.specs.Names.{event_key};
+ghost use Rattle.misp_rules.specs.Scene.{first_rule, is_newer_than};
+ghost use Rattle.misp_rules.specs.View.{is_row_of};
 ghost use Rattle.misp_edit.specs.Labels.{is_unusable};
-ghost use Rattle.misp_edit.specs.Changing.{outcome, rule_of, barring, lacking, late_rules, ruling, Names};
+ghost use Rattle.misp_copies.specs.Barring.{outcome, Names};
+ghost use Rattle.misp_edit.specs.Changing.{late_rules, ruling};
 
-use crate::asker::Asker;
-use crate::change_fault::ChangeFault;
-use crate::copies::has_copy;
 use crate::labels::unusable_group;
-use crate::own::{has_home, own_row, sees_event};
+use misp_copies::{ChangeFault, Viewer, may_change, own_row};
 use misp_elem::{Place, Row};
 use misp_ids::{EventId, GroupId, LAST_SECOND, Label, Stamp};
 
-/// Who may not change the event: the copy is none of the caller's, or one that came, or has nothing
-/// that fits.
-#[tactic(auto, unfolding(crate::specs::Changing::barring, crate::specs::Changing::rule_of))]
-pub(crate) fn may_change(
-    rows: &[Row],
-    who: &Asker,
-    event: &EventId,
-    fits: bool,
-) -> Result<(), ChangeFault>
-    ensures rule { outcome result ≡ barring (has_home rows.now who.now.org event.now)
-        (has_copy rows.now who.now.org event.now)
-        (granted_somewhere rows.now who.now.groups.now who.now.here who.now.org
-        (event_key event.now)) fits }
-    ensures names { (l : Option label_of.Label) → IfErr result (Names l) }
-    ensures err { IfErr result (λ fault. is_some (rule_of fault) ≡ true) }
-{
-    if has_home(rows, who.org, *event) {
-        return if fits {
-            Ok(())
-        } else {
-            Err(ChangeFault::NotGranted)
-        };
-    }
-    if has_copy(rows, who.org, *event) {
-        return Err(ChangeFault::LockedCopy);
-    }
-    if sees_event(rows, who, event) {
-        return Err(ChangeFault::NotOwner);
-    }
-    Err(ChangeFault::NotGranted)
-}
-
-/// Who may not delete the event: the caller that has no copy of it.
-#[tactic(auto, unfolding(crate::specs::Changing::lacking, crate::specs::Changing::rule_of))]
-pub(crate) fn may_delete(rows: &[Row], who: &Asker, event: &EventId) -> Result<(), ChangeFault>
-    ensures rule { outcome result ≡ lacking (has_copy rows.now who.now.org event.now)
-        (granted_somewhere rows.now who.now.groups.now who.now.here who.now.org
-        (event_key event.now)) }
-    ensures err { IfErr result (λ fault. is_some (rule_of fault) ≡ true) }
-{
-    if has_copy(rows, who.org, *event) {
-        return Ok(());
-    }
-    if sees_event(rows, who, event) {
-        return Err(ChangeFault::NotOwner);
-    }
-    Err(ChangeFault::NotGranted)
-}
-
 // The group that a given label names, if the caller may not use it.
-fn unusable_given(label: Option<Label>, who: &Asker) -> Option<GroupId>
+fn unusable_given(label: Option<Label>, who: &Viewer) -> Option<GroupId>
     ensures { option_map labels.Group result
         ≡ find (is_unusable who.now.groups.now who.now.here who.now.org) (option_to_list label) }
 {
@@ -80,7 +27,7 @@ fn unusable_given(label: Option<Label>, who: &Asker) -> Option<GroupId>
     }
 }
 
-#[tactic(auto, unfolding(misp_model::specs::Asking::is_newer_than))]
+#[tactic(auto, unfolding(misp_rules::specs::Scene::is_newer_than))]
 fn is_newer_than(row: &Row, stamp: Option<Stamp>) -> bool
     ensures { result ≡ is_newer_than stamp row.now }
 {
@@ -95,7 +42,7 @@ pub(crate) fn late_fault(
     own: Option<&Row>,
     label: Option<Label>,
     stamp: Option<Stamp>,
-    who: &Asker,
+    who: &Viewer,
 ) -> Result<(), ChangeFault>
     ensures rule { outcome result ≡ first_rule (late_rules who.now.groups.now who.now.here
         who.now.org (option_copied own.entry) label stamp) }
@@ -121,7 +68,7 @@ pub(crate) fn late_fault(
 /// refuses an edit of it.
 pub(crate) fn admitted_row<'a>(
     rows: &'a [Row],
-    who: &Asker,
+    who: &Viewer,
     event: &EventId,
     place: &Place,
     fits: bool,

@@ -4,31 +4,20 @@ ghost use Rattle.std.specs.Prelude.{◌≡◌, ℕ, ◌++◌, map, IfOk, OnOk, �
 ghost use Rattle.std.specs.List.{filter_map};
 ghost use Rattle.std.specs.Ordering.{nat_cmp};
 ghost use Rattle.std.specs.BTreeSet.{contains};
-ghost use Rattle.misp_model.specs.Asking.{uuid_at, takes_uuid};
-ghost use Rattle.misp_model.specs.Order.{in_order};
+ghost use Rattle.misp_rules.specs.Adding.{takes_uuid};
+ghost use Rattle.misp_lists.specs.Order.{in_order};
 ghost use Rattle.misp_edit.specs.Adding.{is_read_before};
 ghost use Rattle.misp_edit.specs.Targets.{target_in};
 ghost use Rattle.misp_edit.specs.Uuids.{is_at, has_uuid, is_used, part_uuid, reference_uuid, numbered_in, clash_in};
 
 use crate::targets::Targets;
-use misp_elem::{Draft, KeyForm, Place, ReferenceDraft, Row, Submission};
+use misp_elem::{Draft, KeyForm, ReferenceDraft, Row, Submission, uuid_at};
 use misp_ids::{EventId, NoMemory, OrgId};
 use std::alloc::Global;
 use std::collections::BTreeSet;
 
-#[tactic(auto, unfolding(misp_model::specs::Asking::uuid_at))]
-fn uuid_at(event: EventId, place: Place) -> u128
-    ensures { result ≡ uuid_at event place }
-{
-    match place {
-        Place::Event => event.0.0,
-        Place::Object(object) => object.0.0,
-        Place::Attribute(attribute) | Place::ObjectAttribute(_, attribute) => attribute.0.0,
-    }
-}
-
 // The uuid of an element or a reference.
-#[tactic(auto, unfolding(misp_model::specs::Asking::takes_uuid))]
+#[tactic(auto, unfolding(misp_rules::specs::Adding::takes_uuid))]
 fn uuid_in(form: KeyForm) -> Option<u128>
     ensures { (u : ℕ) → is_at result u ≡ takes_uuid u form }
 {
@@ -40,7 +29,7 @@ fn uuid_in(form: KeyForm) -> Option<u128>
 }
 
 // The uuid in a row, if the row is one of the owner's copy of the event.
-#[tactic(auto, unfolding(crate::specs::Uuids::has_uuid, misp_model::specs::Names::same_event, misp_model::specs::Names::same_org))]
+#[tactic(auto, unfolding(crate::specs::Uuids::has_uuid, misp_ids::specs::Same::same_event, misp_ids::specs::Same::same_org))]
 fn own_uuid(row: &Row, owner: OrgId, event: EventId) -> Option<u128>
     ensures { (u : ℕ) → is_at result u ≡ has_uuid owner event u row.now }
 {

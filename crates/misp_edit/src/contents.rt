@@ -1,11 +1,11 @@
 //! What a change makes of what a row says.
 
 ghost use Rattle.std.specs.Prelude.{◌≡◌, true, IfOk};
-ghost use Rattle.misp_model.specs.Asking.{given, edited, at_attribute, as_deleted};
+ghost use Rattle.misp_rules.specs.Edits.{given, edited, at_attribute, as_deleted};
 
 use misp_elem::{AttributeBody, Content, ObjectBody, ReferenceBody};
 use misp_ids::{NoMemory, Text};
-use misp_requests::AttributeEdit;
+use misp_rules::AttributeEditFields;
 
 fn deleted_object(body: &ObjectBody) -> Result<ObjectBody, NoMemory>
     ensures { IfOk result (λ made. made ≡ record body.now { deleted = true }) }
@@ -32,7 +32,7 @@ fn deleted_reference(body: &ReferenceBody) -> Result<ReferenceBody, NoMemory>
 }
 
 /// The element deleted.
-#[tactic(auto, unfolding(misp_model::specs::Asking::as_deleted))]
+#[tactic(auto, unfolding(misp_rules::specs::Edits::as_deleted))]
 pub(crate) fn deleted(content: &Content) -> Result<Content, NoMemory>
     ensures { IfOk result (λ made. made ≡ as_deleted content.now) }
 {
@@ -45,7 +45,7 @@ pub(crate) fn deleted(content: &Content) -> Result<Content, NoMemory>
 }
 
 // The text that is given, or else the one that was there.
-#[tactic(auto, unfolding(misp_model::specs::Asking::given))]
+#[tactic(auto, unfolding(misp_rules::specs::Edits::given))]
 fn text_after(text: &Text, new: &Option<Text>) -> Result<Text, NoMemory>
     ensures { IfOk result (λ made. made ≡ given new.now text.now) }
 {
@@ -56,8 +56,8 @@ fn text_after(text: &Text, new: &Option<Text>) -> Result<Text, NoMemory>
 }
 
 // The attribute after an edit.
-#[tactic(auto, unfolding(misp_model::specs::Asking::edited, misp_model::specs::Asking::given))]
-fn edited_body(body: &AttributeBody, edit: &AttributeEdit) -> Result<AttributeBody, NoMemory>
+#[tactic(auto, unfolding(misp_rules::specs::Edits::edited, misp_rules::specs::Edits::given))]
+fn edited_body(body: &AttributeBody, edit: &AttributeEditFields) -> Result<AttributeBody, NoMemory>
     ensures { IfOk result (λ made. made ≡ edited edit.now body.now) }
 {
     let mut made = body.clone()?;
@@ -76,8 +76,8 @@ fn edited_body(body: &AttributeBody, edit: &AttributeEdit) -> Result<AttributeBo
 }
 
 /// The element after an edit of an attribute.
-#[tactic(auto, unfolding(misp_model::specs::Asking::at_attribute))]
-pub(crate) fn edited(content: &Content, edit: &AttributeEdit) -> Result<Content, NoMemory>
+#[tactic(auto, unfolding(misp_rules::specs::Edits::at_attribute))]
+pub(crate) fn edited(content: &Content, edit: &AttributeEditFields) -> Result<Content, NoMemory>
     ensures { IfOk result (λ made. made ≡ at_attribute (edited edit.now) content.now) }
 {
     match content {

@@ -2,20 +2,22 @@
 
 ghost use Rattle.std.specs.Prelude.{◌≡◌, ℕ, List, [], ◌∷◌, eqb, false, IfOk, IfErr};
 ghost use Rattle.misp_elem.specs.Row.{AreRows};
-ghost use Rattle.misp_requests.specs.declared.change.Change.TheVariants.{Delete};
-ghost use Rattle.misp_model.specs.Asking.{change_rules, as_deleted, is_too_long, last_stamp};
-ghost use Rattle.misp_edit.specs.Adding.{scene_of};
-ghost use Rattle.misp_edit.specs.Changing.{Refuses, Changes, IsFull, renewed};
+ghost use Rattle.misp_rules.specs.declared.change.Change.TheVariants.{Delete};
+ghost use Rattle.misp_rules.specs.Changing.{change_rules};
+ghost use Rattle.misp_rules.specs.Edits.{as_deleted};
+ghost use Rattle.misp_rules.specs.Scene.{is_too_long};
+ghost use Rattle.misp_ids.specs.Moments.{last_stamp};
+ghost use Rattle.misp_copies.specs.Scenes.{scene_of};
+ghost use Rattle.misp_copies.specs.Barring.{Refuses};
+ghost use Rattle.misp_edit.specs.Changing.{Changes, IsFull, renewed};
 
-use crate::asker::Asker;
 use crate::barring::admitted_row;
-use crate::change_fault::ChangeFault;
 use crate::contents::deleted;
-use crate::own::has_live;
 use crate::renewing::{finished, label_of};
+use misp_copies::{ChangeFault, Viewer, has_live};
 use misp_elem::{Content, Place, Row};
+use misp_groups::Groups;
 use misp_ids::{EventId, InstId, NoMemory, OrgId, Stamp};
-use misp_levels::Groups;
 use std::alloc::Global;
 
 fn deleted_of(row: &Row) -> Result<Content, NoMemory>
@@ -60,7 +62,7 @@ pub fn delete(
         (Delete event.now place.now) made.items) }
     ensures are_rows { IfOk result (λ made. AreRows made.items) }
 {
-    let who = Asker {
+    let who = Viewer {
         groups,
         here: *here,
         org: *org,

@@ -2,27 +2,29 @@
 
 ghost use Rattle.std.specs.Prelude.{◌≡◌, ℕ, List, [], ◌∷◌, eqb, false, true, IfOk, IfErr};
 ghost use Rattle.misp_elem.specs.Row.{AreRows};
-ghost use Rattle.misp_requests.specs.declared.change.Change.TheVariants.{EditAttribute};
-ghost use Rattle.misp_model.specs.Asking as asking;
-ghost use Rattle.misp_model.specs.Asking.{change_rules, at_attribute, edited, is_too_long, last_stamp};
-ghost use Rattle.misp_edit.specs.Adding.{scene_of};
-ghost use Rattle.misp_edit.specs.Changing.{Refuses, Changes, Names, IsFull, renewed};
+ghost use Rattle.misp_rules.specs.declared.change.Change.TheVariants.{EditAttribute};
+ghost use Rattle.misp_rules.specs.Edits as asking;
+ghost use Rattle.misp_rules.specs.Changing.{change_rules};
+ghost use Rattle.misp_rules.specs.Edits.{at_attribute, edited};
+ghost use Rattle.misp_rules.specs.Scene.{is_too_long};
+ghost use Rattle.misp_ids.specs.Moments.{last_stamp};
+ghost use Rattle.misp_copies.specs.Scenes.{scene_of};
+ghost use Rattle.misp_copies.specs.Barring.{Refuses};
+ghost use Rattle.misp_edit.specs.Changing.{Changes, IsFull, renewed};
 ghost use Rattle.misp_edit.specs.Edits.{IsAttributeEdit, is_attribute_place, is_attribute_key};
 
-use crate::asker::Asker;
 use crate::barring::admitted_row;
-use crate::change_fault::ChangeFault;
 use crate::contents::edited;
-use crate::own::has_live;
 use crate::renewing::{finished, label_of};
+use misp_copies::{ChangeFault, Viewer, has_live};
 use misp_elem::{Content, Place, Row};
+use misp_groups::Groups;
 use misp_ids::{EventId, InstId, Label, NoMemory, OrgId, Stamp};
-use misp_levels::Groups;
-use misp_requests::AttributeEdit;
+use misp_rules::AttributeEditFields;
 use std::alloc::Global;
 
 // The label that is given, or else the one that was there.
-#[tactic(auto, unfolding(misp_model::specs::Asking::given))]
+#[tactic(auto, unfolding(misp_rules::specs::Edits::given))]
 fn label_after(label: Label, given: Option<Label>) -> Label
     ensures { result ≡ asking.given given label }
 {
@@ -32,7 +34,7 @@ fn label_after(label: Label, given: Option<Label>) -> Label
     }
 }
 
-fn edited_of(row: &Row, edit: &AttributeEdit) -> Result<Content, NoMemory>
+fn edited_of(row: &Row, edit: &AttributeEditFields) -> Result<Content, NoMemory>
     ensures { IfOk result (λ made. made ≡ at_attribute (edited edit.now) row.now.content) }
 {
     edited(&row.content, edit)
@@ -42,7 +44,7 @@ fn edited_of(row: &Row, edit: &AttributeEdit) -> Result<Content, NoMemory>
 fn edited_row(
     alloc: Global,
     row: &Row,
-    edit: &AttributeEdit,
+    edit: &AttributeEditFields,
     now: Stamp,
 ) -> Result<Vec<Row>, ChangeFault>
     requires stamp { eqb row.now.stamp last_stamp ≡ false }
@@ -74,7 +76,7 @@ pub fn edit_attribute(
     alloc: Global,
     event: &EventId,
     place: &Place,
-    edit: &AttributeEdit,
+    edit: &AttributeEditFields,
     org: &OrgId,
     groups: &Groups,
     here: &InstId,
@@ -91,7 +93,7 @@ pub fn edit_attribute(
         (EditAttribute event.now place.now edit.now) made.items) }
     ensures are_rows { IfOk result (λ made. AreRows made.items) }
 {
-    let who = Asker {
+    let who = Viewer {
         groups,
         here: *here,
         org: *org,

@@ -3,8 +3,7 @@
 ghost use Rattle.std.specs.Prelude.{◌≡◌};
 ghost use Rattle.misp_edit.specs.declared.fault.AddFault.TheVariants.{NoMemory};
 
-use misp_elem::Refusal;
-use misp_ids::NoMemory;
+use misp_ids::{NoMemory, Refusal};
 
 /// Why an event is not added.
 #[derive(Debug, Drop)]

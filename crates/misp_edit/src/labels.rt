@@ -3,15 +3,15 @@
 ghost use Rattle.std.specs.Prelude.{◌≡◌, [], ◌∷◌, map, option_map};
 ghost use Rattle.std.specs.List.{find};
 ghost use Rattle.misp_ids.specs.declared.label.Label.TheVariants as labels;
-ghost use Rattle.misp_model.specs.Audience.{allows, group_passes};
+ghost use Rattle.misp_groups.specs.Audience.{allows, group_passes};
 ghost use Rattle.misp_edit.specs.Labels.{is_unusable};
 
 use misp_elem::Draft;
+use misp_groups::{Groups, allows};
 use misp_ids::{GroupId, InstId, Label, OrgId};
-use misp_levels::{Groups, allows};
 
 // Whether the group of this name is known and allows the organisation here.
-#[tactic(auto, unfolding(misp_model::specs::Audience::group_passes))]
+#[tactic(auto, unfolding(misp_groups::specs::Audience::group_passes))]
 fn passes(group: &GroupId, groups: &Groups, here: &InstId, org: &OrgId) -> bool
     ensures { result ≡ group_passes groups.now group.now (λ g. allows g org.now here.now) }
 {

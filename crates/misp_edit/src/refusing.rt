@@ -2,19 +2,20 @@
 
 ghost use Rattle.std.specs.Prelude.{◌≡◌, ℕ, List, IfOk, IfErr, OnOk, None};
 ghost use Rattle.misp_ids.specs.Uid.{text_of};
-ghost use Rattle.misp_model.specs.Names.{Stamp};
-ghost use Rattle.misp_edit.specs.Adding.{scene_of, refusing};
+ghost use Rattle.misp_ids.specs.Moments.{Stamp};
+ghost use Rattle.misp_copies.specs.Scenes.{scene_of};
+ghost use Rattle.misp_edit.specs.Adding.{refusing};
 ghost use Rattle.misp_edit.specs.Refusals.{Refuses};
 ghost use Rattle.misp_edit.specs.Targets.{target_places, AreTargets};
 
 use crate::clash::first_clash;
-use crate::copies::{has_copy, has_mark};
 use crate::fault::AddFault;
 use crate::labels::first_unusable;
 use crate::targets::{Targets, targets};
-use misp_elem::{Refusal, Row, RuleName, Submission};
-use misp_ids::{InstId, NoMemory, OrgId, Uid};
-use misp_levels::Groups;
+use misp_copies::{has_copy, has_gone};
+use misp_elem::{Row, Submission};
+use misp_groups::Groups;
+use misp_ids::{InstId, NoMemory, OrgId, Refusal, RuleName, Uid};
 use std::alloc::Global;
 
 // The refusal by a rule that names this uuid.
@@ -46,10 +47,10 @@ pub(crate) fn admitted(
         (target_places rows.now owner submission.now.event submission.now.parts)) }
 {
     let (event, parts) = (submission.event, submission.parts.as_slice());
-    if has_copy(rows, owner, event) {
+    if has_copy(rows, &owner, &event) {
         return Err(AddFault::Refused(Refusal::bare(alloc, RuleName::EventExists)));
     }
-    if has_mark(rows, owner, event) {
+    if has_gone(rows, &owner, &event) {
         return Err(AddFault::Refused(Refusal::bare(alloc, RuleName::EventGone)));
     }
     let targets = targets(alloc, parts, rows, owner, event)?;

@@ -1,12 +1,16 @@
 //! A row as a change makes it.
 
 ghost use Rattle.std.specs.Prelude.{◌≡◌, ◌||◌, [], ◌∷◌, false, not, length, max, min, eqb, ◌+◌, IfOk, IfErr};
-ghost use Rattle.misp_elem.specs.Row.{IsRow, AreRows, text_size, tags_size};
-ghost use Rattle.misp_model.specs.History.{is_statement, is_gone};
-ghost use Rattle.misp_model.specs.Asking.{is_too_long, last_stamp};
+ghost use Rattle.misp_elem.specs.Fields.{tags_size};
+ghost use Rattle.misp_elem.specs.Contents.{text_size};
+ghost use Rattle.misp_elem.specs.Row.{IsRow, AreRows};
+ghost use Rattle.misp_elem.specs.KeyFacts.{is_statement};
+ghost use Rattle.misp_elem.specs.RowFacts.{is_gone};
+ghost use Rattle.misp_rules.specs.Scene.{is_too_long};
+ghost use Rattle.misp_ids.specs.Moments.{last_stamp};
 ghost use Rattle.misp_edit.specs.Changing.{renewed, IsFull};
 
-use crate::change_fault::ChangeFault;
+use misp_copies::ChangeFault;
 use misp_elem::{Content, KeyForm, Row, RowFields, Tag};
 use misp_ids::{Label, OrgId, Stamp, Text};
 use std::alloc::Global;
@@ -19,7 +23,7 @@ fn len(text: &Text) -> usize
 }
 
 // The bytes of the names of tags, or the greatest number where there are more.
-#[tactic(auto, unfolding(misp_elem::specs::Row::tags_size))]
+#[tactic(auto, unfolding(misp_elem::specs::Fields::tags_size))]
 fn tags_size(tags: &[Tag]) -> usize
     ensures { result ≡ min (tags_size tags.now) usize.MAX }
 {
@@ -31,7 +35,7 @@ fn tags_size(tags: &[Tag]) -> usize
 }
 
 // The bytes of the texts of an element, or the greatest number where there are more.
-#[tactic(auto, unfolding(misp_elem::specs::Row::text_size))]
+#[tactic(auto, unfolding(misp_elem::specs::Contents::text_size))]
 fn size(content: &Content) -> usize
     ensures { result ≡ min (text_size content.now) usize.MAX }
 {
@@ -55,15 +59,15 @@ fn size(content: &Content) -> usize
 }
 
 /// Whether the element is longer than one may be.
-#[tactic(auto, unfolding(misp_model::specs::Asking::is_too_long))]
+#[tactic(auto, unfolding(misp_rules::specs::Scene::is_too_long))]
 pub(crate) fn is_too_long(content: &Content) -> bool
     ensures { result ≡ is_too_long content.now }
 {
     size(content) > 16384
 }
 
-// Whether the row of a change is held: it is no statement's and no mark.
-#[tactic(auto, unfolding(misp_model::specs::History::is_statement, misp_model::specs::History::is_gone))]
+// Whether the row of a change is held: it is no statement's and no tombstone.
+#[tactic(auto, unfolding(misp_elem::specs::KeyFacts::is_statement, misp_elem::specs::RowFacts::is_gone))]
 fn is_held(key: &KeyForm, content: &Content) -> bool
     ensures { result ≡ not (is_statement key.now || is_gone content.now) }
 {

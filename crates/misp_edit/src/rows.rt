@@ -3,9 +3,11 @@
 ghost use Rattle.std.specs.Prelude.{◌≡◌, ◌++◌, map, IfOk, IfSome, Some, is_some, true};
 ghost use Rattle.std.specs.List.{filter_map};
 ghost use Rattle.misp_dates.specs.Dates.{date_of};
-ghost use Rattle.misp_elem.specs.Row.{IsRow, IsText, IsDate, IsEventBody, AreRows};
+ghost use Rattle.misp_elem.specs.Fields.{IsText, IsDate};
+ghost use Rattle.misp_elem.specs.Contents.{IsEventBody};
+ghost use Rattle.misp_elem.specs.Row.{IsRow, AreRows};
 ghost use Rattle.misp_elem.specs.Draft.{IsOptionalDate, IsLabelOf};
-ghost use Rattle.misp_model.specs.Asking.{is_place_of};
+ghost use Rattle.misp_rules.specs.Adding.{is_place_of};
 ghost use Rattle.misp_edit.specs.Targets.{target_in, AreOfTheirUuids};
 ghost use Rattle.misp_edit.specs.Rows.{held_row, part_row, reference_row, row_with_target, date_given, event_row, body_of, added_rows};
 
@@ -34,7 +36,7 @@ fn held_row(owner: OrgId, key: KeyForm, now: Stamp, label: Label, content: Conte
     })
 }
 
-#[tactic(auto, unfolding(crate::specs::Rows::part_row, crate::specs::Rows::new_row, misp_model::specs::History::is_gone))]
+#[tactic(auto, unfolding(crate::specs::Rows::part_row, crate::specs::Rows::new_row, misp_elem::specs::RowFacts::is_gone))]
 fn part_row(draft: Draft, owner: OrgId, event: EventId, now: Stamp) -> Row
     ensures value { result ≡ part_row owner event now draft }
     ensures is_row { IsRow result }
@@ -156,7 +158,7 @@ fn new_date(alloc: Global, given: Option<Text>, now: Stamp) -> Result<Text, NoMe
 {
     match given {
         Some(date) => Ok(date),
-        None => Ok(date_of(alloc, now)?),
+        None => Ok(Text::of(date_of(alloc, now.get())?)),
     }
 }
 
@@ -196,7 +198,7 @@ fn new_body(
 }
 
 // The event's own row.
-#[tactic(auto, unfolding(crate::specs::Rows::event_row, crate::specs::Rows::new_row, misp_model::specs::History::is_gone))]
+#[tactic(auto, unfolding(crate::specs::Rows::event_row, crate::specs::Rows::new_row, misp_elem::specs::RowFacts::is_gone))]
 fn event_row(
     alloc: Global,
     draft: EventDraft,

@@ -6,12 +6,12 @@ ghost use Rattle.std.specs.Ordering.{nat_cmp};
 ghost use Rattle.std.specs.BTreeSet.{contains};
 ghost use Rattle.misp_ids.specs.declared.uid.ElemId.{ElemId};
 ghost use Rattle.misp_elem.specs.declared.key.Place.{Place as SomePlace};
-ghost use Rattle.misp_model.specs.View.{is_deleted, has_copy, has_gone};
-ghost use Rattle.misp_model.specs.Asking.{is_place_of};
+ghost use Rattle.misp_rules.specs.View.{has_copy, has_gone};
+ghost use Rattle.misp_rules.specs.Adding.{is_place_of};
 ghost use Rattle.misp_edit.specs.Uuids.{is_at};
 ghost use Rattle.misp_edit.specs.Targets.{kept_place, target_places, or_place, target_in, AreTargets, is_deleted_object, AreDeleted, is_under};
 
-use misp_elem::{Content, Draft, KeyForm, Place, Row};
+use misp_elem::{Draft, KeyForm, Place, Row};
 use misp_ids::{EventId, NoMemory, OrgId};
 use std::alloc::Global;
 use std::collections::{BTreeMap, BTreeSet};
@@ -19,20 +19,8 @@ use std::collections::{BTreeMap, BTreeSet};
 /// The places that references can name, by their uuids.
 pub(crate) type Targets = BTreeMap<u128, Place>;
 
-#[tactic(auto, unfolding(misp_model::specs::View::is_deleted))]
-fn is_deleted(row: &Row) -> bool
-    ensures { result ≡ is_deleted row.now }
-{
-    match &row.content {
-        Content::Object(body) => body.deleted,
-        Content::Attribute(body) => body.deleted,
-        Content::Reference(body) => body.deleted,
-        _ => false,
-    }
-}
-
 // The uuid of a deleted object, if the row is the owner's of one in the event.
-#[tactic(auto, unfolding(crate::specs::Targets::is_deleted_object, misp_model::specs::View::is_row_of, misp_model::specs::Names::same_key, misp_model::specs::Names::same_place, misp_model::specs::Names::same_event, misp_model::specs::Names::same_elem, misp_model::specs::Names::same_org))]
+#[tactic(auto, unfolding(crate::specs::Targets::is_deleted_object, misp_rules::specs::View::is_row_of, misp_elem::specs::SameKey::same_key, misp_elem::specs::SameKey::same_place, misp_ids::specs::Same::same_event, misp_ids::specs::Same::same_elem, misp_ids::specs::Same::same_org))]
 fn deleted_object(row: &Row, owner: OrgId, event: EventId) -> Option<u128>
     ensures { (x : ElemId) → is_at result x.0.0 ≡ is_deleted_object owner event x row.now }
 {
@@ -41,7 +29,7 @@ fn deleted_object(row: &Row, owner: OrgId, event: EventId) -> Option<u128>
             event: of,
             place: Place::Object(object),
         } => {
-            if row.owner.0.0 == owner.0.0 && of.0.0 == event.0.0 && is_deleted(row) {
+            if row.owner.0.0 == owner.0.0 && of.0.0 == event.0.0 && row.is_deleted() {
                 Some(object.0.0)
             } else {
                 None
@@ -94,7 +82,7 @@ fn is_under(deleted: &BTreeSet<u128>, place: Place) -> bool
 }
 
 // The place of an element of the owner's copy, if neither it nor its object is deleted.
-#[tactic(auto, unfolding(crate::specs::Targets::kept_place, crate::specs::Targets::element_place, misp_model::specs::Asking::place_in, misp_model::specs::Names::event_of, misp_model::specs::Names::same_event, misp_model::specs::Names::same_org))]
+#[tactic(auto, unfolding(crate::specs::Targets::kept_place, crate::specs::Targets::element_place, misp_rules::specs::Adding::place_in, misp_elem::specs::Parents::event_of, misp_ids::specs::Same::same_event, misp_ids::specs::Same::same_org))]
 fn kept_place(row: &Row, owner: OrgId, event: EventId, deleted: &BTreeSet<u128>) -> Option<Place>
     ensures { result ≡ kept_place (contains nat_cmp deleted.now) owner event row.now }
 {
@@ -102,7 +90,7 @@ fn kept_place(row: &Row, owner: OrgId, event: EventId, deleted: &BTreeSet<u128>)
         KeyForm::Element { event: of, place } => {
             if row.owner.0.0 == owner.0.0
                 && of.0.0 == event.0.0
-                && !is_deleted(row)
+                && !row.is_deleted()
                 && !is_under(deleted, place)
             {
                 Some(place)
@@ -115,7 +103,7 @@ fn kept_place(row: &Row, owner: OrgId, event: EventId, deleted: &BTreeSet<u128>)
 }
 
 // The uuid by which a reference names a place.
-#[tactic(auto, unfolding(misp_model::specs::Asking::is_place_of, misp_model::specs::Names::same_elem))]
+#[tactic(auto, unfolding(misp_rules::specs::Adding::is_place_of, misp_ids::specs::Same::same_elem))]
 fn uuid_of(place: Place) -> Option<u128>
     ensures { (u : ElemId) → is_at result u.0.0 ≡ is_place_of u place }
 {
@@ -150,7 +138,7 @@ fn of_parts(alloc: Global, parts: &[Draft]) -> Result<Targets, NoMemory>
     Ok(targets)
 }
 
-// With the places of the elements of the owner's copy behind them. A set has its deleted objects.
+// With the places of the elements of the owner's copy after them. A set has its deleted objects.
 fn with_kept(
     mut targets: Targets,
     rows: &[Row],
@@ -180,7 +168,7 @@ pub(crate) fn targets(
     event: EventId,
 ) -> Result<Targets, NoMemory>
     requires no_copy { has_copy rows.now owner event ≡ false }
-    requires no_mark { has_gone rows.now owner event ≡ false }
+    requires no_tombstone { has_gone rows.now owner event ≡ false }
     ensures { IfOk result (λ targets.
         AreTargets targets (target_places rows.now owner event parts.now)) }
 {

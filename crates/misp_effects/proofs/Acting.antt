@@ -1,18 +1,13 @@
 -- What one instance does, or two, among all of them.
-use Rattle.std.proofs.Common.{◌≡◌, ◌≢◌, ℕ, ◌<◌, Bool, List, length, map, get_or, set, Option, Some, refl, sym, ◌∙◌, ap, subst, inl, inr, arith, length-set}
+use Rattle.std.proofs.Common.{◌≡◌, ◌≢◌, ℕ, ◌<◌, Bool, List, length, map, get_or, set, Option, Some, refl, sym, ◌∙◌, ap, subst, inl, inr, arith, length-set, get_or-set_other, IfSome}
 use Rattle.std.proofs.lemmas.Bool.{cases_eq}
-use Rattle.std.proofs.lemmas.List.{length-map, map-set, get_or-map, get_or-set_other, set-get_or}
+use Rattle.std.proofs.lemmas.List.{length-map, map-set, get_or-map, set-get_or}
 use Rattle.std.proofs.lemmas.Option.{IfSome_then}
-use Rattle.std.specs.Prelude.{IfSome}
-use Rattle.misp_outside.specs.Causes.{RoseBy, HasCause}
-use Rattle.misp_outside.specs.Held.{Held, nothing_held}
-use Rattle.misp_effects.specs.declared.stop.Stop.{Stop}
-use Rattle.misp_effects.specs.declared.stop.Stop.TheVariants as stops
-use Rattle.misp_effects.specs.declared.stop.Side.TheVariants.{Here, There}
-use Rattle.misp_effects.specs.Batches.{Spelling}
-use Rattle.misp_effects.specs.Effect.{Effect, shown, nothing_of, first_of, Does}
-use Rattle.misp_outside.specs.Stock.{Stock}
-use Rattle.misp_effects.specs.Stocks.{Tables, held_at, Tell, count_at}
+use Rattle.misp_outside.specs.Causes.{HasCause}
+use Rattle.misp_outside.specs.Held.{nothing_held}
+use Rattle.misp_effects.specs.Prelude.{Effect, Held, Here, KeeperState, RoseBy, Spelling, Stop, Tables, Tell, There, nothing_of}
+use Rattle.misp_effects.specs.Effect.{shown, first_of, Does}
+use Rattle.misp_effects.specs.KeeperStates.{held_at, count_at}
 use Rattle.misp_effects.specs.Meanings.{alone, between}
 use Rattle.misp_effects.specs.Run.{fault_at, tables_after}
 use Rattle.misp_effects.specs.Course.{IsAct}
@@ -22,9 +17,9 @@ use Rattle.misp_effects.proofs.Showing.{does_shown}
 -- ---- one instance
 
 -- of all keepers only that of the instance may have failed
-one_causes : {S A : Type 0} (stop_in : A → Option Stop) (refused : Stop → A) (at : ℕ) (comes : S → Effect A) (old : List Stock) (new none : Stock) (output : A) → at < length old
-    → HasCause (get_or old at none).faults new.faults (stop_in output ≡ Some (stops.Keeper Here))
-    → (stop_in output ≡ Some (stops.Keeper There) → ⊥)
+one_causes : {S A : Type 0} (stop_in : A → Option Stop) (refused : Stop → A) (at : ℕ) (comes : S → Effect A) (old : List KeeperState) (new none : KeeperState) (output : A) → at < length old
+    → HasCause (get_or old at none).faults new.faults (stop_in output ≡ Some (Stop.Keeper Here))
+    → (stop_in output ≡ Some (Stop.Keeper There) → ⊥)
     → (place : ℕ) → RoseBy (fault_at stop_in place (alone refused at comes) output) (count_at place old) (count_at place (set old at new))
 one_causes stop_in refused at comes old new none output lt cause never place =
     elim (cases_eq place at) [
@@ -37,10 +32,10 @@ one_causes stop_in refused at comes old new none output lt cause never place =
     ]
 
 -- what an instance does alone is an act among all
-pub one_act : {S A : Type 0} (seen_in : Held → S) (spelled : Spelling) (stop_in : A → Option Stop) (refused : Stop → A) (at : ℕ) (comes : S → Effect A) (old : List Stock) (new none : Stock) (output : A) → at < length old
+pub one_act : {S A : Type 0} (seen_in : Held → S) (spelled : Spelling) (stop_in : A → Option Stop) (refused : Stop → A) (at : ℕ) (comes : S → Effect A) (old : List KeeperState) (new none : KeeperState) (output : A) → at < length old
     → IfSome (get_or old at none).held (λ held. Does A spelled stop_in (nothing_of refused) (comes (seen_in held)) held output new.held)
-    → HasCause (get_or old at none).faults new.faults (stop_in output ≡ Some (stops.Keeper Here))
-    → (stop_in output ≡ Some (stops.Keeper There) → ⊥)
+    → HasCause (get_or old at none).faults new.faults (stop_in output ≡ Some (Stop.Keeper Here))
+    → (stop_in output ≡ Some (Stop.Keeper There) → ⊥)
     → IsAct S A seen_in spelled stop_in (alone refused at comes) old (set old at new) output
 one_act {S} {A} seen_in spelled stop_in refused at comes old new none output lt does cause never =
     let P : Option Held → Type 0 = λ held. IfSome held (λ held. Does A spelled stop_in (nothing_of refused) (comes (seen_in held)) held output new.held) in
@@ -59,32 +54,32 @@ one_act {S} {A} seen_in spelled stop_in refused at comes old new none output lt 
     }
 
 -- the same of things that have a keeper each, where the reply is shown in another way
-pub shown_act : {S A B X : Type 0} (seen_in : Held → S) (spelled : Spelling) (f : A → B) (stop_in : B → Option Stop) (refused : Stop → A) (stock : X → Stock)
+pub shown_act : {S A B X : Type 0} (seen_in : Held → S) (spelled : Spelling) (f : A → B) (stop_in : B → Option Stop) (refused : Stop → A) (state : X → KeeperState)
     (at : ℕ) (comes : S → Effect A) (old : List X) (new none : X) (reply : A) → at < length old
-    → IfSome (stock (get_or old at none)).held (λ held. Does A spelled (λ a. stop_in (f a)) (nothing_of refused) (comes (seen_in held)) held reply (stock new).held)
-    → HasCause (stock (get_or old at none)).faults (stock new).faults (stop_in (f reply) ≡ Some (stops.Keeper Here))
-    → (stop_in (f reply) ≡ Some (stops.Keeper There) → ⊥)
-    → IsAct S B seen_in spelled stop_in (alone (λ stop. f (refused stop)) at (λ here. shown f (comes here))) (map stock old) (map stock (set old at new)) (f reply)
-shown_act {S} {A} {B} {X} seen_in spelled f stop_in refused stock at comes old new none reply lt does cause never =
-    let there : get_or (map stock old) at (stock none) ≡ stock (get_or old at none) = get_or-map stock old at none (stock none) lt in
-    let long : at < length (map stock old) = rw (length-map old stock) lt in
-    subst (λ news. IsAct S B seen_in spelled stop_in (alone (λ stop. f (refused stop)) at (λ here. shown f (comes here))) (map stock old) news (f reply)) (sym (map-set stock old at new))
-    (one_act seen_in spelled stop_in (λ stop. f (refused stop)) at (λ here. shown f (comes here)) (map stock old) (stock new) (stock none) (f reply) long
-    (subst (λ (s : Stock). IfSome s.held (λ held. Does B spelled stop_in (nothing_of (λ stop. f (refused stop))) (shown f (comes (seen_in held))) held (f reply) (stock new).held)) (sym there)
-    (IfSome_then (stock (get_or old at none)).held does (λ held did.
-    does_shown spelled f (λ a. stop_in (f a)) stop_in (nothing_of refused) (nothing_of (λ stop. f (refused stop))) (λ a. refl) (λ stop n lost e. refl) (comes (seen_in held)) held reply (stock new).held did)))
-    (subst (λ (s : Stock). HasCause s.faults (stock new).faults (stop_in (f reply) ≡ Some (stops.Keeper Here))) (sym there) cause)
+    → IfSome (state (get_or old at none)).held (λ held. Does A spelled (λ a. stop_in (f a)) (nothing_of refused) (comes (seen_in held)) held reply (state new).held)
+    → HasCause (state (get_or old at none)).faults (state new).faults (stop_in (f reply) ≡ Some (Stop.Keeper Here))
+    → (stop_in (f reply) ≡ Some (Stop.Keeper There) → ⊥)
+    → IsAct S B seen_in spelled stop_in (alone (λ stop. f (refused stop)) at (λ here. shown f (comes here))) (map state old) (map state (set old at new)) (f reply)
+shown_act {S} {A} {B} {X} seen_in spelled f stop_in refused state at comes old new none reply lt does cause never =
+    let there : get_or (map state old) at (state none) ≡ state (get_or old at none) = get_or-map state old at none (state none) lt in
+    let long : at < length (map state old) = rw (length-map old state) lt in
+    subst (λ news. IsAct S B seen_in spelled stop_in (alone (λ stop. f (refused stop)) at (λ here. shown f (comes here))) (map state old) news (f reply)) (sym (map-set state old at new))
+    (one_act seen_in spelled stop_in (λ stop. f (refused stop)) at (λ here. shown f (comes here)) (map state old) (state new) (state none) (f reply) long
+    (subst (λ (s : KeeperState). IfSome s.held (λ held. Does B spelled stop_in (nothing_of (λ stop. f (refused stop))) (shown f (comes (seen_in held))) held (f reply) (state new).held)) (sym there)
+    (IfSome_then (state (get_or old at none)).held does (λ held did.
+    does_shown spelled f (λ a. stop_in (f a)) stop_in (nothing_of refused) (nothing_of (λ stop. f (refused stop))) (λ a. refl) (λ stop n lost e. refl) (comes (seen_in held)) held reply (state new).held did)))
+    (subst (λ (s : KeeperState). HasCause s.faults (state new).faults (stop_in (f reply) ≡ Some (Stop.Keeper Here))) (sym there) cause)
     never)
 
 -- ---- two instances, of which one puts
 
 module _ {S A : Type 0} (seen_in : Held → S) (spelled : Spelling) (stop_in : A → Option Stop) (told : Stop → ℕ → Bool → A)
-    (at peer : ℕ) (comes : S → S → Effect A) (old : List Stock) (here there none : Stock) (output : A)
+    (at peer : ℕ) (comes : S → S → Effect A) (old : List KeeperState) (here there none : KeeperState) (output : A)
     (lt : at < length old) (peer_lt : peer < length old) (apart : at ≢ peer)
-    (cause : HasCause (get_or old at none).faults here.faults (stop_in output ≡ Some (stops.Keeper Here)))
-    (peer_cause : HasCause (get_or old peer none).faults there.faults (stop_in output ≡ Some (stops.Keeper There))) where
+    (cause : HasCause (get_or old at none).faults here.faults (stop_in output ≡ Some (Stop.Keeper Here)))
+    (peer_cause : HasCause (get_or old peer none).faults there.faults (stop_in output ≡ Some (Stop.Keeper There))) where
   -- the keepers afterwards
-  abbrev both : List Stock
+  abbrev both : List KeeperState
   both = set (set old at here) peer there
 
   -- the count of the instance that is asked

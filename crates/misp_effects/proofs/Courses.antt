@@ -1,19 +1,14 @@
 -- A course goes on by one command.
-use Rattle.std.proofs.Common.{◌≡◌, ℕ, ◌+◌, ◌≤◌, List, [], ◌∷◌, ◌++◌, length, map, refl, sym, ◌∙◌, ap, subst, arith, length-append}
+use Rattle.std.proofs.Common.{◌≡◌, ℕ, ◌+◌, ◌≤◌, List, [], ◌∷◌, ◌++◌, length, map, refl, sym, ◌∙◌, ap, subst, arith, length-append, Option}
 use Rattle.std.proofs.lemmas.List.{map-append}
 use Rattle.std.proofs.lemmas.Slice.Zip.{AllZip-long}
-use Rattle.std.specs.Prelude.{Option}
-use Rattle.misp_outside.specs.Held.{Held}
-use Rattle.misp_outside.specs.Causes.{RoseBy}
-use Rattle.misp_effects.specs.declared.stop.Stop.{Stop}
-use Rattle.misp_effects.specs.Batches.{Spelling, AreReadable}
+use Rattle.misp_effects.specs.Prelude.{Held, KeeperState, Meaning, RoseBy, Spelling, Stop, Tables, Tell}
+use Rattle.misp_effects.specs.Batches.{AreReadable}
 use Rattle.misp_effects.specs.Effect.{Outcome, stop_of}
-use Rattle.misp_outside.specs.Stock.{Stock}
-use Rattle.misp_effects.specs.Stocks.{Tables, Tell, IsKept, AreKept, count_at}
-use Rattle.misp_effects.specs.Meanings.{Meaning}
+use Rattle.misp_effects.specs.KeeperStates.{IsKept, AreKept, count_at}
 use Rattle.misp_effects.specs.Run.{effect_in, output_of, tables_after, outputs_of, tables_left, AreFit, fault_at, faults_at}
 use Rattle.misp_effects.specs.Course.{IsAct, HasRun}
-use Rattle.misp_effects.proofs.Stocks.{kept_told, kept_count}
+use Rattle.misp_effects.proofs.KeeperStates.{kept_told, kept_count}
 
 -- what is put out by the commands and one more
 outputs_push : {S A : Type 0} (seen_in : Held → S) (spelled : Spelling) (ms : List (Meaning S A)) (m : Meaning S A) (outcomes : List Outcome) (outcome : Outcome) (tables : Tables) → length outcomes ≡ length ms
@@ -53,7 +48,7 @@ rose_more : (m n before mid now : ℕ) → RoseBy m before mid → RoseBy n mid 
 rose_more m n before mid now first then = omega arith
 
 -- before the first command
-pub no_lines : (S A : Type 0) (seen_in : Held → S) (spelled : Spelling) (stop_in : A → Option Stop) (old : List Stock) → HasRun S A seen_in spelled stop_in [] old old []
+pub no_lines : (S A : Type 0) (seen_in : Held → S) (spelled : Spelling) (stop_in : A → Option Stop) (old : List KeeperState) → HasRun S A seen_in spelled stop_in [] old old []
 no_lines S A seen_in spelled stop_in old = record {
   each = refl;
   places = refl;
@@ -62,7 +57,7 @@ no_lines S A seen_in spelled stop_in old = record {
 }
 
 -- one command more
-pub one_more : (S A : Type 0) (seen_in : Held → S) (spelled : Spelling) (stop_in : A → Option Stop) (ms : List (Meaning S A)) (m : Meaning S A) (old mid new : List Stock) (outputs : List A) (output : A)
+pub one_more : (S A : Type 0) (seen_in : Held → S) (spelled : Spelling) (stop_in : A → Option Stop) (ms : List (Meaning S A)) (m : Meaning S A) (old mid new : List KeeperState) (outputs : List A) (output : A)
     → HasRun S A seen_in spelled stop_in ms old mid outputs → IsAct S A seen_in spelled stop_in m mid new output → HasRun S A seen_in spelled stop_in (ms ++ m ∷ []) old new (outputs ++ output ∷ [])
 one_more S A seen_in spelled stop_in ms m old mid new outputs output run act = record {
   each = omega (arith, run.each, length-append outputs (output ∷ []), length-append ms (m ∷ []));
@@ -96,7 +91,7 @@ rose_within : (n before old mid now : ℕ) → before ≤ old → RoseBy n old m
 rose_within n before old mid now first rose last = omega arith
 
 -- where the keepers before and those afterwards tell the same, the commands have run over these too
-pub run_kept : {S A : Type 0} {seen_in : Held → S} {spelled : Spelling} {stop_in : A → Option Stop} {ms : List (Meaning S A)} {before old mid new : List Stock} {outputs : List A}
+pub run_kept : {S A : Type 0} {seen_in : Held → S} {spelled : Spelling} {stop_in : A → Option Stop} {ms : List (Meaning S A)} {before old mid new : List KeeperState} {outputs : List A}
     → AreKept before old → HasRun S A seen_in spelled stop_in ms old mid outputs → AreKept mid new → HasRun S A seen_in spelled stop_in ms before new outputs
 run_kept {before = before} {old = old} {mid = mid} {new = new} first run last = record {
   each = run.each;

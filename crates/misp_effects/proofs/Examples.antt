@@ -1,17 +1,14 @@
 -- Examples, computed from the definitions: effects under outcomes, and runs of two commands over two keepers.
 use Rattle.std.proofs.Common.{◌≡◌, ℕ, ◌+◌, ◌-◌, Bool, true, false, List, [], ◌∷◌, length, map, Option, None, Some, refl, sym, subst, arith}
-use Rattle.misp_outside.specs.declared.row.RawRow.{RawRow}
+use Rattle.misp_lists.specs.Order.{put}
 use Rattle.misp_outside.specs.declared.row.RawBatch.{RawBatch}
-use Rattle.misp_outside.specs.Causes.{RoseBy}
-use Rattle.misp_outside.specs.Held.{Held, comes_before, same_raw, put, put_raw, put_rows, put_admins, with_batch}
-use Rattle.misp_effects.specs.declared.stop.Stop.{Stop}
+use Rattle.misp_outside.specs.Held.{comes_before, same_raw, put_raw, put_rows}
+use Rattle.misp_outside.specs.KeeperState.{state}
+use Rattle.misp_effects.specs.Prelude.{Effect, Held, Here, KeeperState, Meaning, RawRow, RoseBy, Stop, Tables, Tell, There, nothing_of, put_admins, with_batch}
 use Rattle.misp_effects.specs.declared.stop.Stop.TheVariants.{Keeper, Memory, Carry}
-use Rattle.misp_effects.specs.declared.stop.Side.TheVariants.{Here, There}
 use Rattle.misp_effects.specs.Batches.{Batch, batch, IsReadable}
-use Rattle.misp_effects.specs.Effect.{Effect, effect, Went, Stopped, nothing_of, first_of, under, left}
-use Rattle.misp_outside.specs.Stock.{Stock, stock}
-use Rattle.misp_effects.specs.Stocks.{Tables, Tell}
-use Rattle.misp_effects.specs.Meanings.{Meaning, alone, between}
+use Rattle.misp_effects.specs.Effect.{effect, Went, Stopped, first_of, under, left}
+use Rattle.misp_effects.specs.Meanings.{alone, between}
 use Rattle.misp_effects.specs.Run.{outputs_of, tables_left, faults_at}
 use Rattle.misp_effects.specs.Course.{AreDone, HasRun}
 use Rattle.misp_effects.proofs.Readable.{tombstone, is_tombstone}
@@ -131,18 +128,18 @@ both_are_readable : IsReadable (one 1)
 both_are_readable = record { rows = (is_tombstone 1 (omega arith), tt); groups = tt }
 
 -- two keepers that tell that they hold nothing tell no other tables
-tell_empty : (tables : Tables) → Tell (stock (Some (holds [])) 0 ∷ stock (Some (holds [])) 0 ∷ []) tables → tables ≡ empty
+tell_empty : (tables : Tables) → Tell (state (Some (holds [])) 0 ∷ state (Some (holds [])) 0 ∷ []) tables → tables ≡ empty
 tell_empty [] tell = cc
 tell_empty (a ∷ []) tell = cc
 tell_empty (a ∷ b ∷ []) tell = cc
 tell_empty (a ∷ b ∷ c ∷ tables) tell = cc
 
 -- so over keepers that held nothing both have run, and each of these holds the row
-both_have_run : HasRun ℕ Reply seen_in spelled stop_in (adds ∷ pulls ∷ []) (stock (Some (holds [])) 0 ∷ stock (Some (holds [])) 0 ∷ [])
-    (stock (Some (holds (raw 1 ∷ []))) 0 ∷ stock (Some (holds (raw 1 ∷ []))) 0 ∷ []) (Done 0 ∷ Done 1 ∷ [])
+both_have_run : HasRun ℕ Reply seen_in spelled stop_in (adds ∷ pulls ∷ []) (state (Some (holds [])) 0 ∷ state (Some (holds [])) 0 ∷ [])
+    (state (Some (holds (raw 1 ∷ []))) 0 ∷ state (Some (holds (raw 1 ∷ []))) 0 ∷ []) (Done 0 ∷ Done 1 ∷ [])
 unfolding with_batch put_rows put_raw put_admins put comes_before same_raw
 both_have_run =
-    let new : List Stock = stock (Some (holds (raw 1 ∷ []))) 0 ∷ stock (Some (holds (raw 1 ∷ []))) 0 ∷ [] in
+    let new : List KeeperState = state (Some (holds (raw 1 ∷ []))) 0 ∷ state (Some (holds (raw 1 ∷ []))) 0 ∷ [] in
     let there : AreDone ℕ Reply seen_in spelled stop_in (adds ∷ pulls ∷ []) empty (Done 0 ∷ Done 1 ∷ []) new = record {
       outcomes = Went ∷ Went ∷ [];
       each = refl;
@@ -159,6 +156,6 @@ both_have_run =
     }
 
 -- a keeper whose count did not rise is not named: that it failed cannot be put out
-no_fault_without_a_cause : HasRun ℕ Reply seen_in spelled stop_in (adds ∷ []) (stock (Some (holds [])) 3 ∷ []) (stock (Some (holds [])) 3 ∷ []) (Refused (Keeper Here) ∷ []) → ⊥
+no_fault_without_a_cause : HasRun ℕ Reply seen_in spelled stop_in (adds ∷ []) (state (Some (holds [])) 3 ∷ []) (state (Some (holds [])) 3 ∷ []) (Refused (Keeper Here) ∷ []) → ⊥
 no_fault_without_a_cause run =
     let rose : RoseBy 1 3 3 = run.causes 0 in omega (arith, rose)

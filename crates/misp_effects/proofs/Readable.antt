@@ -1,15 +1,13 @@
 -- What is readable is read back; and why a batch is not its bytes.
 use Rattle.std.proofs.Common.{◌≡◌, ◌≤◌, ◌^◌, false, ℕ, Ok, refl, arith}
-use Rattle.misp_ids.specs.declared.label.Label.TheVariants as labels
-use Rattle.misp_elem.specs.declared.key.Place.TheVariants as places
-use Rattle.misp_elem.specs.declared.key.KeyForm.TheVariants as keys
-use Rattle.misp_elem.specs.declared.content.Content.TheVariants as contents
+use Rattle.misp_elem.specs.Prelude.{IsRow, Label, row_of}
+use Rattle.misp_elem.specs.declared.key.Place.{Place}
+use Rattle.misp_elem.specs.declared.key.KeyForm.{KeyForm as Key}
+use Rattle.misp_elem.specs.declared.content.Content.{Content}
 use Rattle.misp_elem.specs.declared.row.RowFields.{RowFields as Row}
-use Rattle.misp_elem.specs.Row.{IsRow}
-use Rattle.misp_elem.specs.RowReading.{row_of}
 use Rattle.misp_elem.specs.Spelling.{stamp}
-use Rattle.misp_elem.specs.Spelling as spelling
 use Rattle.misp_elem.proofs.Rows.{row_of_again}
+use Rattle.misp_elem.specs.Spelling as spelling
 
 -- the bytes of a row are read as this row
 pub reads_back : (r : Row) → IsRow r → row_of (spelling.row r) ≡ Ok r
@@ -19,12 +17,12 @@ reads_back r is = row_of_again r is
 abbrev pub tombstone : ℕ → Row
 tombstone stamp = record {
   owner = record { 0 = record { 0 = 5 } };
-  key = keys.Element (record { 0 = record { 0 = 7 } }) places.Event;
+  key = Key.Element (record { 0 = record { 0 = 7 } }) Place.Event;
   stamp = stamp;
-  label = labels.Own;
+  label = Label.Own;
   held = false;
   carried = false;
-  content = contents.Gone;
+  content = Content.Gone;
 }
 
 -- it is a row where the stamp is one

@@ -1,9 +1,8 @@
--- A call that did an effect did it seen in another way, and did it behind a batch that was put before.
+-- A call that did an effect did it seen in another way, and did it after a batch that was put before.
 use Rattle.std.proofs.Common.{Bool, ◌≡◌, ℕ, suc, Option, Some, sym, ◌∙◌, ap, subst}
-use Rattle.misp_outside.specs.Held.{Held, with_batch}
-use Rattle.misp_effects.specs.declared.stop.Stop.{Stop}
-use Rattle.misp_effects.specs.Batches.{Batch, Spelling, IsReadable, AreReadable}
-use Rattle.misp_effects.specs.Effect.{Effect, shown, behind, Telling, Went, Stopped, stop_of, under, left, Does}
+use Rattle.misp_effects.specs.Prelude.{Effect, Held, Spelling, Stop, with_batch}
+use Rattle.misp_effects.specs.Batches.{Batch, IsReadable, AreReadable}
+use Rattle.misp_effects.specs.Effect.{shown, behind, Telling, Went, Stopped, stop_of, under, left, Does}
 
 -- a reply that is seen by f tells the same stop, and so does an effect that is
 pub does_shown : {A B : Type 0} (spelled : Spelling) (f : A → B) (sa : A → Option Stop) (sb : B → Option Stop) (ta : Telling A) (tb : Telling B)

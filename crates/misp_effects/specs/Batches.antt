@@ -1,12 +1,12 @@
 -- What is put at once.
 use Rattle.std.specs.Prelude.{List, [], ◌∷◌}
 use Rattle.std.specs.List.{AllByRecursion}
-use Rattle.misp_elem.specs.declared.row.RowFields.{RowFields as Row}
-use Rattle.misp_elem.specs.Row.{AreRows}
 use Rattle.misp_groups.specs.declared.group.GroupFields.{GroupFields as Group}
 use Rattle.misp_groups.specs.Group.{IsGroup}
 use Rattle.misp_outside.specs.declared.row.RawBatch.{RawBatch}
 use Rattle.misp_outside.specs.Held.{Held, with_batch}
+use Rattle.misp_elem.specs.declared.row.RowFields.{RowFields as Row}
+use Rattle.misp_elem.specs.Row.{AreRows}
 
 -- Rows of events, and sharing groups, that are put together. They are what they are read as, and
 -- not their bytes: two lists of fields may have the same bytes, of which one is no row.

@@ -1,16 +1,10 @@
 -- What is known of the course of commands over keepers, some of which may not tell what they hold.
-use Rattle.std.specs.Prelude.{◌≡◌, ℕ, List, map, length}
-use Rattle.std.specs.declared.option.Option.{Option}
-use Rattle.misp_outside.specs.Causes.{RoseBy}
-use Rattle.misp_outside.specs.Held.{Held}
-use Rattle.misp_effects.specs.declared.stop.Stop.{Stop}
-use Rattle.misp_effects.specs.Batches.{Spelling, AreReadable}
+use Rattle.std.specs.Prelude.{◌≡◌, ℕ, List, map, length, Option}
+use Rattle.misp_effects.specs.Prelude.{Held, KeeperState, Meaning, RoseBy, Spelling, Stop, Tables, Tell}
+use Rattle.misp_effects.specs.Batches.{AreReadable}
 use Rattle.misp_effects.specs.Effect.{Outcome, stop_of}
-use Rattle.misp_outside.specs.Stock.{Stock}
-use Rattle.misp_effects.specs.Stocks.{Tables, Tell, count_at}
-use Rattle.misp_effects.specs.Meanings.{Meaning}
-use Rattle.misp_effects.specs.Run.{effect_in, output_of, tables_after, outputs_of, tables_left}
-use Rattle.misp_effects.specs.Run.{AreFit, fault_at, faults_at}
+use Rattle.misp_effects.specs.KeeperStates.{count_at}
+use Rattle.misp_effects.specs.Run.{effect_in, output_of, tables_after, outputs_of, tables_left, AreFit, fault_at, faults_at}
 
 -- ---- one command
 
@@ -18,7 +12,7 @@ use Rattle.misp_effects.specs.Run.{AreFit, fault_at, faults_at}
 -- each batch that it put is readable
 pub record IsDone (S A : Type 0) (seen_in : Held → S) (spelled : Spelling)
     (stop_in : A → Option Stop) (m : Meaning S A)
-    (tables : Tables) (output : A) (new : List Stock) : Type 0 where
+    (tables : Tables) (output : A) (new : List KeeperState) : Type 0 where
   pub outcome : Outcome
   pub agree : stop_of outcome ≡ stop_in output
   pub output_is : output ≡ output_of seen_in outcome m tables
@@ -29,7 +23,7 @@ pub record IsDone (S A : Type 0) (seen_in : Held → S) (spelled : Spelling)
 -- this keeper's count rose; and where all keepers tell what they hold, it was done over that.
 pub record IsAct (S A : Type 0) (seen_in : Held → S) (spelled : Spelling)
     (stop_in : A → Option Stop) (m : Meaning S A)
-    (old new : List Stock) (output : A) : Type 0 where
+    (old new : List KeeperState) (output : A) : Type 0 where
   pub places : length new ≡ length old
   pub causes : (place : ℕ)
       → RoseBy (fault_at stop_in place m output) (count_at place old) (count_at place new)
@@ -41,7 +35,7 @@ pub record IsAct (S A : Type 0) (seen_in : Held → S) (spelled : Spelling)
 -- over these tables they put this out and left this, each under some outcome
 pub record AreDone (S A : Type 0) (seen_in : Held → S) (spelled : Spelling)
     (stop_in : A → Option Stop) (ms : List (Meaning S A))
-    (tables : Tables) (outputs : List A) (new : List Stock) : Type 0 where
+    (tables : Tables) (outputs : List A) (new : List KeeperState) : Type 0 where
   pub outcomes : List Outcome
   pub each : length outcomes ≡ length ms
   pub agree : map stop_of outcomes ≡ map stop_in outputs
@@ -53,7 +47,7 @@ pub record AreDone (S A : Type 0) (seen_in : Held → S) (spelled : Spelling)
 -- of a keeper no more often than this keeper's count rose.
 pub record HasRun (S A : Type 0) (seen_in : Held → S) (spelled : Spelling)
     (stop_in : A → Option Stop) (ms : List (Meaning S A))
-    (old new : List Stock) (outputs : List A) : Type 0 where
+    (old new : List KeeperState) (outputs : List A) : Type 0 where
   pub each : length outputs ≡ length ms
   pub places : length new ≡ length old
   pub causes : (place : ℕ)

@@ -1,7 +1,5 @@
 -- What a command comes to, and how much of it is done.
-use Rattle.std.specs.Prelude.{◌≡◌, ℕ, Bool, List, [], ◌∷◌, map, take}
-use Rattle.std.specs.declared.option.Option.{Option}
-use Rattle.std.specs.declared.option.Option.TheVariants.{None, Some}
+use Rattle.std.specs.Prelude.{◌≡◌, ℕ, Bool, List, [], ◌∷◌, map, take, Option, None, Some}
 use Rattle.misp_outside.specs.Held.{Held}
 use Rattle.misp_effects.specs.declared.stop.Stop.{Stop}
 use Rattle.misp_effects.specs.Batches.{Batch, Spelling, put_batches, AreReadable}

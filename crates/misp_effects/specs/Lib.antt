@@ -1,6 +1,7 @@
 pub mod Batches
 pub mod Course
 pub mod Effect
+pub mod KeeperStates
 pub mod Meanings
+pub mod Prelude
 pub mod Run
-pub mod Stocks

@@ -1,16 +1,10 @@
 -- The run of commands, by their meanings and the outcome of each: what is put out, and what is held
 -- in the end. What is seen is read off what is held.
-use Rattle.std.specs.Prelude.{ℕ, ◌+◌, ◌==◌, List, [], ◌∷◌, slice_set, if◌then◌else◌}
-use Rattle.std.specs.declared.option.Option.{Option}
-use Rattle.std.specs.declared.option.Option.TheVariants.{None, Some}
-use Rattle.misp_outside.specs.Held.{Held}
-use Rattle.misp_effects.specs.declared.stop.Stop.{Stop}
-use Rattle.misp_effects.specs.declared.stop.Stop.TheVariants as stops
-use Rattle.misp_effects.specs.declared.stop.Side.TheVariants.{Here, There}
-use Rattle.misp_effects.specs.Batches.{Spelling, AreReadable}
-use Rattle.misp_effects.specs.Effect.{Effect, Outcome, under, left}
-use Rattle.misp_effects.specs.Stocks.{Tables, held_at}
-use Rattle.misp_effects.specs.Meanings.{Meaning}
+use Rattle.std.specs.Prelude.{ℕ, ◌+◌, ◌==◌, List, [], ◌∷◌, slice_set, if◌then◌else◌, Option, None, Some}
+use Rattle.misp_effects.specs.Prelude.{Effect, Held, Here, Meaning, Spelling, Stop, Tables, There}
+use Rattle.misp_effects.specs.Batches.{AreReadable}
+use Rattle.misp_effects.specs.Effect.{Outcome, under, left}
+use Rattle.misp_effects.specs.KeeperStates.{held_at}
 
 -- ---- one command
 
@@ -71,10 +65,10 @@ one_where there place = if there == place then 1 else 0
 -- how often the keeper of a place failed, where a command was stopped so
 abbrev pub fault_of : {S A : Type 0} → ℕ → Meaning S A → Option Stop → ℕ
 fault_of place m None = 0
-fault_of place m (Some (stops.Keeper Here)) = one_where m.at place
-fault_of place m (Some (stops.Keeper There)) = one_where m.peer place
-fault_of place m (Some (stops.Memory side)) = 0
-fault_of place m (Some stops.Carry) = 0
+fault_of place m (Some (Stop.Keeper Here)) = one_where m.at place
+fault_of place m (Some (Stop.Keeper There)) = one_where m.peer place
+fault_of place m (Some (Stop.Memory side)) = 0
+fault_of place m (Some Stop.Carry) = 0
 
 -- the same, where it put this out
 abbrev pub fault_at : {S A : Type 0} → (A → Option Stop) → ℕ → Meaning S A → A → ℕ

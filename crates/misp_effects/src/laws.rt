@@ -12,7 +12,7 @@ ghost use Rattle.misp_effects.specs.declared.stop.Stop.TheVariants as stops;
 ghost use Rattle.misp_effects.specs.declared.stop.Side.TheVariants.{Here, There};
 ghost use Rattle.misp_effects.specs.Batches.{Batch, Spelling, IsReadable};
 ghost use Rattle.misp_effects.specs.Effect.{Effect, Telling, shown, behind, Does};
-ghost use Rattle.misp_outside.specs.Stock.{Stock};
+ghost use Rattle.misp_outside.specs.KeeperState.{KeeperState};
 ghost use Rattle.misp_effects.specs.Meanings.{Meaning};
 ghost use Rattle.misp_effects.specs.Run.{fault_of};
 ghost use Rattle.misp_effects.specs.Course.{IsAct, HasRun};
@@ -60,14 +60,14 @@ pub fn a_fault_is_counted_at_its_keeper<S, A>()
 /// Nothing has run over keepers that are as they were.
 pub fn a_course_begins<S, A>()
     ensures { (seen_in : Held → S) (spelled : Spelling) (stop_in : A → Option Stop)
-        (old : List Stock) → HasRun S A seen_in spelled stop_in [] old old [] }
+        (old : List KeeperState) → HasRun S A seen_in spelled stop_in [] old old [] }
 {}
 
 /// What has run, and one command more, has run.
 pub fn a_course_goes_on<S, A>()
     ensures { (seen_in : Held → S) (spelled : Spelling) (stop_in : A → Option Stop)
         (ms : List (Meaning S A)) (m : Meaning S A)
-        (old mid new : List Stock) (outputs : List A) (output : A) →
+        (old mid new : List KeeperState) (outputs : List A) (output : A) →
         HasRun S A seen_in spelled stop_in ms old mid outputs →
         IsAct S A seen_in spelled stop_in m mid new output →
         HasRun S A seen_in spelled stop_in (ms ++ m ∷ []) old new (outputs ++ output ∷ []) }

@@ -1,4 +1,4 @@
-//! What commands come to, and runs of them, whatever they are about. No deed is named here.
+//! What commands come to, and runs of them, whatever they are about.
 #![tactic(auto)]
 
 mod laws;

@@ -1,19 +1,16 @@
--- What stands in a row is read as it is written.
-use Rattle.std.proofs.Common.{ℕ, ◌-◌, ◌<◌, ◌^◌, Bool, true, false, List, ◌∷◌, ◌++◌, [], length, Option, refl, arith}
-use Rattle.std.specs.Int.{w64}
+-- What is in a row is read as it is written.
+use Rattle.std.proofs.Common.{ℕ, ◌-◌, ◌<◌, ◌^◌, Bool, true, false, List, ◌∷◌, ◌++◌, [], length, Option, refl, arith, w64}
 use Rattle.std.proofs.lemmas.Bool.{and_parts, and_from}
-use Rattle.misp_ids.specs.declared.uid.Uid.{Uid}
-use Rattle.misp_ids.specs.declared.uid.OrgId.{OrgId}
-use Rattle.misp_types.specs.Values.{is_kept}
-use Rattle.misp_elem.specs.declared.content.Tag.{Tag}
-use Rattle.misp_ids.specs.Uid.{IsUid}
-use Rattle.misp_elem.specs.Row.{IsText, is_date, IsDate, IsValue, text_limit, IsStamp, IsBetween, IsOptionalUid, AreTags, IsEventBody, IsObjectBody, IsAttributeBody, IsReferenceBody, is_removal, IsRemoval, least_kind, IsProposed, IsProposalBody, IsSightingBody}
+use Rattle.misp_lists.proofs.Bytes.{wide64}
+use Rattle.misp_elem.specs.Prelude.{AreTags, IsAttributeBody, IsBetween, IsOptionalUid, IsStamp, IsText, IsUid, IsValue, OrgId, Tag, Uid, is_kept, text_limit}
+use Rattle.misp_elem.specs.Fields.{is_date, IsDate}
+use Rattle.misp_elem.specs.Contents.{IsEventBody, IsObjectBody, IsReferenceBody, is_removal, IsRemoval, least_kind, IsProposed, IsProposalBody, IsSightingBody}
 use Rattle.misp_elem.specs.Spelling.{uid, text, flag, optional_uid, stamp, tags, event_body, object_body, attribute_body, reference_body, proposal_body, sighting_body}
 use Rattle.misp_elem.specs.Reading.{number_at, text_at, date_at, value_at}
-use Rattle.misp_elem.specs.RowReading.{event_body_at, object_body_at, attribute_body_at, reference_body_at, removal_at, proposed_value_at, proposal_body_at, sighting_body_at}
+use Rattle.misp_elem.specs.ContentReading.{event_body_at, object_body_at, attribute_body_at, reference_body_at, removal_at, proposed_value_at, proposal_body_at, sighting_body_at}
 use Rattle.misp_elem.proofs.Exact.{IsField, IsMade, last, first, whole, tested, under}
 use Rattle.misp_elem.proofs.Keys.{org_field}
-use Rattle.misp_elem.proofs.Numbers.{wide64, number_field, between_field, stamp_field, text_field, flag_field, optional_field}
+use Rattle.misp_elem.proofs.Numbers.{number_field, between_field, stamp_field, text_field, flag_field, optional_field}
 use Rattle.misp_elem.proofs.ShortTexts.{is_text-date}
 use Rattle.misp_elem.proofs.TagFields.{tags_field}
 
@@ -46,7 +43,11 @@ kind_field remove = text_field (least_kind remove) 100 (omega arith)
 -- ---- bodies
 
 event_made : IsMade
-    (λ (p : List ℕ × (List ℕ × (ℕ × (ℕ × (ℕ × (Option Uid × (OrgId × (List ℕ × List Tag)))))))). IsText 1 text_limit p.0 × (IsDate p.1.0 × (IsBetween 1 4 p.1.1.0 × (IsBetween 0 2 p.1.1.1.0 × (IsStamp p.1.1.1.1.0 × (IsOptionalUid p.1.1.1.1.1.0 × (IsUid p.1.1.1.1.1.1.0.0 × (IsText 0 64 p.1.1.1.1.1.1.1.0 × AreTags (text_limit - length p.0) p.1.1.1.1.1.1.1.1))))))))
+    (λ (p : List ℕ × (List ℕ × (ℕ × (ℕ × (ℕ × (Option Uid × (OrgId × (List ℕ × List Tag)))))))).
+    IsText 1 text_limit p.0
+    × (IsDate p.1.0
+    × (IsBetween 1 4 p.1.1.0
+    × (IsBetween 0 2 p.1.1.1.0 × (IsStamp p.1.1.1.1.0 × (IsOptionalUid p.1.1.1.1.1.0 × (IsUid p.1.1.1.1.1.1.0.0 × (IsText 0 64 p.1.1.1.1.1.1.1.0 × AreTags (text_limit - length p.0) p.1.1.1.1.1.1.1.1))))))))
     (λ p. record { info = p.0; date = p.1.0; threat_level_id = p.1.1.0; analysis = p.1.1.1.0; publish_stamp = p.1.1.1.1.0; extends_uuid = p.1.1.1.1.1.0; orgc = p.1.1.1.1.1.1.0; orgc_name = p.1.1.1.1.1.1.1.0; tags = p.1.1.1.1.1.1.1.1 })
     (λ p. text p.0 ++ (text p.1.0 ++ ((p.1.1.0 ∷ []) ++ ((p.1.1.1.0 ∷ []) ++ (stamp p.1.1.1.1.0 ++ (optional_uid p.1.1.1.1.1.0 ++ (uid p.1.1.1.1.1.1.0.0 ++ (text p.1.1.1.1.1.1.1.0 ++ tags p.1.1.1.1.1.1.1.1))))))))
     event_body_at
@@ -93,7 +94,8 @@ proposal_field may =
     (first (removal_field may) (λ remove. first (text_field 0 64 (omega arith)) (λ name. first (kind_field remove) (λ kind.
     first (between_field 0 15 (omega arith)) (λ category. first flag_field (λ to_ids.
     first (text_field 0 (text_limit - length kind) (omega arith)) (λ comment.
-    last (λ value. record { remove = remove; by_name = name; kind = kind; category = category; to_ids = to_ids; comment = comment; value = value }) (proposed_field remove (text_limit - length kind - length comment) kind (omega arith)))))))))
+    last (λ value. record { remove = remove; by_name = name; kind = kind; category = category; to_ids = to_ids; comment = comment; value = value })
+    (proposed_field remove (text_limit - length kind - length comment) kind (omega arith)))))))))
 
 pub sighting_field : IsField IsSightingBody sighting_body sighting_body_at
 unfolding sighting_body_at

@@ -1,26 +1,16 @@
 -- Each field of a key is read as it is written.
-use Rattle.std.proofs.Common.{◌≡◌, ℕ, ◌<◌, ◌≤◌, false, cond, eqb, ltb, List, [], ◌∷◌, ◌++◌, length, take, drop, Ok, Err, refl, sym, ap, subst, ◌∙◌, arith, inl, inr}
-use Rattle.std.specs.List.{list_any}
-use Rattle.std.specs.Int.{w128, from_be_bytes, to_be_bytes}
-use Rattle.std.proofs.lemmas.Bool.{eqb-true, ltb-false, le-ltb}
-use Rattle.std.proofs.lemmas.List.{take_at, drop_at, take-append-drop, length-append, length-take}
+use Rattle.std.proofs.Common.{◌≡◌, ℕ, ◌<◌, ◌≤◌, false, cond, eqb, ltb, List, [], ◌∷◌, ◌++◌, length, take, drop, Ok, Err, refl, sym, ap, subst, ◌∙◌, arith, inl, inr, eqb-true, ltb-false, le-ltb, take_at, drop_at, take-append-drop}
+use Rattle.std.proofs.Common.{length-append, length-take}
+use Rattle.std.specs.Int.{w128, from_be_bytes}
 use Rattle.uuid.proofs.OrderLemmas.{from_be_bytes-to_be_bytes_16}
-use Rattle.misp_ids.specs.declared.uid.Uid.{Uid}
-use Rattle.misp_ids.specs.declared.uid.EventId.{EventId}
-use Rattle.misp_ids.specs.declared.uid.OrgId.{OrgId}
-use Rattle.misp_ids.specs.declared.uid.ElemId.{ElemId}
 use Rattle.misp_ids.specs.Names.{is_inst_name}
-use Rattle.misp_elem.specs.declared.key.Place.{Place}
-use Rattle.misp_elem.specs.declared.key.Place.TheVariants.{Event, Object, Attribute, ObjectAttribute}
-use Rattle.misp_elem.specs.declared.key.ProposalName.{ProposalName}
-use Rattle.misp_elem.specs.declared.key.KeyForm.{KeyForm}
-use Rattle.misp_elem.specs.declared.key.KeyForm.TheVariants.{Element, Reference, Proposal, Verdict, Sighting}
-use Rattle.misp_ids.specs.Uid.{IsUid}
-use Rattle.misp_elem.specs.Key.{IsPlace, IsPlaceBut, place_kind, IsInstName, IsProposalName, IsKey, of_reference, of_proposal, of_sighting}
-use Rattle.misp_elem.specs.Spelling.{uid, inst_name, place, proposal_name, key}
-use Rattle.misp_elem.specs.Reading.{Reading, ◌>>=◌, byte_at, uid_at, elem_at, event_at, org_at, inst_of, inst_at}
-use Rattle.misp_elem.specs.KeyReading.{place_of, place_at, proposal_at, element_at, reference_at, proposed_at, verdict_at, sighting_at, key_of_kind, key_at, key_of}
-use Rattle.misp_elem.proofs.Bytes.{IsBytes, IsBytes-rest, IsBytes-take, IsBytes-drop, to_be_bytes-from_be_bytes_16, from_be_bytes_16-lt}
+use Rattle.misp_lists.proofs.Bytes.{IsBytes, IsBytes-rest, IsBytes-take, IsBytes-drop, to_be_bytes-from_be_bytes_16, from_be_bytes_16-lt}
+use Rattle.misp_elem.specs.Prelude.{◌>>=◌, Attribute, Element, ElemId, Event, EventId, IsKey, IsPlace, IsPlaceBut, IsUid, KeyForm, Object, ObjectAttribute, OrgId, Place, Proposal, ProposalName, Reading, Reference, Sighting, Uid, Verdict}
+use Rattle.misp_elem.specs.Prelude.{byte_at, event_at, inst_name, key, key_at, list_any, of_proposal, org_at, place_kind, proposal_name, to_be_bytes}
+use Rattle.misp_elem.specs.Key.{IsInstName, IsProposalName, of_reference, of_sighting}
+use Rattle.misp_elem.specs.Spelling.{uid, place}
+use Rattle.misp_elem.specs.Reading.{uid_at, elem_at, inst_of, inst_at}
+use Rattle.misp_elem.specs.KeyReading.{place_of, place_at, proposal_at, element_at, reference_at, proposed_at, verdict_at, sighting_at, key_of_kind, key_of}
 use Rattle.misp_elem.proofs.Exact.{bind_ok, guard_ok, keep_ok, chosen, ok_is, Takes, Takes-then, IsField, IsMade, last, first, whole, cased, all_takes, all_again, no_error}
 
 -- ---- identifiers

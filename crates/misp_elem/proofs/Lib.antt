@@ -1,4 +1,3 @@
-pub mod Bytes
 pub mod Exact
 pub mod Keys
 pub mod Numbers
@@ -9,5 +8,8 @@ pub mod Tags
 pub mod TagFields
 pub mod Bodies
 pub mod Contents
+pub mod RowLists
 pub mod Rows
+pub mod Wire
 pub mod KeyOrder
+pub mod Same

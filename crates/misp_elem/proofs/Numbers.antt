@@ -1,41 +1,17 @@
 -- Numbers, texts and flags are read as they are written.
-use Rattle.std.proofs.Common.{◌≡◌, ℕ, ◌<◌, ◌≤◌, ◌^◌, Bool, true, false, ◌&&◌, cond, eqb, ltb, leb, List, [], ◌∷◌, ◌++◌, length, take, drop, Option, Some, None, Ok, Err, refl, sym, ap, subst, ◌∙◌, arith, inl, inr}
-use Rattle.std.specs.Int.{Width, w32, w64, byte_len, from_be_bytes, to_be_bytes}
-use Rattle.std.proofs.lemmas.Bool.{eqb-true, ltb-false, le-ltb, leb-true, le-leb, and_parts}
-use Rattle.std.proofs.lemmas.List.{take_at, drop_at, take-append-drop, length-append, length-take}
-use Rattle.std.proofs.lemmas.Nat.{be_bytes_4, be_bytes_8, from_be_bytes-to_be_bytes_4, from_be_bytes-to_be_bytes_8}
-use Rattle.misp_ids.specs.declared.uid.Uid.{Uid}
+use Rattle.std.proofs.Common.{◌≡◌, ℕ, ◌<◌, ◌≤◌, ◌^◌, Bool, true, false, ◌&&◌, cond, eqb, ltb, leb, List, [], ◌∷◌, ◌++◌, length, take, drop, Option, Some, None, Ok, Err, refl, sym, ap, subst, ◌∙◌, arith, inl, inr, w32, w64, eqb-true}
+use Rattle.std.proofs.Common.{ltb-false, le-ltb, leb-true, le-leb, take_at, drop_at, take-append-drop, length-append, length-take}
+use Rattle.std.specs.Int.{Width, byte_len, from_be_bytes}
+use Rattle.std.proofs.lemmas.Bool.{and_parts}
 use Rattle.misp_ids.specs.declared.stamp.TheConstants.{LAST_SECOND}
-use Rattle.misp_elem.specs.Row.{is_text, IsText, IsStamp, IsBetween, IsOptionalUid}
+use Rattle.misp_lists.proofs.Bytes.{IsBytes, IsBytes-take, IsBytes-drop, IsWide, wide32, wide64}
+use Rattle.misp_elem.specs.Prelude.{◌>>=◌, IsBetween, IsOptionalUid, IsStamp, IsText, Reading, Uid, between_at, byte_at, is_text, stamp_at, to_be_bytes}
 use Rattle.misp_elem.specs.Spelling.{uid, text, flag, optional_uid, stamp}
-use Rattle.misp_elem.specs.Reading.{Reading, ◌>>=◌, byte_at, number_at, between_at, stamp_at, text_of, text_at, flag_of, flag_at, optional_of, optional_at}
-use Rattle.misp_elem.proofs.Bytes.{IsBytes, IsBytes-take, IsBytes-drop}
+use Rattle.misp_elem.specs.Reading.{number_at, text_of, text_at, flag_of, flag_at, optional_of, optional_at}
 use Rattle.misp_elem.proofs.Exact.{bind_ok, guard_ok, keep_ok, chosen, ok_is, no_error, Takes, Takes-then, IsField, last, cased, nothing, tested, under}
 use Rattle.misp_elem.proofs.Keys.{byte_field, uid_field}
 
 -- ---- numbers
-
-pub record IsWide (w : Width) (limit : ℕ) : Type 0 where
-  pub len : (n : ℕ) → length (to_be_bytes w n) ≡ byte_len w
-  pub back : (bytes : List ℕ) → length bytes ≡ byte_len w → IsBytes bytes → to_be_bytes w (from_be_bytes w bytes) ≡ bytes
-  pub again : (n : ℕ) → n < limit → from_be_bytes w (to_be_bytes w n) ≡ n
-  pub below : (bytes : List ℕ) → IsBytes bytes → from_be_bytes w bytes < limit
-
-pub wide32 : IsWide w32 (2 ^ 32)
-wide32 = record {
-  len = λ n. refl;
-  back = λ bytes len fits. be_bytes_4 bytes _ len fits refl;
-  again = λ n lt. from_be_bytes-to_be_bytes_4 n lt;
-  below = λ bytes fits. omega (arith, fits 0, fits 1, fits 2, fits 3);
-}
-
-pub wide64 : IsWide w64 (2 ^ 64)
-wide64 = record {
-  len = λ n. refl;
-  back = λ bytes len fits. be_bytes_8 bytes _ len fits refl;
-  again = λ n lt. from_be_bytes-to_be_bytes_8 n lt;
-  below = λ bytes fits. omega (arith, fits 0, fits 1, fits 2, fits 3, fits 4, fits 5, fits 6, fits 7);
-}
 
 number_takes : (w : Width) (limit : ℕ) (wide : IsWide w limit) (bytes : List ℕ) (n : ℕ) (rest : List ℕ) → IsBytes bytes → number_at w bytes ≡ Ok (n, rest) → (n < limit) × Takes bytes (to_be_bytes w n) rest
 number_takes w limit wide bytes n rest fits e =
@@ -135,7 +111,7 @@ pub flag_field : IsField (λ (f : Bool). Unit {0}) flag flag_at
 unfolding flag_at
 flag_field = tagged flag_of flag_each flag_back
 
--- ---- an identifier behind a flag
+-- ---- an identifier after a flag
 
 optional_takes : (bytes : List ℕ) (o : Option Uid) (rest : List ℕ) → IsBytes bytes → optional_at bytes ≡ Ok (o, rest) → IsOptionalUid o × Takes bytes (optional_uid o) rest
 unfolding optional_at

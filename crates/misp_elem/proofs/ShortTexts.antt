@@ -1,14 +1,10 @@
 -- A date is a short text.
-use Rattle.std.proofs.Common.{◌≡◌, ℕ, zero, suc, ◌<◌, ◌^◌, Bool, true, false, cond, List, [], ◌∷◌, length, Some, None, true≢false, refl, sym, arith}
-use Rattle.std.specs.Prelude.{option_map, unwrap_or}
+use Rattle.std.proofs.Common.{◌≡◌, ℕ, zero, suc, ◌<◌, ◌^◌, Bool, true, false, cond, List, [], ◌∷◌, length, Some, None, true≢false, refl, sym, arith, option_map, unwrap_or, IsAscii, eqb-true}
 use Rattle.std.specs.Char.{is_ascii_digit}
-use Rattle.std.specs.List.{AllByRecursion}
-use Rattle.std.specs.Str.{IsAscii, is_utf8}
-use Rattle.std.proofs.lemmas.Bool.{and_parts, eqb-true}
-use Rattle.std.proofs.lemmas.Bool.Decides.{nat_tests}
-use Rattle.std.proofs.lemmas.Str.{IsUtf8-from_ascii, is_utf8-from_IsUtf8}
+use Rattle.std.proofs.lemmas.Str.{IsUtf8-from_ascii}
+use Rattle.misp_lists.proofs.Prelude.{AllByRecursion, and_parts, is_utf8, is_utf8-from_IsUtf8, nat_tests}
 use Rattle.misp_dates.specs.Dates.{is_day, are_digits, is_date}
-use Rattle.misp_elem.specs.Row.{is_text}
+use Rattle.misp_elem.specs.Fields.{is_text}
 use Rattle.misp_elem.proofs.Numbers.{length-text_le}
 
 digit_small : (b : ℕ) → is_ascii_digit b ≡ true → b < 128

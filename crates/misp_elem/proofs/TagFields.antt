@@ -1,21 +1,17 @@
 -- Tags are read as they are written.
-use Rattle.std.proofs.Common.{◌≡◌, ℕ, zero, suc, ◌-◌, ◌<◌, ◌≤◌, ◌^◌, Bool, false, ltb, All, List, [], ◌∷◌, ◌++◌, length, take, drop, Ok, refl, sym, ap, subst, ◌∙◌, append_assoc, arith}
-use Rattle.std.specs.Prelude.{min}
-use Rattle.std.specs.List.{flat_map, AllByRecursion}
-use Rattle.std.specs.Int.{w32, to_be_bytes}
+use Rattle.std.proofs.Common.{◌≡◌, ℕ, zero, suc, ◌-◌, ◌<◌, ◌≤◌, ◌^◌, Bool, false, ltb, All, List, [], ◌∷◌, ◌++◌, length, take, drop, Ok, refl, sym, ap, subst, ◌∙◌, append_assoc, arith, min, flat_map, w32, ltb-false, le-ltb, take_at}
+use Rattle.std.proofs.Common.{drop_at, take-append-drop, length-append, length-take}
 use Rattle.std.proofs.Math.Nat.{min-le_left}
-use Rattle.std.proofs.lemmas.Bool.{ltb-false, le-ltb, and_parts, and_from}
-use Rattle.std.proofs.lemmas.List.{take_at, drop_at, take-append-drop, length-append, length-take}
+use Rattle.std.proofs.lemmas.Bool.{and_parts, and_from}
 use Rattle.std.proofs.lemmas.List.Concat.{flat_map-cons}
 use Rattle.std.proofs.lemmas.List.Elements.{All-from_recursion}
-use Rattle.misp_elem.specs.declared.content.Tag.{Tag}
-use Rattle.misp_elem.specs.Row.{is_after, IsTagName, IsColour, IsTag, AreTagsAfter, AreTags}
+use Rattle.misp_lists.proofs.Bytes.{IsBytes, IsBytes-take, IsBytes-drop, wide32}
+use Rattle.misp_elem.specs.Prelude.{◌>>=◌, AllByRecursion, AreTags, AreTagsAfter, IsTag, IsTagName, Tag, is_after, to_be_bytes}
+use Rattle.misp_elem.specs.Fields.{IsColour}
 use Rattle.misp_elem.specs.Spelling.{text, flag, tag, tags}
-use Rattle.misp_elem.specs.Reading.{◌>>=◌}
-use Rattle.misp_elem.specs.RowReading.{colour_at, tag_name_at, tag_at, tags_after, tags_at}
-use Rattle.misp_elem.proofs.Bytes.{IsBytes, IsBytes-take, IsBytes-drop}
+use Rattle.misp_elem.specs.ContentReading.{colour_at, tag_name_at, tag_at, tags_after, tags_at}
 use Rattle.misp_elem.proofs.Exact.{bind_ok, guard_ok, ok_is, Takes, Takes-then, IsField, IsMade, last, first, whole, tested, under}
-use Rattle.misp_elem.proofs.Numbers.{wide32, number_field, length-text_le, text_field, flag_field}
+use Rattle.misp_elem.proofs.Numbers.{number_field, length-text_le, text_field, flag_field}
 
 colour_takes : (bytes colour rest : List ℕ) → IsBytes bytes → colour_at bytes ≡ Ok (colour, rest) → IsColour colour × Takes bytes colour rest
 unfolding colour_at
@@ -41,7 +37,9 @@ tag_name_field room before =
     let short : min 255 room < 2 ^ 32 = omega (arith, min-le_left 255 room) in
     under (IsTagName room before) (λ name h. and_from _ _ h.0 h.1) (λ name h. and_parts _ _ h) (tested (is_after before) (text_field 1 (min 255 room) short))
 
-tag_made : (room : ℕ) (before : List ℕ) → IsMade (λ (p : List ℕ × (List ℕ × Bool)). IsTagName room before p.0 × (IsColour p.1.0 × Unit {0})) (λ p. record { name = p.0; colour = p.1.0; exportable = p.1.1 }) (λ p. text p.0 ++ (p.1.0 ++ flag p.1.1)) (tag_at room before)
+tag_made : (room : ℕ) (before : List ℕ)
+    → IsMade (λ (p : List ℕ × (List ℕ × Bool)). IsTagName room before p.0 × (IsColour p.1.0 × Unit {0})) (λ p. record { name = p.0; colour = p.1.0; exportable = p.1.1 })
+    (λ p. text p.0 ++ (p.1.0 ++ flag p.1.1)) (tag_at room before)
 unfolding tag_at
 tag_made room before = first (tag_name_field room before) (λ name. first colour_field (λ colour. last (λ exportable. record { name = name; colour = colour; exportable = exportable }) flag_field))
 

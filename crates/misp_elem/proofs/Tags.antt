@@ -1,14 +1,12 @@
 -- Reading tags one after the other, as a loop does.
-use Rattle.std.proofs.Common.{◌≡◌, ℕ, suc, ◌-◌, ◌+◌, ◌≤◌, ◌<◌, List, [], ◌∷◌, ◌++◌, length, Some, Ok, Err, refl, sym, ap, ◌∙◌, append_assoc, arith}
-use Rattle.std.specs.Prelude.{slice_get}
-use Rattle.std.proofs.lemmas.List.{append-nil, length-append, get_or_push}
+use Rattle.std.proofs.Common.{◌≡◌, ℕ, suc, ◌-◌, ◌+◌, ◌≤◌, ◌<◌, List, [], ◌∷◌, ◌++◌, length, Some, Ok, Err, refl, sym, ap, ◌∙◌, append_assoc, arith, slice_get, append-nil, length-append}
+use Rattle.std.proofs.lemmas.List.{get_or_push}
 use Rattle.std.proofs.lemmas.Option.{slice_get_read}
 use Rattle.misp_elem.specs.declared.content.Tag.{Tag}
 use Rattle.misp_elem.specs.declared.fault.Stop.{Stop}
-use Rattle.misp_elem.specs.declared.fault.Stop.TheVariants as stops
-use Rattle.misp_elem.specs.Row.{last_name, name_or_nothing}
+use Rattle.misp_elem.specs.Fields.{last_name, name_or_nothing}
 use Rattle.misp_elem.specs.Reading.{Reading, ◌>>=◌, Fails}
-use Rattle.misp_elem.specs.RowReading.{tag_at, tags_after}
+use Rattle.misp_elem.specs.ContentReading.{tag_at, tags_after}
 
 -- what was read before, and what is still read
 abbrev pub with_front : List Tag → Reading (List Tag) → Reading (List Tag)
@@ -31,14 +29,15 @@ pub goes_on : (front : List Tag) (room count i : ℕ) (bytes : List ℕ) (t : Ta
 unfolding tags_after
 goes_on front room count i bytes t after total before lt is h so_far =
     let k : count - i ≡ suc (count - (i + 1)) = omega arith in
-    let one : with_front front (tags_after room (count - i) (last_name front) bytes) ≡ with_front (front ++ t ∷ []) (tags_after (room - length t.name) (count - (i + 1)) t.name after) = rw (k, ← is, h) (regroup front t (tags_after (room - length t.name) (count - (i + 1)) t.name after)) in
+    let one : with_front front (tags_after room (count - i) (last_name front) bytes) ≡ with_front (front ++ t ∷ []) (tags_after (room - length t.name) (count - (i + 1)) t.name after) =
+    rw (k, ← is, h) (regroup front t (tags_after (room - length t.name) (count - (i + 1)) t.name after)) in
     rw (last_name-push front t) (sym one ∙ so_far)
 
 pub stops_at : (e : Stop) (front : List Tag) (room count i : ℕ) (bytes : List ℕ) (total : Reading (List Tag)) (before : List ℕ) → i < count → before ≡ last_name front → Fails e (tag_at room before bytes)
     → with_front front (tags_after room (count - i) (last_name front) bytes) ≡ total → Fails e total
 unfolding tags_after
-stops_at stops.NoMemory front room count i bytes total before lt is h so_far = tt
-stops_at (stops.Bad bad) front room count i bytes total before lt is h so_far =
+stops_at Stop.NoMemory front room count i bytes total before lt is h so_far = tt
+stops_at (Stop.Bad bad) front room count i bytes total before lt is h so_far =
     let k : count - i ≡ suc (count - (i + 1)) = omega arith in
     let one : with_front front (tags_after room (count - i) (last_name front) bytes) ≡ Err bad.left = rw (k, ← is, h) refl in
     sym so_far ∙ one

@@ -4,14 +4,15 @@ use Rattle.misp_ids.specs.declared.uid.Uid.{Uid}
 use Rattle.misp_ids.specs.declared.uid.EventId.{EventId}
 use Rattle.misp_ids.specs.declared.uid.ElemId.{ElemId}
 use Rattle.misp_ids.specs.declared.label.Label.{Label}
+use Rattle.misp_ids.specs.Uid.{IsUid}
 use Rattle.misp_elem.specs.declared.key.Place.{Place}
-use Rattle.misp_elem.specs.declared.key.Place.TheVariants as places
 use Rattle.misp_elem.specs.declared.content.Tag.{Tag}
 use Rattle.misp_elem.specs.declared.content.Content.{Content}
 use Rattle.misp_elem.specs.declared.content.ReferenceBody.{ReferenceBody}
-use Rattle.misp_ids.specs.Uid.{IsUid}
 use Rattle.misp_elem.specs.Key.{IsPlaceBut, of_reference}
-use Rattle.misp_elem.specs.Row.{IsText, IsDate, IsBetween, IsOptionalUid, AreTags, IsLabel, IsLabelBut, IsContent, IsReferenceBody, content_kind, text_limit}
+use Rattle.misp_elem.specs.Fields.{IsText, IsDate, IsBetween, IsOptionalUid, AreTags, text_limit}
+use Rattle.misp_elem.specs.Contents.{IsContent, IsReferenceBody, content_kind}
+use Rattle.misp_elem.specs.Row.{IsLabel, IsLabelBut}
 
 pub record DraftFields : Type 0 where
   pub number : ℕ
@@ -43,10 +44,10 @@ pub record SubmissionFields : Type 0 where
 
 -- which contents an element at this place may have
 abbrev pub fits_place : Place → ℕ → Bool
-fits_place places.Event kind = false
-fits_place (places.Object o) kind = kind == 1
-fits_place (places.Attribute a) kind = kind == 2
-fits_place (places.ObjectAttribute o a) kind = kind == 2
+fits_place Place.Event kind = false
+fits_place (Place.Object o) kind = kind == 1
+fits_place (Place.Attribute a) kind = kind == 2
+fits_place (Place.ObjectAttribute o a) kind = kind == 2
 
 -- an element of an event, whose content is of its place's kind; its number is its place in
 -- reading order

@@ -7,15 +7,13 @@ use Rattle.misp_ids.specs.declared.uid.EventId.{EventId}
 use Rattle.misp_ids.specs.declared.uid.OrgId.{OrgId}
 use Rattle.misp_ids.specs.declared.uid.ElemId.{ElemId}
 use Rattle.misp_ids.specs.Names.{is_inst_name}
+use Rattle.misp_ids.specs.declared.stamp.TheConstants.{LAST_SECOND}
+use Rattle.misp_types.specs.Values.{is_kept}
 use Rattle.misp_elem.specs.declared.fault.BadField.{BadField}
 use Rattle.misp_elem.specs.declared.fault.DecodeFault.{DecodeFault}
 use Rattle.misp_elem.specs.declared.fault.DecodeFault.TheVariants.{BadRow}
-use Rattle.misp_elem.specs.declared.fault.DecodeFault.TheVariants as faults
-use Rattle.misp_ids.specs.declared.stamp.TheConstants.{LAST_SECOND}
 use Rattle.misp_elem.specs.declared.fault.Stop.{Stop}
-use Rattle.misp_elem.specs.declared.fault.Stop.TheVariants as stops
-use Rattle.misp_types.specs.Values.{is_kept}
-use Rattle.misp_elem.specs.Row.{is_text, is_date}
+use Rattle.misp_elem.specs.Fields.{is_text, is_date}
 
 -- ---- what a reader answers
 
@@ -40,8 +38,8 @@ ReadsAll (Err e) read = read ≡ Err e.left
 
 -- the same where memory may run out
 abbrev pub Fails : {A : Type 0} → Stop → Reading A → Type 0
-Fails stops.NoMemory read = Unit {0}
-Fails (stops.Bad e) read = read ≡ Err e.left
+Fails Stop.NoMemory read = Unit {0}
+Fails (Stop.Bad e) read = read ≡ Err e.left
 
 abbrev pub Gives : {A : Type 0} → Result A Stop → List ℕ → Reading A → Type 0
 Gives (Ok x) rest read = read ≡ Ok (x, rest)
@@ -50,8 +48,8 @@ Gives (Err e) rest read = Fails e read
 -- the same of all the bytes
 abbrev pub GivesAll : {A : Type 0} → Result A Stop → Result A ℕ → Type 0
 GivesAll (Ok x) read = read ≡ Ok x
-GivesAll (Err stops.NoMemory) read = Unit {0}
-GivesAll (Err (stops.Bad e)) read = read ≡ Err e.left
+GivesAll (Err Stop.NoMemory) read = Unit {0}
+GivesAll (Err (Stop.Bad e)) read = read ≡ Err e.left
 
 -- nothing follows
 abbrev pub ended : {A : Type 0} → A × List ℕ → Result A ℕ
@@ -65,8 +63,8 @@ answer bytes (Err left) = Err (BadRow (length bytes - left))
 -- An answer is the one expected, unless memory ran out.
 abbrev pub Answers : {A : Type 0} → Result A DecodeFault → Result A DecodeFault → Type 0
 Answers (Ok x) expected = expected ≡ Ok x
-Answers (Err faults.NoMemory) expected = Unit {0}
-Answers (Err (faults.BadRow p)) expected = expected ≡ Err (BadRow p)
+Answers (Err DecodeFault.NoMemory) expected = Unit {0}
+Answers (Err (DecodeFault.BadRow p)) expected = expected ≡ Err (BadRow p)
 
 -- ---- fields
 
@@ -88,7 +86,7 @@ event_at bytes = uid_at bytes >>= λ u. Ok (record { 0 = u.0 }, u.1)
 abbrev pub org_at : List ℕ → Reading OrgId
 org_at bytes = uid_at bytes >>= λ u. Ok (record { 0 = u.0 }, u.1)
 
--- the name behind its length, where all are its bytes
+-- the name after its length, where all are its bytes
 abbrev pub inst_of : List ℕ → ℕ → List ℕ → Reading (List ℕ)
 inst_of bytes len rest =
     if nat_lt (length rest) len then Err (length bytes)
@@ -114,7 +112,7 @@ stamp_at bytes = do
   n ← number_at w64 bytes
   if nat_le n.0 LAST_SECOND then Ok n else Err (length bytes)
 
--- the text behind its length
+-- the text after its length
 abbrev pub text_of : (List ℕ → Bool) → List ℕ → ℕ → List ℕ → Reading (List ℕ)
 text_of is_good bytes len rest =
     if nat_lt (length rest) len then Err (length bytes)

@@ -1,9 +1,9 @@
 -- The one spelling of each key and row.
-use Rattle.std.specs.Prelude.{ℕ, List, [], ◌∷◌, ◌++◌, length, Bool, true, false, Option, Some, None}
+use Rattle.std.specs.Prelude.{ℕ, List, [], ◌∷◌, ◌++◌, length, Bool, true, false, Option, Some, None, flat_map}
 use Rattle.std.specs.Int.{w32, w64, w128, to_be_bytes}
-use Rattle.std.specs.List.{flat_map}
 use Rattle.misp_ids.specs.declared.label.Label.{Label}
-use Rattle.misp_ids.specs.declared.label.Label.TheVariants as labels
+use Rattle.misp_ids.specs.declared.uid.Uid.{Uid}
+use Rattle.misp_ids.specs.declared.uid.OrgId.{OrgId}
 use Rattle.misp_elem.specs.declared.content.Tag.{Tag}
 use Rattle.misp_elem.specs.declared.content.EventBody.{EventBody}
 use Rattle.misp_elem.specs.declared.content.AttributeBody.{AttributeBody}
@@ -12,10 +12,7 @@ use Rattle.misp_elem.specs.declared.content.ReferenceBody.{ReferenceBody}
 use Rattle.misp_elem.specs.declared.content.ProposalBody.{ProposalBody}
 use Rattle.misp_elem.specs.declared.content.SightingBody.{SightingBody}
 use Rattle.misp_elem.specs.declared.content.Content.{Content}
-use Rattle.misp_elem.specs.declared.content.Content.TheVariants as contents
 use Rattle.misp_elem.specs.declared.row.RowFields.{RowFields}
-use Rattle.misp_ids.specs.declared.uid.Uid.{Uid}
-use Rattle.misp_ids.specs.declared.uid.OrgId.{OrgId}
 use Rattle.misp_elem.specs.declared.key.Place.{Place}
 use Rattle.misp_elem.specs.declared.key.Place.TheVariants.{Event, Object, Attribute, ObjectAttribute}
 use Rattle.misp_elem.specs.declared.key.ProposalName.{ProposalName}
@@ -73,12 +70,12 @@ unfoldable pub stamp : ℕ → List ℕ
 stamp s = to_be_bytes w64 s
 
 abbrev pub label : Label → List ℕ
-label labels.Own = 0 ∷ []
-label labels.Community = 1 ∷ []
-label labels.Connected = 2 ∷ []
-label labels.All = 3 ∷ []
-label (labels.Group g) = 4 ∷ uid g.creator.0 ++ uid g.uuid
-label labels.Inherit = 5 ∷ []
+label Label.Own = 0 ∷ []
+label Label.Community = 1 ∷ []
+label Label.Connected = 2 ∷ []
+label Label.All = 3 ∷ []
+label (Label.Group g) = 4 ∷ uid g.creator.0 ++ uid g.uuid
+label Label.Inherit = 5 ∷ []
 
 -- held is worth 1, and carried 2
 abbrev pub flags : Bool × Bool → List ℕ
@@ -143,14 +140,14 @@ abbrev pub sighting_body : SightingBody → List ℕ
 sighting_body b = text b.by_name ++ ((b.kind ∷ []) ++ (stamp b.date ++ text b.source))
 
 abbrev pub content : Content → List ℕ
-content (contents.Event b) = 0 ∷ event_body b
-content (contents.Object b) = 1 ∷ object_body b
-content (contents.Attribute b) = 2 ∷ attribute_body b
-content (contents.Reference b) = 3 ∷ reference_body b
-content (contents.Proposal b) = 4 ∷ proposal_body b
-content (contents.Verdict b) = 5 ∷ flag b
-content (contents.Sighting b) = 6 ∷ sighting_body b
-content contents.Gone = 7 ∷ []
+content (Content.Event b) = 0 ∷ event_body b
+content (Content.Object b) = 1 ∷ object_body b
+content (Content.Attribute b) = 2 ∷ attribute_body b
+content (Content.Reference b) = 3 ∷ reference_body b
+content (Content.Proposal b) = 4 ∷ proposal_body b
+content (Content.Verdict b) = 5 ∷ flag b
+content (Content.Sighting b) = 6 ∷ sighting_body b
+content Content.Gone = 7 ∷ []
 
 abbrev pub row : RowFields → List ℕ
 row r =

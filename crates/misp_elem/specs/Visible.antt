@@ -1,21 +1,14 @@
 -- What is shown of an event, where it is whole: each row of it is a row, and stands at its place.
 use Rattle.std.specs.Prelude.{◌≡◌, Option, Some, None}
-use Rattle.std.specs.List.{AllByRecursion}
-use Rattle.misp_ids.specs.declared.uid.EventId.{EventId}
-use Rattle.misp_ids.specs.declared.uid.ElemId.{ElemId}
-use Rattle.misp_elem.specs.declared.key.Place.{Place}
-use Rattle.misp_elem.specs.declared.key.Place.TheVariants as places
-use Rattle.misp_elem.specs.declared.key.KeyForm.TheVariants.{Element, Reference}
-use Rattle.misp_elem.specs.declared.row.RowFields.{RowFields}
+use Rattle.misp_elem.specs.Prelude.{AllByRecursion, Element, ElemId, EventId, IsRow, Place, Reference, RowFields, content_kind}
 use Rattle.misp_elem.specs.declared.visible.VisibleAttribute.{VisibleAttribute}
 use Rattle.misp_elem.specs.declared.visible.VisibleObject.{VisibleObject}
 use Rattle.misp_elem.specs.declared.visible.VisibleEvent.{VisibleEvent}
-use Rattle.misp_elem.specs.Row.{IsRow, content_kind}
 
 -- the place of an attribute of an object, or of one outside objects
 abbrev pub place_in : Option ElemId → ElemId → Place
-place_in None uuid = places.Attribute uuid
-place_in (Some object) uuid = places.ObjectAttribute object uuid
+place_in None uuid = Place.Attribute uuid
+place_in (Some object) uuid = Place.ObjectAttribute object uuid
 
 -- an attribute of this event, in this object or outside objects; a row of such a key has an
 -- attribute's content
@@ -36,15 +29,15 @@ pub record IsReferenceOf (event : EventId) (object : ElemId) (r : RowFields) : T
 pub record IsObjectOf (event : EventId) (o : VisibleObject) : Type 0 where
   pub row : IsRow o.row
   pub uuid : ElemId
-  pub key : o.row.key ≡ Element event (places.Object uuid)
+  pub key : o.row.key ≡ Element event (Place.Object uuid)
   pub attributes : AllByRecursion (IsAttributeOf event (Some uuid)) o.attributes
   pub references : AllByRecursion (IsReferenceOf event uuid) o.references
 
--- WHOLE: the event's own row, which is no mark, with attributes and objects of that event
+-- WHOLE: the event's own row, which is no tombstone, with attributes and objects of that event
 pub record IsWhole (e : VisibleEvent) : Type 0 where
   pub row : IsRow e.row
   pub event : EventId
-  pub key : e.row.key ≡ Element event places.Event
+  pub key : e.row.key ≡ Element event Place.Event
   pub content : content_kind e.row.content ≡ 0
   pub attributes : AllByRecursion (IsAttributeOf event None) e.attributes
   pub objects : AllByRecursion (IsObjectOf event) e.objects

@@ -89,6 +89,6 @@ pub enum Content {
     /// Whether a proposal was accepted.
     Verdict(bool),
     Sighting(SightingBody),
-    /// The mark of a deleted event.
+    /// The tombstone of a deleted event.
     Gone,
 }

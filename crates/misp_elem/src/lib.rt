@@ -1,16 +1,16 @@
-//! Keys, rows and drafts, the bytes that spell them, and why a request is refused.
+//! Keys, rows and drafts, and the bytes that spell them.
 #![tactic(auto)]
 
 mod ancestry;
 mod content;
 mod copying;
 mod draft;
+mod facts;
 mod fault;
 mod key;
 mod key_list;
 mod order;
 mod reading;
-mod refusal;
 mod row;
 mod visible;
 mod writing;
@@ -20,13 +20,13 @@ pub use content::{
     AttributeBody, Content, EventBody, ObjectBody, ProposalBody, ReferenceBody, SightingBody, Tag,
 };
 pub use draft::{Draft, EventDraft, ReferenceDraft, Submission};
+pub use facts::uuid_at;
 pub use fault::DecodeFault;
 pub use key::{Key, KeyForm, Place, ProposalName};
 pub use key_list::Parents;
 pub use misp_ids::NoMemory;
 pub use order::compare_keys;
-pub use reading::{decode, decode_key};
-pub use refusal::{Refusal, RuleName};
+pub use reading::{decode, decode_key, decode_on_wire};
 pub use row::{Row, RowFields};
 pub use visible::{VisibleAttribute, VisibleEvent, VisibleObject};
 pub use writing::{encode, encode_key, encode_name};

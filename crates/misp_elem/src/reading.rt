@@ -10,12 +10,14 @@ mod keys;
 mod rows;
 mod tags;
 mod values;
+mod wire;
 
 use crate::fault::BadField;
 pub use keys::decode_key;
 use misp_ids::{ElemId, EventId, InstId, OrgId, Uid};
 pub use rows::decode;
 use std::marker::Model;
+pub use wire::decode_on_wire;
 
 /// Bytes that are read from the left. A contract sees those that are left.
 #[derive(Drop)]

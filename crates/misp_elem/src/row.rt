@@ -5,8 +5,8 @@ use crate::key::{Key, KeyForm};
 use misp_ids::{Label, OrgId, Stamp};
 use std::marker::Model;
 
-/// A row, whose content fits its key, with a label that such a row can have. A mark has the label
-/// `Own` and no flag.
+/// A row, whose content fits its key, with a label that such a row can have. A tombstone has the
+/// label `Own` and no flag.
 ///
 /// A contract sees it as its fields.
 #[derive(Debug, Drop)]

@@ -19,7 +19,7 @@ pub struct VisibleObject {
     pub references: Items<Row>,
 }
 
-/// An event, with what stands in it, and the proposals for new attributes.
+/// An event, with what is in it, and the proposals for new attributes.
 #[derive(Debug, Drop)]
 pub struct VisibleEvent {
     pub row: Row,

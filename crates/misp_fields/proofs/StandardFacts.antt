@@ -1,6 +1,5 @@
 -- Colours that are read, so that a wrong rule in the specs does not check.
-use Rattle.std.proofs.Common.{◌≡◌, [], ◌∷◌, map, Some, None, refl}
-use Rattle.std.specs.Prelude.{codes}
+use Rattle.std.proofs.Common.{◌≡◌, [], ◌∷◌, map, Some, None, refl, codes}
 use Rattle.hex.proofs.OnLiterals.{hex_on_literals}
 use Rattle.misp_fields.specs.Fields.{colour_in}
 

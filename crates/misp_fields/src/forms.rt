@@ -28,7 +28,7 @@ fn colour_in(text: &[u8]) -> Option<[u8; 3]>
     }
 }
 
-/// Red, green and blue, each in two hexadecimal digits behind `#`.
+/// Red, green and blue, each in two hexadecimal digits after `#`.
 pub fn colour(value: &Value) -> Result<[u8; 3], Need>
     ensures { result ≡ colour_of (view value.now) }
 {

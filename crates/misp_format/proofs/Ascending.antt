@@ -1,16 +1,7 @@
--- What comes in the order of its keys is put one behind another.
-use Rattle.std.proofs.Common.{◌≡◌, ℕ, ◌+◌, List, [], ◌∷◌, ◌++◌, map, Ok, refl, sym, ap, ◌∙◌, append_assoc, subst}
-use Rattle.std.specs.List.{AllByRecursion}
-use Rattle.std.specs.List.Sorted.{IsStrictlySortedBy}
-use Rattle.std.specs.BTreeMap.{insert_entry}
-use Rattle.std.specs.Cmp.{IsTotalOrder}
-use Rattle.std.specs.Ordering.{ordering_reverse}
-use Rattle.std.specs.declared.cmp.Ordering.{Ordering}
-use Rattle.std.specs.declared.cmp.Ordering.TheVariants.{Less, Greater}
-use Rattle.std.proofs.lemmas.List.{append-nil}
-use Rattle.serde_json.specs.Data.{Data}
-use Rattle.serde_json.specs.View.{items_of}
-use Rattle.misp_format.specs.Rows.{Reading, ◌>>=◌, each}
+-- What comes in the order of its keys is put one after another.
+use Rattle.std.proofs.Common.{◌≡◌, ℕ, ◌+◌, List, [], ◌∷◌, ◌++◌, map, Ok, refl, sym, ap, ◌∙◌, append_assoc, subst, Ordering, Less, Greater, append-nil}
+use Rattle.misp_lists.specs.Prelude.{IsTotalOrder, ordering_reverse}
+use Rattle.misp_format.specs.Prelude.{◌>>=◌, AllByRecursion, Data, IsStrictlySortedBy, Reading, each, insert_entry, items_of}
 
 below_middle : {A : Type 0} (R : A → A → Ordering) (first : A) (done : List A) (a : A) (more : List A) → AllByRecursion (λ y. R first y ≡ Less) (done ++ a ∷ more) → R first a ≡ Less
 below_middle R first [] a more h = h.0

@@ -1,40 +1,29 @@
 -- Members that are written are read back.
-use Rattle.std.proofs.Common.{◌≡◌, ℕ, ◌+◌, ◌*◌, ◌<◌, ◌≤◌, ◌^◌, zero, suc, Bool, true, false, List, [], ◌∷◌, length, map, Option, Some, None, Result, Ok, Err, refl, ap, ◌∙◌, subst, arith, lit<, le-leb}
-use Rattle.std.specs.Option.{option_map_or}
-use Rattle.std.specs.Prelude.{codes, option_and_then, decimal, nat_lt}
+use Rattle.std.proofs.Common.{◌≡◌, ℕ, ◌+◌, ◌*◌, ◌<◌, ◌≤◌, ◌^◌, zero, suc, Bool, true, false, List, [], ◌∷◌, length, map, Option, Some, None, Result, Ok, Err, refl, ap, ◌∙◌, subst, arith, lit<, le-leb, codes, option_and_then, decimal}
+use Rattle.std.proofs.Common.{nat_lt, fold, bytes_eq}
 use Rattle.std.specs.Char.{is_ascii_digit}
-use Rattle.std.specs.List.{AllByRecursion, list_all, fold}
-use Rattle.std.specs.Str.{bytes_eq}
 use Rattle.std.specs.Str.Parse.{AllDigits}
-use Rattle.std.proofs.lemmas.Bool.Decides.{nat_tests}
 use Rattle.std.proofs.lemmas.Fmt.{decimal_is_IsNumeral, length-decimal-le}
 use Rattle.std.proofs.lemmas.Str.Parse.{digit_from_value}
-use Rattle.std.proofs.lemmas.Slice.Eq.{bytes_eq-Decides}
 use Rattle.hex.specs.Hex.{decode_sized, encode_lower, lower_digits}
 use Rattle.hex.proofs.HexLemmas.{length-encode_with, decode_sized-twice, decode_of-encode_lower}
-use Rattle.serde_json.specs.Data.{Data, Members, string, object, put}
 use Rattle.serde_json.specs.Find.{get_member}
 use Rattle.serde_json.proofs.Views.{get_member-put, get_member-put_other}
-use Rattle.serde_json.specs.View.{items_of}
-use Rattle.misp_ids.specs.declared.uid.Uid.{Uid}
-use Rattle.misp_ids.specs.declared.uid.GroupId.{GroupId}
-use Rattle.misp_ids.specs.declared.label.Label.{Label}
-use Rattle.misp_ids.specs.declared.label.Label.TheVariants as labels
+use Rattle.misp_lists.proofs.Prelude.{bytes_eq-Decides, list_all, nat_tests, option_map_or}
 use Rattle.misp_ids.specs.Uid.{text_of, read_uid, IsUid}
 use Rattle.misp_ids.proofs.UidLemmas.{reads_back}
 use Rattle.misp_types.specs.Checked.{Checked}
 use Rattle.misp_types.specs.Kinds.{rule_of}
-use Rattle.misp_types.specs.Values.{kept_of, is_kept, keeps}
-use Rattle.misp_elem.specs.Row.{IsColour, IsOptionalUid, IsBetween, IsLabel, label_kind}
-use Rattle.misp_fields.specs.declared.need.Need.{Need}
-use Rattle.misp_fields.specs.Fields.{member_of, present, number_of, is_number_text, uuid_of, optional_uuid_in, optional_uuid_of, colour_of}
-use Rattle.misp_format.specs.Body.{Body}
-use Rattle.misp_format.specs.Fields.{GroupNames, group_data, with_group, number_data, uuid_data, optional_uuid_data}
-use Rattle.misp_format.specs.Kinds.{category_of, category_name, is_file_type}
-use Rattle.misp_format.specs.Labels.{group_at, named_group_at, numbered_at, label_at}
-use Rattle.misp_format.specs.Path.{member_path}
-use Rattle.misp_format.specs.Readers.{any_of, number_within}
-use Rattle.misp_format.specs.Rows.{Reading, ◌>>=◌, at, row, must_be, each}
+use Rattle.misp_types.specs.Values.{is_kept, keeps}
+use Rattle.misp_fields.specs.Fields.{present, is_number_text, optional_uuid_in, colour_of}
+use Rattle.misp_elem.specs.Fields.{IsColour, IsOptionalUid, IsBetween}
+use Rattle.misp_elem.specs.Row.{IsLabel}
+use Rattle.misp_format.specs.Prelude.{◌>>=◌, AllByRecursion, Body, Data, GroupId, GroupNames, Label, Members, Need, Reading, Uid, category_of, each, group_data, items_of, kept_of, label_at, label_kind, member_of, member_path, must_be}
+use Rattle.misp_format.specs.Prelude.{number_data, number_of, number_within, object, optional_uuid_data, optional_uuid_of, put, string, uuid_data, uuid_of, with_group}
+use Rattle.misp_format.specs.Kinds.{category_name, is_file_type}
+use Rattle.misp_format.specs.Labels.{group_at, named_group_at, numbered_at}
+use Rattle.misp_format.specs.Readers.{any_of}
+use Rattle.misp_format.specs.Rows.{at, row}
 use Rattle.misp_format.specs.Written.{colour_text}
 
 -- ---- rows
@@ -69,19 +58,16 @@ all_ascii (c ∷ cs) d =
 pub number_back : (n : ℕ) → n < 2 ^ 64 → number_of (number_data n) ≡ Ok n
 number_back n h =
     let numeral = decimal_is_IsNumeral n h in
-    let text : is_number_text (decimal n) ≡ true = rw (lt_true 0 (length (decimal n)) numeral.0.0, le-leb (length (decimal n)) 20 (length-decimal-le 20 n (omega arith) (omega arith) h), all_ascii (decimal n) numeral.0.1, numeral.1, lt_true n (2 ^ 64) h) refl in
+    let text : is_number_text (decimal n) ≡ true =
+    rw (lt_true 0 (length (decimal n)) numeral.0.0, le-leb (length (decimal n)) 20 (length-decimal-le 20 n (omega arith) (omega arith) h), all_ascii (decimal n) numeral.0.1, numeral.1, lt_true n (2 ^ 64) h) refl in
     rw (text, numeral.1) refl
 
 pub within_back : (least most n : ℕ) → IsBetween least most n → n < 2 ^ 64 → number_within least most (number_data n) ≡ Ok n
 within_back least most n between h = rw (number_back n h, between) refl
 
 pub at_most_5 : (label : Label) → label_kind label ≤ 5
-at_most_5 labels.Own = omega arith
-at_most_5 labels.Community = omega arith
-at_most_5 labels.Connected = omega arith
-at_most_5 labels.All = omega arith
-at_most_5 (labels.Group group) = omega arith
-at_most_5 labels.Inherit = omega arith
+at_most_5 (Label.Group group) = omega arith
+at_most_5 _ = omega arith
 
 -- ---- identifiers
 
@@ -103,12 +89,8 @@ apart name differs is = let yes : bytes_eq name (codes "SharingGroup") ≡ true 
 
 -- the other names have what they have without it
 pub beside : (names : GroupNames) (label : Label) (ms : Members) (name : List ℕ) → bytes_eq name (codes "SharingGroup") ≡ false → get_member name (with_group names label ms) ≡ get_member name ms
-beside names labels.Own ms name differs = refl
-beside names labels.Community ms name differs = refl
-beside names labels.Connected ms name differs = refl
-beside names labels.All ms name differs = refl
-beside names (labels.Group group) ms name differs = get_member-put_other name (codes "SharingGroup") (group_data names group) ms (apart name differs)
-beside names labels.Inherit ms name differs = refl
+beside names (Label.Group group) ms name differs = get_member-put_other name (codes "SharingGroup") (group_data names group) ms (apart name differs)
+beside names _ ms name differs = refl
 
 pub found_beside : (names : GroupNames) (label : Label) (ms : Members) (name : List ℕ) (d : Data) → bytes_eq name (codes "SharingGroup") ≡ false
     → member_of name (object ms) ≡ Some d → member_of name (object (with_group names label ms)) ≡ Some d
@@ -122,24 +104,25 @@ row_beside {A} path names label ms name reader absent x differs h =
 
 -- ---- labels
 
-group_read : (path : List ℕ) (names : GroupNames) (group : GroupId) → IsLabel (labels.Group group) → group_at path (group_data names group) ≡ Ok group
+group_read : (path : List ℕ) (names : GroupNames) (group : GroupId) → IsLabel (Label.Group group) → group_at path (group_data names group) ≡ Ok group
 unfolding group_at
 group_read path names group h = rw (uuid_back group.creator.0 h.0, uuid_back group.uuid h.1) refl
 
-named_back : (path : List ℕ) (names : GroupNames) (group : GroupId) (ms : Members) → IsLabel (labels.Group group)
+named_back : (path : List ℕ) (names : GroupNames) (group : GroupId) (ms : Members) → IsLabel (Label.Group group)
     → named_group_at (record { path = path; value = object (put (codes "SharingGroup") (group_data names group) ms) }) ≡ Ok group
 named_back path names group ms h =
     let it : Body = record { path = path; value = object (put (codes "SharingGroup") (group_data names group) ms) } in
-    let there : row it (codes "SharingGroup") any_of must_be ≡ Ok (group_data names group) = row_back it (codes "SharingGroup") any_of must_be (group_data names group) (group_data names group) (ap (λ o. option_and_then present o) (get_member-put (codes "SharingGroup") (group_data names group) ms)) refl in
+    let there : row it (codes "SharingGroup") any_of must_be ≡ Ok (group_data names group) =
+    row_back it (codes "SharingGroup") any_of must_be (group_data names group) (group_data names group) (ap (λ o. option_and_then present o) (get_member-put (codes "SharingGroup") (group_data names group) ms)) refl in
     ap (λ (r : Reading Data). r >>= λ group. group_at (member_path path (codes "SharingGroup")) group) there ∙ group_read (member_path path (codes "SharingGroup")) names group h
 
 numbered_back : (path : List ℕ) (names : GroupNames) (label : Label) (ms : Members) → IsLabel label → numbered_at (record { path = path; value = object (with_group names label ms) }) (label_kind label) ≡ Ok label
-numbered_back path names labels.Own ms h = refl
-numbered_back path names labels.Community ms h = refl
-numbered_back path names labels.Connected ms h = refl
-numbered_back path names labels.All ms h = refl
-numbered_back path names (labels.Group group) ms h = ap (λ (r : Reading GroupId). r >>= λ group. Ok (labels.Group group)) (named_back path names group ms h)
-numbered_back path names labels.Inherit ms h = refl
+numbered_back path names Label.Own ms h = refl
+numbered_back path names Label.Community ms h = refl
+numbered_back path names Label.Connected ms h = refl
+numbered_back path names Label.All ms h = refl
+numbered_back path names (Label.Group group) ms h = ap (λ (r : Reading GroupId). r >>= λ group. Ok (Label.Group group)) (named_back path names group ms h)
+numbered_back path names Label.Inherit ms h = refl
 
 pub label_back : (path : List ℕ) (names : GroupNames) (label : Label) (ms : Members) (most absent : ℕ) → label_kind label ≤ most → IsLabel label
     → member_of (codes "distribution") (object ms) ≡ Some (number_data (label_kind label))
@@ -150,7 +133,8 @@ label_back path names label ms most absent le fits here =
     let n = label_kind label in
     let between : IsBetween 0 most n = rw (le-leb 0 n (omega arith), le-leb n most le) refl in
     let small : n < 2 ^ 64 = let five = at_most_5 label in let large : 5 < 2 ^ 64 = lit< tt in omega arith in
-    let number : row it (codes "distribution") (number_within 0 most) (Ok absent) ≡ Ok n = row_back it (codes "distribution") (number_within 0 most) (Ok absent) (number_data n) n (found_beside names label ms (codes "distribution") (number_data n) refl here) (within_back 0 most n between small) in
+    let number : row it (codes "distribution") (number_within 0 most) (Ok absent) ≡ Ok n =
+    row_back it (codes "distribution") (number_within 0 most) (Ok absent) (number_data n) n (found_beside names label ms (codes "distribution") (number_data n) refl here) (within_back 0 most n between small) in
     ap (λ (r : Reading ℕ). r >>= λ number. numbered_at it number) number ∙ numbered_back path names label ms fits
 
 -- ---- colours

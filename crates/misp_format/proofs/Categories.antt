@@ -1,11 +1,8 @@
 -- The code's list of categories and the definitions' list of their texts: each text is that of a name.
-use Rattle.std.proofs.Common.{◌≡◌, ℕ, Bool, not, List, [], ◌∷◌, map, Option, Some, None, refl, ap, ◌∙◌, sym}
-use Rattle.std.specs.Prelude.{◌+◌, position, slice_get, unwrap_or, if◌then◌else◌}
-use Rattle.std.specs.Option.{option_map_or, option_map}
+use Rattle.std.proofs.Common.{◌≡◌, ℕ, Bool, not, List, [], ◌∷◌, map, Option, Some, None, refl, ap, ◌∙◌, sym, ◌+◌, position, slice_get, unwrap_or, if◌then◌else◌, option_map, bytes_eq}
 use Rattle.std.specs.List.{prefix_len}
-use Rattle.std.specs.Str.{bytes_eq}
-use Rattle.std.proofs.lemmas.List.{length-map}
 use Rattle.std.proofs.lemmas.Option.{slice_get-map}
+use Rattle.misp_lists.proofs.Prelude.{length-map, option_map_or}
 use Rattle.misp_format.specs.declared.kinds.TheConstants.{CATEGORIES}
 use Rattle.misp_format.specs.Kinds.{category_texts}
 

@@ -1,39 +1,30 @@
 -- What the tables bring fits a row.
-use Rattle.std.proofs.Common.{◌≡◌, ℕ, ◌+◌, ◌-◌, ◌<◌, ◌≤◌, Bool, true, false, List, [], ◌∷◌, length, min, Option, Some, None, Result, Ok, Err, refl, subst, arith, lit<, le-leb, ap, ◌∙◌}
-use Rattle.std.specs.Prelude.{◌^◌, nat_lt, codes, IfSome, if◌then◌else◌, ⊤}
-use Rattle.std.specs.Str.{is_utf8}
-use Rattle.std.proofs.lemmas.Bool.Decides.{nat_tests}
-use Rattle.std.proofs.lemmas.Slice.Eq.{bytes_eq-Decides}
-use Rattle.misp_ids.specs.declared.uid.Uid.{Uid}
-use Rattle.misp_ids.specs.declared.label.Label.{Label}
-use Rattle.misp_types.specs.Values.{is_kept, keeps, IsKept}
-use Rattle.misp_elem.specs.declared.content.AttributeBody.{AttributeBody}
-use Rattle.misp_elem.specs.declared.content.ObjectBody.{ObjectBody}
+use Rattle.std.proofs.Common.{◌≡◌, ℕ, ◌+◌, ◌-◌, ◌<◌, ◌≤◌, Bool, true, false, List, [], ◌∷◌, length, min, Option, Some, None, Result, Ok, Err, refl, subst, arith, lit<, le-leb, ap, ◌∙◌, ◌^◌, nat_lt, codes, IfSome, if◌then◌else◌}
+use Rattle.std.specs.Prelude.{⊤}
+use Rattle.misp_lists.proofs.Prelude.{bytes_eq-Decides, nat_tests}
+use Rattle.misp_types.specs.Values.{keeps, IsKept}
+use Rattle.misp_elem.specs.Prelude.{IsAttributeBody, IsBetween, IsLabel, IsLabelBut, IsOptionalUid, IsText, is_kept, text_limit}
 use Rattle.misp_elem.specs.declared.content.ReferenceBody.{ReferenceBody}
-use Rattle.misp_elem.specs.declared.content.Content.TheVariants as contents
-use Rattle.misp_elem.specs.Row.{IsAttributeBody, IsObjectBody, IsReferenceBody, IsBetween, IsText, IsLabel, IsLabelBut, IsOptionalUid, text_limit, text_size, tags_size}
+use Rattle.misp_elem.specs.Contents.{IsObjectBody, IsReferenceBody}
 use Rattle.misp_elem.specs.Draft.{EventDraftFields, IsEventDraft, IsOptionalDate}
-use Rattle.misp_fields.specs.declared.need.Need.{Need}
-use Rattle.misp_fields.specs.declared.need.Need.TheVariants as needs
-use Rattle.misp_format.specs.declared.fault.FormatFault.TheVariants as faults
-use Rattle.misp_format.specs.Body.{Body}
-use Rattle.misp_format.specs.Kinds.{other_category, category_of}
-use Rattle.misp_format.specs.Labels.{label_at}
-use Rattle.misp_format.specs.Readers.{number_within, is_long, some_date_of}
-use Rattle.misp_format.specs.Rows.{Reading, row}
-use Rattle.misp_format.specs.Elements.{FitTags, unless_long}
+use Rattle.misp_format.specs.Prelude.{AttributeBody, Body, Content, FormatFault, Label, Need, ObjectBody, Reading, Uid, category_of, is_utf8, label_at, number_within, some_date_of, tags_size, text_size}
+use Rattle.misp_format.specs.Kinds.{other_category}
+use Rattle.misp_format.specs.Readers.{is_long}
+use Rattle.misp_format.specs.Rows.{row}
+use Rattle.misp_format.specs.Elements.{unless_long}
+use Rattle.misp_format.specs.Entries.{FitTags}
 use Rattle.misp_format.proofs.Kept.{row_keeps, some_date_ok, number_ok, label_owned, not_inherited, category_ok}
 
 -- ---- the limit
 
-limit_is_kept : (it : Body) (b : Bool) (need : Need) → ◌≡◌ {A = Reading ⊤} (if b then Err (faults.BadField it.path need) else Ok tt) (Ok tt) → b ≡ false
+limit_is_kept : (it : Body) (b : Bool) (need : Need) → ◌≡◌ {A = Reading ⊤} (if b then Err (FormatFault.BadField it.path need) else Ok tt) (Ok tt) → b ≡ false
 limit_is_kept it true need h = absurd cc
 limit_is_kept it false need h = refl
 
 -- texts that passed the test, where their bytes were counted up to the greatest number
 pub within_limit : (it : Body) (bytes n : ℕ) → unless_long it bytes ≡ Ok tt → bytes ≡ min n (2 ^ 64 - 1) → n ≤ text_limit
 within_limit it bytes n h is =
-    let short : nat_lt text_limit bytes ≡ false = limit_is_kept it (nat_lt text_limit bytes) needs.Short h in
+    let short : nat_lt text_limit bytes ≡ false = limit_is_kept it (nat_lt text_limit bytes) Need.Short h in
     let small : bytes ≤ text_limit = grind (arith, nat_tests) in
     let large : text_limit < 2 ^ 64 - 1 = lit< tt in
     omega (arith, is)
@@ -64,7 +55,7 @@ kind_fits kind long utf8 = rw (long, utf8) refl
 pub attribute_fits : (it : Body) (b : AttributeBody) → is_long 1 100 b.kind ≡ true
     → row it (codes "category") category_of (Ok other_category) ≡ Ok b.category
     → is_utf8 b.kind ≡ true → is_utf8 b.comment ≡ true → is_utf8 b.value ≡ true
-    → IsKept b.kind b.value → FitTags b.tags → text_size (contents.Attribute b) ≤ text_limit → IsAttributeBody b
+    → IsKept b.kind b.value → FitTags b.tags → text_size (Content.Attribute b) ≤ text_limit → IsAttributeBody b
 unfolding text_size
 attribute_fits it b long category kind comment value kept tags short = (
   kind_fits b.kind long kind,
@@ -89,7 +80,7 @@ attribute_fits it b long category kind comment value kept tags short = (
 -- ---- references
 
 pub reference_fits : (b : ReferenceBody) → is_utf8 b.relationship_type ≡ true → is_utf8 b.comment ≡ true
-    → text_size (contents.Reference b) ≤ text_limit → IsReferenceBody b
+    → text_size (Content.Reference b) ≤ text_limit → IsReferenceBody b
 unfolding text_size
 reference_fits b relationship comment short = (
   in_room 0 _ b.relationship_type relationship (omega arith) (omega arith),
@@ -101,7 +92,7 @@ reference_fits b relationship comment short = (
 pub object_fits : (b : ObjectBody) → 1 ≤ length b.name
     → is_utf8 b.name ≡ true → is_utf8 b.meta_category ≡ true → is_utf8 b.description ≡ true → is_utf8 b.comment ≡ true
     → IfSome b.template_uuid (λ uuid. uuid.0 < 2 ^ 128) → b.template_version < 2 ^ 64
-    → text_size (contents.Object b) ≤ text_limit → IsObjectBody b
+    → text_size (Content.Object b) ≤ text_limit → IsObjectBody b
 unfolding text_size
 object_fits b some name meta_category description comment uuid version short = (
   in_room 1 _ b.name name some (omega arith),

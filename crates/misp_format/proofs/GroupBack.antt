@@ -1,27 +1,13 @@
 -- What is written of a whole group is read to the group.
-use Rattle.std.proofs.Common.{◌≡◌, ℕ, ◌<◌, ◌≤◌, ◌^◌, Bool, true, List, [], ◌∷◌, length, map, Some, Ok, refl, ap, ◌∙◌, arith, lit<, le-leb}
-use Rattle.std.specs.Prelude.{codes, nat_lt}
-use Rattle.std.specs.List.{AllByRecursion}
-use Rattle.std.specs.List.Sorted.{IsStrictlySortedBy}
-use Rattle.std.specs.Ordering.{nat_cmp}
-use Rattle.std.specs.Cmp.Lexicographic.{slice_cmp}
-use Rattle.std.proofs.lemmas.Bool.Decides.{nat_tests}
-use Rattle.std.proofs.lemmas.Cmp.{nat_cmp_total, nat_list_cmp_total}
-use Rattle.serde_json.specs.Data.{Data, string}
-use Rattle.serde_json.specs.View.{items_of}
-use Rattle.misp_ids.specs.declared.stamp.TheConstants.{LAST_SECOND}
-use Rattle.misp_groups.specs.declared.group.GroupFields.{GroupFields as Group}
-use Rattle.misp_groups.specs.declared.group.GroupOrg.{GroupOrg}
-use Rattle.misp_groups.specs.declared.group.GroupServer.{GroupServer}
-use Rattle.misp_groups.specs.Group.{by_org, by_server, IsOrg, IsServer, IsGroup}
-use Rattle.misp_fields.specs.Fields.{member_of, stamp_of, uuid_of, list_of}
-use Rattle.misp_format.specs.Body.{Body}
-use Rattle.misp_format.specs.Fields.{list_data, number_data, uuid_data}
-use Rattle.misp_format.specs.Groups.{OrgEntries, ServerEntries, org_at, organisation_at, org_of, with_org, next_org, orgs_at, server_name_at, server_at, server_of, with_server, next_server, servers_at, whole_group_at, group_body_at}
-use Rattle.misp_format.specs.Path.{member_path}
-use Rattle.misp_format.specs.Readers.{some_text_of}
-use Rattle.misp_format.specs.Rows.{Reading, ◌>>=◌, row, must_be, each}
-use Rattle.misp_format.specs.WholeGroup.{group_org_data, group_server_data, whole_group_data, uncarried}
+use Rattle.std.proofs.Common.{◌≡◌, ℕ, ◌<◌, ◌≤◌, ◌^◌, Bool, true, List, [], ◌∷◌, length, map, Some, Ok, refl, ap, ◌∙◌, arith, lit<, le-leb, codes, nat_lt, nat_cmp}
+use Rattle.misp_lists.proofs.Prelude.{nat_cmp_total, nat_list_cmp_total, nat_tests}
+use Rattle.misp_groups.specs.Group.{by_org, by_server}
+use Rattle.misp_fields.specs.Fields.{stamp_of}
+use Rattle.misp_format.specs.Prelude.{◌>>=◌, AllByRecursion, Body, Data, Group, GroupOrg, GroupServer, IsGroup, IsOrg, IsServer, IsStrictlySortedBy, LAST_SECOND, Reading, each, items_of, list_data, list_of, member_of, member_path, must_be}
+use Rattle.misp_format.specs.Prelude.{number_data, org_of, server_of, slice_cmp, some_text_of, string, uncarried, uuid_data, uuid_of, whole_group_data}
+use Rattle.misp_format.specs.Groups.{OrgEntries, ServerEntries, org_at, organisation_at, with_org, next_org, orgs_at, server_name_at, server_at, with_server, next_server, servers_at, whole_group_at, group_body_at}
+use Rattle.misp_format.specs.Rows.{row}
+use Rattle.misp_format.specs.WholeGroup.{group_org_data, group_server_data}
 use Rattle.misp_format.proofs.Ascending.{each_in_order}
 use Rattle.misp_format.proofs.Back.{row_back, number_back, uuid_back}
 

@@ -1,14 +1,10 @@
 -- A map into which a list of names was put from its end has the list's first name of each group.
-use Rattle.std.proofs.Common.{◌≡◌, ℕ, suc, ◌-◌, ◌<◌, ◌≤◌, ◌&&◌, List, [], ◌∷◌, length, drop, get_or, cond, Some, refl, sym, ap, ◌∙◌, arith}
-use Rattle.std.specs.Prelude.{◌==◌, unwrap_or}
-use Rattle.std.specs.declared.cmp.Ordering.{Ordering}
-use Rattle.std.specs.Ordering.{is_eq, nat_cmp, ordering_then}
-use Rattle.std.specs.Map.{lookup}
+use Rattle.std.proofs.Common.{◌≡◌, ℕ, suc, ◌-◌, ◌<◌, ◌≤◌, ◌&&◌, List, [], ◌∷◌, length, drop, get_or, cond, Some, refl, sym, ap, ◌∙◌, arith, ◌==◌, unwrap_or, Ordering, is_eq, nat_cmp}
 use Rattle.std.proofs.Math.Seq.{drop-cons}
-use Rattle.std.proofs.lemmas.Bool.Decides.{nat_tests}
+use Rattle.misp_lists.proofs.Prelude.{lookup, nat_tests, ordering_then}
 use Rattle.misp_ids.specs.declared.uid.GroupId.{GroupId}
-use Rattle.misp_ids.specs.contracts.uid.GroupIdOrd.TheImpl as group_order
 use Rattle.misp_format.specs.Fields.{is_same_group, group_names}
+use Rattle.misp_ids.specs.contracts.uid.GroupIdOrd.TheImpl as group_order
 
 abbrev pub Listed : Type 0
 Listed = List (GroupId × List ℕ)

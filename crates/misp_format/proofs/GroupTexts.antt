@@ -1,26 +1,16 @@
 -- The text of a group is read to the group.
-use Rattle.std.proofs.Common.{◌≡◌, ℕ, ◌<◌, ◌≤◌, ◌^◌, true, List, Some, None, Ok, IsUtf8, inl, refl, ap, ◌∙◌, arith, lit<}
-use Rattle.std.specs.Prelude.{codes, decimal, if◌then◌else◌}
-use Rattle.std.specs.Str.{is_utf8}
+use Rattle.std.proofs.Common.{◌≡◌, ℕ, ◌<◌, ◌≤◌, ◌^◌, true, List, Some, None, Ok, IsUtf8, inl, refl, ap, ◌∙◌, arith, lit<, codes, decimal, if◌then◌else◌}
 use Rattle.std.proofs.lemmas.Fmt.{IsAscii-decimal}
 use Rattle.std.proofs.lemmas.Str.{IsUtf8-append, IsUtf8-from_ascii, IsUtf8-from_is_utf8, is_utf8-from_IsUtf8}
 use Rattle.json.proofs.Printed.Utf8.{IsUtf8-are_ascii}
-use Rattle.serde_json.specs.Read.{read}
 use Rattle.uuid.specs.Text.{lower}
 use Rattle.uuid.proofs.TextLemmas.{hyphenated_ascii}
-use Rattle.misp_ids.specs.declared.uid.Uid.{Uid}
-use Rattle.misp_ids.specs.declared.stamp.TheConstants.{LAST_SECOND}
 use Rattle.misp_ids.specs.Uid.{bytes_of, text_of}
 use Rattle.misp_ids.proofs.NamesLemmas.{IsUtf8-inst_name}
-use Rattle.misp_groups.specs.declared.group.GroupFields.{GroupFields as Group}
-use Rattle.misp_groups.specs.declared.group.GroupOrg.{GroupOrg}
-use Rattle.misp_groups.specs.declared.group.GroupServer.{GroupServer}
-use Rattle.misp_groups.specs.Group.{IsOrg, IsServer, IsGroup}
+use Rattle.misp_format.specs.Prelude.{◌>>=◌, Group, GroupOrg, GroupServer, IsGroup, IsOrg, IsServer, LAST_SECOND, Uid, group_in_text, is_utf8, json_in, read, uncarried, whole_group_data}
 use Rattle.misp_format.specs.Groups.{group_body_at}
-use Rattle.misp_format.specs.GroupText.{group_in_text}
-use Rattle.misp_format.specs.Json.{json_or_fault, json_in}
-use Rattle.misp_format.specs.Rows.{◌>>=◌}
-use Rattle.misp_format.specs.WholeGroup.{group_org_data, server_url, group_server_data, whole_group_data, group_text, uncarried}
+use Rattle.misp_format.specs.Json.{json_or_fault}
+use Rattle.misp_format.specs.WholeGroup.{group_org_data, server_url, group_server_data, group_text}
 use Rattle.misp_format.proofs.GroupBack.{whole_back}
 use Rattle.misp_format.proofs.Depths.{Shallow, shallow_items}
 use Rattle.misp_format.proofs.ReadBack.{Returns, returned, return_items}

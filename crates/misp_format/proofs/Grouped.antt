@@ -1,18 +1,12 @@
 -- What is read of a group is one.
-use Rattle.std.proofs.Common.{◌≡◌, ℕ, Bool, List, [], ◌∷◌, ◌++◌, map, refl, sym, ap, ◌∙◌}
-use Rattle.std.specs.List.{AllByRecursion}
-use Rattle.std.specs.List.Sorted.{IsStrictlySortedBy}
-use Rattle.std.specs.BTreeMap.{insert_entry}
+use Rattle.std.proofs.Common.{◌≡◌, ℕ, Bool, List, [], ◌∷◌, ◌++◌, map, refl, sym, ap, ◌∙◌, nat_cmp, Ordering, Less, Equal, Greater}
 use Rattle.std.specs.Map.{keys_of}
-use Rattle.std.specs.Ordering.{nat_cmp, match_ordering}
-use Rattle.std.specs.declared.cmp.Ordering.{Ordering}
-use Rattle.std.specs.declared.cmp.Ordering.TheVariants.{Less, Equal, Greater}
-use Rattle.std.specs.Cmp.Lexicographic.{slice_cmp}
+use Rattle.std.specs.Ordering.{match_ordering}
 use Rattle.std.proofs.lemmas.Map.Lookups.{exact_bytes}
-use Rattle.misp_groups.specs.declared.group.GroupOrg.{GroupOrg}
-use Rattle.misp_groups.specs.declared.group.GroupServer.{GroupServer}
-use Rattle.misp_groups.specs.Group.{by_org, by_server, IsOrg, IsServer}
-use Rattle.misp_format.specs.Groups.{OrgEntries, ServerEntries, IsSpelled, org_of, server_of}
+use Rattle.misp_groups.specs.Group.{by_org, by_server}
+use Rattle.misp_format.specs.Prelude.{AllByRecursion, GroupOrg, GroupServer, IsOrg, IsServer, IsStrictlySortedBy, insert_entry, org_of, server_of, slice_cmp}
+use Rattle.misp_format.specs.Groups.{OrgEntries, ServerEntries}
+use Rattle.misp_format.specs.Entries.{IsSpelled}
 
 -- ---- one more
 

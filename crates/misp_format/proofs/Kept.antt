@@ -1,25 +1,15 @@
 -- What a row gives is what its reader gives, and each reader gives only what fits.
-use Rattle.std.proofs.Common.{◌≡◌, ℕ, ◌<◌, zero, suc, Bool, true, false, ◌&&◌, List, [], ◌∷◌, Option, Some, None, Result, Ok, Err, refl, subst, arith, lit<}
-use Rattle.std.specs.Prelude.{codes, nat_le, position, ◌==◌, if◌then◌else◌}
-use Rattle.std.specs.Option.{option_map_or}
-use Rattle.std.specs.List.{list_any}
-use Rattle.std.specs.Str.{bytes_eq}
-use Rattle.std.proofs.lemmas.Bool.Decides.{nat_tests}
+use Rattle.std.proofs.Common.{◌≡◌, ℕ, ◌<◌, zero, suc, Bool, true, false, ◌&&◌, List, [], ◌∷◌, Option, Some, None, Result, Ok, Err, refl, subst, arith, lit<, codes, nat_le, position, ◌==◌, if◌then◌else◌, bytes_eq}
 use Rattle.std.proofs.lemmas.List.Quantifiers.{position-Some}
-use Rattle.serde_json.specs.Data.{Data, null, boolean, number, string, array, object}
-use Rattle.misp_ids.specs.declared.uid.GroupId.{GroupId}
-use Rattle.misp_ids.specs.declared.label.Label.{Label}
-use Rattle.misp_ids.specs.declared.label.Label.TheVariants as labels
+use Rattle.misp_lists.proofs.Prelude.{list_any, nat_tests, option_map_or}
+use Rattle.misp_fields.specs.Fields.{or_need, date_text_of}
 use Rattle.misp_elem.specs.Draft.{IsOptionalDate}
-use Rattle.misp_elem.specs.Row.{is_date, IsDate, label_kind}
-use Rattle.misp_fields.specs.declared.need.Need.{Need}
-use Rattle.misp_fields.specs.declared.need.Need.TheVariants as needs
-use Rattle.misp_fields.specs.Fields.{or_need, member_of, number_of, text_of, date_text_of}
-use Rattle.misp_format.specs.Body.{Body}
-use Rattle.misp_format.specs.Kinds.{category_texts, category_in_text, category_of}
-use Rattle.misp_format.specs.Labels.{named_group_at, numbered_at, label_at}
-use Rattle.misp_format.specs.Readers.{within, number_within, some_in, some_date_of}
-use Rattle.misp_format.specs.Rows.{Reading, ◌>>=◌, at, row}
+use Rattle.misp_elem.specs.Fields.{is_date, IsDate}
+use Rattle.misp_format.specs.Prelude.{◌>>=◌, Body, Data, GroupId, Label, Need, Reading, category_of, label_at, label_kind, member_of, number, number_of, number_within, some_date_of, string, text_of}
+use Rattle.misp_format.specs.Kinds.{category_texts, category_in_text}
+use Rattle.misp_format.specs.Labels.{named_group_at, numbered_at}
+use Rattle.misp_format.specs.Readers.{within, some_in}
+use Rattle.misp_format.specs.Rows.{at, row}
 
 -- ---- rows
 
@@ -55,7 +45,7 @@ choice_keeps P false first second p q x h = q refl x h
 -- ---- readers
 
 within_ok : (least most : ℕ) (r : Result ℕ Need) (x : ℕ) → within least most r ≡ Ok x → (nat_le least x && nat_le x most) ≡ true
-within_ok least most (Ok n) x h = choice_keeps (λ y. (nat_le least y && nat_le y most) ≡ true) (nat_le least n && nat_le n most) (Ok n) (Err needs.Range) (λ holds y is. cc) (λ fails y is. absurd cc) x h
+within_ok least most (Ok n) x h = choice_keeps (λ y. (nat_le least y && nat_le y most) ≡ true) (nat_le least n && nat_le n most) (Ok n) (Err Need.Range) (λ holds y is. cc) (λ fails y is. absurd cc) x h
 within_ok least most (Err need) x h = absurd cc
 
 some_in_ok : (r : Result (List ℕ) Need) (x : Option (List ℕ)) → ((y : List ℕ) → r ≡ Ok y → IsDate y) → some_in r ≡ Ok x → IsOptionalDate x
@@ -65,12 +55,8 @@ some_in_ok (Ok s) x day h =
 some_in_ok (Err need) x day h = absurd cc
 
 date_ok : (d : Data) (x : List ℕ) → date_text_of d ≡ Ok x → IsDate x
-date_ok null x h = absurd cc
-date_ok (boolean b) x h = absurd cc
-date_ok (number n) x h = absurd cc
-date_ok (string s) x h = choice_keeps IsDate (is_date s) (Ok s) (Err needs.Date) (λ holds y is. let e : s ≡ y = cc in subst IsDate e holds) (λ fails y is. absurd cc) x h
-date_ok (array ds) x h = absurd cc
-date_ok (object ms) x h = absurd cc
+date_ok (string s) x h = choice_keeps IsDate (is_date s) (Ok s) (Err Need.Date) (λ holds y is. let e : s ≡ y = cc in subst IsDate e holds) (λ fails y is. absurd cc) x h
+date_ok _ x h = absurd cc
 
 pub some_date_ok : (d : Data) (x : Option (List ℕ)) → some_date_of d ≡ Ok x → IsOptionalDate x
 some_date_ok d x h = some_in_ok (date_text_of d) x (date_ok d) h
@@ -86,16 +72,16 @@ Owned label = (label_kind label == 5) ≡ false
 same_label : (label x : Label) → Owned label → ◌≡◌ {A = Reading Label} (Ok label) (Ok x) → Owned x
 same_label label x h is = let e : label ≡ x = cc in subst Owned e h
 
-group_owned : (r : Reading GroupId) (x : Label) → (r >>= λ group. Ok (labels.Group group)) ≡ Ok x → Owned x
-group_owned (Ok group) x h = same_label (labels.Group group) x refl h
+group_owned : (r : Reading GroupId) (x : Label) → (r >>= λ group. Ok (Label.Group group)) ≡ Ok x → Owned x
+group_owned (Ok group) x h = same_label (Label.Group group) x refl h
 group_owned (Err fault) x h = absurd cc
 
 -- by a number below 5 no label inherits
 numbered_owned : (it : Body) (n : ℕ) (x : Label) → n < 5 → numbered_at it n ≡ Ok x → Owned x
-numbered_owned it zero x below h = same_label labels.Own x refl h
-numbered_owned it (suc zero) x below h = same_label labels.Community x refl h
-numbered_owned it (suc (suc zero)) x below h = same_label labels.Connected x refl h
-numbered_owned it (suc (suc (suc zero))) x below h = same_label labels.All x refl h
+numbered_owned it zero x below h = same_label Label.Own x refl h
+numbered_owned it (suc zero) x below h = same_label Label.Community x refl h
+numbered_owned it (suc (suc zero)) x below h = same_label Label.Connected x refl h
+numbered_owned it (suc (suc (suc zero))) x below h = same_label Label.All x refl h
 numbered_owned it (suc (suc (suc (suc zero)))) x below h = group_owned (named_group_at it) x h
 numbered_owned it (suc (suc (suc (suc (suc n))))) x below h = absurd (omega arith)
 
@@ -116,17 +102,13 @@ label_owned it x h = read_owned it (row it (codes "distribution") (number_within
     absent n h = let e : 0 ≡ n = cc in subst (λ (m : ℕ). m < 5) e (lit< tt)
 
 pub not_inherited : (x : Label) → (label_kind x == 5) ≡ false → list_any (λ kind. kind == label_kind x) (5 ∷ []) ≡ false
-not_inherited labels.Own h = refl
-not_inherited labels.Community h = refl
-not_inherited labels.Connected h = refl
-not_inherited labels.All h = refl
-not_inherited (labels.Group g) h = refl
-not_inherited labels.Inherit h = absurd cc
+not_inherited Label.Inherit h = absurd cc
+not_inherited _ h = refl
 
 -- ---- categories
 
 -- the number of a category is below 16
-named_below : (o : Option ℕ) (x : ℕ) → ((i : ℕ) → o ≡ Some i → i < 16) → or_need needs.Range o ≡ Ok x → (nat_le 0 x && nat_le x 15) ≡ true
+named_below : (o : Option ℕ) (x : ℕ) → ((i : ℕ) → o ≡ Some i → i < 16) → or_need Need.Range o ≡ Ok x → (nat_le 0 x && nat_le x 15) ≡ true
 named_below None x below h = absurd cc
 named_below (Some i) x below h =
     let e : i ≡ x = cc in

@@ -1,41 +1,23 @@
 -- What is written of an event is read to the same data: it has no number, and each object has its names in order.
-use Rattle.std.proofs.Common.{◌≡◌, ℕ, suc, ◌≤◌, max, Bool, false, ◌||◌, List, [], ◌∷◌, map, Option, Some, None, option_and_then, refl, sym, ap, ap₂, ◌∙◌, arith, append-nil}
+use Rattle.std.proofs.Common.{◌≡◌, ℕ, suc, ◌≤◌, max, Bool, false, ◌||◌, List, [], ◌∷◌, map, Option, Some, None, option_and_then, refl, sym, ap, ap₂, ◌∙◌, arith, append-nil, codes, true}
 use Rattle.std.proofs.lemmas.Bool.{or_parts}
-use Rattle.std.specs.Prelude.{codes, true}
 use Rattle.json.specs.Token.{Token}
 use Rattle.json.specs.Lex.{tokens}
-use Rattle.json.specs.Json as json
-use Rattle.json.specs.Tree as tree
 use Rattle.json.specs.Tree.{json_tokens, HasNumbers, ItemsHaveNumbers, MembersHaveNumbers}
 use Rattle.json.proofs.Printed.Tokens.{tokens-print}
 use Rattle.json.proofs.Printed.Trees.{value-json_tokens, ArePrintable-json_tokens}
-use Rattle.serde_json.specs.Data.{Data, null, boolean, number, string, array, object, Items, no_items, item, Members, no_members, member, put, depth, items_depth, members_depth}
-use Rattle.serde_json.specs.Read.{of_json, of_items, of_members, max_depth, read}
-use Rattle.serde_json.specs.View.{items_of}
-use Rattle.serde_json.specs.Written.{outline, items_outline, members_outline, compact_text}
+use Rattle.serde_json.specs.Data.{null, depth, items_depth, members_depth}
+use Rattle.serde_json.specs.Read.{of_json, of_items, of_members, max_depth}
+use Rattle.serde_json.specs.Written.{outline, items_outline, members_outline}
 use Rattle.serde_json.proofs.Texts.{print-outline}
-use Rattle.misp_ids.specs.declared.uid.Uid.{Uid}
-use Rattle.misp_ids.specs.declared.uid.ElemId.{ElemId}
-use Rattle.misp_ids.specs.declared.uid.OrgId.{OrgId}
-use Rattle.misp_ids.specs.declared.uid.GroupId.{GroupId}
-use Rattle.misp_ids.specs.declared.label.Label.{Label}
-use Rattle.misp_ids.specs.declared.label.Label.TheVariants as labels
 use Rattle.misp_elem.specs.declared.key.ProposalName.{ProposalName}
-use Rattle.misp_elem.specs.declared.key.KeyForm.{KeyForm}
-use Rattle.misp_elem.specs.declared.key.KeyForm.TheVariants as keys
-use Rattle.misp_elem.specs.declared.content.Tag.{Tag}
-use Rattle.misp_elem.specs.declared.content.EventBody.{EventBody}
-use Rattle.misp_elem.specs.declared.content.ObjectBody.{ObjectBody}
-use Rattle.misp_elem.specs.declared.content.AttributeBody.{AttributeBody}
-use Rattle.misp_elem.specs.declared.content.Content.{Content}
-use Rattle.misp_elem.specs.declared.content.Content.TheVariants as contents
-use Rattle.misp_elem.specs.declared.row.RowFields.{RowFields}
-use Rattle.misp_elem.specs.declared.visible.VisibleAttribute.{VisibleAttribute}
-use Rattle.misp_elem.specs.declared.visible.VisibleObject.{VisibleObject}
-use Rattle.misp_elem.specs.declared.visible.VisibleEvent.{VisibleEvent}
-use Rattle.misp_format.specs.Fields.{GroupNames, optional_uuid_data, with_group, group_data, group_names}
-use Rattle.misp_format.specs.Written.{tag_data, reference_with, reference_of, reference_data, proposal_with, proposal_of, proposal_data, sighting_with, sighting_of, sighting_data, attribute_members, attribute_with, attribute_of, attribute_data, object_members, object_with, object_of, object_data, event_members, event_with, event_of, event_data, body_data}
+use Rattle.misp_format.specs.Prelude.{AttributeBody, Content, Data, ElemId, EventBody, GroupId, GroupNames, Items, KeyForm, Label, Members, ObjectBody, OrgId, RowFields, Tag, Uid, VisibleAttribute, VisibleEvent, VisibleObject, array}
+use Rattle.misp_format.specs.Prelude.{attribute_data, attribute_members, attribute_with, body_data, boolean, compact_text, event_members, event_with, group_data, group_names, item, items_of, member, no_items, no_members, number, object}
+use Rattle.misp_format.specs.Prelude.{object_data, object_members, object_with, optional_uuid_data, put, read, reference_data, string, tag_data, with_group}
+use Rattle.misp_format.specs.Written.{reference_with, reference_of, proposal_with, proposal_of, proposal_data, sighting_with, sighting_of, sighting_data, attribute_of, object_of, event_of, event_data}
 use Rattle.misp_format.proofs.Depths.{shallow_body}
+use Rattle.json.specs.Json as json
+use Rattle.json.specs.Tree as tree
 
 -- ---- data without a number
 
@@ -77,12 +59,9 @@ mutual
 
 mutual
   outline_depth : (d : Data) → tree.depth (outline d) ≡ depth d
-  outline_depth null = refl
-  outline_depth (boolean b) = refl
-  outline_depth (number n) = refl
-  outline_depth (string s) = refl
   outline_depth (array ds) = ap suc (outline_items_depth ds)
   outline_depth (object ms) = ap suc (outline_members_depth ms)
+  outline_depth _ = refl
 
   outline_items_depth : (ds : Items) → tree.items_depth (items_outline ds) ≡ items_depth ds
   outline_items_depth no_items = refl
@@ -137,12 +116,8 @@ return_uuid (Some u) = record { no_number = refl; back = refl }
 -- members that are read back with a sharing group and without one are so at each label
 by_label : (names : GroupNames) (label : Label) (ms : Members) → ReturnMembers ms
     → ((group : GroupId) → ReturnMembers (put (codes "SharingGroup") (group_data names group) ms)) → ReturnMembers (with_group names label ms)
-by_label names labels.Own ms without with_one = without
-by_label names labels.Community ms without with_one = without
-by_label names labels.Connected ms without with_one = without
-by_label names labels.All ms without with_one = without
-by_label names (labels.Group group) ms without with_one = with_one group
-by_label names labels.Inherit ms without with_one = without
+by_label names (Label.Group group) ms without with_one = with_one group
+by_label names _ ms without with_one = without
 
 return_tag : (tag : Tag) → Returns (tag_data tag)
 unfolding tag_data
@@ -151,63 +126,36 @@ return_tag tag = record { no_number = refl; back = refl }
 -- ---- references and statements
 
 return_reference_with : (stamp : ℕ) (referenced : Uid) (uuid : ElemId) (content : Content) → Returns (reference_with stamp referenced uuid content)
-return_reference_with stamp referenced uuid (contents.Event b) = record { no_number = refl; back = refl }
-return_reference_with stamp referenced uuid (contents.Object b) = record { no_number = refl; back = refl }
-return_reference_with stamp referenced uuid (contents.Attribute b) = record { no_number = refl; back = refl }
-return_reference_with stamp referenced uuid (contents.Reference b) = record { no_number = refl; back = refl }
-return_reference_with stamp referenced uuid (contents.Proposal b) = record { no_number = refl; back = refl }
-return_reference_with stamp referenced uuid (contents.Verdict b) = record { no_number = refl; back = refl }
-return_reference_with stamp referenced uuid (contents.Sighting b) = record { no_number = refl; back = refl }
-return_reference_with stamp referenced uuid contents.Gone = record { no_number = refl; back = refl }
+return_reference_with stamp referenced uuid (Content.Reference b) = record { no_number = refl; back = refl }
+return_reference_with stamp referenced uuid _ = record { no_number = refl; back = refl }
 
 return_reference_of : (stamp : ℕ) (key : KeyForm) (content : Content) → Returns (reference_of stamp key content)
-return_reference_of stamp (keys.Element event place) content = record { no_number = refl; back = refl }
-return_reference_of stamp (keys.Reference event owner target uuid) content = return_reference_with stamp _ uuid content
-return_reference_of stamp (keys.Proposal event name) content = record { no_number = refl; back = refl }
-return_reference_of stamp (keys.Verdict event name at judge) content = record { no_number = refl; back = refl }
-return_reference_of stamp (keys.Sighting event target at by uuid) content = record { no_number = refl; back = refl }
+return_reference_of stamp (KeyForm.Reference event owner target uuid) content = return_reference_with stamp _ uuid content
+return_reference_of stamp _ content = record { no_number = refl; back = refl }
 
 return_reference : (r : RowFields) → Returns (reference_data r)
 unfolding reference_data
 return_reference r = return_reference_of r.stamp r.key r.content
 
 return_proposal_with : (stamp : ℕ) (name : ProposalName) (content : Content) → Returns (proposal_with stamp name content)
-return_proposal_with stamp name (contents.Event b) = record { no_number = refl; back = refl }
-return_proposal_with stamp name (contents.Object b) = record { no_number = refl; back = refl }
-return_proposal_with stamp name (contents.Attribute b) = record { no_number = refl; back = refl }
-return_proposal_with stamp name (contents.Reference b) = record { no_number = refl; back = refl }
-return_proposal_with stamp name (contents.Proposal b) = record { no_number = refl; back = refl }
-return_proposal_with stamp name (contents.Verdict b) = record { no_number = refl; back = refl }
-return_proposal_with stamp name (contents.Sighting b) = record { no_number = refl; back = refl }
-return_proposal_with stamp name contents.Gone = record { no_number = refl; back = refl }
+return_proposal_with stamp name (Content.Proposal b) = record { no_number = refl; back = refl }
+return_proposal_with stamp name _ = record { no_number = refl; back = refl }
 
 return_proposal_of : (stamp : ℕ) (key : KeyForm) (content : Content) → Returns (proposal_of stamp key content)
-return_proposal_of stamp (keys.Element event place) content = record { no_number = refl; back = refl }
-return_proposal_of stamp (keys.Reference event owner target uuid) content = record { no_number = refl; back = refl }
-return_proposal_of stamp (keys.Proposal event name) content = return_proposal_with stamp name content
-return_proposal_of stamp (keys.Verdict event name at judge) content = record { no_number = refl; back = refl }
-return_proposal_of stamp (keys.Sighting event target at by uuid) content = record { no_number = refl; back = refl }
+return_proposal_of stamp (KeyForm.Proposal event name) content = return_proposal_with stamp name content
+return_proposal_of stamp _ content = record { no_number = refl; back = refl }
 
 return_proposal : (r : RowFields) → Returns (proposal_data r)
 unfolding proposal_data
 return_proposal r = return_proposal_of r.stamp r.key r.content
 
 return_sighting_with : (by : OrgId) (uuid : ElemId) (content : Content) → Returns (sighting_with by uuid content)
-return_sighting_with by uuid (contents.Event b) = record { no_number = refl; back = refl }
-return_sighting_with by uuid (contents.Object b) = record { no_number = refl; back = refl }
-return_sighting_with by uuid (contents.Attribute b) = record { no_number = refl; back = refl }
-return_sighting_with by uuid (contents.Reference b) = record { no_number = refl; back = refl }
-return_sighting_with by uuid (contents.Proposal b) = record { no_number = refl; back = refl }
-return_sighting_with by uuid (contents.Verdict b) = record { no_number = refl; back = refl }
-return_sighting_with by uuid (contents.Sighting b) = record { no_number = refl; back = refl }
-return_sighting_with by uuid contents.Gone = record { no_number = refl; back = refl }
+return_sighting_with by uuid (Content.Sighting b) = record { no_number = refl; back = refl }
+return_sighting_with by uuid _ = record { no_number = refl; back = refl }
 
 return_sighting_of : (key : KeyForm) (content : Content) → Returns (sighting_of key content)
-return_sighting_of (keys.Element event place) content = record { no_number = refl; back = refl }
-return_sighting_of (keys.Reference event owner target uuid) content = record { no_number = refl; back = refl }
-return_sighting_of (keys.Proposal event name) content = record { no_number = refl; back = refl }
-return_sighting_of (keys.Verdict event name at judge) content = record { no_number = refl; back = refl }
-return_sighting_of (keys.Sighting event target at by uuid) content = return_sighting_with by uuid content
+return_sighting_of (KeyForm.Sighting event target at by uuid) content = return_sighting_with by uuid content
+return_sighting_of _ content = record { no_number = refl; back = refl }
 
 return_sighting : (r : RowFields) → Returns (sighting_data r)
 unfolding sighting_data
@@ -226,14 +174,8 @@ return_attribute_with names a b =
     (λ group. record { no_number = rw (proposals.no_number, sightings.no_number, tags.no_number) refl; back = rw (proposals.back, sightings.back, tags.back) refl }))
 
 return_attribute_of : (names : GroupNames) (a : VisibleAttribute) (content : Content) → Returns (attribute_of names a content)
-return_attribute_of names a (contents.Event b) = record { no_number = refl; back = refl }
-return_attribute_of names a (contents.Object b) = record { no_number = refl; back = refl }
-return_attribute_of names a (contents.Attribute b) = return_attribute_with names a b
-return_attribute_of names a (contents.Reference b) = record { no_number = refl; back = refl }
-return_attribute_of names a (contents.Proposal b) = record { no_number = refl; back = refl }
-return_attribute_of names a (contents.Verdict b) = record { no_number = refl; back = refl }
-return_attribute_of names a (contents.Sighting b) = record { no_number = refl; back = refl }
-return_attribute_of names a contents.Gone = record { no_number = refl; back = refl }
+return_attribute_of names a (Content.Attribute b) = return_attribute_with names a b
+return_attribute_of names a _ = record { no_number = refl; back = refl }
 
 return_attribute : (names : GroupNames) (a : VisibleAttribute) → Returns (attribute_data names a)
 unfolding attribute_data
@@ -250,14 +192,8 @@ return_object_with names o b =
     (λ group. record { no_number = rw (attributes.no_number, references.no_number, template.no_number) refl; back = rw (attributes.back, references.back, template.back) refl }))
 
 return_object_of : (names : GroupNames) (o : VisibleObject) (content : Content) → Returns (object_of names o content)
-return_object_of names o (contents.Event b) = record { no_number = refl; back = refl }
-return_object_of names o (contents.Object b) = return_object_with names o b
-return_object_of names o (contents.Attribute b) = record { no_number = refl; back = refl }
-return_object_of names o (contents.Reference b) = record { no_number = refl; back = refl }
-return_object_of names o (contents.Proposal b) = record { no_number = refl; back = refl }
-return_object_of names o (contents.Verdict b) = record { no_number = refl; back = refl }
-return_object_of names o (contents.Sighting b) = record { no_number = refl; back = refl }
-return_object_of names o contents.Gone = record { no_number = refl; back = refl }
+return_object_of names o (Content.Object b) = return_object_with names o b
+return_object_of names o _ = record { no_number = refl; back = refl }
 
 return_visible_object : (names : GroupNames) (o : VisibleObject) → Returns (object_data names o)
 unfolding object_data
@@ -276,14 +212,8 @@ return_event_with names e b =
     (λ group. record { no_number = rw (attributes.no_number, objects.no_number, proposals.no_number, tags.no_number, extends.no_number) refl; back = rw (attributes.back, objects.back, proposals.back, tags.back, extends.back) refl }))
 
 return_event_of : (names : GroupNames) (e : VisibleEvent) (content : Content) → Returns (event_of names e content)
-return_event_of names e (contents.Event b) = return_event_with names e b
-return_event_of names e (contents.Object b) = record { no_number = refl; back = refl }
-return_event_of names e (contents.Attribute b) = record { no_number = refl; back = refl }
-return_event_of names e (contents.Reference b) = record { no_number = refl; back = refl }
-return_event_of names e (contents.Proposal b) = record { no_number = refl; back = refl }
-return_event_of names e (contents.Verdict b) = record { no_number = refl; back = refl }
-return_event_of names e (contents.Sighting b) = record { no_number = refl; back = refl }
-return_event_of names e contents.Gone = record { no_number = refl; back = refl }
+return_event_of names e (Content.Event b) = return_event_with names e b
+return_event_of names e _ = record { no_number = refl; back = refl }
 
 return_event : (names : GroupNames) (e : VisibleEvent) → Returns (event_data names e)
 unfolding event_data

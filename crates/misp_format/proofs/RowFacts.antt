@@ -1,25 +1,12 @@
 -- What rows of a whole event are known to be.
-use Rattle.std.proofs.Common.{◌≡◌, ℕ, ◌+◌, ◌-◌, ◌≤◌, Bool, true, false, ◌&&◌, List, [], length, Option, Some, None, refl, subst, arith}
-use Rattle.std.specs.Prelude.{nat_lt, nat_le, ◌==◌}
-use Rattle.std.proofs.lemmas.Bool.{and_parts}
-use Rattle.std.proofs.lemmas.Bool.Decides.{nat_tests}
-use Rattle.misp_ids.specs.declared.uid.EventId.{EventId}
-use Rattle.misp_ids.specs.declared.uid.ElemId.{ElemId}
-use Rattle.misp_elem.specs.declared.key.Place.{Place}
-use Rattle.misp_elem.specs.declared.key.Place.TheVariants as places
-use Rattle.misp_elem.specs.declared.key.KeyForm.{KeyForm}
+use Rattle.std.proofs.Common.{◌≡◌, ℕ, ◌+◌, ◌-◌, ◌≤◌, Bool, true, false, ◌&&◌, List, [], length, Option, Some, None, refl, subst, arith, nat_lt, nat_le, ◌==◌}
+use Rattle.misp_lists.proofs.Prelude.{and_parts, nat_tests}
 use Rattle.misp_elem.specs.declared.key.KeyForm.TheVariants.{Element, Reference}
-use Rattle.misp_elem.specs.declared.content.EventBody.{EventBody}
-use Rattle.misp_elem.specs.declared.content.ObjectBody.{ObjectBody}
-use Rattle.misp_elem.specs.declared.content.AttributeBody.{AttributeBody}
 use Rattle.misp_elem.specs.declared.content.ReferenceBody.{ReferenceBody}
-use Rattle.misp_elem.specs.declared.content.Content.{Content}
-use Rattle.misp_elem.specs.declared.content.Content.TheVariants as contents
-use Rattle.misp_elem.specs.declared.row.RowFields.{RowFields}
-use Rattle.misp_ids.specs.Uid.{IsUid}
-use Rattle.misp_elem.specs.Key.{IsKey, IsPlace}
-use Rattle.misp_elem.specs.Row.{IsRow, IsText, IsContent, IsContentOf, IsEventBody, IsObjectBody, IsAttributeBody, IsReferenceBody, content_kind, label_kind, text_limit, text_size, tags_size}
+use Rattle.misp_elem.specs.Prelude.{IsAttributeBody, IsContentOf, IsKey, IsPlace, IsRow, IsText, IsUid, content_kind, text_limit}
+use Rattle.misp_elem.specs.Contents.{IsContent, IsEventBody, IsObjectBody, IsReferenceBody}
 use Rattle.misp_elem.specs.Visible.{place_in}
+use Rattle.misp_format.specs.Prelude.{AttributeBody, Content, ElemId, EventBody, EventId, KeyForm, ObjectBody, Place, RowFields, label_kind, tags_size, text_size}
 use Rattle.misp_format.proofs.TagsBack.{tags_room}
 
 -- ---- texts
@@ -40,7 +27,7 @@ least_of least most text h =
 pub not_longer : (n : ℕ) → n ≤ text_limit → nat_lt text_limit n ≡ false
 not_longer n h = grind (arith, nat_tests)
 
-pub attribute_size : (b : AttributeBody) → IsAttributeBody b → nat_lt text_limit (text_size (contents.Attribute b)) ≡ false
+pub attribute_size : (b : AttributeBody) → IsAttributeBody b → nat_lt text_limit (text_size (Content.Attribute b)) ≡ false
 unfolding text_size
 attribute_size b h =
     let kind = most_of 1 100 b.kind h.0 in
@@ -49,14 +36,14 @@ attribute_size b h =
     let tags = tags_room (text_limit - length b.kind - length b.comment - length b.value) [] b.tags h.1.1.1.1.1.1.1 in
     not_longer (length b.kind + length b.comment + length b.value + tags_size b.tags) (omega arith)
 
-pub reference_size : (b : ReferenceBody) → IsReferenceBody b → nat_lt text_limit (text_size (contents.Reference b)) ≡ false
+pub reference_size : (b : ReferenceBody) → IsReferenceBody b → nat_lt text_limit (text_size (Content.Reference b)) ≡ false
 unfolding text_size
 reference_size b h =
     let relationship = most_of 0 text_limit b.relationship_type h.0 in
     let comment = most_of 0 (text_limit - length b.relationship_type) b.comment h.1.0 in
     not_longer (length b.relationship_type + length b.comment) (omega arith)
 
-pub object_size : (b : ObjectBody) → IsObjectBody b → nat_lt text_limit (text_size (contents.Object b)) ≡ false
+pub object_size : (b : ObjectBody) → IsObjectBody b → nat_lt text_limit (text_size (Content.Object b)) ≡ false
 unfolding text_size
 object_size b h =
     let name = most_of 1 text_limit b.name h.0 in
@@ -73,45 +60,21 @@ event_size b h =
 
 -- ---- contents
 
-attribute_content : (content : Content) → (content_kind content == 2) ≡ true → IsContent true content → (b : AttributeBody) × ((content ≡ contents.Attribute b) × IsAttributeBody b)
-attribute_content (contents.Event b) h is = absurd cc
-attribute_content (contents.Object b) h is = absurd cc
-attribute_content (contents.Attribute b) h is = (b, (refl, is))
-attribute_content (contents.Reference b) h is = absurd cc
-attribute_content (contents.Proposal b) h is = absurd cc
-attribute_content (contents.Verdict b) h is = absurd cc
-attribute_content (contents.Sighting b) h is = absurd cc
-attribute_content contents.Gone h is = absurd cc
+attribute_content : (content : Content) → (content_kind content == 2) ≡ true → IsContent true content → (b : AttributeBody) × ((content ≡ Content.Attribute b) × IsAttributeBody b)
+attribute_content (Content.Attribute b) h is = (b, (refl, is))
+attribute_content _ h is = absurd cc
 
-object_content : (content : Content) → (content_kind content == 1) ≡ true → IsContent true content → (b : ObjectBody) × ((content ≡ contents.Object b) × IsObjectBody b)
-object_content (contents.Event b) h is = absurd cc
-object_content (contents.Object b) h is = (b, (refl, is))
-object_content (contents.Attribute b) h is = absurd cc
-object_content (contents.Reference b) h is = absurd cc
-object_content (contents.Proposal b) h is = absurd cc
-object_content (contents.Verdict b) h is = absurd cc
-object_content (contents.Sighting b) h is = absurd cc
-object_content contents.Gone h is = absurd cc
+object_content : (content : Content) → (content_kind content == 1) ≡ true → IsContent true content → (b : ObjectBody) × ((content ≡ Content.Object b) × IsObjectBody b)
+object_content (Content.Object b) h is = (b, (refl, is))
+object_content _ h is = absurd cc
 
-reference_content : (content : Content) → (content_kind content == 3) ≡ true → IsContent true content → (b : ReferenceBody) × ((content ≡ contents.Reference b) × IsReferenceBody b)
-reference_content (contents.Event b) h is = absurd cc
-reference_content (contents.Object b) h is = absurd cc
-reference_content (contents.Attribute b) h is = absurd cc
-reference_content (contents.Reference b) h is = (b, (refl, is))
-reference_content (contents.Proposal b) h is = absurd cc
-reference_content (contents.Verdict b) h is = absurd cc
-reference_content (contents.Sighting b) h is = absurd cc
-reference_content contents.Gone h is = absurd cc
+reference_content : (content : Content) → (content_kind content == 3) ≡ true → IsContent true content → (b : ReferenceBody) × ((content ≡ Content.Reference b) × IsReferenceBody b)
+reference_content (Content.Reference b) h is = (b, (refl, is))
+reference_content _ h is = absurd cc
 
-event_content : (content : Content) → content_kind content ≡ 0 → IsContent true content → (b : EventBody) × ((content ≡ contents.Event b) × IsEventBody b)
-event_content (contents.Event b) h is = (b, (refl, is))
-event_content (contents.Object b) h is = absurd (omega arith)
-event_content (contents.Attribute b) h is = absurd (omega arith)
-event_content (contents.Reference b) h is = absurd (omega arith)
-event_content (contents.Proposal b) h is = absurd (omega arith)
-event_content (contents.Verdict b) h is = absurd (omega arith)
-event_content (contents.Sighting b) h is = absurd (omega arith)
-event_content contents.Gone h is = absurd (omega arith)
+event_content : (content : Content) → content_kind content ≡ 0 → IsContent true content → (b : EventBody) × ((content ≡ Content.Event b) × IsEventBody b)
+event_content (Content.Event b) h is = (b, (refl, is))
+event_content _ h is = absurd (omega arith)
 
 -- ---- by the keys of rows
 
@@ -124,22 +87,22 @@ in_either event None uuid label flags content h = h
 in_either event (Some o) uuid label flags content h = h
 
 pub attribute_of_row : (event : EventId) (object : Option ElemId) (uuid : ElemId) (r : RowFields) → IsRow r → r.key ≡ Element event (place_in object uuid)
-    → (b : AttributeBody) × ((r.content ≡ contents.Attribute b) × IsAttributeBody b)
+    → (b : AttributeBody) × ((r.content ≡ Content.Attribute b) × IsAttributeBody b)
 attribute_of_row event object uuid r row key =
     let fits = in_either event object uuid (label_kind r.label) (r.held, r.carried) r.content (of_key (Element event (place_in object uuid)) r row key) in
     attribute_content r.content fits.0 fits.1
 
-pub object_of_row : (event : EventId) (uuid : ElemId) (r : RowFields) → IsRow r → r.key ≡ Element event (places.Object uuid)
-    → (b : ObjectBody) × ((r.content ≡ contents.Object b) × IsObjectBody b)
-object_of_row event uuid r row key = let fits = of_key (Element event (places.Object uuid)) r row key in object_content r.content fits.0 fits.1
+pub object_of_row : (event : EventId) (uuid : ElemId) (r : RowFields) → IsRow r → r.key ≡ Element event (Place.Object uuid)
+    → (b : ObjectBody) × ((r.content ≡ Content.Object b) × IsObjectBody b)
+object_of_row event uuid r row key = let fits = of_key (Element event (Place.Object uuid)) r row key in object_content r.content fits.0 fits.1
 
 pub reference_of_row : (event : EventId) (owner : ElemId) (target : Place) (uuid : ElemId) (r : RowFields) → IsRow r → r.key ≡ Reference event owner target uuid
-    → (b : ReferenceBody) × ((r.content ≡ contents.Reference b) × IsReferenceBody b)
+    → (b : ReferenceBody) × ((r.content ≡ Content.Reference b) × IsReferenceBody b)
 reference_of_row event owner target uuid r row key = let fits = of_key (Reference event owner target uuid) r row key in reference_content r.content fits.0 fits.1
 
-pub event_of_row : (event : EventId) (r : RowFields) → IsRow r → r.key ≡ Element event places.Event → content_kind r.content ≡ 0
-    → (b : EventBody) × ((r.content ≡ contents.Event b) × IsEventBody b)
-event_of_row event r row key kind = event_content r.content kind (of_key (Element event places.Event) r row key).1
+pub event_of_row : (event : EventId) (r : RowFields) → IsRow r → r.key ≡ Element event Place.Event → content_kind r.content ≡ 0
+    → (b : EventBody) × ((r.content ≡ Content.Event b) × IsEventBody b)
+event_of_row event r row key kind = event_content r.content kind (of_key (Element event Place.Event) r row key).1
 
 pub key_of_row : (key : KeyForm) (r : RowFields) → IsRow r → r.key ≡ key → IsKey key
 key_of_row key r row is = subst IsKey is row.1.0

@@ -1,24 +1,18 @@
 -- Bodies that the tables read, so that a wrong default or a wrong order in the specs does not check.
-use Rattle.std.proofs.Common.{◌≡◌, [], ◌∷◌, map, Ok, Err, None, Some, refl, false, true}
-use Rattle.std.specs.Prelude.{codes}
-use Rattle.serde_json.specs.Data.{string, boolean, array, object, no_items, item, no_members, member}
-use Rattle.misp_ids.specs.declared.label.Label.TheVariants as labels
-use Rattle.misp_ids.specs.Uid.{made_uid}
+use Rattle.std.proofs.Common.{◌≡◌, [], ◌∷◌, map, Ok, Err, None, Some, refl, false, true, codes}
 use Rattle.misp_types.specs.Kinds.{rule_of, form_of}
-use Rattle.misp_types.specs.Values.{kept_of}
-use Rattle.misp_elem.specs.declared.key.Place.TheVariants as places
-use Rattle.misp_elem.specs.declared.content.Content.TheVariants as contents
-use Rattle.misp_elem.specs.Row.{text_size, tags_size}
-use Rattle.misp_fields.specs.declared.need.Need.TheVariants as needs
-use Rattle.misp_format.specs.declared.fault.FormatFault.TheVariants as faults
-use Rattle.misp_format.specs.Path.{member_path, item_path}
-use Rattle.misp_format.specs.Kinds.{category_of}
-use Rattle.misp_format.specs.Elements.{attribute_at, attributes_at, objects_at, tag_at, tags_at, object_at, object_and_others_at}
-use Rattle.misp_format.specs.Labels.{group_at, label_at}
-use Rattle.misp_format.specs.Tables.{event_at, event_itself_at}
+use Rattle.misp_format.specs.Prelude.{Content, FormatFault, Label, Need, Place, array, attributes_at, boolean, category_of, event_at, item, item_path, kept_of, label_at, made_uid, member, member_path, no_items, no_members, object}
+use Rattle.misp_format.specs.Prelude.{objects_at, string, tags_at, tags_size, text_size}
+use Rattle.misp_format.specs.Elements.{attribute_at, tag_at, object_at, object_and_others_at}
+use Rattle.misp_format.specs.Labels.{group_at}
+use Rattle.misp_format.specs.Tables.{event_itself_at}
 
-pub known_categories : map (λ name. category_of (string name)) (codes "Internal reference" ∷ codes "Targeting data" ∷ codes "Antivirus detection" ∷ codes "Payload delivery" ∷ codes "Artifacts dropped" ∷ codes "Payload installation" ∷ codes "Persistence mechanism" ∷ codes "Network activity" ∷ codes "Payload type" ∷ codes "Attribution" ∷ codes "External analysis" ∷ codes "Financial fraud" ∷ codes "Support Tool" ∷ codes "Social network" ∷ codes "Person" ∷ codes "Other" ∷ codes "other" ∷ [])
-    ≡ Ok 0 ∷ Ok 1 ∷ Ok 2 ∷ Ok 3 ∷ Ok 4 ∷ Ok 5 ∷ Ok 6 ∷ Ok 7 ∷ Ok 8 ∷ Ok 9 ∷ Ok 10 ∷ Ok 11 ∷ Ok 12 ∷ Ok 13 ∷ Ok 14 ∷ Ok 15 ∷ Err needs.Range ∷ []
+pub known_categories :
+    map (λ name. category_of (string name))
+    (codes "Internal reference" ∷ codes "Targeting data" ∷ codes "Antivirus detection" ∷ codes "Payload delivery" ∷ codes "Artifacts dropped" ∷ codes "Payload installation"
+    ∷ codes "Persistence mechanism" ∷ codes "Network activity" ∷ codes "Payload type" ∷ codes "Attribution" ∷ codes "External analysis" ∷ codes "Financial fraud"
+    ∷ codes "Support Tool" ∷ codes "Social network" ∷ codes "Person" ∷ codes "Other" ∷ codes "other" ∷ [])
+    ≡ Ok 0 ∷ Ok 1 ∷ Ok 2 ∷ Ok 3 ∷ Ok 4 ∷ Ok 5 ∷ Ok 6 ∷ Ok 7 ∷ Ok 8 ∷ Ok 9 ∷ Ok 10 ∷ Ok 11 ∷ Ok 12 ∷ Ok 13 ∷ Ok 14 ∷ Ok 15 ∷ Err Need.Range ∷ []
 known_categories = refl
 
 -- an event that says nothing but its title
@@ -26,7 +20,7 @@ pub known_event : event_at 0 (object (member (codes "info") (string (codes "Wave
     ≡ Ok (record {
       event = record { 0 = made_uid 0 0 };
       body = Some (record { info = codes "Wave"; date = None; threat_level_id = 4; analysis = 0; extends_uuid = None; tags = [] });
-      label = labels.Own;
+      label = Label.Own;
       parts = [];
       references = [];
     })
@@ -37,9 +31,9 @@ known_event = refl
 pub known_attribute : attribute_at (codes "Attribute") None 0 0 (object (member (codes "type") (string (codes "domain")) (member (codes "value") (string (codes "Example.ORG")) no_members)))
     ≡ Ok (record {
       number = 0;
-      place = places.Attribute (record { 0 = made_uid 0 0 });
-      label = labels.Inherit;
-      content = contents.Attribute (record { kind = codes "domain"; category = 15; to_ids = false; comment = []; deleted = false; value = codes "example.org"; tags = [] });
+      place = Place.Attribute (record { 0 = made_uid 0 0 });
+      label = Label.Inherit;
+      content = Content.Attribute (record { kind = codes "domain"; category = 15; to_ids = false; comment = []; deleted = false; value = codes "example.org"; tags = [] });
     })
 unfolding attribute_at label_at tags_at text_size tags_size kept_of rule_of form_of
 known_attribute = refl
@@ -52,18 +46,27 @@ known_tag = refl
 
 -- of two faults the one whose member is read first
 pub known_faults : (event_at 0 (object (member (codes "analysis") (boolean true) (member (codes "info") (string []) no_members)))
-    ≡ Err (faults.BadField (codes "Event.info") needs.Range))
-    × (event_at 0 (object (member (codes "Event") (object (member (codes "Object") (array (item (object (member (codes "Attribute") (array (item (object (member (codes "type") (string (codes "md5")) (member (codes "value") (string (codes "abc")) no_members))) no_items)) (member (codes "name") (string (codes "file")) no_members))) no_items)) (member (codes "info") (string (codes "Wave")) no_members))) no_members))
-    ≡ Err (faults.BadField (member_path (item_path (member_path (item_path (member_path (codes "Event") (codes "Object")) 0) (codes "Attribute")) 0) (codes "value")) needs.Length))
+    ≡ Err (FormatFault.BadField (codes "Event.info") Need.Range))
+    × (event_at 0
+    (object (member (codes "Event")
+    (object (member (codes "Object")
+    (array (item
+    (object (member (codes "Attribute")
+    (array (item (object (member (codes "type") (string (codes "md5")) (member (codes "value") (string (codes "abc")) no_members))) no_items))
+    (member (codes "name") (string (codes "file")) no_members)))
+    no_items))
+    (member (codes "info") (string (codes "Wave")) no_members)))
+    no_members))
+    ≡ Err (FormatFault.BadField (member_path (item_path (member_path (item_path (member_path (codes "Event") (codes "Object")) 0) (codes "Attribute")) 0) (codes "value")) Need.Length))
 unfolding event_at event_itself_at label_at tags_at attributes_at objects_at object_and_others_at object_at attribute_at text_size tags_size kept_of rule_of form_of
 known_faults = (refl, refl)
 
 -- a group is read with the distribution 4, by its creator first, and with no other
 pub known_labels : (label_at (record { path = codes "Event"; value = object (member (codes "SharingGroup") (boolean true) (member (codes "distribution") (string (codes "3")) no_members)) }) 4 0
-    ≡ Ok labels.All)
+    ≡ Ok Label.All)
     × ((label_at (record { path = codes "Event"; value = object (member (codes "distribution") (string (codes "4")) no_members) }) 4 0
-    ≡ Err (faults.BadField (codes "Event.SharingGroup") needs.Present))
+    ≡ Err (FormatFault.BadField (codes "Event.SharingGroup") Need.Present))
     × (label_at (record { path = codes "Event"; value = object (member (codes "SharingGroup") (object (member (codes "uuid") (boolean true) no_members)) (member (codes "distribution") (string (codes "4")) no_members)) }) 4 0
-    ≡ Err (faults.BadField (codes "Event.SharingGroup.organisation_uuid") needs.Present)))
+    ≡ Err (FormatFault.BadField (codes "Event.SharingGroup.organisation_uuid") Need.Present)))
 unfolding label_at group_at
 known_labels = (refl, (refl, refl))

@@ -1,20 +1,11 @@
 -- Tags that ascend by name fit where there is room for their names.
-use Rattle.std.proofs.Common.{◌≡◌, ℕ, ◌+◌, ◌-◌, ◌<◌, ◌≤◌, Bool, true, ◌&&◌, List, [], ◌∷◌, length, map, min, refl, subst, sym, ap, arith, lit<, le-leb}
-use Rattle.std.specs.Prelude.{◌^◌, nat_le}
-use Rattle.std.specs.Str.{is_utf8}
-use Rattle.std.specs.List.{AllByRecursion}
-use Rattle.std.specs.List.Sorted.{IsStrictlySortedBy}
-use Rattle.std.specs.BTreeMap.{insert_entry}
-use Rattle.std.specs.Map.{keys_of}
-use Rattle.std.specs.Ordering.{nat_cmp, match_ordering}
-use Rattle.std.specs.declared.cmp.Ordering.TheVariants.{Less, Equal, Greater}
-use Rattle.std.specs.Cmp.Lexicographic.{slice_cmp}
-use Rattle.std.proofs.lemmas.Bool.{and_parts}
-use Rattle.std.proofs.lemmas.Bool.Decides.{nat_tests}
-use Rattle.std.proofs.lemmas.List.Sums.{sum_by-cons}
+use Rattle.std.proofs.Common.{◌≡◌, ℕ, ◌+◌, ◌-◌, ◌<◌, ◌≤◌, Bool, true, ◌&&◌, List, [], ◌∷◌, length, map, min, refl, subst, sym, ap, arith, lit<, le-leb, ◌^◌, nat_le, nat_cmp, Less, Equal, Greater}
+use Rattle.std.specs.Ordering.{match_ordering}
+use Rattle.misp_lists.proofs.Prelude.{AllByRecursion, IsStrictlySortedBy, and_parts, insert_entry, is_utf8, keys_of, nat_tests, slice_cmp, sum_by-cons}
 use Rattle.misp_elem.specs.declared.content.Tag.{Tag}
-use Rattle.misp_elem.specs.Row.{IsTag, IsTagName, IsColour, AreTagsAfter, tags_size, text_limit, is_text}
-use Rattle.misp_format.specs.Elements.{FitTags, IsNamed, tag_of}
+use Rattle.misp_elem.specs.Fields.{IsTag, IsTagName, IsColour, AreTagsAfter, tags_size, text_limit, is_text}
+use Rattle.misp_format.specs.Elements.{tag_of}
+use Rattle.misp_format.specs.Entries.{FitTags, IsNamed}
 
 abbrev pub name_of : Tag → List ℕ
 name_of t = t.name
@@ -22,7 +13,7 @@ name_of t = t.name
 at_most : (n room : ℕ) → nat_le n 255 ≡ true → n ≤ room → n ≤ min 255 room
 at_most n room short fits = grind (arith, nat_tests)
 
--- a tag, where there is room for its name, behind a name before it
+-- a tag, where there is room for its name, after a name before it
 pub name_fits : (room : ℕ) (before name : List ℕ) → IsTagName text_limit [] name → slice_cmp nat_cmp before name ≡ Less → length name ≤ room → IsTagName room before name
 name_fits room before name h less fits =
     let text : is_text 1 255 name ≡ true = (and_parts _ _ h).0 in
@@ -61,7 +52,7 @@ count (t ∷ ts) all =
     let others = count ts all.1 in
     omega arith
 
--- every name is behind the empty one
+-- every name is after the empty one
 above_none : (name : List ℕ) → 1 ≤ length name → slice_cmp nat_cmp [] name ≡ Less
 above_none [] h = absurd (omega arith)
 above_none (b ∷ bs) h = refl

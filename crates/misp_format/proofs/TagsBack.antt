@@ -1,37 +1,13 @@
 -- Tags that are written are read back.
-use Rattle.std.proofs.Common.{◌≡◌, ℕ, ◌+◌, ◌-◌, ◌≤◌, Bool, true, ◌&&◌, List, [], ◌∷◌, ◌++◌, length, map, min, Some, Ok, refl, sym, ap, ◌∙◌, append_assoc, subst, arith}
-use Rattle.std.specs.Prelude.{codes, nat_le}
-use Rattle.std.specs.List.{AllByRecursion}
-use Rattle.std.specs.List.Sorted.{IsStrictlySortedBy}
-use Rattle.std.specs.Ordering.{nat_cmp, ordering_reverse, is_lt}
-use Rattle.std.specs.declared.cmp.Ordering.{Ordering}
-use Rattle.std.specs.declared.cmp.Ordering.TheVariants.{Less, Equal, Greater}
-use Rattle.std.specs.Cmp.Lexicographic.{slice_cmp}
-use Rattle.std.proofs.lemmas.Bool.{and_parts}
-use Rattle.std.proofs.lemmas.Bool.Decides.{nat_tests}
-use Rattle.std.proofs.lemmas.Cmp.{nat_list_cmp_total}
-use Rattle.std.proofs.lemmas.List.{append-nil}
-use Rattle.std.proofs.lemmas.List.Sums.{sum_by-cons}
-use Rattle.serde_json.specs.Data.{Data}
-use Rattle.serde_json.specs.View.{items_of}
-use Rattle.misp_elem.specs.declared.content.Tag.{Tag}
-use Rattle.misp_elem.specs.Row.{IsTag, AreTagsAfter, is_text, tags_size}
-use Rattle.misp_fields.specs.Fields.{member_of, list_of}
-use Rattle.misp_format.specs.Body.{Body}
-use Rattle.misp_format.specs.Elements.{Named, tag_of, with_tag, next_tag, tag_at, tags_at}
-use Rattle.misp_format.specs.Fields.{list_data}
-use Rattle.misp_format.specs.Path.{member_path}
-use Rattle.misp_format.specs.Rows.{Reading, ◌>>=◌, each}
-use Rattle.misp_format.specs.Written.{tag_data}
+use Rattle.std.proofs.Common.{◌≡◌, ℕ, ◌+◌, ◌-◌, ◌≤◌, Bool, true, ◌&&◌, List, [], ◌∷◌, ◌++◌, length, map, min, Some, Ok, refl, sym, ap, ◌∙◌, append_assoc, subst, arith, codes, nat_le, nat_cmp, is_lt, Less, Greater, append-nil}
+use Rattle.misp_lists.proofs.Prelude.{and_parts, less_of, nat_list_cmp_total, nat_tests, ordering_reverse, sum_by-cons}
+use Rattle.misp_elem.specs.Fields.{IsTag, AreTagsAfter, is_text}
+use Rattle.misp_format.specs.Prelude.{◌>>=◌, AllByRecursion, Body, Data, IsStrictlySortedBy, Reading, Tag, each, items_of, list_data, list_of, member_of, member_path, slice_cmp, tag_data, tags_at, tags_size}
+use Rattle.misp_format.specs.Elements.{Named, tag_of, with_tag, next_tag, tag_at}
 use Rattle.misp_format.proofs.Tags.{name_of}
 use Rattle.misp_format.proofs.Back.{row_back, colour_back}
 
 -- ---- what is known of tags
-
-less_of : (o : Ordering) → is_lt o ≡ true → o ≡ Less
-less_of Less h = refl
-less_of Equal h = absurd cc
-less_of Greater h = absurd cc
 
 pub record IsRead (room : ℕ) (before : List ℕ) (t : Tag) : Type 0 where
   pub long : (nat_le 1 (length t.name) && nat_le (length t.name) 255) ≡ true

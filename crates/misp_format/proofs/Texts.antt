@@ -2,22 +2,14 @@
 use Rattle.std.proofs.Common.{◌≡◌, ℕ, List, [], ◌∷◌, ◌++◌, refl, sym, ap, ◌∙◌, append_assoc, append-nil}
 use Rattle.json.specs.Print.{print}
 use Rattle.json.specs.Token.{Token}
-use Rattle.json.specs.Token as tokens
 use Rattle.json.specs.Tree.{json_tokens, items_tokens, members_tokens}
-use Rattle.serde_json.specs.Data.{Data, array, object, Items, no_items, item, Members, no_members, member}
-use Rattle.serde_json.specs.Written.{outline, items_outline, members_outline, compact_text}
+use Rattle.serde_json.specs.Written.{outline, items_outline, members_outline}
 use Rattle.serde_json.proofs.Texts.{print-outline}
-use Rattle.misp_ids.specs.declared.label.Label.{Label}
-use Rattle.misp_ids.specs.declared.label.Label.TheVariants as labels
-use Rattle.misp_elem.specs.declared.content.EventBody.{EventBody}
-use Rattle.misp_elem.specs.declared.content.AttributeBody.{AttributeBody}
-use Rattle.misp_elem.specs.declared.content.ObjectBody.{ObjectBody}
-use Rattle.misp_elem.specs.declared.visible.VisibleAttribute.{VisibleAttribute}
-use Rattle.misp_elem.specs.declared.visible.VisibleObject.{VisibleObject}
-use Rattle.misp_elem.specs.declared.visible.VisibleEvent.{VisibleEvent}
-use Rattle.misp_format.specs.Fields.{GroupNames, with_group}
-use Rattle.misp_format.specs.Tokens.{PutDown, behind, push, with, put_value, put_member, put_members, put_attribute_lists, put_object_lists, put_event_lists}
-use Rattle.misp_format.specs.Written.{attribute_texts, attribute_members, attribute_with, object_texts, object_members, object_with, event_texts, event_members, event_with}
+use Rattle.misp_format.specs.Prelude.{AttributeBody, Data, EventBody, GroupNames, Items, Label, Members, ObjectBody, VisibleAttribute, VisibleEvent, VisibleObject, array, attribute_members, attribute_with, compact_text, event_members}
+use Rattle.misp_format.specs.Prelude.{event_with, item, member, no_items, no_members, object, object_members, object_with, put_member, with_group}
+use Rattle.misp_format.specs.Tokens.{PutDown, behind, push, with, put_value, put_members, put_attribute_lists, put_object_lists, put_event_lists}
+use Rattle.misp_format.specs.Written.{attribute_texts, object_texts, event_texts}
+use Rattle.json.specs.Token as tokens
 
 -- one list of tokens after another
 with_both : (one two : List Token) (was : PutDown) → with (one ++ two) was ≡ with two (with one was)
@@ -55,12 +47,8 @@ array_put ds was = items_put ds (push tokens.begin_array was)
 
 grouped_attribute : (names : GroupNames) (label : Label) (a : VisibleAttribute) (b : AttributeBody) (was : PutDown)
     → put_members (with_group names label (attribute_members a b)) was ≡ put_members (attribute_texts a b) (put_attribute_lists names label a b was)
-grouped_attribute names labels.Own a b was = refl
-grouped_attribute names labels.Community a b was = refl
-grouped_attribute names labels.Connected a b was = refl
-grouped_attribute names labels.All a b was = refl
-grouped_attribute names (labels.Group group) a b was = refl
-grouped_attribute names labels.Inherit a b was = refl
+grouped_attribute names (Label.Group group) a b was = refl
+grouped_attribute names _ a b was = refl
 
 pub attribute_put : (names : GroupNames) (a : VisibleAttribute) (b : AttributeBody) (was : PutDown)
     → put_value (attribute_with names a b) was ≡ push tokens.end_object (put_members (attribute_texts a b) (put_attribute_lists names a.row.label a b (push tokens.begin_object was)))
@@ -70,12 +58,8 @@ attribute_put names a b was =
 
 grouped_object : (names : GroupNames) (label : Label) (o : VisibleObject) (b : ObjectBody) (was : PutDown)
     → put_members (with_group names label (object_members names o b)) was ≡ put_members (object_texts o b) (put_object_lists names label o was)
-grouped_object names labels.Own o b was = refl
-grouped_object names labels.Community o b was = refl
-grouped_object names labels.Connected o b was = refl
-grouped_object names labels.All o b was = refl
-grouped_object names (labels.Group group) o b was = refl
-grouped_object names labels.Inherit o b was = refl
+grouped_object names (Label.Group group) o b was = refl
+grouped_object names _ o b was = refl
 
 pub visible_object_put : (names : GroupNames) (o : VisibleObject) (b : ObjectBody) (was : PutDown)
     → put_value (object_with names o b) was ≡ push tokens.end_object (put_members (object_texts o b) (put_object_lists names o.row.label o (push tokens.begin_object was)))
@@ -85,12 +69,8 @@ visible_object_put names o b was =
 
 grouped_event : (names : GroupNames) (label : Label) (e : VisibleEvent) (b : EventBody) (was : PutDown)
     → put_members (with_group names label (event_members names e b)) was ≡ put_members (event_texts e b) (put_event_lists names label e b was)
-grouped_event names labels.Own e b was = refl
-grouped_event names labels.Community e b was = refl
-grouped_event names labels.Connected e b was = refl
-grouped_event names labels.All e b was = refl
-grouped_event names (labels.Group group) e b was = refl
-grouped_event names labels.Inherit e b was = refl
+grouped_event names (Label.Group group) e b was = refl
+grouped_event names _ e b was = refl
 
 pub event_put : (names : GroupNames) (e : VisibleEvent) (b : EventBody) (was : PutDown)
     → put_value (event_with names e b) was ≡ push tokens.end_object (put_members (event_texts e b) (put_event_lists names e.row.label e b (push tokens.begin_object was)))
@@ -110,7 +90,7 @@ unfolding push
 put_before [] was = refl
 put_before (token ∷ tokens) was = put_before tokens (push token was)
 
--- a value that is put down whole behind a text
+-- a value that is put down whole after a text
 pub printed : (text : List ℕ) (d : Data) → (put_value d (behind text)).before ++ print (put_value d (behind text)).tokens ≡ text ++ compact_text d
 unfolding put_value
 printed text d = rw (put_before (json_tokens (outline d)) (behind text), put_tokens (json_tokens (outline d)) (behind text), print-outline d) refl

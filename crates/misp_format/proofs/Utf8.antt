@@ -1,13 +1,12 @@
 -- The text of data without numbers is UTF-8 where its texts are.
 use Rattle.std.proofs.Common.{◌≡◌, ℕ, Bool, true, false, List, [], ◌∷◌, map, IsUtf8, refl}
 use Rattle.std.specs.Prelude.{⊤}
-use Rattle.std.specs.List.{AllByRecursion}
 use Rattle.std.proofs.lemmas.Str.{IsUtf8-append, IsUtf8-nil}
 use Rattle.json.specs.Print.{quoted}
 use Rattle.json.proofs.Printed.Utf8.{are_ascii, IsUtf8-are_ascii, IsUtf8-quoted, IsUtf8-boolean}
-use Rattle.serde_json.specs.Data.{Data, null, boolean, number, string, array, object, Items, no_items, item, Members, no_members, member}
-use Rattle.serde_json.specs.View.{items_of}
-use Rattle.serde_json.specs.Written.{comma_if, compact_text, items_text, members_text}
+use Rattle.serde_json.specs.Data.{null}
+use Rattle.serde_json.specs.Written.{comma_if, items_text, members_text}
+use Rattle.misp_format.specs.Prelude.{AllByRecursion, Data, Items, Members, array, boolean, compact_text, item, items_of, member, no_items, no_members, number, object, string}
 
 -- its texts are UTF-8, its names ASCII, and it has no numbers
 abbrev mutual
@@ -31,7 +30,7 @@ comma : (later : Bool) → IsUtf8 (comma_if later)
 comma true = IsUtf8-are_ascii (44 ∷ []) refl
 comma false = IsUtf8-nil
 
--- behind a byte of the grammar
+-- after a byte of the grammar
 behind : (byte : ℕ) (text : List ℕ) → are_ascii (byte ∷ []) ≡ true → IsUtf8 text → IsUtf8 (byte ∷ text)
 behind byte text ascii h = IsUtf8-append (byte ∷ []) text (IsUtf8-are_ascii (byte ∷ []) ascii) h
 

@@ -1,32 +1,19 @@
 -- What a written event brings where it is read again.
-use Rattle.std.specs.Prelude.{ℕ, [], false, Option, Some, None}
-use Rattle.std.specs.List.{fold}
-use Rattle.misp_ids.specs.declared.uid.Uid.{Uid}
-use Rattle.misp_ids.specs.declared.uid.ElemId.{ElemId}
-use Rattle.misp_elem.specs.declared.key.Place.{Place}
-use Rattle.misp_elem.specs.declared.key.Place.TheVariants as places
-use Rattle.misp_elem.specs.declared.key.KeyForm.{KeyForm}
-use Rattle.misp_elem.specs.declared.key.KeyForm.TheVariants as keys
-use Rattle.misp_elem.specs.declared.content.EventBody.{EventBody}
+use Rattle.std.specs.Prelude.{ℕ, [], false, Option, Some, None, fold}
 use Rattle.misp_elem.specs.declared.content.ReferenceBody.{ReferenceBody}
-use Rattle.misp_elem.specs.declared.content.Content.{Content}
-use Rattle.misp_elem.specs.declared.content.Content.TheVariants as contents
-use Rattle.misp_elem.specs.declared.row.RowFields.{RowFields}
-use Rattle.misp_elem.specs.declared.visible.VisibleAttribute.{VisibleAttribute}
-use Rattle.misp_elem.specs.declared.visible.VisibleObject.{VisibleObject}
-use Rattle.misp_elem.specs.declared.visible.VisibleEvent.{VisibleEvent}
 use Rattle.misp_elem.specs.Draft.{DraftFields, ReferenceDraftFields, EventDraftFields, SubmissionFields}
-use Rattle.misp_format.specs.Gathered.{Gathered, none_from, place, with_part, with_reference}
+use Rattle.misp_format.specs.Prelude.{Content, ElemId, EventBody, Gathered, KeyForm, Place, RowFields, Uid, VisibleAttribute, VisibleEvent, VisibleObject, none_from, with_part, with_reference}
+use Rattle.misp_format.specs.Gathered.{place}
 use Rattle.misp_format.specs.Tables.{submission_of}
 use Rattle.misp_format.specs.Written.{place_uuid, key_uuid}
 
 -- the place of an element, and the event itself for other keys
 abbrev pub place_of : KeyForm → Place
-place_of (keys.Element event place) = place
-place_of (keys.Reference event owner target uuid) = places.Event
-place_of (keys.Proposal event name) = places.Event
-place_of (keys.Verdict event name at judge) = places.Event
-place_of (keys.Sighting event target at by uuid) = places.Event
+place_of (KeyForm.Element event place) = place
+place_of (KeyForm.Reference event owner target uuid) = Place.Event
+place_of (KeyForm.Proposal event name) = Place.Event
+place_of (KeyForm.Verdict event name at judge) = Place.Event
+place_of (KeyForm.Sighting event target at by uuid) = Place.Event
 
 -- an attribute or an object, at a place in reading order
 abbrev pub draft_of : ℕ → RowFields → DraftFields
@@ -34,23 +21,23 @@ draft_of n r = record { number = n; place = place_of r.key; label = r.label; con
 
 -- the object of a reference, and what other keys name
 abbrev pub owner_of : KeyForm → ElemId
-owner_of (keys.Element event place) = record { 0 = place_uuid event place }
-owner_of (keys.Reference event owner target uuid) = owner
-owner_of (keys.Proposal event name) = name.uuid
-owner_of (keys.Verdict event name at judge) = name.uuid
-owner_of (keys.Sighting event target at by uuid) = uuid
+owner_of (KeyForm.Element event place) = record { 0 = place_uuid event place }
+owner_of (KeyForm.Reference event owner target uuid) = owner
+owner_of (KeyForm.Proposal event name) = name.uuid
+owner_of (KeyForm.Verdict event name at judge) = name.uuid
+owner_of (KeyForm.Sighting event target at by uuid) = uuid
 
 -- the target of a reference, and what other keys name
 abbrev pub target_of : KeyForm → Uid
-target_of (keys.Element event place) = place_uuid event place
-target_of (keys.Reference event owner target uuid) = place_uuid event target
-target_of (keys.Proposal event name) = name.uuid.0
-target_of (keys.Verdict event name at judge) = name.uuid.0
-target_of (keys.Sighting event target at by uuid) = uuid.0
+target_of (KeyForm.Element event place) = place_uuid event place
+target_of (KeyForm.Reference event owner target uuid) = place_uuid event target
+target_of (KeyForm.Proposal event name) = name.uuid.0
+target_of (KeyForm.Verdict event name at judge) = name.uuid.0
+target_of (KeyForm.Sighting event target at by uuid) = uuid.0
 
 -- what a reference says; other contents say nothing of it
 abbrev pub reference_body : Content → ReferenceBody
-reference_body (contents.Reference b) = b
+reference_body (Content.Reference b) = b
 reference_body content = record { relationship_type = []; comment = []; deleted = false }
 
 -- a reference, at a place in reading order
@@ -96,7 +83,7 @@ event_draft b =
     }
 
 abbrev pub body_in : Content → Option EventDraftFields
-body_in (contents.Event b) = Some (event_draft b)
+body_in (Content.Event b) = Some (event_draft b)
 body_in content = None
 
 -- BROUGHT: the event as its row has it, and its elements in the order in which they are shown

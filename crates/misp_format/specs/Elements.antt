@@ -1,25 +1,22 @@
 -- THE TABLES of elements: the members of each in the order in which they are read.
 --     MEMBER ← row it NAME READER WHERE-ABSENT
-use Rattle.std.specs.Prelude.{ℕ, ◌≤◌, Bool, true, false, nat_lt, List, [], ◌∷◌, map, codes, Option, Some, None, option_map, unwrap_or, Ok, Err, if◌then◌else◌, ⊤}
+use Rattle.std.specs.Prelude.{ℕ, Bool, true, false, nat_lt, List, [], ◌∷◌, map, codes, Option, Some, None, option_map, unwrap_or, Ok, Err, if◌then◌else◌, ⊤}
 use Rattle.std.specs.Ordering.{nat_cmp}
-use Rattle.std.specs.Cmp.Lexicographic.{slice_cmp}
 use Rattle.std.specs.BTreeMap.{insert_entry}
 use Rattle.serde_json.specs.Data.{Data, no_items}
-use Rattle.misp_ids.specs.declared.uid.ElemId.{ElemId}
 use Rattle.misp_ids.specs.Uid.{made_uid}
 use Rattle.misp_types.specs.declared.fault.ValueFault.{ValueFault}
-use Rattle.misp_types.specs.declared.fault.ValueFault.TheVariants as values
 use Rattle.misp_types.specs.Checked.{Checked}
 use Rattle.misp_types.specs.Values.{kept_of}
-use Rattle.misp_elem.specs.declared.key.Place.TheVariants as places
-use Rattle.misp_elem.specs.declared.content.Tag.{Tag}
-use Rattle.misp_elem.specs.declared.content.Content.TheVariants as contents
-use Rattle.misp_elem.specs.Draft.{DraftFields, ReferenceDraftFields}
-use Rattle.misp_elem.specs.Row.{text_limit, text_size, tags_size, IsTagName, IsColour, AreTags}
-use Rattle.misp_elem.specs.Visible.{place_in}
-use Rattle.misp_fields.specs.declared.need.Need.TheVariants as needs
+use Rattle.misp_fields.specs.declared.need.Need.{Need}
 use Rattle.misp_fields.specs.Fields.{member_of, text_of, number_of, flag_of, uuid_of, optional_uuid_of, colour_of, list_of}
-use Rattle.misp_format.specs.declared.fault.FormatFault.TheVariants as faults
+use Rattle.misp_elem.specs.Prelude.{ElemId, slice_cmp, text_limit, text_size}
+use Rattle.misp_elem.specs.declared.key.Place.{Place}
+use Rattle.misp_elem.specs.declared.content.Tag.{Tag}
+use Rattle.misp_elem.specs.declared.content.Content.{Content}
+use Rattle.misp_elem.specs.Draft.{DraftFields, ReferenceDraftFields}
+use Rattle.misp_elem.specs.Visible.{place_in}
+use Rattle.misp_format.specs.declared.fault.FormatFault.{FormatFault}
 use Rattle.misp_format.specs.Body.{Body}
 use Rattle.misp_format.specs.Gathered.{Gathered, place, with_part, with_reference}
 use Rattle.misp_format.specs.Kinds.{other_category, category_of, is_file_type}
@@ -31,13 +28,13 @@ use Rattle.misp_format.specs.Rows.{Reading, ◌>>=◌, row, must_be, body_at, ea
 -- the texts of an element together have no more bytes than the limit
 abbrev pub unless_long : Body → ℕ → Reading ⊤
 unless_long it bytes =
-    if nat_lt text_limit bytes then Err (faults.BadField it.path needs.Short)
+    if nat_lt text_limit bytes then Err (FormatFault.BadField it.path Need.Short)
     else Ok tt
 
 -- a file at a member is refused
 abbrev pub unless_file : Body → List ℕ → Bool → Reading ⊤
 unless_file it name is_file =
-    if is_file then Err (faults.BinaryType (member_path it.path name))
+    if is_file then Err (FormatFault.BinaryType (member_path it.path name))
     else Ok tt
 
 -- ---- tags
@@ -55,17 +52,9 @@ tag_at path d = do
   exportable ← row it (codes "exportable") flag_of (Ok true)
   Ok (record { name = name; colour = colour; exportable = exportable })
 
--- tags that an element may have wherever there is room for their names
-abbrev pub FitTags : List Tag → Type 0
-FitTags tags = (room : ℕ) → room ≤ text_limit → tags_size tags ≤ room → AreTags room tags
-
 -- colours and flags of tags by their names, in the order of the names
 abbrev pub Named : Type 0
 Named = List (List ℕ × (List ℕ × Bool))
-
--- what a tag may have
-abbrev pub IsNamed : List ℕ × (List ℕ × Bool) → Type 0
-IsNamed named = IsTagName text_limit [] named.0 × IsColour named.1.0
 
 abbrev pub tag_of : List ℕ × (List ℕ × Bool) → Tag
 tag_of named = record { name = named.0; colour = named.1.0; exportable = named.1.1 }
@@ -93,7 +82,7 @@ kind_at it = do
   nothing ← unless_file it (codes "type") (is_file_type kind)
   Ok kind
 
--- no file stands in `data`
+-- no file is in `data`
 abbrev pub no_file_at : Body → Reading ⊤
 no_file_at it =
     unless_file it (codes "data")
@@ -101,14 +90,14 @@ no_file_at it =
 
 -- what is wrong with a value
 abbrev pub value_refused : {A : Type 0} → Body → ValueFault → Reading A
-value_refused it values.WrongLength =
-    Err (faults.BadField (member_path it.path (codes "value")) needs.Length)
-value_refused it (values.WrongDigit n) =
-    Err (faults.BadField (member_path it.path (codes "value")) (needs.Digit n))
-value_refused it (values.WrongPart n) =
-    Err (faults.BadField (member_path it.path (codes "value")) (needs.Part n))
-value_refused it values.BinaryType = Err (faults.BinaryType (member_path it.path (codes "value")))
-value_refused it values.NoMemory = Err faults.NoMemory
+value_refused it ValueFault.WrongLength =
+    Err (FormatFault.BadField (member_path it.path (codes "value")) Need.Length)
+value_refused it (ValueFault.WrongDigit n) =
+    Err (FormatFault.BadField (member_path it.path (codes "value")) (Need.Digit n))
+value_refused it (ValueFault.WrongPart n) =
+    Err (FormatFault.BadField (member_path it.path (codes "value")) (Need.Part n))
+value_refused it ValueFault.BinaryType = Err (FormatFault.BinaryType (member_path it.path (codes "value")))
+value_refused it ValueFault.NoMemory = Err FormatFault.NoMemory
 
 abbrev pub kept_at : Body → Checked → Reading (List ℕ)
 kept_at it (Ok kept) = Ok kept
@@ -134,7 +123,7 @@ attribute_at path object word n d = do
   no_file ← no_file_at it
   value ← value_at kind it
   tags ← tags_at it
-  content ← Ok (contents.Attribute (record {
+  content ← Ok (Content.Attribute (record {
     kind = kind;
     category = category;
     to_ids = to_ids;
@@ -175,7 +164,7 @@ reference_at path object word n d = do
   comment ← row it (codes "comment") text_of (Ok [])
   deleted ← row it (codes "deleted") flag_of (Ok false)
   body ← Ok (record { relationship_type = relationship_type; comment = comment; deleted = deleted })
-  fits ← unless_long it (text_size (contents.Reference body))
+  fits ← unless_long it (text_size (Content.Reference body))
   Ok (record {
     number = n;
     object = object;
@@ -208,7 +197,7 @@ object_at uuid n it = do
   template_version ← row it (codes "template_version") number_of (Ok 0)
   label ← label_at it 5 5
   deleted ← row it (codes "deleted") flag_of (Ok false)
-  content ← Ok (contents.Object (record {
+  content ← Ok (Content.Object (record {
     name = name;
     meta_category = meta_category;
     description = description;
@@ -218,7 +207,7 @@ object_at uuid n it = do
     deleted = deleted;
   }))
   fits ← unless_long it (text_size content)
-  Ok (record { number = n; place = places.Object uuid; label = label; content = content })
+  Ok (record { number = n; place = Place.Object uuid; label = label; content = content })
 
 -- an object, and then its attributes and its references
 unfoldable pub object_and_others_at : ℕ → List ℕ → Gathered → Data → Reading Gathered

@@ -1,14 +1,10 @@
 -- Members that are written.
 use Rattle.std.specs.Prelude.{ℕ, Bool, ◌&&◌, ◌==◌, List, [], codes, decimal, map, Option, Some, None, unwrap_or}
-use Rattle.std.specs.Map.{lookup}
 use Rattle.serde_json.specs.Data.{Data, unsigned, number, string, array, object, Members, member, no_members, put}
 use Rattle.serde_json.specs.View.{items_of}
-use Rattle.misp_ids.specs.declared.uid.Uid.{Uid}
-use Rattle.misp_ids.specs.declared.uid.OrgId.{OrgId}
-use Rattle.misp_ids.specs.declared.uid.GroupId.{GroupId}
 use Rattle.misp_ids.specs.declared.label.Label.{Label}
-use Rattle.misp_ids.specs.declared.label.Label.TheVariants as labels
 use Rattle.misp_ids.specs.Uid.{text_of}
+use Rattle.misp_groups.specs.Prelude.{GroupId, OrgId, Uid, lookup}
 
 -- numbers are written as texts
 abbrev pub number_data : ℕ → Data
@@ -60,9 +56,9 @@ group_data names group = object (
 
 -- with `SharingGroup` at its place among the names, where the label is that of a group
 abbrev pub with_group : GroupNames → Label → Members → Members
-with_group names labels.Own ms = ms
-with_group names labels.Community ms = ms
-with_group names labels.Connected ms = ms
-with_group names labels.All ms = ms
-with_group names (labels.Group group) ms = put (codes "SharingGroup") (group_data names group) ms
-with_group names labels.Inherit ms = ms
+with_group names Label.Own ms = ms
+with_group names Label.Community ms = ms
+with_group names Label.Connected ms = ms
+with_group names Label.All ms = ms
+with_group names (Label.Group group) ms = put (codes "SharingGroup") (group_data names group) ms
+with_group names Label.Inherit ms = ms

@@ -1,17 +1,15 @@
 -- THE TABLE of a whole sharing group.
 --     MEMBER ← row it NAME READER WHERE-ABSENT
-use Rattle.std.specs.Prelude.{◌≡◌, ℕ, Bool, true, false, List, [], map, codes, Result, Ok}
+use Rattle.std.specs.Prelude.{ℕ, Bool, true, false, List, [], map, codes, Result, Ok}
 use Rattle.std.specs.BTreeMap.{insert_entry}
-use Rattle.std.specs.Cmp.Lexicographic.{slice_cmp}
-use Rattle.std.specs.Ordering.{nat_cmp}
 use Rattle.serde_json.specs.Data.{Data, no_items}
+use Rattle.misp_lists.specs.Prelude.{nat_cmp, slice_cmp}
 use Rattle.misp_ids.specs.declared.uid.Uid.{Uid}
 use Rattle.misp_ids.specs.Names.{is_inst_name}
 use Rattle.misp_groups.specs.declared.group.GroupFields.{GroupFields as Group}
 use Rattle.misp_groups.specs.declared.group.GroupOrg.{GroupOrg}
 use Rattle.misp_groups.specs.declared.group.GroupServer.{GroupServer}
 use Rattle.misp_fields.specs.declared.need.Need.{Need}
-use Rattle.misp_fields.specs.declared.need.Need.TheVariants as needs
 use Rattle.misp_fields.specs.Fields.{text_of, flag_of, stamp_of, uuid_of, list_of}
 use Rattle.misp_format.specs.Body.{Body}
 use Rattle.misp_format.specs.Path.{member_path, item_path}
@@ -72,7 +70,7 @@ ServerEntries = List (List ℕ × (List ℕ × Bool))
 
 -- READER: the name of an instance
 abbrev pub inst_name_of : Data → Result (List ℕ) Need
-inst_name_of d = fitting is_inst_name needs.Range (text_of d)
+inst_name_of d = fitting is_inst_name Need.Range (text_of d)
 
 -- an instance: its name
 unfoldable pub server_name_at : List ℕ → Data → Reading (List ℕ)
@@ -93,10 +91,6 @@ server_at path d = do
   name ← named_server_at it
   all_orgs ← row it (codes "all_orgs") flag_of (Ok false)
   Ok (record { name = name; all_orgs = all_orgs })
-
--- an instance stands by its own name
-abbrev pub IsSpelled : List ℕ × (List ℕ × Bool) → Type 0
-IsSpelled e = e.0 ≡ e.1.0
 
 abbrev pub server_of : List ℕ × (List ℕ × Bool) → GroupServer
 server_of e = record { name = e.1.0; all_orgs = e.1.1 }

@@ -1,9 +1,7 @@
 -- The names of the categories of attributes.
-use Rattle.std.specs.Prelude.{ℕ, Bool, ◌||◌, List, [], ◌∷◌, codes, Result, Ok, Err, position, slice_get, unwrap_or}
-use Rattle.std.specs.Str.{bytes_eq}
+use Rattle.std.specs.Prelude.{ℕ, Bool, ◌||◌, List, [], ◌∷◌, codes, Result, Ok, Err, position, slice_get, unwrap_or, bytes_eq}
 use Rattle.serde_json.specs.Data.{Data}
 use Rattle.misp_fields.specs.declared.need.Need.{Need}
-use Rattle.misp_fields.specs.declared.need.Need.TheVariants as needs
 use Rattle.misp_fields.specs.Fields.{or_need, text_of}
 
 -- CATEGORIES: their names, each at its number
@@ -33,7 +31,7 @@ other_category = 15
 
 -- the number of the category of this name
 abbrev pub category_in : List ℕ → Result ℕ Need
-category_in text = or_need needs.Range (position (λ name. bytes_eq name text) category_texts)
+category_in text = or_need Need.Range (position (λ name. bytes_eq name text) category_texts)
 
 abbrev pub category_in_text : Result (List ℕ) Need → Result ℕ Need
 category_in_text (Ok text) = category_in text

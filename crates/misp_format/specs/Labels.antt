@@ -4,7 +4,6 @@ use Rattle.std.specs.Prelude.{ℕ, ◌==◌, List, codes, Ok, if◌then◌else�
 use Rattle.serde_json.specs.Data.{Data}
 use Rattle.misp_ids.specs.declared.uid.GroupId.{GroupId}
 use Rattle.misp_ids.specs.declared.label.Label.{Label}
-use Rattle.misp_ids.specs.declared.label.Label.TheVariants as labels
 use Rattle.misp_fields.specs.Fields.{uuid_of}
 use Rattle.misp_format.specs.Body.{Body}
 use Rattle.misp_format.specs.Path.{member_path}
@@ -28,12 +27,12 @@ named_group_at it = do
 -- the label of this number, that of a group with its group, which is read for no other
 abbrev pub numbered_at : Body → ℕ → Reading Label
 numbered_at it n =
-    if n == 0 then Ok labels.Own
-    else if n == 1 then Ok labels.Community
-    else if n == 2 then Ok labels.Connected
-    else if n == 3 then Ok labels.All
-    else if n == 4 then (named_group_at it >>= λ group. Ok (labels.Group group))
-    else Ok labels.Inherit
+    if n == 0 then Ok Label.Own
+    else if n == 1 then Ok Label.Community
+    else if n == 2 then Ok Label.Connected
+    else if n == 3 then Ok Label.All
+    else if n == 4 then (named_group_at it >>= λ group. Ok (Label.Group group))
+    else Ok Label.Inherit
 
 -- LABEL: by its number, which is at most the first, and is the second where it is absent
 unfoldable pub label_at : Body → ℕ → ℕ → Reading Label

@@ -1,6 +1,7 @@
 pub mod Body
 pub mod Brought
 pub mod Elements
+pub mod Entries
 pub mod Fields
 pub mod Gathered
 pub mod GroupText
@@ -8,8 +9,10 @@ pub mod Groups
 pub mod Json
 pub mod Kinds
 pub mod Labels
+pub mod Members
 pub mod Names
 pub mod Path
+pub mod Prelude
 pub mod Readers
 pub mod Replies
 pub mod Rows

@@ -1,8 +1,7 @@
 -- The names of groups, as a map holds them.
 use Rattle.std.specs.Prelude.{ℕ, List, [], unwrap_or}
 use Rattle.std.specs.BTreeMap.{BTreeMap}
-use Rattle.std.specs.Map.{lookup}
-use Rattle.misp_ids.specs.declared.uid.GroupId.{GroupId}
+use Rattle.misp_groups.specs.Prelude.{GroupId, lookup}
 use Rattle.misp_format.specs.Fields.{GroupNames, is_same_group}
 
 -- the names that a map gives

@@ -1,8 +1,7 @@
 -- Readers that take a part of what the readers of fields take.
 use Rattle.std.specs.Prelude.{ℕ, Bool, false, ◌&&◌, nat_lt, nat_le, List, length, Option, Some, Result, Ok, Err, if◌then◌else◌}
-use Rattle.serde_json.specs.Data.{Data, null, boolean, number, string, array, object}
+use Rattle.serde_json.specs.Data.{Data, string}
 use Rattle.misp_fields.specs.declared.need.Need.{Need}
-use Rattle.misp_fields.specs.declared.need.Need.TheVariants as needs
 use Rattle.misp_fields.specs.Fields.{number_of, text_of, date_text_of}
 
 -- READER: any value
@@ -13,7 +12,7 @@ any_of d = Ok d
 
 -- a number between two, both among them
 abbrev pub within : ℕ → ℕ → Result ℕ Need → Result ℕ Need
-within least most (Ok n) = if nat_le least n && nat_le n most then Ok n else Err needs.Range
+within least most (Ok n) = if nat_le least n && nat_le n most then Ok n else Err Need.Range
 within least most (Err need) = Err need
 
 -- READER: a number between two, both among them
@@ -33,11 +32,11 @@ is_long least most s = nat_le least (length s) && nat_le (length s) most
 
 -- READER: a text of so many bytes
 abbrev pub text_within : ℕ → ℕ → Data → Result (List ℕ) Need
-text_within least most d = fitting (is_long least most) needs.Range (text_of d)
+text_within least most d = fitting (is_long least most) Need.Range (text_of d)
 
 -- READER: a text of one byte or more
 abbrev pub some_text_of : Data → Result (List ℕ) Need
-some_text_of d = fitting (λ s. nat_lt 0 (length s)) needs.Range (text_of d)
+some_text_of d = fitting (λ s. nat_lt 0 (length s)) Need.Range (text_of d)
 
 abbrev pub some_in : Result (List ℕ) Need → Result (Option (List ℕ)) Need
 some_in (Ok s) = Ok (Some s)
@@ -51,9 +50,5 @@ some_date_of d = some_in (date_text_of d)
 
 -- a text that is not empty; other values are dropped
 abbrev pub is_file : Data → Bool
-is_file null = false
-is_file (boolean b) = false
-is_file (number n) = false
 is_file (string s) = nat_lt 0 (length s)
-is_file (array ds) = false
-is_file (object ms) = false
+is_file _ = false

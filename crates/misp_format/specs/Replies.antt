@@ -1,10 +1,8 @@
 -- What is written of the small replies.
 use Rattle.std.specs.Prelude.{ℕ, codes}
-use Rattle.serde_json.specs.Data.{Data, string, object, member, no_members}
-use Rattle.misp_ids.specs.declared.uid.EventId.{EventId}
-use Rattle.misp_elem.specs.declared.refusal.Refusal.{Refusal}
-use Rattle.misp_elem.specs.Refusal.{rule_name, rule_number}
-use Rattle.misp_format.specs.Fields.{number_data, count_data, uuid_data}
+use Rattle.misp_ids.specs.Refusal.{rule_name, rule_number}
+use Rattle.misp_format.specs.Prelude.{Data, EventId, Refusal, member, no_members, number_data, object, string, uuid_data}
+use Rattle.misp_format.specs.Fields.{count_data}
 
 -- SAVED: how many elements were brought, in which event, and the stamp that they got
 unfoldable pub saved_data : ℕ → EventId → ℕ → Data

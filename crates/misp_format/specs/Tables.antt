@@ -3,17 +3,13 @@
 use Rattle.std.specs.Prelude.{ℕ, ◌+◌, Bool, true, not, is_some, List, length, codes, Option, Some, None, unwrap_or, Ok}
 use Rattle.serde_json.specs.Data.{Data, Items}
 use Rattle.serde_json.specs.Find.{as_array}
-use Rattle.misp_ids.specs.declared.uid.EventId.{EventId}
-use Rattle.misp_ids.specs.declared.uid.ElemId.{ElemId}
-use Rattle.misp_ids.specs.declared.label.Label.{Label}
-use Rattle.misp_ids.specs.declared.label.Label.TheVariants as labels
 use Rattle.misp_ids.specs.Uid.{made_uid}
+use Rattle.misp_fields.specs.Fields.{member_of, uuid_of, optional_uuid_of}
+use Rattle.misp_elem.specs.Prelude.{ElemId, EventId, Label}
 use Rattle.misp_elem.specs.declared.content.Tag.{Tag}
 use Rattle.misp_elem.specs.Draft.{EventDraftFields, SubmissionFields}
-use Rattle.misp_elem.specs.Row.{tags_size}
-use Rattle.misp_fields.specs.Fields.{member_of, uuid_of, optional_uuid_of}
-use Rattle.misp_format.specs.declared.parts.PartForm.{PartForm}
-use Rattle.misp_format.specs.declared.parts.PartForm.TheVariants as forms
+use Rattle.misp_elem.specs.Fields.{tags_size}
+use Rattle.misp_format.specs.declared.reading.parts.PartForm.{PartForm}
 use Rattle.misp_format.specs.Body.{Body}
 use Rattle.misp_format.specs.Elements.{unless_long, tag_at, tags_at, attribute_at, next_attribute, attributes_at, reference_at, object_and_others_at, objects_at}
 use Rattle.misp_format.specs.Gathered.{Gathered, none_from, with_part, with_reference}
@@ -21,7 +17,7 @@ use Rattle.misp_format.specs.Labels.{label_at}
 use Rattle.misp_format.specs.Readers.{number_within, some_text_of, some_date_of}
 use Rattle.misp_format.specs.Rows.{Reading, ◌>>=◌, row, must_be, body_at, each}
 
--- what a body brings may stand in a member of it, and is then read through that member
+-- what a body brings may be in a member of it, and is then read through that member
 abbrev pub unwrapped : List ℕ → Data → Data
 unwrapped name d = unwrap_or (member_of name d) d
 
@@ -96,24 +92,24 @@ reference_body_at (Some object) word d =
 
 -- an attribute may have an object, an object has none, and a reference has one
 abbrev pub is_form_for : Option ElemId → PartForm → Bool
-is_form_for object forms.Attributes = true
-is_form_for object forms.Object = not (is_some object)
-is_form_for object forms.Reference = is_some object
+is_form_for object PartForm.Attributes = true
+is_form_for object PartForm.Object = not (is_some object)
+is_form_for object PartForm.Reference = is_some object
 
 -- the elements of a body of this form, an object with its attributes and references
 abbrev pub elements_at : Option ElemId → PartForm → ℕ → Data → Reading Gathered
-elements_at object forms.Attributes word d =
+elements_at object PartForm.Attributes word d =
     attribute_body_at object word (unwrapped (codes "Attribute") d)
-elements_at object forms.Object word d =
+elements_at object PartForm.Object word d =
     object_and_others_at word (codes "Object") (none_from 0) (unwrapped (codes "Object") d)
-elements_at object forms.Reference word d =
+elements_at object PartForm.Reference word d =
     reference_body_at object word (unwrapped (codes "ObjectReference") d)
 
 -- PARTS: what a body brings for an event that is there
 unfoldable pub parts_at : EventId → Option ElemId → PartForm → ℕ → Data → Reading SubmissionFields
 parts_at event object form word d =
     elements_at object form word d
-    >>= λ elements. Ok (submission_of event None labels.Inherit elements)
+    >>= λ elements. Ok (submission_of event None Label.Inherit elements)
 
 -- ---- tags
 

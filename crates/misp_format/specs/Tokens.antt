@@ -5,7 +5,6 @@ use Rattle.json.specs.Tree.{json_tokens}
 use Rattle.serde_json.specs.Data.{Data, Members, member, no_members}
 use Rattle.serde_json.specs.Written.{outline}
 use Rattle.misp_ids.specs.declared.label.Label.{Label}
-use Rattle.misp_ids.specs.declared.label.Label.TheVariants as labels
 use Rattle.misp_elem.specs.declared.content.EventBody.{EventBody}
 use Rattle.misp_elem.specs.declared.content.AttributeBody.{AttributeBody}
 use Rattle.misp_elem.specs.declared.visible.VisibleAttribute.{VisibleAttribute}
@@ -14,7 +13,7 @@ use Rattle.misp_elem.specs.declared.visible.VisibleEvent.{VisibleEvent}
 use Rattle.misp_format.specs.Fields.{GroupNames, group_data, list_data, org_data}
 use Rattle.misp_format.specs.Written.{tag_data, reference_data, proposal_data, sighting_data, attribute_data, object_data}
 
--- what stood before, and the tokens that were put down behind it
+-- what stood before, and the tokens that were put down after it
 pub record PutDown : Type 0 where
   pub before : List ℕ
   pub tokens : List Token
@@ -49,13 +48,13 @@ put_members (member name d ms) was = put_members ms (put_member name d was)
 
 -- with the member `SharingGroup` at the end, where the label is that of a group
 abbrev pub put_group : GroupNames → Label → PutDown → PutDown
-put_group names labels.Own was = was
-put_group names labels.Community was = was
-put_group names labels.Connected was = was
-put_group names labels.All was = was
-put_group names (labels.Group group) was =
+put_group names Label.Own was = was
+put_group names Label.Community was = was
+put_group names Label.Connected was = was
+put_group names Label.All was = was
+put_group names (Label.Group group) was =
     put_member (codes "SharingGroup") (group_data names group) was
-put_group names labels.Inherit was = was
+put_group names Label.Inherit was = was
 
 -- ---- the lists of elements, and among them the organisations of an event and the sharing group
 

@@ -2,26 +2,19 @@
 use Rattle.std.specs.Prelude.{ℕ, ◌+◌, not, List, ◌++◌, length, codes, sum_by}
 use Rattle.hex.specs.Hex.{encode_lower}
 use Rattle.serde_json.specs.Data.{Data, null, boolean, string, object, Members, member, no_members}
-use Rattle.misp_ids.specs.declared.uid.Uid.{Uid}
-use Rattle.misp_ids.specs.declared.uid.OrgId.{OrgId}
-use Rattle.misp_ids.specs.declared.uid.EventId.{EventId}
-use Rattle.misp_ids.specs.declared.uid.ElemId.{ElemId}
+use Rattle.misp_elem.specs.Prelude.{ElemId, EventId, OrgId, Uid, label_kind}
 use Rattle.misp_elem.specs.declared.key.Place.{Place}
-use Rattle.misp_elem.specs.declared.key.Place.TheVariants as places
 use Rattle.misp_elem.specs.declared.key.ProposalName.{ProposalName}
 use Rattle.misp_elem.specs.declared.key.KeyForm.{KeyForm}
-use Rattle.misp_elem.specs.declared.key.KeyForm.TheVariants as keys
 use Rattle.misp_elem.specs.declared.content.Tag.{Tag}
 use Rattle.misp_elem.specs.declared.content.EventBody.{EventBody}
 use Rattle.misp_elem.specs.declared.content.ObjectBody.{ObjectBody}
 use Rattle.misp_elem.specs.declared.content.AttributeBody.{AttributeBody}
 use Rattle.misp_elem.specs.declared.content.Content.{Content}
-use Rattle.misp_elem.specs.declared.content.Content.TheVariants as contents
 use Rattle.misp_elem.specs.declared.row.RowFields.{RowFields}
 use Rattle.misp_elem.specs.declared.visible.VisibleAttribute.{VisibleAttribute}
 use Rattle.misp_elem.specs.declared.visible.VisibleObject.{VisibleObject}
 use Rattle.misp_elem.specs.declared.visible.VisibleEvent.{VisibleEvent}
-use Rattle.misp_elem.specs.Row.{label_kind}
 use Rattle.misp_format.specs.Fields.{number_data, uuid_data, optional_uuid_data, list_data, org_data, group_names, GroupNames, with_group}
 use Rattle.misp_format.specs.Kinds.{category_name}
 
@@ -29,18 +22,18 @@ use Rattle.misp_format.specs.Kinds.{category_name}
 
 -- the identifier of what stands at a place of an event
 abbrev pub place_uuid : EventId → Place → Uid
-place_uuid event places.Event = event.0
-place_uuid event (places.Object o) = o.0
-place_uuid event (places.Attribute a) = a.0
-place_uuid event (places.ObjectAttribute o a) = a.0
+place_uuid event Place.Event = event.0
+place_uuid event (Place.Object o) = o.0
+place_uuid event (Place.Attribute a) = a.0
+place_uuid event (Place.ObjectAttribute o a) = a.0
 
 -- the identifier of what a key names
 abbrev pub key_uuid : KeyForm → Uid
-key_uuid (keys.Element event place) = place_uuid event place
-key_uuid (keys.Reference event owner target uuid) = uuid.0
-key_uuid (keys.Proposal event name) = name.uuid.0
-key_uuid (keys.Verdict event name at judge) = name.uuid.0
-key_uuid (keys.Sighting event target at by uuid) = uuid.0
+key_uuid (KeyForm.Element event place) = place_uuid event place
+key_uuid (KeyForm.Reference event owner target uuid) = uuid.0
+key_uuid (KeyForm.Proposal event name) = name.uuid.0
+key_uuid (KeyForm.Verdict event name at judge) = name.uuid.0
+key_uuid (KeyForm.Sighting event target at by uuid) = uuid.0
 
 -- ---- tags
 
@@ -58,7 +51,7 @@ tag_data tag = object (
 -- ---- references and statements; one whose key or content is of another kind is null
 
 abbrev pub reference_with : ℕ → Uid → ElemId → Content → Data
-reference_with stamp referenced uuid (contents.Reference b) = object (
+reference_with stamp referenced uuid (Content.Reference b) = object (
     member (codes "comment") (string b.comment) (
     member (codes "deleted") (boolean b.deleted) (
     member (codes "referenced_uuid") (uuid_data referenced) (
@@ -69,7 +62,7 @@ reference_with stamp referenced uuid (contents.Reference b) = object (
 reference_with stamp referenced uuid content = null
 
 abbrev pub reference_of : ℕ → KeyForm → Content → Data
-reference_of stamp (keys.Reference event owner target uuid) content =
+reference_of stamp (KeyForm.Reference event owner target uuid) content =
     reference_with stamp (place_uuid event target) uuid content
 reference_of stamp key content = null
 
@@ -77,7 +70,7 @@ unfoldable pub reference_data : RowFields → Data
 reference_data r = reference_of r.stamp r.key r.content
 
 abbrev pub proposal_with : ℕ → ProposalName → Content → Data
-proposal_with stamp name (contents.Proposal b) = object (
+proposal_with stamp name (Content.Proposal b) = object (
     member (codes "Org") (org_data name.by b.by_name) (
     member (codes "category") (string (category_name b.category)) (
     member (codes "comment") (string b.comment) (
@@ -92,14 +85,14 @@ proposal_with stamp name (contents.Proposal b) = object (
 proposal_with stamp name content = null
 
 abbrev pub proposal_of : ℕ → KeyForm → Content → Data
-proposal_of stamp (keys.Proposal event name) content = proposal_with stamp name content
+proposal_of stamp (KeyForm.Proposal event name) content = proposal_with stamp name content
 proposal_of stamp key content = null
 
 unfoldable pub proposal_data : RowFields → Data
 proposal_data r = proposal_of r.stamp r.key r.content
 
 abbrev pub sighting_with : OrgId → ElemId → Content → Data
-sighting_with by uuid (contents.Sighting b) = object (
+sighting_with by uuid (Content.Sighting b) = object (
     member (codes "Organisation") (org_data by b.by_name) (
     member (codes "date_sighting") (number_data b.date) (
     member (codes "source") (string b.source) (
@@ -109,7 +102,7 @@ sighting_with by uuid (contents.Sighting b) = object (
 sighting_with by uuid content = null
 
 abbrev pub sighting_of : KeyForm → Content → Data
-sighting_of (keys.Sighting event target at by uuid) content = sighting_with by uuid content
+sighting_of (KeyForm.Sighting event target at by uuid) content = sighting_with by uuid content
 sighting_of key content = null
 
 unfoldable pub sighting_data : RowFields → Data
@@ -144,7 +137,7 @@ attribute_with names a b = object (with_group names a.row.label (attribute_membe
 
 -- a row of another content is null
 abbrev pub attribute_of : GroupNames → VisibleAttribute → Content → Data
-attribute_of names a (contents.Attribute b) = attribute_with names a b
+attribute_of names a (Content.Attribute b) = attribute_with names a b
 attribute_of names a content = null
 
 unfoldable pub attribute_data : GroupNames → VisibleAttribute → Data
@@ -179,7 +172,7 @@ object_with names o b = object (with_group names o.row.label (object_members nam
 
 -- a row of another content is null
 abbrev pub object_of : GroupNames → VisibleObject → Content → Data
-object_of names o (contents.Object b) = object_with names o b
+object_of names o (Content.Object b) = object_with names o b
 object_of names o content = null
 
 unfoldable pub object_data : GroupNames → VisibleObject → Data
@@ -224,7 +217,7 @@ event_with names e b = object (with_group names e.row.label (event_members names
 
 -- a row of another content is null
 abbrev pub event_of : GroupNames → VisibleEvent → Content → Data
-event_of names e (contents.Event b) = event_with names e b
+event_of names e (Content.Event b) = event_with names e b
 event_of names e content = null
 
 unfoldable pub event_data : GroupNames → VisibleEvent → Data

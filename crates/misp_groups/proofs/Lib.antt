@@ -1,0 +1,10 @@
+pub mod Administered
+pub mod Changes
+pub mod GroupsAgain
+pub mod Ids
+pub mod Places
+pub mod Planned
+pub mod Putting
+pub mod Servers
+pub mod Sorted
+pub mod Taking

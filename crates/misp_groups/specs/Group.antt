@@ -1,11 +1,7 @@
 -- What is a sharing group.
 use Rattle.std.specs.Prelude.{◌≡◌, ℕ, ◌≤◌, true, false, List, length}
-use Rattle.std.specs.declared.cmp.Ordering.{Ordering}
-use Rattle.std.specs.Ordering.{nat_cmp}
-use Rattle.std.specs.Cmp.Lexicographic.{slice_cmp}
-use Rattle.std.specs.List.{AllByRecursion}
-use Rattle.std.specs.List.Sorted.{IsStrictlySortedBy}
 use Rattle.std.specs.Str.{is_utf8}
+use Rattle.misp_lists.specs.Prelude.{AllByRecursion, IsStrictlySortedBy, Ordering, nat_cmp, slice_cmp}
 use Rattle.misp_ids.specs.declared.stamp.TheConstants.{LAST_SECOND}
 use Rattle.misp_ids.specs.Names.{is_inst_name}
 use Rattle.misp_ids.specs.Uid.{IsUid}

@@ -1,28 +1,28 @@
--- Labels, and what is said of the groups that they name.
-use Rattle.std.specs.Prelude.{◌≡◌, ℕ, Bool, List}
-use Rattle.misp_ids.specs.declared.uid.OrgId.{OrgId}
+-- What becomes of a label on the way, and the number of its level.
+use Rattle.std.specs.Prelude.{Option, Some, None, ℕ, zero, suc}
 use Rattle.misp_ids.specs.declared.label.Label.{Label}
-use Rattle.misp_ids.specs.declared.label.Label.TheVariants as label
-use Rattle.misp_groups.specs.declared.group.GroupFields.{GroupFields as Group}
-use Rattle.misp_model.specs.Names.{Inst}
-use Rattle.misp_model.specs.Audience.{allows, group_passes}
+use Rattle.misp_ids.specs.declared.label.Way.{Way}
+use Rattle.misp_ids.specs.declared.label.Way.TheVariants.{Pull, Push}
 
--- the answer tells whether the label's group is known here and allows the organisation; of a label
--- without a group any answer will do
-abbrev pub SaysOfGroup : List Group → Inst → OrgId → Label → Bool → Type 0
-SaysOfGroup groups i o (label.Group g) answer =
-    answer ≡ group_passes groups g (λ group. allows group o i)
-SaysOfGroup groups i o label.Own answer = Unit {0}
-SaysOfGroup groups i o label.Community answer = Unit {0}
-SaysOfGroup groups i o label.Connected answer = Unit {0}
-SaysOfGroup groups i o label.All answer = Unit {0}
-SaysOfGroup groups i o label.Inherit answer = Unit {0}
+-- the label after one hop, where it is sent at all
+unfoldable pub hop : Way → Label → Option Label
+hop Pull Label.Own = Some Label.Own
+hop Pull Label.Community = Some Label.Own
+hop Push Label.Own = None
+hop Push Label.Community = None
+hop way Label.Connected = Some Label.Community
+hop way Label.All = Some Label.All
+hop way (Label.Group g) = Some (Label.Group g)
+hop way Label.Inherit = Some Label.Inherit
 
--- the number of its level
-abbrev pub rank : Label → ℕ
-rank label.Own = 0
-rank label.Community = 1
-rank label.Connected = 2
-rank label.All = 3
-rank (label.Group g) = 4
-rank label.Inherit = 5
+-- the label after n hops
+unfoldable pub down : Label → ℕ → Label
+down Label.Connected zero = Label.Connected
+down Label.Connected (suc zero) = Label.Community
+down Label.Connected (suc (suc n)) = Label.Own
+down Label.Community zero = Label.Community
+down Label.Community (suc n) = Label.Own
+down Label.Own n = Label.Own
+down Label.All n = Label.All
+down (Label.Group g) n = Label.Group g
+down Label.Inherit n = Label.Inherit

@@ -1,18 +1,12 @@
 -- No two instances of a description have one name.
-use Rattle.std.proofs.Common.{◌≡◌, ℕ, ◌<◌, List, [], true, map, length, sym, ◌∙◌, subst, inl, inr, arith}
-use Rattle.std.specs.List.{IsDistinct}
-use Rattle.std.specs.Str.{bytes_eq}
+use Rattle.std.proofs.Common.{◌≡◌, ℕ, ◌<◌, List, [], true, map, length, sym, ◌∙◌, subst, inl, inr, arith, bytes_eq}
 use Rattle.std.proofs.lemmas.Bool.{cases_order}
-use Rattle.std.proofs.lemmas.List.{length-map, get_or-map}
+use Rattle.std.proofs.lemmas.List.{get_or-map}
 use Rattle.std.proofs.lemmas.Map.Made.{AllPairs-from_IsDistinct}
-use Rattle.std.proofs.lemmas.Simd.{map-map}
-use Rattle.std.proofs.lemmas.Slice.Eq.{bytes_eq-Decides}
-use Rattle.misp_script.specs.declared.description.Description.{Description}
 use Rattle.misp_script.specs.Names.{IsNet}
-use Rattle.misp_model.specs.Names.{same_inst}
-use Rattle.misp_core.specs.Standing.{Host}
-use Rattle.misp_net.specs.Hosts.{nobody, host_at, described_host, described_hosts}
-use Rattle.misp_net.specs.History.{AreDistinct}
+use Rattle.misp_rules.proofs.Prelude.{IsDistinct, bytes_eq-Decides, length-map, map-map, same_inst}
+use Rattle.misp_net.specs.Prelude.{AreDistinct, Description, Host, described_host, described_hosts, host_at}
+use Rattle.misp_net.specs.Hosts.{nobody}
 
 abbrev name_in : Host → List ℕ
 name_in host = host.name

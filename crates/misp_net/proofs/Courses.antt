@@ -1,23 +1,15 @@
 -- A course goes on by one line.
-use Rattle.std.proofs.Common.{◌≡◌, ℕ, suc, ◌+◌, take, List, [], ◌∷◌, ◌++◌, length, refl, sym, ◌∙◌, ap, subst, arith, append_assoc, append-nil}
-use Rattle.std.specs.Prelude.{decimal}
-use Rattle.std.proofs.lemmas.List.{length-map, map_push, take_at}
-use Rattle.misp_outside.specs.Stock.{Stock}
+use Rattle.std.proofs.Common.{◌≡◌, ℕ, suc, ◌+◌, take, List, [], ◌∷◌, ◌++◌, length, refl, sym, ◌∙◌, ap, subst, arith, append_assoc, append-nil, decimal, take_at}
+use Rattle.std.proofs.lemmas.List.{length-map, map_push}
 use Rattle.misp_effects.specs.Meanings.{Meaning}
-use Rattle.misp_effects.specs.Course as courses
-use Rattle.misp_effects.specs.Stocks.{AreKept}
 use Rattle.misp_effects.proofs.Courses.{no_lines, run_kept}
-use Rattle.misp_effects.proofs.Courses as more
-use Rattle.misp_effects.proofs.Stocks.{all_kept}
-use Rattle.misp_store.specs.Batches.{spelled}
-use Rattle.misp_net.specs.declared.line.Output.{Output}
-use Rattle.misp_core.specs.Standing.{Host}
-use Rattle.misp_net.specs.Lines.{Act, IsAmong, AreAmong}
-use Rattle.misp_store.specs.Seen.{Seen, seen_in}
-use Rattle.misp_net.specs.Meaning.{meaning, meanings_of, stop_in, IsAsFormed, AreAsFormed}
+use Rattle.misp_effects.proofs.KeeperStates.{all_kept}
+use Rattle.misp_net.specs.Prelude.{Act, AreAmong, AreKept, HasRun, Host, IsAmong, IsCut, KeeperState, Output, Ran, Seen, meaning, seen_in, spelled, stop_in}
+use Rattle.misp_net.specs.Meaning.{meanings_of, IsAsFormed, AreAsFormed}
 use Rattle.misp_net.specs.Text.{output_text, line_of, text_from}
-use Rattle.misp_net.specs.Run.{IsAct, Ran, HasRun}
-use Rattle.misp_net.specs.Promise.{IsCut}
+use Rattle.misp_net.specs.Running.{IsAct}
+use Rattle.misp_effects.specs.Course as courses
+use Rattle.misp_effects.proofs.Courses as more
 
 among_push : (count : ℕ) (acts : List Act) (act : Act) → AreAmong count acts → IsAmong count act → AreAmong count (acts ++ act ∷ [])
 among_push count [] act all is = (is, tt)
@@ -38,7 +30,7 @@ text_push number (o ∷ outputs) output =
     let same = ap (λ n. line_of n output) count in
     grind (arith, append_assoc, rest, same)
 
-pub no_acts : (hosts : List Host) (old : List Stock) → HasRun hosts [] old old []
+pub no_acts : (hosts : List Host) (old : List KeeperState) → HasRun hosts [] old old []
 no_acts hosts old = record {
   outputs = [];
   text_is = refl;
@@ -47,8 +39,9 @@ no_acts hosts old = record {
   among = tt;
 }
 
-pub one_more : (hosts : List Host) (acts : List Act) (act : Act) (old mid new : List Stock) (before after : List ℕ) (output : Output)
-    → HasRun hosts acts old mid before → after ≡ before ++ line_of (1 + length acts) output → IsAct hosts act mid new output → IsAsFormed (meaning hosts act).formed output → IsAmong (length hosts) act → HasRun hosts (acts ++ act ∷ []) old new after
+pub one_more : (hosts : List Host) (acts : List Act) (act : Act) (old mid new : List KeeperState) (before after : List ℕ) (output : Output)
+    → HasRun hosts acts old mid before → after ≡ before ++ line_of (1 + length acts) output → IsAct hosts act mid new output → IsAsFormed (meaning hosts act).formed output
+    → IsAmong (length hosts) act → HasRun hosts (acts ++ act ∷ []) old new after
 one_more hosts acts act old mid new before after output run text_is did formed among =
     let long : length run.outputs ≡ length acts = run.ran.each ∙ length-map acts (λ a. (meaning hosts a).means) in
     record {
@@ -68,12 +61,12 @@ one_more hosts acts act old mid new before after output run text_is did formed a
 -- ---- cut short
 
 -- no line was run
-pub none_ran : (hosts : List Host) (acts : List Act) (old new : List Stock) → AreKept old new → IsCut hosts acts old new
+pub none_ran : (hosts : List Host) (acts : List Act) (old new : List KeeperState) → AreKept old new → IsCut hosts acts old new
 none_ran hosts acts old new kept =
     record { count = 0; outputs = []; ran = run_kept (all_kept old) (no_lines Seen Output seen_in spelled stop_in old) kept }
 
 -- these were, and more were to follow
-pub some_ran : (hosts : List Host) (done more acts : List Act) (old mid new : List Stock) (text : List ℕ) → HasRun hosts done old mid text → done ++ more ≡ acts → AreKept mid new
+pub some_ran : (hosts : List Host) (done more acts : List Act) (old mid new : List KeeperState) (text : List ℕ) → HasRun hosts done old mid text → done ++ more ≡ acts → AreKept mid new
     → IsCut hosts acts old new
 some_ran hosts done more acts old mid new text run all kept =
     let first : take (length done) acts ≡ done = ap (take (length done)) (sym all) ∙ take_at done more (length done) refl in
@@ -84,7 +77,7 @@ some_ran hosts done more acts old mid new text run all kept =
     }
 
 -- all were
-pub all_ran : (hosts : List Host) (acts : List Act) (old new : List Stock) (outputs : List Output) → Ran hosts acts old new outputs → IsCut hosts acts old new
+pub all_ran : (hosts : List Host) (acts : List Act) (old new : List KeeperState) (outputs : List Output) → Ran hosts acts old new outputs → IsCut hosts acts old new
 all_ran hosts acts old new outputs run =
     let all : take (length acts) acts ≡ acts = ap (take (length acts)) (sym (append-nil acts)) ∙ take_at acts [] (length acts) refl in
     record { count = length acts; outputs = outputs; ran = subst (λ lines. Ran hosts lines old new outputs) (sym all) run }

@@ -1,26 +1,19 @@
--- Instances that stand in front of the other keepers.
-use Rattle.std.proofs.Common.{◌≡◌, ℕ, List, ◌++◌, map, length, take, drop, sym, ◌∙◌, ap, subst}
-use Rattle.std.proofs.lemmas.List.{take_at, drop_at, length-map}
+-- Instances that are before the other keepers.
+use Rattle.std.proofs.Common.{◌≡◌, ℕ, List, ◌++◌, map, length, take, drop, sym, ◌∙◌, ap, subst, take_at, drop_at}
+use Rattle.std.proofs.lemmas.List.{length-map}
 use Rattle.misp_script.specs.declared.description.Entry.{Entry}
-use Rattle.misp_core.specs.Standing.{Standing, Host, host_of}
-use Rattle.misp_outside.specs.Stock.{Stock}
-use Rattle.misp_effects.specs.Stocks.{AreKept}
-use Rattle.misp_effects.proofs.Stocks.{all_kept}
+use Rattle.misp_effects.proofs.KeeperStates.{all_kept}
 use Rattle.misp_effects.proofs.Courses.{run_kept}
-use Rattle.misp_net.specs.Hosts.{described_host, hosts_of, stock_of, stocks_of}
-use Rattle.misp_net.specs.Lines.{Act, AreAmong}
-use Rattle.misp_net.specs.declared.line.Output.{Output}
+use Rattle.misp_net.specs.Prelude.{Act, AreAmong, AreKept, HasRun, Host, IsCut, KeeperState, Output, Ran, Standing, described_host, host_of, hosts_of, state_of, states_of}
 use Rattle.misp_net.specs.Meaning.{AreAsFormed}
-use Rattle.misp_net.specs.Run.{Ran, HasRun}
-use Rattle.misp_net.specs.Promise.{IsCut}
 
 -- there are as many as are described
-pub opened_long : (instances : List Standing) (entries : List Entry) → hosts_of instances ≡ map described_host entries → length (stocks_of instances) ≡ length entries
+pub opened_long : (instances : List Standing) (entries : List Entry) → hosts_of instances ≡ map described_host entries → length (states_of instances) ≡ length entries
 opened_long instances entries hosts =
-    length-map instances stock_of ∙ sym (length-map instances host_of) ∙ ap length hosts ∙ length-map entries described_host
+    length-map instances state_of ∙ sym (length-map instances host_of) ∙ ap length hosts ∙ length-map entries described_host
 
 -- Instances that were opened over the first keepers, and what these were before and are in the end.
-pub record AreInFront (hosts described : List Host) (front after rest olds news : List Stock) (count : ℕ) : Type 0 where
+pub record AreInFront (hosts described : List Host) (front after rest olds news : List KeeperState) (count : ℕ) : Type 0 where
   pub same : hosts ≡ described
   pub long : length front ≡ count
   pub kept : AreKept (take count olds) front
@@ -28,7 +21,7 @@ pub record AreInFront (hosts described : List Host) (front after rest olds news 
   pub still : length after ≡ length front
   pub is : news ≡ after ++ rest
 
-module _ {hosts described : List Host} {front after rest olds news : List Stock} {count : ℕ} (over : AreInFront hosts described front after rest olds news count) where
+module _ {hosts described : List Host} {front after rest olds news : List KeeperState} {count : ℕ} (over : AreInFront hosts described front after rest olds news count) where
   -- the others are as they were
   pub others_kept : drop count news ≡ drop count olds
   others_kept = ap (drop count) over.is ∙ drop_at after rest count (over.still ∙ over.long) ∙ over.left

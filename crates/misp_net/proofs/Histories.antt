@@ -1,28 +1,17 @@
 -- The lines over keepers that held nothing are those of the history.
 use Rattle.std.proofs.Common.{◌≡◌, ℕ, zero, suc, ◌+◌, List, [], ◌∷◌, length, refl, ◌∙◌, ap, subst, arith}
 use Rattle.std.proofs.lemmas.List.{length-map}
-use Rattle.std.specs.List.Sorted.{IsStrictlySortedBy}
-use Rattle.misp_outside.specs.Held.{nothing_held}
-use Rattle.misp_outside.specs.Stock.{Stock}
-use Rattle.misp_effects.specs.Effect.{Outcome}
-use Rattle.misp_effects.specs.Stocks.{Tables, held_at, Tell}
+use Rattle.misp_lists.specs.Prelude.{IsStrictlySortedBy, in_order}
 use Rattle.misp_effects.specs.Course.{AreDone}
 use Rattle.misp_effects.specs.Run.{outputs_of, tables_left, AreFit}
-use Rattle.misp_model.specs.History.{tables, newest, newest_from}
-use Rattle.misp_model.specs.Order.{in_order}
-use Rattle.misp_model.specs.Acts.{World}
-use Rattle.misp_model.specs.Kept.{start}
+use Rattle.misp_history.specs.History.{tables, newest, newest_from}
 use Rattle.misp_store.specs.Sharing.{groups_in}
-use Rattle.misp_store.specs.Batches.{spelled}
 use Rattle.misp_store.proofs.GroupRows.{AreReadBack}
-use Rattle.misp_net.specs.declared.line.Output.{Output}
-use Rattle.misp_core.specs.Standing.{Host}
-use Rattle.misp_net.specs.Lines.{Act, AreAmong}
-use Rattle.misp_store.specs.Seen.{Seen, seen_in}
-use Rattle.misp_net.specs.Meaning.{meaning, meanings_of, stop_in}
-use Rattle.misp_net.specs.Run.{tables_after, Ran}
-use Rattle.misp_net.specs.History.{world_after, world_left, told_output, told_outputs, AreDistinct, empty_tables, IsHistory, AreTold, AreHeld}
-use Rattle.misp_net.proofs.Deeds.{output_told, line_left}
+use Rattle.misp_net.specs.Prelude.{Act, AreAmong, AreDistinct, Host, KeeperState, Outcome, Output, Ran, Seen, Tables, Tell, World, held_at, meaning, nothing_held, seen_in, spelled, start, stop_in, told_output}
+use Rattle.misp_net.specs.Meaning.{meanings_of}
+use Rattle.misp_net.specs.Run.{tables_after}
+use Rattle.misp_net.specs.History.{world_after, world_left, told_outputs, empty_tables, IsHistory, AreTold, AreHeld}
+use Rattle.misp_net.proofs.Commands.{output_told, line_left}
 
 empty_at : (place : ℕ) (hosts : List Host) → held_at place (empty_tables hosts) ≡ nothing_held
 empty_at zero [] = refl
@@ -59,7 +48,7 @@ module _ (back : AreReadBack) (hosts : List Host) (distinct : AreDistinct hosts)
         subst (λ k. IsHistory hosts k (world_left (suc n) hosts next acts outcomes) (tables_left seen_in spelled (meanings_of hosts acts) outcomes after)) later rest.1,
       )
 
-  module _ (acts : List Act) (old new : List Stock) (outputs : List Output) (among : AreAmong (length hosts) acts) (ran : Ran hosts acts old new outputs)
+  module _ (acts : List Act) (old new : List KeeperState) (outputs : List Output) (among : AreAmong (length hosts) acts) (ran : Ran hosts acts old new outputs)
       (empty : Tell old (empty_tables hosts)) where
     done : AreDone Seen Output seen_in spelled stop_in (meanings_of hosts acts) (empty_tables hosts) outputs new
     done = ran.done (empty_tables hosts) empty

@@ -1,7 +1,7 @@
 pub mod Kept
 pub mod Telling
 pub mod Owning
-pub mod Deeds
+pub mod Commands
 pub mod Histories
 pub mod Steps
 pub mod Courses

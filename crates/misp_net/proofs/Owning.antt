@@ -1,26 +1,14 @@
 -- A request is told the same over the history without what its organisation was never granted.
-use Rattle.std.proofs.Common.{◌≡◌, ℕ, Bool, true, List, Option, Ok, Err, refl, ◌∙◌, ap, subst}
-use Rattle.std.specs.Prelude.{option_map}
-use Rattle.std.specs.List.{list_all}
-use Rattle.misp_ids.specs.declared.uid.OrgId.{OrgId}
-use Rattle.misp_elem.specs.declared.key.KeyForm.{KeyForm as Key}
-use Rattle.misp_orgs.specs.Keys.{CallerFields as Caller}
-use Rattle.misp_model.specs.Names.{Inst, same_org}
-use Rattle.misp_model.specs.View.{known}
-use Rattle.misp_model.specs.History.{tables}
-use Rattle.misp_model.specs.Acts.{World, known_at}
-use Rattle.misp_model.specs.Erasure.{cut, cut_rows, cut_world, IsClosed, HasKnown}
-use Rattle.misp_model.proofs.Same.{same_org-sound}
-use Rattle.misp_model.proofs.Lists.{filter_all}
-use Rattle.misp_model.proofs.Knowing.{known_cut}
-use Rattle.misp_model.proofs.Tables.{tables_cut}
-use Rattle.misp_core.specs.Answers.{Asked, scene_at, knowing, reply_in}
-use Rattle.misp_core.specs.Standing.{Host}
-use Rattle.misp_net.specs.Hosts.{host_at}
-use Rattle.misp_api.specs.Request.{Reading}
-use Rattle.misp_api.specs.Answering.{replied}
-use Rattle.misp_net.specs.History.{seen_by, is_asker}
+use Rattle.std.proofs.Common.{◌≡◌, ℕ, Bool, true, List, Option, Ok, Err, refl, ◌∙◌, ap, subst, option_map}
+use Rattle.misp_lists.proofs.Lists.{filter_all}
+use Rattle.misp_history.proofs.Prelude.{Inst, IsClosed, Key, OrgId, World, cut, cut_rows, known, known_at, known_cut, list_all, same_org, same_org-sound, tables, tables_cut}
+use Rattle.misp_erasure.specs.Erasure.{cut_world, HasKnown}
+use Rattle.misp_core.specs.Answers.{scene_at, reply_in}
+use Rattle.misp_core.specs.Handing.{knowing}
+use Rattle.misp_api.specs.Prelude.{Asked, Caller, Host, Reading, replied}
 use Rattle.misp_api.proofs.Forms.{AskedBy}
+use Rattle.misp_net.specs.Hosts.{host_at}
+use Rattle.misp_net.specs.History.{seen_by, is_asker}
 
 -- over a set of keys that has all that the organisation knows
 module _ (keep : Key → Bool) (closed : IsClosed keep) (o : OrgId) (hosts : List Host) where

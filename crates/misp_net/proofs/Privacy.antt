@@ -1,29 +1,20 @@
 -- What an organisation was never granted changes none of its replies.
-use Rattle.std.proofs.Common.{◌≡◌, ℕ, suc, Bool, true, List, [], ◌∷◌, length, map, Some, None, refl, sym, ◌∙◌, ap, inl, inr, arith}
+use Rattle.std.proofs.Common.{◌≡◌, ℕ, suc, Bool, true, List, [], ◌∷◌, length, map, Some, None, refl, sym, ◌∙◌, ap, inl, inr, arith, if◌then◌else◌}
 use Rattle.std.proofs.lemmas.Bool.{cases_Bool}
-use Rattle.std.specs.Prelude.{if◌then◌else◌}
-use Rattle.misp_ids.specs.declared.uid.OrgId.{OrgId}
-use Rattle.misp_elem.specs.declared.key.KeyForm.{KeyForm as Key}
-use Rattle.misp_outside.specs.Stock.{Stock}
-use Rattle.misp_effects.specs.Effect.{Outcome, Went, Stopped, stop_of}
-use Rattle.misp_effects.specs.Stocks.{Tell}
-use Rattle.misp_model.specs.Acts.{World, step}
-use Rattle.misp_model.specs.Acts as model
-use Rattle.misp_model.specs.Erasure.{cut, cut_world, IsClosed, HasKnown, IsKept, erased_act, erase}
-use Rattle.misp_model.specs.Kept.{kept, start, erased}
-use Rattle.misp_model.proofs.Erasing.{step_cut}
-use Rattle.misp_model.proofs.Headline.{kept_is_closed, kept_has}
+use Rattle.misp_effects.specs.Effect.{stop_of}
+use Rattle.misp_rules.specs.Prelude.{IsClosed, Key}
+use Rattle.misp_erasure.specs.Erasure.{cut_world, HasKnown, IsKept, erased_act, erase}
+use Rattle.misp_erasure.specs.Kept.{kept, erased}
+use Rattle.misp_erasure.proofs.Erasing.{step_cut}
+use Rattle.misp_erasure.proofs.Headline.{kept_is_closed, kept_has, cut_start}
 use Rattle.misp_store.proofs.GroupRows.{AreReadBack}
-use Rattle.misp_net.specs.declared.line.Output.{Output}
-use Rattle.misp_core.specs.Standing.{Host}
-use Rattle.misp_net.specs.Lines.{Act}
-use Rattle.misp_net.specs.Meaning.{stop_in}
-use Rattle.misp_net.specs.Run.{HasRun}
-use Rattle.misp_net.specs.History.{act_in, acts_in, no_links, told_output, told_outputs, AreDistinct, empty_tables, AreTold, is_of}
+use Rattle.misp_net.specs.Prelude.{Act, AreDistinct, HasRun, Host, KeeperState, OrgId, Outcome, Output, Stopped, Tell, Went, World, no_links, start, step, stop_in, told_output}
+use Rattle.misp_net.specs.History.{act_in, acts_in, told_outputs, empty_tables, AreTold, is_of}
 use Rattle.misp_net.specs.Promise.{ShowNoStop, outputs_over, replies_to, own_lines, AreReplied, AreNewest, IsPrivate}
 use Rattle.misp_net.proofs.Telling.{world_whole}
 use Rattle.misp_net.proofs.Histories.{are_told, are_held}
-use Rattle.misp_net.proofs.Deeds.{line_law, idle_same}
+use Rattle.misp_net.proofs.Commands.{line_law, idle_same}
+use Rattle.misp_history.specs.Acts as model
 
 -- ---- over a set of keys that has all that the organisation knows
 
@@ -55,10 +46,6 @@ module _ (keep : Key → Bool) (closed : IsClosed keep) (o : OrgId) (hosts : Lis
         | inl own ↦ rw (own, own_line w act own has.0, rest) refl
         | inr other ↦ rw other rest
       ]
-
-cut_start : (keep : Key → Bool) → cut_world keep start ≡ start
-unfolding cut_world cut start
-cut_start keep = refl
 
 private_replies : (o : OrgId) (hosts : List Host) (acts : List Act)
     → replies_to o hosts acts (outputs_over 0 hosts start acts (erased o no_links (acts_in hosts acts)))
@@ -108,7 +95,7 @@ told_unstopped n hosts w (act ∷ acts) (Went ∷ outcomes) (output ∷ outputs)
     ap (λ v. told_output Went hosts w act ∷ told_outputs (suc n) hosts v acts outcomes) (world_whole n w (act_in hosts act))
     ∙ ap (λ os. told_output Went hosts w act ∷ os) (told_unstopped (suc n) hosts (step no_links n w (act_in hosts act)) acts outcomes outputs (omega (arith, each)) rest none.1)
 
-module _ (back : AreReadBack) (hosts : List Host) (acts : List Act) (old new : List Stock) (text : List ℕ) (run : HasRun hosts acts old new text) where
+module _ (back : AreReadBack) (hosts : List Host) (acts : List Act) (old new : List KeeperState) (text : List ℕ) (run : HasRun hosts acts old new text) where
   told : AreDistinct hosts → Tell old (empty_tables hosts) → AreTold hosts acts run.outputs
   told distinct empty = are_told back hosts distinct acts old new run.outputs run.among run.ran empty
 

@@ -1,49 +1,38 @@
 -- What one instance does is an act among all of them.
-use Rattle.std.proofs.Common.{◌≡◌, ℕ, zero, suc, ◌<◌, Bool, true, false, eqb, List, [], ◌∷◌, ◌++◌, length, get_or, set, Some, None, Result, Ok, Err, inl, inr, refl, sym, ◌∙◌, ap, subst, arith}
+use Rattle.std.proofs.Common.{◌≡◌, ℕ, zero, suc, ◌<◌, Bool, true, false, eqb, List, [], ◌∷◌, ◌++◌, length, get_or, set, Some, None, Result, Ok, Err, inl, inr, refl, sym, ◌∙◌, ap, subst, arith, IfSome, IfOk, OnOk, if◌then◌else◌}
 use Rattle.std.proofs.lemmas.List.{length-map, get_or-map, set-get_or}
-use Rattle.std.specs.Prelude.{IfSome, IfOk, OnOk, if◌then◌else◌}
-use Rattle.misp_elem.specs.Refusal.{rule_number}
+use Rattle.misp_ids.specs.Refusal.{rule_number}
 use Rattle.misp_outside.specs.Causes.{HasCause}
-use Rattle.misp_outside.specs.Held.{nothing_held}
-use Rattle.misp_outside.specs.Stock.{Stock}
-use Rattle.misp_effects.specs.declared.stop.Stop.TheVariants as stops
+use Rattle.misp_script.specs.Step.{StepData, RequestData}
 use Rattle.misp_effects.specs.declared.stop.Side.TheVariants.{Here, There}
-use Rattle.misp_effects.specs.Effect.{Effect}
-use Rattle.misp_effects.specs.Effect as effects
-use Rattle.misp_effects.specs.Stocks.{Tell}
 use Rattle.misp_effects.specs.Course.{IsAct}
 use Rattle.misp_effects.proofs.Acting.{shown_act}
-use Rattle.misp_script.specs.Step.{StepData, RequestData, GroupData}
-use Rattle.misp_script.specs.Step as deeds
-use Rattle.misp_core.specs.Standing.{Standing, Host, host_of}
-use Rattle.misp_store.specs.Batches.{spelled}
 use Rattle.misp_core.specs.Effects.{refused_by, by_keeper, rule_told, Did}
-use Rattle.misp_core.specs.Effects as core
-use Rattle.misp_core.specs.declared.reply.Reply.{Reply}
-use Rattle.misp_core.specs.declared.reply.Reply.TheVariants as replies
-use Rattle.misp_net.specs.declared.line.Output.{Output}
-use Rattle.misp_net.specs.declared.line.Output.TheVariants.{Replied}
-use Rattle.misp_net.specs.Hosts.{nobody, hosts_of, host_at, stock_of, stocks_of}
-use Rattle.misp_store.specs.Seen.{Seen, seen_in}
 use Rattle.misp_api.specs.Answering.{form_of, replied, IsReplied}
-use Rattle.misp_api.specs.Administering.{group_form, grouped, IsDone}
+use Rattle.misp_api.specs.Administering.{IsDone}
 use Rattle.misp_api.specs.Refusing.{TurnsAway}
 use Rattle.misp_api.specs.Request.{Reading}
-use Rattle.misp_net.specs.Meaning.{meaning, request_in, asks, silent, stop_in, turned_away, IsAsFormed}
-use Rattle.misp_net.specs.Run as lines
+use Rattle.misp_net.specs.Prelude.{Effect, GroupData, Host, KeeperState, Output, Replied, Reply, Seen, Standing, Stop, Tell, group_form, grouped, host_at, host_of, hosts_of, meaning, nothing_held, seen_in, spelled, state_of, states_of}
+use Rattle.misp_net.specs.Prelude.{stop_in}
+use Rattle.misp_net.specs.Hosts.{nobody}
+use Rattle.misp_net.specs.Meaning.{request_in, asks, silent, turned_away, IsAsFormed}
 use Rattle.misp_net.specs.Text.{output_text}
+use Rattle.misp_effects.specs.Effect as effects
+use Rattle.misp_script.specs.Step as commands
+use Rattle.misp_core.specs.Effects as core
+use Rattle.misp_net.specs.Running as lines
 
 -- ---- what stopped a reply
 
-none_there : (keeper memory : Bool) → (if keeper then Some (stops.Keeper Here) else if memory then Some (stops.Memory Here) else None) ≡ Some (stops.Keeper There) → ⊥
+none_there : (keeper memory : Bool) → (if keeper then Some (Stop.Keeper Here) else if memory then Some (Stop.Memory Here) else None) ≡ Some (Stop.Keeper There) → ⊥
 none_there true memory is = cc
 none_there false true is = cc
 none_there false false is = cc
 
 -- a reply tells no stop of another keeper
-never_there : (reply : Reply) → core.stop_in reply ≡ Some (stops.Keeper There) → ⊥
-never_there (replies.Ok answer) is = cc
-never_there (replies.Refused refusal) is = none_there (eqb (rule_number refusal.name) 26) (eqb (rule_number refusal.name) 27) is
+never_there : (reply : Reply) → core.stop_in reply ≡ Some (Stop.Keeper There) → ⊥
+never_there (Reply.Ok answer) is = cc
+never_there (Reply.Refused refusal) is = none_there (eqb (rule_number refusal.name) 26) (eqb (rule_number refusal.name) 27) is
 
 -- ---- one instance
 
@@ -51,21 +40,21 @@ never_there (replies.Refused refusal) is = none_there (eqb (rule_number refusal.
 pub instance_act : (at : ℕ) (comes : Seen → Effect Reply) (old : List Standing) (new none : Standing) (reply : Reply) → at < length old
     → IfSome (get_or old at none).held (λ held. Did (comes (seen_in held)) held reply new.held)
     → HasCause (get_or old at none).faults new.faults (core.stop_in reply ≡ by_keeper)
-    → IsAct Seen Output seen_in spelled stop_in (asks at comes) (stocks_of old) (stocks_of (set old at new)) (Replied reply)
+    → IsAct Seen Output seen_in spelled stop_in (asks at comes) (states_of old) (states_of (set old at new)) (Replied reply)
 instance_act at comes old new none reply lt did cause =
-    shown_act seen_in spelled Replied stop_in (λ stop. refused_by (rule_told stop)) stock_of at comes old new none reply lt did cause (never_there reply)
+    shown_act seen_in spelled Replied stop_in (λ stop. refused_by (rule_told stop)) state_of at comes old new none reply lt did cause (never_there reply)
 
 abbrev pub step_at : ℕ → ℕ → RequestData → StepData
-step_at time word r = record { time = time; word = word; deed = deeds.Request r }
+step_at time word r = record { time = time; word = word; command = commands.Request r }
 
 abbrev pub group_step : ℕ → ℕ → GroupData → StepData
-group_step time word line = record { time = time; word = word; deed = deeds.Group line }
+group_step time word line = record { time = time; word = word; command = commands.Group line }
 
 -- a request
 pub one_request : (time word : ℕ) (r : RequestData) (old : List Standing) (new none : Standing) (reply : Reply) → r.at < length old
     → IfSome (get_or old r.at none).held (λ held. IsReplied (host_of (get_or old r.at none)) time (form_of (get_or old r.at none).admin (request_in word r)) held reply new.held)
     → HasCause (get_or old r.at none).faults new.faults (core.stop_in reply ≡ by_keeper)
-    → lines.IsAct (hosts_of old) (Ok (step_at time word r)) (stocks_of old) (stocks_of (set old r.at new)) (Replied reply)
+    → lines.IsAct (hosts_of old) (Ok (step_at time word r)) (states_of old) (states_of (set old r.at new)) (Replied reply)
 one_request time word r old new none reply lt did cause =
     let host : host_at r.at (hosts_of old) ≡ host_of (get_or old r.at none) = get_or-map host_of old r.at none nobody lt in
     instance_act r.at (replied (host_at r.at (hosts_of old)) time (form_of (host_at r.at (hosts_of old)).admin (request_in word r))) old new none reply lt
@@ -76,7 +65,7 @@ one_request time word r old new none reply lt did cause =
 pub one_group : (time word : ℕ) (line : GroupData) (old : List Standing) (new none : Standing) (reply : Reply) → line.at < length old
     → IfSome (get_or old line.at none).held (λ held. IsDone time line.org line.add (group_form line.body) held reply new.held)
     → HasCause (get_or old line.at none).faults new.faults (core.stop_in reply ≡ by_keeper)
-    → lines.IsAct (hosts_of old) (Ok (group_step time word line)) (stocks_of old) (stocks_of (set old line.at new)) (Replied reply)
+    → lines.IsAct (hosts_of old) (Ok (group_step time word line)) (states_of old) (states_of (set old line.at new)) (Replied reply)
 one_group time word line old new none reply lt did cause =
     instance_act line.at (λ here. grouped time line.org line.add (group_form line.body) here.groups) old new none reply lt did cause
 
@@ -102,7 +91,7 @@ hosts_kept (s ∷ old) (suc place) new none lt name admin = ap (λ hosts. host_o
 -- ---- no instance
 
 -- a line that asks none puts out what it says, and leaves all as it was
-pub silent_act : (output : Output) (old : List Stock) → stop_in output ≡ None → IsAct Seen Output seen_in spelled stop_in (silent output) old old output
+pub silent_act : (output : Output) (old : List KeeperState) → stop_in output ≡ None → IsAct Seen Output seen_in spelled stop_in (silent output) old old output
 silent_act output old none = record {
   places = refl;
   causes = λ place. rw none (omega arith);

@@ -1,42 +1,23 @@
 -- A request, and a line of a group, over keepers that hold the tables of the history.
-use Rattle.std.proofs.Common.{◌≡◌, ◌≢◌, ℕ, zero, suc, ◌<◌, Bool, true, false, List, [], map, length, Option, Some, None, Ok, Err, refl, sym, ◌∙◌, ap, subst, inl, inr, length-set}
+use Rattle.std.proofs.Common.{◌≡◌, ◌≢◌, ℕ, zero, suc, ◌<◌, Bool, true, false, List, [], map, length, Option, Some, None, Ok, Err, refl, sym, ◌∙◌, ap, subst, inl, inr, length-set, get_or-set_same, get_or-set_other, ltb, slice_set}
 use Rattle.std.proofs.lemmas.Bool.{cases_eq, cases_Bool}
-use Rattle.std.proofs.lemmas.List.{get_or-set_same, get_or-set_other, set-get_or}
-use Rattle.std.specs.Prelude.{ltb, slice_set}
-use Rattle.std.specs.List.{list_all}
-use Rattle.misp_orgs.specs.Keys.{CallerFields as Caller}
-use Rattle.misp_outside.specs.Held.{Held, nothing_held}
-use Rattle.misp_groups.specs.declared.group.GroupFields.{GroupFields as Group}
-use Rattle.misp_effects.specs.declared.stop.Stop.{Stop}
-use Rattle.misp_effects.specs.Batches.{put_batches, AreReadable}
-use Rattle.misp_effects.specs.Effect.{Effect, Stopped}
-use Rattle.misp_effects.specs.Stocks.{Tables, held_at}
-use Rattle.misp_script.specs.Step.{GroupData}
-use Rattle.misp_model.specs.Names.{Inst, Stamp, same_inst}
-use Rattle.misp_model.specs.History.{tables}
-use Rattle.misp_model.specs.Acts.{World, step}
-use Rattle.misp_model.specs.Acts as model
-use Rattle.misp_model.specs.Outcomes.{Whole, step_partly}
-use Rattle.misp_model.specs.Outcomes as parts
-use Rattle.misp_model.proofs.Steps.{step_nothing, step_misfit}
-use Rattle.misp_model.proofs.Numbered.{step_below}
-use Rattle.misp_core.specs.Answers.{Asked}
-use Rattle.misp_store.specs.Sharing.{or_none, groups_of}
-use Rattle.misp_core.specs.Keeping.{Keeps, act_at, act_of}
-use Rattle.misp_store.specs.Batches.{spelled}
-use Rattle.misp_core.specs.declared.reply.Reply.{Reply}
-use Rattle.misp_core.proofs.Keeping.{keeps_by, over_all, same_elsewhere, same_groups, left_there}
+use Rattle.std.proofs.lemmas.List.{set-get_or}
+use Rattle.misp_history.specs.Outcomes.{Whole, step_partly}
+use Rattle.misp_history.proofs.Steps.{step_nothing, step_misfit}
+use Rattle.misp_history.proofs.Numbered.{step_below}
+use Rattle.misp_store.specs.Sharing.{or_none}
 use Rattle.misp_store.proofs.GroupRows.{AreReadBack}
+use Rattle.misp_core.specs.Prelude.{AreReadable, Asked, Caller, Effect, Group, Held, Host, Inst, Keeps, Stamp, World, groups_of, list_all, put_batches, same_inst, seen_in, spelled, step, tables}
+use Rattle.misp_core.specs.Keeping.{act_at, act_of}
+use Rattle.misp_core.proofs.Keeping.{keeps_by, over_all, same_elsewhere, same_groups, left_there}
 use Rattle.misp_core.proofs.KeepingGroups.{administered_left, same_log, groups_elsewhere}
-use Rattle.misp_core.specs.Standing.{Host}
-use Rattle.misp_net.specs.Hosts.{host_at}
-use Rattle.misp_api.specs.Request.{Reading}
-use Rattle.misp_store.specs.Seen.{seen_in}
-use Rattle.misp_api.specs.Answering.{replied}
-use Rattle.misp_api.specs.Administering.{grouped}
-use Rattle.misp_net.specs.Meaning.{asking, administering}
-use Rattle.misp_net.specs.History.{no_links, applied, seen_by, AreDistinct, IsHistory}
+use Rattle.misp_api.specs.Prelude.{Reading, replied}
 use Rattle.misp_api.proofs.Forms.{BuiltForm}
+use Rattle.misp_net.specs.Prelude.{AreDistinct, GroupData, Reply, Stop, Stopped, Tables, grouped, held_at, host_at, no_links, nothing_held}
+use Rattle.misp_net.specs.Meaning.{asking, administering}
+use Rattle.misp_net.specs.History.{applied, seen_by, IsHistory}
+use Rattle.misp_history.specs.Acts as model
+use Rattle.misp_history.specs.Outcomes as parts
 
 -- ---- the model's step
 
@@ -44,20 +25,20 @@ pub world_whole : (n : ℕ) (w : World) (act : model.Act) → step_partly no_lin
 unfolding step_partly
 world_whole n w act = refl
 
-deed_still : (n : ℕ) (w : World) (at : Inst) (now : Stamp) (deed : model.Deed) (groups : Bool) (packages : ℕ)
-    → step_partly no_links n w (record { at = at; now = now; deed = deed }) (parts.Stopped groups packages) ≡ w
+command_still : (n : ℕ) (w : World) (at : Inst) (now : Stamp) (command : model.Command) (groups : Bool) (packages : ℕ)
+    → step_partly no_links n w (record { at = at; now = now; command = command }) (parts.Stopped groups packages) ≡ w
 unfolding step_partly
-deed_still n w at now (model.Asks c a) groups packages = refl
-deed_still n w at now (model.Misfits c) groups packages = refl
-deed_still n w at now (model.Syncs way link) groups packages = refl
-deed_still n w at now (model.Takes_groups c gs) groups packages = refl
-deed_still n w at now (model.Administers o add g) groups packages = refl
-deed_still n w at now model.Nothing groups packages = refl
+command_still n w at now (model.Asks c a) groups packages = refl
+command_still n w at now (model.Misfits c) groups packages = refl
+command_still n w at now (model.Syncs way link) groups packages = refl
+command_still n w at now (model.Takes_groups c gs) groups packages = refl
+command_still n w at now (model.Administers o add g) groups packages = refl
+command_still n w at now model.Nothing groups packages = refl
 
 -- where no instance pulls from another, of an act that was stopped nothing is applied
 pub world_still : (n : ℕ) (w : World) (act : model.Act) (stop : Stop) (k : ℕ) (lost : Bool) → step_partly no_links n w act (applied (Stopped stop k lost)) ≡ w
-world_still n w act stop zero lost = deed_still n w act.at act.now act.deed false 0
-world_still n w act stop (suc k) lost = deed_still n w act.at act.now act.deed true k
+world_still n w act stop zero lost = command_still n w act.at act.now act.command false 0
+world_still n w act stop (suc k) lost = command_still n w act.at act.now act.command true k
 
 module _ (hosts : List Host) (distinct : AreDistinct hosts) (n : ℕ) (w : World) (old : Tables) (told : IsHistory hosts n w old) where
   -- the groups that are held there are those of the history
@@ -74,16 +55,16 @@ module _ (hosts : List Host) (distinct : AreDistinct hosts) (n : ℕ) (w : World
 
   -- ---- what is left
 
-  abbrev no_deed : model.Act
-  no_deed = record { at = []; now = 0; deed = model.Nothing }
+  abbrev no_command : model.Act
+  no_command = record { at = []; now = 0; command = model.Nothing }
 
   later : IsHistory hosts (suc n) w old
   later = record {
     long = told.long;
     each = told.each;
     earlier =
-        subst (λ (v : World). list_all (λ u. ltb u.act (suc n)) v.log ≡ true) (step_nothing no_links n w no_deed refl)
-        (step_below no_links n w no_deed told.earlier);
+        subst (λ (v : World). list_all (λ u. ltb u.act (suc n)) v.log ≡ true) (step_nothing no_links n w no_command refl)
+        (step_below no_links n w no_command told.earlier);
   }
 
   pub as_before : (v : World) (new : Tables) → v ≡ w → new ≡ old → IsHistory hosts (suc n) v new
@@ -124,7 +105,7 @@ module _ (hosts : List Host) (distinct : AreDistinct hosts) (n : ℕ) (w : World
   -- a request
   pub request_left : (at now : ℕ) (form : Reading Asked) (caller : Option Caller) → BuiltForm form → at < length hosts
       → AreReadable (replied (host_at at hosts) now form (seen_in (held_at at old))).batches
-      → IsHistory hosts (suc n) (step no_links n w (record { at = (host_at at hosts).name; now = now; deed = asking form (host_at at hosts) caller }))
+      → IsHistory hosts (suc n) (step no_links n w (record { at = (host_at at hosts).name; now = now; command = asking form (host_at at hosts) caller }))
       (slice_set old at (put_batches (map spelled (replied (host_at at hosts) now form (seen_in (held_at at old))).batches) (held_at at old)))
   request_left at now (Ok asked) caller built lt fits =
       let host : Host = host_at at hosts in
@@ -140,7 +121,7 @@ module _ (hosts : List Host) (distinct : AreDistinct hosts) (n : ℕ) (w : World
     -- a line of a group
     pub group_left : (now : ℕ) (line : GroupData) (form : Reading Group) → line.at < length hosts
         → AreReadable (grouped now line.org line.add form (groups_of (held_at line.at old))).batches
-        → IsHistory hosts (suc n) (step no_links n w (record { at = (host_at line.at hosts).name; now = now; deed = administering form line }))
+        → IsHistory hosts (suc n) (step no_links n w (record { at = (host_at line.at hosts).name; now = now; command = administering form line }))
         (slice_set old line.at (put_batches (map spelled (grouped now line.org line.add form (groups_of (held_at line.at old))).batches) (held_at line.at old)))
     group_left now line (Ok g) lt fits =
         let here : Inst = (host_at line.at hosts).name in

@@ -1,26 +1,20 @@
 -- The lines of a script as the acts of a network's history, and what that history says of them.
 use Rattle.std.specs.Prelude.{◌≡◌, ℕ, zero, suc, ◌<◌, Bool, true, false, ltb, List, [], ◌∷◌, map, length, Option, Some, None, Ok}
-use Rattle.std.specs.List.{list_all}
-use Rattle.misp_ids.specs.declared.uid.OrgId.{OrgId}
+use Rattle.misp_ids.specs.Same.{same_org}
 use Rattle.misp_outside.specs.Held.{nothing_held}
-use Rattle.misp_outside.specs.Stock.{Stock}
-use Rattle.misp_effects.specs.Effect.{Outcome, Went, Stopped, stop_of}
-use Rattle.misp_effects.specs.Stocks.{Tables, held_at, Tell}
+use Rattle.misp_effects.specs.Effect.{Stopped, stop_of}
+use Rattle.misp_effects.specs.KeeperStates.{Tables, held_at}
 use Rattle.misp_effects.specs.Run.{effect_of}
-use Rattle.misp_model.specs.Names.{same_inst, same_org}
-use Rattle.misp_model.specs.History.{tables}
-use Rattle.misp_model.specs.Acts.{World, Net}
-use Rattle.misp_model.specs.Acts as model
-use Rattle.misp_model.specs.Kept.{start}
-use Rattle.misp_model.specs.Outcomes.{Whole, step_partly}
-use Rattle.misp_model.specs.Outcomes as parts
-use Rattle.misp_core.specs.Keeping.{Keeps}
+use Rattle.misp_history.specs.Acts.{Net}
+use Rattle.misp_history.specs.Outcomes.{Whole, step_partly}
+use Rattle.misp_erasure.specs.Kept.{start}
+use Rattle.misp_core.specs.Prelude.{Host, KeeperState, Keeps, OrgId, Outcome, Seen, Tell, Went, World, list_all, same_inst, tables}
 use Rattle.misp_net.specs.declared.line.Output.{Output}
-use Rattle.misp_core.specs.Standing.{Host}
 use Rattle.misp_net.specs.Hosts.{host_at}
 use Rattle.misp_net.specs.Lines.{Act}
-use Rattle.misp_store.specs.Seen.{Seen}
 use Rattle.misp_net.specs.Meaning.{meaning, stop_in}
+use Rattle.misp_history.specs.Acts as model
+use Rattle.misp_history.specs.Outcomes as parts
 
 -- ---- lines as acts
 
@@ -103,7 +97,7 @@ pub record AreTold (hosts : List Host) (acts : List Act) (outputs : List Output)
 -- The outputs are those of the history, and under the same outcomes each keeper holds the tables
 -- and the groups of its instance after these lines, and nothing else.
 pub record AreHeld (hosts : List Host) (acts : List Act)
-    (outputs : List Output) (new : List Stock) : Type 0 where
+    (outputs : List Output) (new : List KeeperState) : Type 0 where
   pub told : AreTold hosts acts outputs
   pub tables : Tables
   pub tables_are : Tell new tables

@@ -1,8 +1,10 @@
+pub mod History
 pub mod Hosts
 pub mod Lines
 pub mod Meaning
-pub mod Text
 pub mod Opening
-pub mod Run
-pub mod History
+pub mod Prelude
 pub mod Promise
+pub mod Run
+pub mod Running
+pub mod Text

@@ -16,7 +16,7 @@ acts_of rosters script = map (step_of rosters) (lines_of script)
 
 -- the instance that is asked is one of so many
 abbrev pub IsAmong : ℕ → Act → Type 0
-IsAmong count (Ok step) = IsPlaced count step.deed
+IsAmong count (Ok step) = IsPlaced count step.command
 IsAmong count (Err bad) = Unit {0}
 
 -- the same of each of these lines

@@ -1,30 +1,21 @@
--- What each line means: THE definition by deed.
+-- What each line means: THE definition by command.
 use Rattle.std.specs.Prelude.{◌≡◌, ◌⊎◌, ℕ, List, [], ◌∷◌, map, Option, Some, None, option_map, Ok, Err}
-use Rattle.misp_ids.specs.declared.uid.OrgId.{OrgId}
-use Rattle.misp_elem.specs.declared.refusal.RuleName.TheVariants as rules
-use Rattle.misp_groups.specs.declared.group.GroupFields.{GroupFields as Group}
-use Rattle.misp_orgs.specs.Keys.{CallerFields as Caller}
-use Rattle.misp_effects.specs.declared.stop.Stop.{Stop}
-use Rattle.misp_effects.specs.Effect.{Effect, effect, shown}
+use Rattle.misp_script.specs.Step.{CommandData, GroupData}
+use Rattle.misp_effects.specs.Effect.{effect, shown}
 use Rattle.misp_effects.specs.Meanings.{Meaning, alone}
-use Rattle.misp_script.specs.Step.{DeedData, GroupData}
-use Rattle.misp_script.specs.Step as deeds
-use Rattle.misp_model.specs.Acts as model
+use Rattle.misp_store.specs.Seen.{Seen}
 use Rattle.misp_core.specs.Keeping.{caller_at}
-use Rattle.misp_core.specs.Effects.{refused_by, rule_told}
-use Rattle.misp_core.specs.Effects as replies
-use Rattle.misp_core.specs.declared.reply.Reply.{Reply}
+use Rattle.misp_core.specs.Effects.{rule_told}
 use Rattle.misp_core.specs.declared.reply.Reply.TheVariants.{Refused}
+use Rattle.misp_api.specs.Prelude.{Asked, Caller, Effect, Group, Host, OrgId, Reading, Reply, RequestData, RuleName, Stop, caller_in, form_of, grouped, refused_by, replied}
+use Rattle.misp_api.specs.Administering.{group_form}
 use Rattle.misp_net.specs.declared.line.Output.{Output}
 use Rattle.misp_net.specs.declared.line.Output.TheVariants.{Bad, Nothing, Replied}
 use Rattle.misp_net.specs.Lines.{Act}
-use Rattle.misp_core.specs.Standing.{Host}
-use Rattle.misp_core.specs.Answers.{Asked}
 use Rattle.misp_net.specs.Hosts.{host_at}
-use Rattle.misp_api.specs.Request.{RequestData, Reading}
-use Rattle.misp_store.specs.Seen.{Seen}
-use Rattle.misp_api.specs.Answering.{caller_in, form_of, replied}
-use Rattle.misp_api.specs.Administering.{group_form, grouped}
+use Rattle.misp_script.specs.Step as commands
+use Rattle.misp_history.specs.Acts as model
+use Rattle.misp_core.specs.Effects as replies
 
 -- what a line is: what it comes to among the instances; what it puts out whatever is held, where
 -- its form says that; its act in the history; and the organisation that asks
@@ -50,7 +41,7 @@ abbrev pub idle : Output → ℕ → LineMeaning
 idle output time = record {
   means = silent output;
   formed = Some output;
-  act = record { at = []; now = time; deed = model.Nothing };
+  act = record { at = []; now = time; command = model.Nothing };
   asker = None;
 }
 
@@ -64,61 +55,61 @@ turned_away (Err refusal) = Some (Replied (Refused refusal))
 -- ---- acts by form
 
 -- what is asked, or that somebody asked what is no request
-abbrev pub asking : Reading Asked → Host → Option Caller → model.Deed
+abbrev pub asking : Reading Asked → Host → Option Caller → model.Command
 asking (Ok asked) host caller = model.Asks (caller_at host.admin asked.0) asked.1
 asking (Err refusal) host None = model.Nothing
 asking (Err refusal) host (Some caller) = model.Misfits (caller_at host.admin caller)
 
 -- the group that is administered, where the text of the line is one
-abbrev pub administering : Reading Group → GroupData → model.Deed
+abbrev pub administering : Reading Group → GroupData → model.Command
 administering (Ok g) line = model.Administers line.org line.add g
 administering (Err refusal) line = model.Nothing
 
 -- ---- lines
 
 -- the request of a line
-abbrev pub request_in : ℕ → deeds.RequestData → RequestData
+abbrev pub request_in : ℕ → commands.RequestData → RequestData
 request_in word r =
     record { key = r.key; method = r.method; target = r.target; body = r.body; word = word }
 
--- by deed
-abbrev pub deed_meaning : List Host → ℕ → ℕ → DeedData → LineMeaning
-deed_meaning hosts time word deeds.Nothing = idle Nothing time
-deed_meaning hosts time word (deeds.Request r) =
+-- by command
+abbrev pub command_meaning : List Host → ℕ → ℕ → CommandData → LineMeaning
+command_meaning hosts time word commands.Nothing = idle Nothing time
+command_meaning hosts time word (commands.Request r) =
     let host : Host = host_at r.at hosts in
     let caller : Option Caller = caller_in host.admin r.key in
     let form : Reading Asked = form_of host.admin (request_in word r) in
     record {
       means = asks r.at (replied host time form);
       formed = turned_away form;
-      act = record { at = host.name; now = time; deed = asking form host caller };
+      act = record { at = host.name; now = time; command = asking form host caller };
       asker = option_map (λ c. c.org) caller;
     }
-deed_meaning hosts time word (deeds.Group line) =
+command_meaning hosts time word (commands.Group line) =
     let form : Reading Group = group_form line.body in
     record {
       means = asks line.at (λ here. grouped time line.org line.add form here.groups);
       formed = turned_away form;
-      act = record { at = (host_at line.at hosts).name; now = time; deed = administering form line };
+      act = record { at = (host_at line.at hosts).name; now = time; command = administering form line };
       asker = None;
     }
 
 -- a line that is none does nothing
 abbrev pub meaning : List Host → Act → LineMeaning
-meaning hosts (Ok step) = deed_meaning hosts step.time step.word step.deed
+meaning hosts (Ok step) = command_meaning hosts step.time step.word step.command
 meaning hosts (Err bad) = idle (Bad bad.place) 0
 
 -- what lines come to
 abbrev pub meanings_of : List Host → List Act → List (Meaning Seen Output)
 meanings_of hosts acts = map (λ act. (meaning hosts act).means) acts
 
--- It is put out as the form of its line says; of a reply the want of memory may be told instead.
+-- It is put out as the form of its line says; in place of a reply, that memory ran out may be put out.
 abbrev pub IsAsFormed : Option Output → Output → Type 0
 IsAsFormed None output = Unit {0}
 IsAsFormed (Some (Bad place)) output = output ≡ Bad place
 IsAsFormed (Some Nothing) output = output ≡ Nothing
 IsAsFormed (Some (Replied reply)) output =
-    (output ≡ Replied reply) ⊎ (output ≡ Replied (refused_by rules.NoMemory))
+    (output ≡ Replied reply) ⊎ (output ≡ Replied (refused_by RuleName.NoMemory))
 
 -- the same of each of these lines
 abbrev pub AreAsFormed : List Host → List Act → List Output → Type 0

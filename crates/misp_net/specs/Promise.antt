@@ -1,21 +1,15 @@
 -- What is promised of the run of a script.
-use Rattle.std.specs.Prelude.{◌≡◌, ℕ, suc, List, [], ◌∷◌, map, take, Option, Some, None, if◌then◌else◌}
-use Rattle.std.specs.List.{AllByRecursion, filter, zip}
-use Rattle.misp_ids.specs.declared.uid.OrgId.{OrgId}
-use Rattle.misp_outside.specs.Stock.{Stock}
-use Rattle.misp_effects.specs.Effect.{Outcome, Went}
-use Rattle.misp_effects.specs.Stocks.{Tables, Tell}
-use Rattle.misp_model.specs.Acts.{World, step}
-use Rattle.misp_model.specs.Acts as model
-use Rattle.misp_model.specs.Kept.{start, erased}
-use Rattle.misp_core.specs.Effects.{IsRefused}
+use Rattle.std.specs.Prelude.{◌≡◌, ℕ, suc, List, [], ◌∷◌, map, take, Option, Some, None, if◌then◌else◌, filter, zip}
+use Rattle.misp_effects.specs.KeeperStates.{Tables}
+use Rattle.misp_erasure.specs.Kept.{start, erased}
+use Rattle.misp_core.specs.Prelude.{AllByRecursion, Host, IsRefused, KeeperState, OrgId, Outcome, Tell, Went, World, step}
 use Rattle.misp_net.specs.declared.line.Output.{Output}
 use Rattle.misp_net.specs.declared.line.Output.TheVariants.{Bad, Nothing, Replied}
-use Rattle.misp_core.specs.Standing.{Host}
 use Rattle.misp_net.specs.Lines.{Act}
 use Rattle.misp_net.specs.Meaning.{stop_in}
 use Rattle.misp_net.specs.Run.{output_of, tables_after, Ran, HasRun}
 use Rattle.misp_net.specs.History.{acts_in, no_links, told_output, AreDistinct, empty_tables, AreTold, AreHeld, is_of}
+use Rattle.misp_history.specs.Acts as model
 
 -- nothing stopped any of the lines
 abbrev pub ShowNoStop : List Output → Type 0
@@ -47,7 +41,7 @@ IsIdle (Replied reply) = IsRefused reply
 -- THE headline, of the outputs of these lines, of which this is the text, over keepers that held
 -- nothing.
 pub record IsPrivate (hosts : List Host) (acts : List Act)
-    (old new : List Stock) (text : List ℕ) : Type 0 where
+    (old new : List KeeperState) (text : List ℕ) : Type 0 where
   pub run : HasRun hosts acts old new text
   -- where no output shows a stop, elements that an organisation was never granted change none of
   -- its replies
@@ -66,7 +60,7 @@ pub record IsPrivate (hosts : List Host) (acts : List Act)
 -- The lines ran and wrote this text. What is refused changes nothing; and over keepers that held
 -- nothing the outputs are those of the history.
 pub record AreReplied (hosts : List Host) (acts : List Act)
-    (old new : List Stock) (text : List ℕ) : Type 0 where
+    (old new : List KeeperState) (text : List ℕ) : Type 0 where
   pub run : HasRun hosts acts old new text
   pub refused : (outcome : Outcome) (act : Act) (tables : Tables)
       → IsIdle (output_of outcome hosts act tables)
@@ -76,13 +70,13 @@ pub record AreReplied (hosts : List Host) (acts : List Act)
 -- Over keepers that held nothing, after the lines of this text each keeper holds the newest
 -- versions and the groups of its instance, and nothing else.
 pub record AreNewest (hosts : List Host) (acts : List Act)
-    (old new : List Stock) (text : List ℕ) : Type 0 where
+    (old new : List KeeperState) (text : List ℕ) : Type 0 where
   pub run : HasRun hosts acts old new text
   pub held : AreDistinct hosts → Tell old (empty_tables hosts) → AreHeld hosts acts run.outputs new
 
 -- The run was cut short: some first lines put these outputs out, and the keepers are as these lines
 -- left them. None of these outputs is written.
-pub record IsCut (hosts : List Host) (acts : List Act) (old new : List Stock) : Type 0 where
+pub record IsCut (hosts : List Host) (acts : List Act) (old new : List KeeperState) : Type 0 where
   pub count : ℕ
   pub outputs : List Output
   pub ran : Ran hosts (take count acts) old new outputs

@@ -1,18 +1,14 @@
 -- The run of a script, given what stopped each of its lines: what is put out, and what is held in
 -- the end. The words of misp_effects, of the meanings of the lines.
 use Rattle.std.specs.Prelude.{◌≡◌, ℕ, List, length}
-use Rattle.misp_outside.specs.Stock.{Stock}
-use Rattle.misp_effects.specs.Effect.{Outcome}
-use Rattle.misp_effects.specs.Stocks.{Tables}
-use Rattle.misp_effects.specs.Run as runs
-use Rattle.misp_effects.specs.Course as courses
-use Rattle.misp_store.specs.Batches.{spelled}
+use Rattle.misp_effects.specs.KeeperStates.{Tables}
+use Rattle.misp_core.specs.Prelude.{Host, KeeperState, Outcome, Seen, seen_in, spelled}
 use Rattle.misp_net.specs.declared.line.Output.{Output}
-use Rattle.misp_core.specs.Standing.{Host}
 use Rattle.misp_net.specs.Lines.{Act, AreAmong}
-use Rattle.misp_store.specs.Seen.{Seen, seen_in}
 use Rattle.misp_net.specs.Meaning.{meaning, meanings_of, stop_in, AreAsFormed}
 use Rattle.misp_net.specs.Text.{text_from}
+use Rattle.misp_effects.specs.Run as runs
+use Rattle.misp_effects.specs.Course as courses
 
 -- what a line puts out
 abbrev pub output_of : Outcome → List Host → Act → Tables → Output
@@ -24,23 +20,18 @@ abbrev pub tables_after : Outcome → List Host → Act → Tables → Tables
 tables_after outcome hosts act tables =
     runs.tables_after seen_in spelled outcome (meaning hosts act).means tables
 
--- A line took the keepers from old to new, and put this out.
-abbrev pub IsAct : List Host → Act → List Stock → List Stock → Output → Type 0
-IsAct hosts act old new output =
-    courses.IsAct Seen Output seen_in spelled stop_in (meaning hosts act).means old new output
-
 -- The lines took the keepers from old to new, and put this out, one output for each. They name the
 -- fault of a keeper no more often than this keeper's count rose; and where all keepers tell what
 -- they hold, output and holdings are those of the lines, each under an outcome that its output
 -- tells.
-abbrev pub Ran : List Host → List Act → List Stock → List Stock → List Output → Type 0
+abbrev pub Ran : List Host → List Act → List KeeperState → List KeeperState → List Output → Type 0
 Ran hosts acts old new outputs =
     courses.HasRun Seen Output seen_in spelled stop_in (meanings_of hosts acts) old new outputs
 
 -- The lines ran so, each over one of the instances, and wrote this text: one line for each output.
 -- Over every keeper a line whose form says what it puts out puts that out.
 pub record HasRun (hosts : List Host) (acts : List Act)
-    (old new : List Stock) (text : List ℕ) : Type 0 where
+    (old new : List KeeperState) (text : List ℕ) : Type 0 where
   pub outputs : List Output
   pub text_is : text ≡ text_from 1 outputs
   pub ran : Ran hosts acts old new outputs

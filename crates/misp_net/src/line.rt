@@ -18,7 +18,7 @@ pub enum Output {
     Replied(Reply),
 }
 
-/// Writes that a line is none, with room for one byte behind it.
+/// Writes that a line is none, with room for one byte after it.
 pub(crate) fn put_bad(lines: &mut Vec<u8>, alloc: Global, place: usize) -> Result<Output, NoMemory>
     ensures output { IfOk result (λ output. output ≡ Output.Bad place) }
     ensures text { OnOk result
@@ -31,7 +31,7 @@ pub(crate) fn put_bad(lines: &mut Vec<u8>, alloc: Global, place: usize) -> Resul
     Ok(Output::Bad(place))
 }
 
-/// Writes that nothing was asked, with room for one byte behind it.
+/// Writes that nothing was asked, with room for one byte after it.
 pub(crate) fn put_nothing(lines: &mut Vec<u8>) -> Result<Output, NoMemory>
     ensures output { IfOk result (λ output. output ≡ Output.Nothing) }
     ensures text { OnOk result (lines.new.items ≡ lines.old.items ++ output_text Output.Nothing) }

@@ -1,11 +1,11 @@
 //! Takes keepers out of their places, and puts them back.
 
 ghost use Rattle.std.specs.Prelude.{◌≡◌, ◌+◌, ◌<◌, ◌≤◌, [], ◌∷◌, ◌++◌, true, Err, IfOk, OnOk, OnErr, map, take, drop, vec_len, vec_capacity};
-ghost use Rattle.misp_effects.specs.Stocks.{AreKept, OneFailed};
+ghost use Rattle.misp_effects.specs.KeeperStates.{AreKept, OneFailed};
 ghost use Rattle.misp_core.specs.Standing.{host_of};
-ghost use Rattle.misp_net.specs.Hosts.{described_host, hosts_of, stock_of, stocks_of};
+ghost use Rattle.misp_net.specs.Hosts.{described_host};
+ghost use Rattle.misp_net.specs.Running.{hosts_of, state_of, states_of, fault_of};
 ghost use Rattle.misp_store.specs.Sharing.{may_be_sound, may_be_unsound};
-ghost use Rattle.misp_net.specs.Opening.{fault_of};
 
 use misp_core::{Instance, LoadFault};
 use misp_ids::NoMemory;
@@ -63,21 +63,21 @@ fn open_first<K: Keeper>(
     requires { 0 < vec_len keepers.old }
     ensures host { IfOk result (λ instance. host_of instance ≡ described_host entry) }
     ensures opened { IfOk result (λ instance. AreKept
-        (take 1 (map K.stock keepers.old.items)) (stock_of instance ∷ [])) }
-    ensures sound { IfOk result (λ instance. may_be_sound (stock_of instance ∷ []) ≡ true) }
-    ensures rest { OnOk result (map K.stock keepers.new.items
-        ≡ drop 1 (map K.stock keepers.old.items)) }
+        (take 1 (map K.state keepers.old.items)) (state_of instance ∷ [])) }
+    ensures sound { IfOk result (λ instance. may_be_sound (state_of instance ∷ []) ≡ true) }
+    ensures rest { OnOk result (map K.state keepers.new.items
+        ≡ drop 1 (map K.state keepers.old.items)) }
     ensures fewer { OnOk result (1 + vec_len keepers.new ≡ vec_len keepers.old) }
-    ensures back { OnErr result (AreKept (take 1 (map K.stock keepers.old.items))
-        (take 1 (map K.stock keepers.new.items))) }
-    ensures others { OnErr result (drop 1 (map K.stock keepers.new.items)
-        ≡ drop 1 (map K.stock keepers.old.items)) }
+    ensures back { OnErr result (AreKept (take 1 (map K.state keepers.old.items))
+        (take 1 (map K.state keepers.new.items))) }
+    ensures others { OnErr result (drop 1 (map K.state keepers.new.items)
+        ≡ drop 1 (map K.state keepers.old.items)) }
     ensures places { OnErr result (vec_len keepers.new ≡ vec_len keepers.old) }
     ensures bad_row { result ≡ Err NetFault.BadRow →
-        may_be_unsound (take 1 (map K.stock keepers.old.items)) ≡ true }
+        may_be_unsound (take 1 (map K.state keepers.old.items)) ≡ true }
     ensures keeper { result ≡ Err NetFault.KeeperFault →
-        OneFailed (take 1 (map K.stock keepers.old.items))
-        (take 1 (map K.stock keepers.new.items)) }
+        OneFailed (take 1 (map K.state keepers.old.items))
+        (take 1 (map K.state keepers.new.items)) }
     ensures room { vec_capacity keepers.new ≡ vec_capacity keepers.old }
 {
     match Instance::open(alloc, entry.name, entry.admin, take_first(keepers)) {
@@ -100,26 +100,26 @@ pub(crate) fn open_all<K: Keeper>(
     ensures hosts { IfOk result (λ instances.
         hosts_of instances.items ≡ map described_host entries.items) }
     ensures opened { IfOk result (λ instances. AreKept
-        (take (vec_len entries) (map K.stock keepers.old.items))
-        (stocks_of instances.items)) }
-    ensures rest { OnOk result (map K.stock keepers.new.items
-        ≡ drop (vec_len entries) (map K.stock keepers.old.items)) }
+        (take (vec_len entries) (map K.state keepers.old.items))
+        (states_of instances.items)) }
+    ensures rest { OnOk result (map K.state keepers.new.items
+        ≡ drop (vec_len entries) (map K.state keepers.old.items)) }
     ensures sound { OnOk result (may_be_sound
-        (take (vec_len entries) (map K.stock keepers.old.items)) ≡ true) }
+        (take (vec_len entries) (map K.state keepers.old.items)) ≡ true) }
     ensures fewer { IfOk result (λ instances.
         vec_len instances + vec_len keepers.new ≡ vec_len keepers.old) }
     ensures room { OnOk result (vec_len keepers.old ≤ vec_capacity keepers.new) }
     ensures back { OnErr result
-        (AreKept (map K.stock keepers.old.items) (map K.stock keepers.new.items)) }
+        (AreKept (map K.state keepers.old.items) (map K.state keepers.new.items)) }
     ensures places { OnErr result (vec_len keepers.new ≡ vec_len keepers.old) }
     ensures others { OnErr result
-        (drop (vec_len entries) (map K.stock keepers.new.items)
-        ≡ drop (vec_len entries) (map K.stock keepers.old.items)) }
+        (drop (vec_len entries) (map K.state keepers.new.items)
+        ≡ drop (vec_len entries) (map K.state keepers.old.items)) }
     ensures bad_row { result ≡ Err NetFault.BadRow →
-        may_be_unsound (take (vec_len entries) (map K.stock keepers.old.items)) ≡ true }
+        may_be_unsound (take (vec_len entries) (map K.state keepers.old.items)) ≡ true }
     ensures keeper { result ≡ Err NetFault.KeeperFault →
-        OneFailed (take (vec_len entries) (map K.stock keepers.old.items))
-        (take (vec_len entries) (map K.stock keepers.new.items)) }
+        OneFailed (take (vec_len entries) (map K.state keepers.old.items))
+        (take (vec_len entries) (map K.state keepers.new.items)) }
 {
     let mut instances = Vec::with_capacity(alloc, entries.len())?;
     for entry in entries {
@@ -137,8 +137,8 @@ pub(crate) fn open_all<K: Keeper>(
 /// Puts the keepers of instances back in front of the others.
 pub(crate) fn close_all<K: Keeper>(mut instances: Vec<Instance<K>>, keepers: &mut Vec<K>)
     requires { vec_len instances + vec_len keepers.old ≤ vec_capacity keepers.old }
-    ensures { map K.stock keepers.new.items
-        ≡ stocks_of instances.items ++ map K.stock keepers.old.items }
+    ensures { map K.state keepers.new.items
+        ≡ states_of instances.items ++ map K.state keepers.old.items }
 {
     while let Some(instance) = instances.pop() {
         put_first(keepers, instance.into_keeper());

@@ -1,14 +1,10 @@
 -- What is set up at an instance, as contracts see it.
 use Rattle.std.specs.Prelude.{ℕ, ◌==◌, Bool, List, Option, option_map, find, bytes_eq}
-use Rattle.std.specs.declared.cmp.Ordering.{Ordering}
-use Rattle.std.specs.Ordering.{nat_cmp}
-use Rattle.std.specs.Cmp.Lexicographic.{slice_cmp}
-use Rattle.std.specs.List.{IsDistinct}
-use Rattle.std.specs.List.Sorted.{IsStrictlySortedBy}
+use Rattle.misp_lists.specs.Prelude.{IsDistinct, IsStrictlySortedBy, Ordering, nat_cmp, slice_cmp}
+use Rattle.misp_lists.specs.Order.{sorted_by}
 use Rattle.misp_orgs.specs.declared.link.Link.{Link}
 use Rattle.misp_orgs.specs.Org.{OrgFields}
 use Rattle.misp_orgs.specs.Keys.{KeyFields, CallerFields, caller_of}
-use Rattle.misp_orgs.specs.Order.{in_order}
 
 -- the organisations that are known, the keys, and the links
 pub record AdminFields : Type 0 where
@@ -57,9 +53,9 @@ pub record AreDistinct (orgs : List OrgFields) (keys : List KeyFields)
 -- the lists in their orders
 abbrev pub admin_of : List OrgFields → List KeyFields → List Link → AdminFields
 admin_of orgs keys links = record {
-  orgs = in_order by_uuid orgs;
-  keys = in_order by_key keys;
-  links = in_order by_name links;
+  orgs = sorted_by by_uuid orgs;
+  keys = sorted_by by_key keys;
+  links = sorted_by by_name links;
 }
 
 -- ---- looking up

@@ -3,7 +3,7 @@
 ghost use Rattle.std.specs.Prelude.{◌≡◌, ◌≤◌, length, option_map, IfOk, IfSome, OnOk};
 ghost use Rattle.std.specs.List.Sorted.{IsStrictlySortedBy};
 ghost use Rattle.misp_orgs.specs.Org.{name_limit, org_of, name_of};
-ghost use Rattle.misp_orgs.specs.Order.{in_order};
+ghost use Rattle.misp_lists.specs.Order.{sorted_by};
 ghost use Rattle.misp_orgs.specs.Admin.{by_uuid, by_key, by_name, AreDistinct, admin_of, record_of, who_of, link_of};
 
 use crate::key::{Caller, KeyRecord};
@@ -67,25 +67,25 @@ fn link_of<'a>(links: &'a [Link], name: &InstId) -> Option<&'a Link>
 }
 
 fn sort_orgs(orgs: &mut Vec<Org>) -> Result<(), AllocError>
-    ensures { OnOk result (orgs.new.items ≡ in_order by_uuid orgs.old.items) }
+    ensures { OnOk result (orgs.new.items ≡ sorted_by by_uuid orgs.old.items) }
 {
     orgs.sort_by(|a, b| a.uuid.0.0.cmp(&b.uuid.0.0))
 }
 
 fn sort_keys(keys: &mut Vec<KeyRecord>) -> Result<(), AllocError>
-    ensures { OnOk result (keys.new.items ≡ in_order by_key keys.old.items) }
+    ensures { OnOk result (keys.new.items ≡ sorted_by by_key keys.old.items) }
 {
     keys.sort_by(|a, b| a.key.text().cmp(b.key.text()))
 }
 
 fn sort_links(links: &mut Vec<Link>) -> Result<(), AllocError>
-    ensures { OnOk result (links.new.items ≡ in_order by_name links.old.items) }
+    ensures { OnOk result (links.new.items ≡ sorted_by by_name links.old.items) }
 {
     links.sort_by(|a, b| a.name.text().cmp(b.name.text()))
 }
 
 impl Admin {
-    /// What is set up by these lists, which may stand in any order.
+    /// What is set up by these lists, which may be in any order.
     pub fn made(
         mut orgs: Vec<Org>,
         mut keys: Vec<KeyRecord>,

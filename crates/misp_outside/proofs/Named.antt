@@ -1,22 +1,14 @@
 -- The rows of one event whose names begin with given bytes stand together.
-use Rattle.std.proofs.Common.{◌≡◌, ℕ, Bool, true, false, not, ◌==◌, nat_eq, List, [], ◌∷◌, ◌++◌, refl, sym, ap, subst, ◌∙◌, inl, inr, arith}
-use Rattle.std.specs.Prelude.{◌&&◌}
-use Rattle.std.specs.declared.cmp.Ordering.{Ordering}
-use Rattle.std.specs.declared.cmp.Ordering.TheVariants.{Less, Equal, Greater}
-use Rattle.std.specs.Ordering.{nat_cmp, ordering_then, is_le, is_lt}
-use Rattle.std.specs.Cmp.Lexicographic.{slice_cmp}
-use Rattle.std.specs.List.{filter, list_all, starts_with}
+use Rattle.std.proofs.Common.{◌≡◌, ℕ, Bool, true, false, not, ◌==◌, nat_eq, List, [], ◌∷◌, ◌++◌, refl, sym, ap, subst, ◌∙◌, inl, inr, arith, Ordering, Less, nat_cmp, is_le, filter, eqb-true, eq-eqb, true≢false, append-nil}
+use Rattle.std.specs.List.{starts_with}
 use Rattle.std.specs.declared.ops.Bound.TheVariants.{Included, Unbounded}
 use Rattle.std.specs.BTreeMap.Range.{entries_between}
-use Rattle.std.proofs.lemmas.Bool.{cases_Bool, and_parts, and_from, eqb-true, eq-eqb, false_from_ne_true, true≢false}
-use Rattle.std.proofs.lemmas.Bool.Decides.{nat_tests}
-use Rattle.std.proofs.lemmas.List.{append-nil}
+use Rattle.misp_lists.proofs.Prelude.{all_implies, and_from, and_parts, ascend, cases_Bool, false_from_ne_true, less_of, list_all, nat_tests, ordering_then, slice_cmp}
 use Rattle.misp_ids.specs.declared.uid.EventId.{EventId}
+use Rattle.misp_lists.proofs.Ordering.{ascend_kept}
 use Rattle.misp_outside.specs.declared.row.RawRow.{RawRow}
-use Rattle.misp_outside.specs.Held.{name_order, raw_name, is_named, rows_named, comes_before, ascend}
+use Rattle.misp_outside.specs.Held.{name_order, raw_name, is_named, rows_named, comes_before}
 use Rattle.misp_outside.specs.Stored.{raw_row, raw_rows, key_order}
-use Rattle.misp_outside.proofs.Lists.{all_implied, ascend_kept}
-use Rattle.misp_outside.proofs.Places.{less_from_test}
 use Rattle.misp_outside.proofs.Rows.{Key, Cells, Ascend, raw_ascend, next_row, no_rows, le_then, same_number}
 
 -- ---- bytes
@@ -73,7 +65,7 @@ module _ (event : EventId) (front : List ℕ) where
   unfolding comes_before
   named_between row next from before is =
       let both : ((next.event.0.0 == event.0.0) ≡ true) × (starts_with nat_eq next.name front ≡ true) = and_parts _ _ is in
-      let there = between event.0.0 row.event.0.0 next.event.0.0 (slice_cmp nat_cmp front row.name) (slice_cmp nat_cmp row.name next.name) from (less_from_test _ before) (eqb-true _ _ both.0) in
+      let there = between event.0.0 row.event.0.0 next.event.0.0 (slice_cmp nat_cmp front row.name) (slice_cmp nat_cmp row.name next.name) from (less_of _ before) (eqb-true _ _ both.0) in
       and_from _ _ (eq-eqb row.event.0.0 event.0.0 (sym there.same)) (begins_between front row.name next.name there.least there.less both.1)
 
   -- rows that ascend from the event and these bytes on
@@ -93,7 +85,10 @@ module _ (event : EventId) (front : List ℕ) where
   named_end : (row : RawRow) (rows : List RawRow) → IsFrom (row ∷ rows) → named row ≡ false → rows_named event front (row ∷ rows) ≡ []
   unfolding ascend
   named_end row rows are other =
-      let behind : list_all (λ next. not (named next)) rows ≡ true = all_implied (comes_before row) (λ next. not (named next)) (λ next before. ap not (false_from_ne_true (named next) (λ is. true≢false (sym (named_between row next (and_parts _ _ are.from).0 before is) ∙ other)))) rows (and_parts _ _ are.up).0 in
+      let behind : list_all (λ next. not (named next)) rows ≡ true =
+      all_implies (comes_before row) (λ next. not (named next))
+      (λ next before. ap not (false_from_ne_true (named next) (λ is. true≢false (sym (named_between row next (and_parts _ _ are.from).0 before is) ∙ other)))) rows
+      (and_parts _ _ are.up).0 in
       none_named (row ∷ rows) (and_from _ _ (ap not other) behind)
 
   named_more : (row : RawRow) (rows : List RawRow) → named row ≡ true → rows_named event front (row ∷ rows) ≡ row ∷ rows_named event front rows

@@ -1,27 +1,18 @@
 -- The rows in a table, as a table and as rows are put.
-use Rattle.std.proofs.Common.{◌≡◌, ℕ, ◌+◌, ◌<◌, Bool, true, false, not, ◌==◌, List, [], ◌∷◌, length, map, refl, sym, ap, ◌∙◌, inl, inr, arith}
-use Rattle.std.specs.declared.cmp.Ordering.{Ordering}
-use Rattle.std.specs.declared.cmp.Ordering.TheVariants.{Less, Equal, Greater}
-use Rattle.std.specs.Ordering.{nat_cmp, ordering_then, is_le, is_gt}
-use Rattle.std.specs.Cmp.{IsTotalOrder, nat_cmp_total}
-use Rattle.std.specs.Cmp.Lexicographic.{slice_cmp}
+use Rattle.std.proofs.Common.{◌≡◌, ℕ, ◌+◌, Bool, true, false, not, ◌==◌, List, [], ◌∷◌, length, map, refl, sym, ap, ◌∙◌, inl, inr, arith, Ordering, Less, Equal, Greater, nat_cmp, is_le, is_gt, filter, eqb-true, eq-eqb}
 use Rattle.std.specs.Global.{Vec}
-use Rattle.std.specs.List.{filter}
-use Rattle.std.specs.List.Sorted.{IsStrictlySortedBy}
-use Rattle.std.specs.Map.{keys_of}
 use Rattle.std.specs.declared.ops.Bound.{Bound}
 use Rattle.std.specs.declared.ops.Bound.TheVariants.{Included, Excluded, Unbounded}
-use Rattle.std.specs.BTreeMap.{insert_entry}
 use Rattle.std.specs.BTreeMap.Range.{range_contains, entries_between, IsLeBy}
-use Rattle.std.proofs.lemmas.Bool.{cases_Bool, eqb-true, eq-eqb, and_from}
-use Rattle.std.proofs.lemmas.Bool.Decides.{nat_tests}
+use Rattle.misp_lists.proofs.Prelude.{IsStrictlySortedBy, IsTotalOrder, and_from, ascend, cases_Bool, insert_entry, keys_of, nat_cmp_total, nat_tests, ordering_then, slice_cmp}
 use Rattle.misp_ids.specs.declared.uid.EventId.{EventId}
+use Rattle.misp_lists.proofs.Ordering.{ascend_kept}
+use Rattle.misp_lists.proofs.Orders.{greater, less}
 use Rattle.misp_outside.specs.declared.row.RawRow.{RawRow}
 use Rattle.misp_outside.specs.declared.row.AdminRow.{AdminRow}
 use Rattle.misp_outside.specs.declared.row.RawBatch.{RawBatch}
-use Rattle.misp_outside.specs.Held.{Held, raw_name, admin_name, ascend, comes_before, admin_before, same_raw, same_admin, put_raw, put_admin, put_rows, put_admins, with_batch, rows_of}
+use Rattle.misp_outside.specs.Held.{Held, raw_name, admin_name, comes_before, admin_before, same_raw, same_admin, put_raw, put_admin, put_rows, put_admins, with_batch, rows_of}
 use Rattle.misp_outside.specs.Stored.{raw_row, admin_row, raw_rows, admin_rows, key_order, Spans}
-use Rattle.misp_outside.proofs.Lists.{ascend_kept}
 use Rattle.misp_outside.proofs.Names.{names_exact, order, total, put_by_order}
 use Rattle.misp_outside.proofs.Tables.{keys_total, rows_ascend, rows_inserted}
 
@@ -65,7 +56,8 @@ raw_put row name cells after same up inserted =
     ∙ ap (λ new. put_raw new (map raw_row cells)) is
 
 -- one row more is put, and the rest is left
-pub more_raw : (row : RawRow) (left rest : List RawRow) (name : Vec ℕ) (cells after : Cells) (all : List RawRow) → left ≡ row ∷ rest → name.items ≡ row.name → Ascend cells → after ≡ insert_entry (key_order nat_cmp) cells (row.event.0.0, name) row.bytes → put_rows left (raw_rows cells) ≡ all → put_rows rest (raw_rows after) ≡ all
+pub more_raw : (row : RawRow) (left rest : List RawRow) (name : Vec ℕ) (cells after : Cells) (all : List RawRow) → left ≡ row ∷ rest → name.items ≡ row.name → Ascend cells
+    → after ≡ insert_entry (key_order nat_cmp) cells (row.event.0.0, name) row.bytes → put_rows left (raw_rows cells) ≡ all → put_rows rest (raw_rows after) ≡ all
 unfolding put_rows
 more_raw row left rest name cells after all next same up inserted so_far =
     ap (put_rows rest) (raw_put row name cells after same up inserted) ∙ ap (λ rows. put_rows rows (raw_rows cells)) (sym next) ∙ so_far
@@ -96,7 +88,8 @@ admin_put row name cells after same up inserted =
     ∙ put_by_order admin_name (admin_row ((row.kind, name), row.bytes)) (map admin_row cells)
     ∙ ap (λ new. put_admin new (map admin_row cells)) is
 
-pub more_admin : (row : AdminRow) (left rest : List AdminRow) (name : Vec ℕ) (cells after : Cells) (all : List AdminRow) → left ≡ row ∷ rest → name.items ≡ row.name → Ascend cells → after ≡ insert_entry (key_order nat_cmp) cells (row.kind, name) row.bytes → put_admins left (admin_rows cells) ≡ all → put_admins rest (admin_rows after) ≡ all
+pub more_admin : (row : AdminRow) (left rest : List AdminRow) (name : Vec ℕ) (cells after : Cells) (all : List AdminRow) → left ≡ row ∷ rest → name.items ≡ row.name → Ascend cells
+    → after ≡ insert_entry (key_order nat_cmp) cells (row.kind, name) row.bytes → put_admins left (admin_rows cells) ≡ all → put_admins rest (admin_rows after) ≡ all
 unfolding put_admins
 more_admin row left rest name cells after all next same up inserted so_far =
     ap (put_admins rest) (admin_put row name cells after same up inserted) ∙ ap (λ rows. put_admins rows (admin_rows cells)) (sym next) ∙ so_far
@@ -119,7 +112,8 @@ held_in rows admin = record { rows = raw_rows rows; admin = admin_rows admin }
 pub same_held : (rows same_rows admin same_admin : Cells) → same_rows ≡ rows → same_admin ≡ admin → held_in same_rows same_admin ≡ held_in rows admin
 same_held rows same_rows admin same_admin same also i = held_in (same i) (also i)
 
-pub held_with_batch : (batch : RawBatch) (rows rows_after admin admin_after : Cells) → raw_rows rows_after ≡ put_rows batch.rows (raw_rows rows) → admin_rows admin_after ≡ put_admins batch.admin (admin_rows admin) → held_in rows_after admin_after ≡ with_batch batch (held_in rows admin)
+pub held_with_batch : (batch : RawBatch) (rows rows_after admin admin_after : Cells) → raw_rows rows_after ≡ put_rows batch.rows (raw_rows rows)
+    → admin_rows admin_after ≡ put_admins batch.admin (admin_rows admin) → held_in rows_after admin_after ≡ with_batch batch (held_in rows admin)
 unfolding with_batch
 held_with_batch batch rows rows_after admin admin_after put put_admin i = record { rows = put i; admin = put_admin i }
 
@@ -185,12 +179,6 @@ no_bytes_first (x ∷ xs) ys none = absurd (omega (arith, ap length none))
 pub same_number : (m n : ℕ) → m ≡ n → nat_cmp m n ≡ Equal
 same_number m n same = grind (arith, nat_tests)
 
-more_number : (m n : ℕ) → n < m → nat_cmp m n ≡ Greater
-more_number m n less = grind (arith, nat_tests)
-
-less_number : (m n : ℕ) → m < n → nat_cmp m n ≡ Less
-less_number m n less = grind (arith, nat_tests)
-
 first_key : (event : EventId) (low key : Key) → low.0 ≡ event.0.0 → low.1.items ≡ [] → key.0 ≡ event.0.0 → is_le (key_order nat_cmp low key) ≡ true
 first_key event low key here none same =
     le_then (nat_cmp low.0 key.0) (slice_cmp nat_cmp low.1.items key.1.items) (same_number low.0 key.0 (here ∙ sym same)) (no_bytes_first low.1.items key.1.items none)
@@ -198,11 +186,11 @@ first_key event low key here none same =
 pub spans_next : (event : EventId) (low high : Key) → low.0 ≡ event.0.0 → low.1.items ≡ [] → high.0 ≡ event.0.0 + 1 → Spans event (Included low) (Excluded high)
 spans_next event low high here none next key same =
     and_from _ _ (first_key event low key here none same)
-    (ap not (past_then (nat_cmp high.0 key.0) (slice_cmp nat_cmp high.1.items key.1.items) (more_number high.0 key.0 (omega (arith, next, same)))))
+    (ap not (past_then (nat_cmp high.0 key.0) (slice_cmp nat_cmp high.1.items key.1.items) (greater high.0 key.0 (omega (arith, next, same)))))
 
 pub spans_rest : (event : EventId) (low : Key) → low.0 ≡ event.0.0 → low.1.items ≡ [] → Spans event (Included low) Unbounded
 spans_rest event low here none key same = and_from _ _ (first_key event low key here none same) refl
 
 pub forward_next : (event : EventId) (low high : Key) → low.0 ≡ event.0.0 → high.0 ≡ event.0.0 + 1 → IsLeBy (key_order nat_cmp) low high
 forward_next event low high here next =
-    before_then (nat_cmp low.0 high.0) (slice_cmp nat_cmp low.1.items high.1.items) (less_number low.0 high.0 (omega (arith, here, next)))
+    before_then (nat_cmp low.0 high.0) (slice_cmp nat_cmp low.1.items high.1.items) (less low.0 high.0 (omega (arith, here, next)))

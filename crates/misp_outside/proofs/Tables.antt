@@ -1,19 +1,13 @@
 -- A table after a key is inserted, and after that is undone.
-use Rattle.std.proofs.Common.{◌≡◌, ℕ, Bool, true, false, not, List, [], ◌∷◌, ◌++◌, length, map, Option, None, Some, is_none, refl, sym, ap, ◌∙◌, ◌⊎◌, inl, inr, arith}
-use Rattle.std.specs.declared.cmp.Ordering.{Ordering}
-use Rattle.std.specs.declared.cmp.Ordering.TheVariants.{Less, Equal, Greater}
-use Rattle.std.specs.Ordering.{is_lt, is_eq, ordering_reverse, ordering_then, nat_cmp}
-use Rattle.std.specs.Cmp.Lexicographic.{slice_cmp, lists_total}
+use Rattle.std.proofs.Common.{◌≡◌, ℕ, Bool, true, false, not, List, [], ◌∷◌, ◌++◌, length, map, Option, None, Some, is_none, refl, sym, ap, ◌∙◌, ◌⊎◌, inl, inr, arith, Ordering, Less, Equal, Greater, is_lt, is_eq, nat_cmp, filter}
+use Rattle.std.proofs.Common.{true≢false}
+use Rattle.std.specs.Cmp.Lexicographic.{lists_total}
 use Rattle.std.specs.Global.{Vec}
-use Rattle.std.specs.Cmp.{IsTotalOrder, on_total, then_total, nat_cmp_total}
-use Rattle.std.specs.BTreeMap.{insert_entry, is_at}
-use Rattle.std.specs.Map.{keys_of, lookup}
-use Rattle.std.specs.List.{list_all, AllByRecursion, filter}
-use Rattle.std.specs.List.Sorted.{IsStrictlySortedBy}
-use Rattle.std.proofs.lemmas.Bool.{cases_Bool, and_from, true≢false}
+use Rattle.std.specs.Cmp.{then_total}
+use Rattle.std.specs.BTreeMap.{is_at}
 use Rattle.std.proofs.lemmas.Map.{lookup-none}
 use Rattle.std.proofs.lemmas.Map.Entries.{none_below_head}
-use Rattle.misp_outside.specs.Held.{put, ascend}
+use Rattle.misp_lists.proofs.Prelude.{AllByRecursion, IsStrictlySortedBy, IsTotalOrder, and_from, ascend, cases_Bool, insert_entry, keys_of, list_all, lookup, nat_cmp_total, on_total, ordering_reverse, ordering_then, put, slice_cmp}
 use Rattle.misp_outside.specs.Stored.{key_order, set_back, undone}
 use Rattle.misp_outside.proofs.Places.{put_below, put_above, put_over}
 
@@ -80,7 +74,8 @@ module _ {K X : Type 0} (R : K → K → Ordering) (total : IsTotalOrder R) wher
   ]
 
   -- a key that is put, with what was there noted, is undone with the others
-  pub undone_put : (before noted : List (K × Option X)) (key place : K) (x : X) (there : Option X) (es after : List (K × X)) → IsStrictlySortedBy R (keys_of es) → R place ≡ R key → there ≡ lookup (is_at (R key)) es → after ≡ insert_entry R es key x → noted ≡ before ++ (place, there) ∷ [] → undone R noted after ≡ undone R before es
+  pub undone_put : (before noted : List (K × Option X)) (key place : K) (x : X) (there : Option X) (es after : List (K × X)) → IsStrictlySortedBy R (keys_of es) → R place ≡ R key
+      → there ≡ lookup (is_at (R key)) es → after ≡ insert_entry R es key x → noted ≡ before ++ (place, there) ∷ [] → undone R noted after ≡ undone R before es
   undone_put before noted key place x there es after up same is put note =
       ap (λ list. undone R list after) note ∙ undone_last R before (place, there) after
       ∙ ap (undone R before) (ap (λ compare. set_back (is_at compare) there after) same ∙ ap (set_back (is_at (R key)) there) put ∙ set_back_inserted es key x there up is)
@@ -88,7 +83,8 @@ module _ {K X : Type 0} (R : K → K → Ordering) (total : IsTotalOrder R) wher
 -- ---- the rows of a table
 
 -- each entry gives a row, and rows are in the order of their keys, which tells all but equal ones apart
-module _ {K X A : Type 0} (R : K → K → Ordering) (total : IsTotalOrder R) (row : K × X → A) (order : A → A → Ordering) (rows_total : IsTotalOrder order) (by_keys : (e f : K × X) → R e.0 f.0 ≡ order (row e) (row f)) (exact : (k q : K) (x : X) → R k q ≡ Equal → row (q, x) ≡ row (k, x)) where
+module _ {K X A : Type 0} (R : K → K → Ordering) (total : IsTotalOrder R) (row : K × X → A) (order : A → A → Ordering) (rows_total : IsTotalOrder order)
+    (by_keys : (e f : K × X) → R e.0 f.0 ≡ order (row e) (row f)) (exact : (k q : K) (x : X) → R k q ≡ Equal → row (q, x) ≡ row (k, x)) where
   abbrev before : A → A → Bool
   before a b = is_lt (order a b)
 
@@ -103,12 +99,12 @@ module _ {K X A : Type 0} (R : K → K → Ordering) (total : IsTotalOrder R) (r
   rows_ascend [] up = refl
   rows_ascend (e ∷ es) up = and_from _ _ (before_all e es up.0) (rows_ascend es up.1)
 
-  -- what is behind a greater key is greater
+  -- what is after a greater key is greater
   above : (key k : K) (ks : List K) → R key k ≡ Less → AllByRecursion (λ q. R k q ≡ Less) ks → AllByRecursion (λ q. R key q ≡ Less) ks
   above key k [] less all = tt
   above key k (q ∷ ks) less all = (total.trans key k q less all.0, above key k ks less all.1)
 
-  -- and what is behind an equal one
+  -- and what is after an equal one
   above_equal : (key k : K) (ks : List K) → R key k ≡ Equal → AllByRecursion (λ q. R k q ≡ Less) ks → AllByRecursion (λ q. R key q ≡ Less) ks
   above_equal key k [] equal all = tt
   above_equal key k (q ∷ ks) equal all = (total.congr key k q equal ∙ all.0, above_equal key k ks equal all.1)

@@ -1,15 +1,11 @@
 -- What a table stores: bytes under a number and a name. And what it stored before some were put.
-use Rattle.std.specs.Prelude.{◌≡◌, ℕ, Bool, true, List, [], ◌∷◌, map}
-use Rattle.std.specs.declared.option.Option.{Option}
-use Rattle.std.specs.declared.option.Option.TheVariants.{None, Some}
-use Rattle.std.specs.declared.cmp.Ordering.{Ordering}
-use Rattle.std.specs.Ordering.{nat_cmp, ordering_then}
-use Rattle.std.specs.Cmp.Lexicographic.{slice_cmp}
+use Rattle.std.specs.Prelude.{◌≡◌, ℕ, Bool, true, List, [], ◌∷◌, map, Option, None, Some}
 use Rattle.std.specs.Global.{Vec}
 use Rattle.std.specs.Map.{remove_entry, set_value}
 use Rattle.std.specs.BTreeMap.{is_at}
 use Rattle.std.specs.BTreeMap.Range.{range_contains}
 use Rattle.std.specs.declared.ops.Bound.{Bound}
+use Rattle.misp_lists.specs.Prelude.{Ordering, nat_cmp, ordering_then, slice_cmp}
 use Rattle.misp_ids.specs.declared.uid.EventId.{EventId}
 use Rattle.misp_outside.specs.declared.row.RawRow.{RawRow}
 use Rattle.misp_outside.specs.declared.row.AdminRow.{AdminRow}

@@ -1,2 +1,2 @@
-pub mod CopyLemmas
 pub mod ReleaseLemmas
+pub mod PublishLemmas

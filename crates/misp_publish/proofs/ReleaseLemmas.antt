@@ -1,34 +1,14 @@
 -- What is released of the rows of one event is what a publishing of it writes.
-use Rattle.std.proofs.Common.{◌≡◌, ℕ, List, [], ◌∷◌, ◌++◌, Bool, true, false, refl, ap, sym, ◌∙◌, arith, subst, map, cond, eqb, ◌+◌, ◌<◌, length, take, get_or, append_assoc}
-use Rattle.std.specs.Prelude.{◌&&◌, ◌||◌, not, max, ◌==◌, if◌then◌else◌, is_some, Option, Some, None, option_to_list}
-use Rattle.std.specs.List.{filter, find, list_any, list_all}
-use Rattle.std.proofs.lemmas.Bool.{and_parts, false≢true}
-use Rattle.std.proofs.lemmas.Bool.Decides.{nat_tests}
-use Rattle.misp_ids.specs.declared.stamp.TheConstants.{LAST_SECOND}
-use Rattle.misp_ids.specs.Stamp.{next_stamp as next_of}
-use Rattle.std.proofs.lemmas.List.{append-nil, map-append}
+use Rattle.std.proofs.Common.{◌≡◌, ℕ, List, [], ◌∷◌, ◌++◌, Bool, true, false, refl, ap, sym, ◌∙◌, arith, subst, map, cond, eqb, ◌+◌, ◌<◌, length, take, get_or, append_assoc, ◌&&◌, ◌||◌, not, max, ◌==◌, Option, Some, None, option_to_list}
+use Rattle.std.proofs.Common.{filter, find, append-nil}
 use Rattle.std.proofs.lemmas.List.Elements.{filter_more}
-use Rattle.misp_ids.specs.declared.uid.OrgId.{OrgId}
-use Rattle.misp_ids.specs.declared.uid.EventId.{EventId}
-use Rattle.misp_elem.specs.declared.key.Place.TheVariants as places
-use Rattle.misp_elem.specs.declared.key.KeyForm.{KeyForm as Key}
-use Rattle.misp_elem.specs.declared.key.KeyForm.TheVariants.{Element, Reference, Proposal, Verdict, Sighting}
-use Rattle.misp_elem.specs.declared.content.Content.{Content}
-use Rattle.misp_elem.specs.declared.content.Content.TheVariants as contents
-use Rattle.misp_elem.specs.declared.row.RowFields.{RowFields as Row}
-use Rattle.misp_elem.specs.Row.{IsStamp, IsRow, AreRows, IsContent, fits, content_kind, label_kind, may_remove}
-use Rattle.misp_requests.specs.declared.change.Change.TheVariants.{Publish}
-use Rattle.misp_model.specs.Names.{same_org, same_event, same_key, event_of, event_key}
-use Rattle.misp_model.specs.View.{is_row_of, is_mark}
-use Rattle.misp_model.specs.History.{Version, is_published, is_statement, is_gone, fresh_row}
-use Rattle.misp_model.specs.Asking.{Scene, own_row, own_row_is, is_at_limit, last_stamp, next_stamp, written, changed, changed_row, at_publishing, as_published, is_held_in, let_out_row, let_out, change_writes}
-use Rattle.misp_model.proofs.Same.{same_org-sound}
-use Rattle.misp_model.proofs.Lists.{find_passes}
-use Rattle.misp_publish.specs.Copies.{AreOf, is_event_row, state_by, state_of}
-use Rattle.misp_publish.specs.declared.copies.CopyState.{CopyState}
-use Rattle.misp_publish.specs.declared.copies.CopyState.TheVariants as states
+use Rattle.misp_rules.proofs.Prelude.{Content, Element, EventId, IsContent, IsRow, IsStamp, Key, OrgId, Place, Proposal, Reference, Row, Scene, Sighting, Verdict, and_parts, change_writes, changed, changed_row, content_kind, event_key}
+use Rattle.misp_rules.proofs.Prelude.{event_of, find_passes, fits, is_gone, is_published, is_row_of, is_statement, label_kind, last_stamp, list_all, map-append, may_remove, own_row, same_event, same_key, same_org, same_org-sound, written}
+use Rattle.misp_rules.specs.Prelude.{at_publishing, is_held_in, let_out}
+use Rattle.misp_history.proofs.Prelude.{Publish, as_published, fresh_row, is_at_limit, let_out_row, next_stamp, own_row_is}
+use Rattle.misp_copies.specs.Copies.{AreOf, is_event_row}
+use Rattle.misp_copies.proofs.CopyLemmas.{row_is, finds_are}
 use Rattle.misp_publish.specs.Release.{at_stamp, cleared_row, is_released, Publishes}
-use Rattle.misp_publish.proofs.CopyLemmas.{row_is}
 
 free_of : (b : Bool) → not (b || true) ≡ false
 free_of true = refl
@@ -63,7 +43,9 @@ module _ (s : Scene) (e : EventId) where
 
   lets_are : (rows : List Row) → AreOf e rows → map fresh_row (map (let_out_row s) (filter (is_held_in s e) rows)) ≡ map cleared_row (filter (is_released s.by) rows)
   lets_are [] h = refl
-  lets_are (row ∷ rows) h = one (is_held_in s e row) refl (held_is row (and_parts (same_event (event_of row.key) e) (list_all (λ r. same_event (event_of r.key) e) rows) h).0) (lets_are rows (and_parts (same_event (event_of row.key) e) (list_all (λ r. same_event (event_of r.key) e) rows) h).1)
+  lets_are (row ∷ rows) h =
+      one (is_held_in s e row) refl (held_is row (and_parts (same_event (event_of row.key) e) (list_all (λ r. same_event (event_of r.key) e) rows) h).0)
+      (lets_are rows (and_parts (same_event (event_of row.key) e) (list_all (λ r. same_event (event_of r.key) e) rows) h).1)
     where
       one : (t : Bool) → is_held_in s e row ≡ t → is_released s.by row ≡ is_held_in s e row → map fresh_row (map (let_out_row s) (filter (is_held_in s e) rows)) ≡ map cleared_row (filter (is_released s.by) rows) →
           map fresh_row (map (let_out_row s) (cond t (row ∷ filter (is_held_in s e) rows) (filter (is_held_in s e) rows)))
@@ -71,14 +53,10 @@ module _ (s : Scene) (e : EventId) where
       one true g k ih = (λ i. let_fresh row g i ∷ ih i) ∙ sym (ap (λ t. map cleared_row (cond t (row ∷ filter (is_released s.by) rows) (filter (is_released s.by) rows))) (k ∙ g))
       one false g k ih = ih ∙ sym (ap (λ t. map cleared_row (cond t (row ∷ filter (is_released s.by) rows) (filter (is_released s.by) rows))) (k ∙ g))
 
-  pub finds_are : (rows : List Row) → AreOf e rows → find (is_row_of s.by (event_key e)) rows ≡ find (is_event_row s.by) rows
-  finds_are [] h = refl
-  finds_are (row ∷ rows) h = λ i. cond (row_is s.by e row (and_parts (same_event (event_of row.key) e) (list_all (λ r. same_event (event_of r.key) e) rows) h).0 i) (Some row) (finds_are rows (and_parts (same_event (event_of row.key) e) (list_all (λ r. same_event (event_of r.key) e) rows) h).1 i)
-
   module _ (are : AreOf e s.rows) (own : Row) (found : find (is_event_row s.by) s.rows ≡ Some own) where
     own_is : own_row s (event_key e) ≡ Some own
     unfolding own_row
-    own_is = finds_are s.rows are ∙ found
+    own_is = finds_are s.by e s.rows are ∙ found
 
     owned : own.owner ≡ s.by
     unfolding is_event_row
@@ -138,43 +116,39 @@ module _ (f : Row → Row) (q : Row → Bool) (before : List Row) (rows : List R
   pub one_left : (made : List Row) → q row ≡ false → made ≡ before ++ map f (filter q (take i rows)) → made ≡ before ++ map f (filter q (take (i + 1) rows))
   one_left made k h = h ∙ ap (λ ys. before ++ map f ys) (sym (here ∙ ap (λ b. filter q (take i rows) ++ cond b (row ∷ []) []) k ∙ append-nil (filter q (take i rows))))
 
-pub are_rows_push : (rows : List Row) (row : Row) → AreRows rows → IsRow row → AreRows (rows ++ row ∷ [])
-are_rows_push [] row all is = (is, tt)
-are_rows_push (r ∷ rows) row all is = (all.0, are_rows_push rows row all.1 is)
-
 -- ---- rows
 
 published_kind : (now : ℕ) (c : Content) → content_kind (at_publishing now c) ≡ content_kind c
 unfolding at_publishing
-published_kind now (contents.Event b) = refl
-published_kind now (contents.Object b) = refl
-published_kind now (contents.Attribute b) = refl
-published_kind now (contents.Reference b) = refl
-published_kind now (contents.Proposal b) = refl
-published_kind now (contents.Verdict b) = refl
-published_kind now (contents.Sighting b) = refl
-published_kind now contents.Gone = refl
+published_kind now (Content.Event b) = refl
+published_kind now (Content.Object b) = refl
+published_kind now (Content.Attribute b) = refl
+published_kind now (Content.Reference b) = refl
+published_kind now (Content.Proposal b) = refl
+published_kind now (Content.Verdict b) = refl
+published_kind now (Content.Sighting b) = refl
+published_kind now Content.Gone = refl
 
 published_content : (now : ℕ) (may : Bool) (c : Content) → IsStamp now → IsContent may c → IsContent may (at_publishing now c)
 unfolding at_publishing
-published_content now may (contents.Event b) s h = (h.0, (h.1.0, (h.1.1.0, (h.1.1.1.0, (s, h.1.1.1.1.1)))))
-published_content now may (contents.Object b) s h = h
-published_content now may (contents.Attribute b) s h = h
-published_content now may (contents.Reference b) s h = h
-published_content now may (contents.Proposal b) s h = h
-published_content now may (contents.Verdict b) s h = h
-published_content now may (contents.Sighting b) s h = h
-published_content now may contents.Gone s h = h
+published_content now may (Content.Event b) s h = (h.0, (h.1.0, (h.1.1.0, (h.1.1.1.0, (s, h.1.1.1.1.1)))))
+published_content now may (Content.Object b) s h = h
+published_content now may (Content.Attribute b) s h = h
+published_content now may (Content.Reference b) s h = h
+published_content now may (Content.Proposal b) s h = h
+published_content now may (Content.Verdict b) s h = h
+published_content now may (Content.Sighting b) s h = h
+published_content now may Content.Gone s h = h
 
 -- a row that has no flag is a row
 no_flags : (k l : ℕ) (h a : Bool) → ((k == 0) || ((k == 7) && (l == 0) && not h && not a)) ≡ true → ((k == 0) || ((k == 7) && (l == 0) && not false && not false)) ≡ true
 no_flags k l h a g = grind (arith, g)
 
 free_fits : (key : Key) (l k : ℕ) (h a : Bool) → fits key l (h, a) k ≡ true → fits key l (false, false) k ≡ true
-free_fits (Element e places.Event) l k h a g = no_flags k l h a g
-free_fits (Element e (places.Object x)) l k h a g = g
-free_fits (Element e (places.Attribute x)) l k h a g = g
-free_fits (Element e (places.ObjectAttribute x y)) l k h a g = g
+free_fits (Element e Place.Event) l k h a g = no_flags k l h a g
+free_fits (Element e (Place.Object x)) l k h a g = g
+free_fits (Element e (Place.Attribute x)) l k h a g = g
+free_fits (Element e (Place.ObjectAttribute x y)) l k h a g = g
 free_fits (Reference e x t u) l k h a g = g
 free_fits (Proposal e n) l k h a g = g
 free_fits (Verdict e n i o) l k h a g = g
@@ -201,29 +175,3 @@ published_is_row stamp now row s n is = (
     ),
   ),
 )
-
-pub cleared_is_row : (row : Row) → IsRow row → IsRow (cleared_row row)
-unfolding cleared_row
-cleared_is_row row is = (is.0, (is.1.0, (is.1.1.0, (is.1.1.1.0, (tt, (free_fits row.key (label_kind row.label) (content_kind row.content) row.held row.carried is.1.1.1.1.1.0, is.1.1.1.1.1.1))))))
-
--- ---- the stamp
-
-abbrev some_of : ℕ → Option ℕ → ℕ
-some_of n None = n
-some_of n (Some m) = m
-
-pub next_is : (old now stamp : ℕ) → next_of old now ≡ Some stamp → (eqb old last_stamp ≡ false) × (stamp ≡ max now (old + 1))
-unfolding last_stamp
-next_is old now stamp h = one (old == LAST_SECOND) refl h
-  where
-    one : (b : Bool) → (old == LAST_SECOND) ≡ b → (if b then None else Some (max now (old + 1))) ≡ Some stamp → (eqb old 253402300799 ≡ false) × (stamp ≡ max now (old + 1))
-    one true e g = absurd (false≢true (ap is_some g))
-    one false e g = (grind (arith, nat_tests, e), sym (ap (some_of 0) g))
-
-pub next_none : (old now : ℕ) → next_of old now ≡ None → eqb old last_stamp ≡ true
-unfolding last_stamp
-next_none old now h = one (old == LAST_SECOND) refl h
-  where
-    one : (b : Bool) → (old == LAST_SECOND) ≡ b → (if b then None else Some (max now (old + 1))) ≡ None → eqb old 253402300799 ≡ true
-    one true e g = grind (arith, nat_tests, e)
-    one false e g = absurd (false≢true (sym (ap is_some g)))

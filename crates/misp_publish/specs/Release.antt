@@ -1,14 +1,10 @@
 -- What a publishing writes, by the rows of one event.
-use Rattle.std.specs.Prelude.{◌≡◌, ℕ, Bool, false, not, ◌&&◌, List, ◌∷◌, map}
-use Rattle.std.specs.List.{filter}
-use Rattle.misp_ids.specs.declared.uid.OrgId.{OrgId}
-use Rattle.misp_ids.specs.declared.uid.EventId.{EventId}
-use Rattle.misp_elem.specs.declared.row.RowFields.{RowFields as Row}
-use Rattle.misp_requests.specs.declared.change.Change.TheVariants.{Publish}
-use Rattle.misp_model.specs.Names.{same_org, event_key}
-use Rattle.misp_model.specs.History.{fresh_row}
-use Rattle.misp_model.specs.Asking.{Scene, at_publishing, change_writes, is_at_limit}
-use Rattle.misp_publish.specs.Copies.{is_event_row}
+use Rattle.std.specs.Prelude.{◌≡◌, ℕ, Bool, false, not, ◌&&◌, List, map, None}
+use Rattle.misp_rules.specs.Prelude.{EventId, OrgId, Row, Scene, at_publishing, change_rules, change_writes, event_key, first_rule, is_at_limit, same_org}
+use Rattle.misp_rules.specs.declared.change.Change.{Change}
+use Rattle.misp_rules.specs.declared.change.Change.TheVariants.{Publish}
+use Rattle.misp_history.specs.History.{fresh_row}
+use Rattle.misp_copies.specs.Copies.{is_event_row}
 
 -- the row of an event, published at this moment under this stamp
 unfoldable pub at_stamp : ℕ → ℕ → Row → Row
@@ -32,3 +28,8 @@ is_released o row = same_org row.owner o && (row.held && not (is_event_row o row
 abbrev pub Publishes : Scene → EventId → List Row → Type 0
 Publishes s e rows =
     (is_at_limit s (event_key e) ≡ false) × (rows ≡ map fresh_row (change_writes s (Publish e)))
+
+-- no rule refuses the change, and these are the rows of what is written
+abbrev pub Changes : Scene → Change → List Row → Type 0
+Changes s c rows =
+    (first_rule (change_rules s c) ≡ None) × (rows ≡ map fresh_row (change_writes s c))

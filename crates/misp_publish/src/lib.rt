@@ -1,13 +1,10 @@
-//! The state of a copy, what it takes, and what a publishing writes.
+//! What a publishing writes, or the rule that refuses it.
 #![tactic(auto)]
 
-mod copies;
 mod fault;
-mod laws;
 mod publishing;
-mod rows;
+mod releasing;
 
-pub use copies::{CopyState, state, takes};
 pub use fault::PublishFault;
-pub use laws::a_copy_takes_what_is_welcome;
-pub use publishing::release;
+pub use publishing::publish;
+pub use releasing::release;

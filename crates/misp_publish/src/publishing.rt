@@ -1,159 +1,53 @@
-//! What a publishing writes.
+//! Publishing an event.
 
-ghost use Rattle.std.specs.Prelude.{◌≡◌, ◌++◌, true, map, is_some, IfOk, IfErr};
-ghost use Rattle.std.specs.List.{filter, find};
-ghost use Rattle.std.specs.Option.{option_copied};
-ghost use Rattle.misp_ids.specs.declared.uid.EventId.{EventId};
-ghost use Rattle.misp_elem.specs.Row.{IsRow, AreRows};
-ghost use Rattle.misp_model.specs.Names.{event_key};
-ghost use Rattle.misp_model.specs.History.{fresh_row};
-ghost use Rattle.misp_model.specs.Asking as asking;
-ghost use Rattle.misp_model.specs.Asking.{Scene, is_at_limit};
-ghost use Rattle.misp_publish.specs.Copies.{AreOf, is_event_row};
-ghost use Rattle.misp_publish.specs.Release.{Publishes, at_stamp, cleared_row, is_released};
-ghost use Rattle.misp_publish.specs.declared.fault.PublishFault.TheVariants as faults;
+ghost use Rattle.std.specs.Prelude.{◌≡◌, ℕ, List, IfOk, IfErr};
+ghost use Rattle.misp_elem.specs.Row.{AreRows};
+ghost use Rattle.misp_rules.specs.declared.change.Change.TheVariants.{Publish};
+ghost use Rattle.misp_rules.specs.Changing.{change_rules};
+ghost use Rattle.misp_copies.specs.Copies.{AreOf};
+ghost use Rattle.misp_copies.specs.Scenes.{scene_of};
+ghost use Rattle.misp_copies.specs.Barring.{Refuses};
+ghost use Rattle.misp_publish.specs.Release.{Changes};
 
 use crate::fault::PublishFault;
-use crate::rows::is_event_row;
-use misp_elem::{Content, KeyForm, Row, RowFields};
-use misp_ids::{Label, NoMemory, OrgId, Stamp};
+use crate::releasing::release;
+use misp_copies::{ChangeFault, Viewer, may_change};
+use misp_elem::Row;
+use misp_groups::Groups;
+use misp_ids::{EventId, InstId, OrgId, Stamp};
 use std::alloc::Global;
 
-// The owner's row of the event itself.
-fn event_row<'a>(rows: &'a [Row], owner: &OrgId) -> Option<&'a Row>
-    ensures { option_copied result ≡ find (is_event_row owner.now) rows.now }
-{
-    for row in rows {
-        if is_event_row(row, owner) {
-            return Some(row);
-        }
-    }
-    None
-}
-
-// The content, published at this moment.
-#[tactic(auto, unfolding(misp_model::specs::Asking::at_publishing))]
-fn published(content: &Content, now: Stamp) -> Result<Content, NoMemory>
-    ensures { IfOk result (λ made. made ≡ asking.at_publishing now content.now) }
-{
-    let mut copy = content.clone()?;
-    if let Content::Event(body) = &mut copy {
-        body.publish_stamp = now;
-    }
-    Ok(copy)
-}
-
-fn owner_of(row: &Row) -> OrgId
-    ensures { result ≡ row.now.owner }
-{
-    row.owner
-}
-
-fn key_of(row: &Row) -> KeyForm
-    ensures { result ≡ row.now.key }
-{
-    row.key.form
-}
-
-fn label_of(row: &Row) -> Label
-    ensures { result ≡ row.now.label }
-{
-    row.label
-}
-
-fn published_content(row: &Row, now: Stamp) -> Result<Content, NoMemory>
-    ensures { IfOk result (λ made. made ≡ asking.at_publishing now row.now.content) }
-{
-    published(&row.content, now)
-}
-
-// The event's own row, published at this moment under this stamp.
-#[tactic(auto, unfolding(crate::specs::Release::at_stamp))]
-fn published_row(row: &Row, stamp: Stamp, now: Stamp) -> Result<Row, NoMemory>
-    ensures value { IfOk result (λ made. made ≡ at_stamp stamp now row.now) }
-    ensures is_row { IfOk result IsRow }
-{
-    let (_stamp, _now, _held) = (stamp.get(), now.get(), row.held);
-    let content = published_content(row, now)?;
-    let (owner, key, label) = (owner_of(row), key_of(row), label_of(row));
-    Ok(Row::of(RowFields {
-        owner,
-        key,
-        stamp,
-        label,
-        held: false,
-        carried: false,
-        content,
-    }))
-}
-
-// The row with no hold.
-#[tactic(auto, unfolding(crate::specs::Release::cleared_row))]
-fn cleared(row: &Row) -> Result<Row, NoMemory>
-    ensures value { IfOk result (λ made. made ≡ cleared_row row.now) }
-    ensures is_row { IfOk result IsRow }
-{
-    Ok(Row::of(RowFields {
-        owner: row.owner,
-        key: row.key.form,
-        stamp: row.stamp,
-        label: row.label,
-        held: false,
-        carried: false,
-        content: row.content.clone()?,
-    }))
-}
-
-// Whether it is a held row of the owner's, and not that of an event itself.
-#[tactic(auto, unfolding(crate::specs::Release::is_released, crate::specs::Copies::is_event_row, misp_model::specs::Names::same_org))]
-fn is_released(row: &Row, owner: &OrgId) -> bool
-    ensures { result ≡ is_released owner.now row.now }
-{
-    row.owner.0.0 == owner.0.0 && (row.held && !is_event_row(row, owner))
-}
-
-// The rows, and after them the held ones of the owner's with no hold.
-fn with_cleared(mut made: Vec<Row>, rows: &[Row], owner: &OrgId) -> Result<Vec<Row>, NoMemory>
-    requires { AreRows made.items }
-    ensures all { IfOk result (λ all. all.items
-        ≡ made.items ++ map cleared_row (filter (is_released owner.now) rows.now)) }
-    ensures are_rows { IfOk result (λ all. AreRows all.items) }
-{
-    for row in rows {
-        if is_released(row, owner) {
-            made.push(cleared(row)?)?;
-        }
-    }
-    Ok(made)
-}
-
-/// The rows that a publishing of the owner's copy writes, where the rows are those of one event and
-/// the copy is there: the event's own with a later stamp, published at this moment and with no
-/// hold, and each held row of the copy with no hold.
-pub fn release(
+/// The rows that publishing the event writes. The groups are those of the instance `here`, and the
+/// rows those that the caller knows of the event.
+pub fn publish(
     alloc: Global,
-    rows: &[Row],
-    owner: &OrgId,
+    event: &EventId,
+    org: &OrgId,
+    groups: &Groups,
+    here: &InstId,
     now: Stamp,
-) -> Result<Vec<Row>, PublishFault>
-    requires there { is_some (find (is_event_row owner.now) rows.now) ≡ true }
-    ensures ok { (s : Scene) (e : EventId) →
-        AreOf e rows.now → s.rows ≡ rows.now → s.by ≡ owner.now → s.now ≡ now →
-        IfOk result (λ made. Publishes s e made.items) }
-    ensures limit { (s : Scene) (e : EventId) →
-        AreOf e rows.now → s.rows ≡ rows.now → s.by ≡ owner.now →
-        IfErr result (λ fault. fault ≡ faults.TimeLimit → is_at_limit s (event_key e) ≡ true) }
+    rows: &[Row],
+) -> Result<Vec<Row>, ChangeFault>
+    requires { AreOf event.now rows.now }
+    ensures err { (act : ℕ) (name today : List ℕ) → IfErr result
+        (Refuses (change_rules (scene_of act here.now org.now name now today groups.now rows.now)
+        (Publish event.now))) }
+    ensures ok { (act : ℕ) (name today : List ℕ) → IfOk result (λ made.
+        Changes (scene_of act here.now org.now name now today groups.now rows.now)
+        (Publish event.now) made.items) }
     ensures are_rows { IfOk result (λ made. AreRows made.items) }
 {
-    let own = match event_row(rows, owner) {
-        Some(own) => own,
-        None => unreachable!(),
+    let who = Viewer {
+        groups,
+        here: *here,
+        org: *org,
     };
-    let stamp = match Stamp::next(own.stamp, now) {
-        Some(stamp) => stamp,
-        None => return Err(PublishFault::TimeLimit),
-    };
-    let mut made = Vec::with_capacity(alloc, 1)?;
-    made.push(published_row(own, stamp, now)?)?;
-    Ok(with_cleared(made, rows, owner)?)
+    match may_change(rows, &who, event, true) {
+        Err(fault) => Err(fault),
+        Ok(()) => match release(alloc, rows, org, now) {
+            Ok(made) => Ok(made),
+            Err(PublishFault::TimeLimit) => Err(ChangeFault::TimeLimit),
+            Err(PublishFault::NoMemory) => Err(ChangeFault::NoMemory),
+        },
+    }
 }

@@ -1,12 +1,10 @@
 -- Decimal and hexadecimal digits, one after another.
 use Rattle.std.proofs.Common.{◌≡◌, ℕ, zero, suc, ◌+◌, ◌-◌, ◌*◌, ◌^◌, ◌<◌, ◌≤◌, true, List, [], ◌∷◌, length, get_or, take, ap, add-one, arith}
 use Rattle.std.specs.Char.{is_ascii_digit, digit_value}
-use Rattle.std.specs.List.{list_all}
 use Rattle.std.specs.Str.Parse.{digits_value}
 use Rattle.std.proofs.Math.Nat.{pow-suc, pow-le-pow_right}
-use Rattle.std.proofs.lemmas.Bool.{and_parts}
-use Rattle.std.proofs.lemmas.Bool.Decides.{nat_tests}
 use Rattle.std.proofs.lemmas.Int.Digits.{digits_value_more}
+use Rattle.misp_lists.proofs.Prelude.{and_parts, list_all, nat_tests}
 use Rattle.misp_script.specs.Numbers.{is_lower_hex}
 
 one_digit : (d : ℕ) → is_ascii_digit d ≡ true → (48 ≤ d) × (d < 58) × (digit_value d ≡ d - 48)

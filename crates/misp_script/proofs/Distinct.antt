@@ -1,23 +1,21 @@
 -- Entries of which no two are equal.
-use Rattle.std.proofs.Common.{◌≡◌, ℕ, ◌+◌, Bool, true, false, not, ◌&&◌, ◌||◌, List, [], ◌∷◌, length, Some, None, Ok, refl, sym, ap, ◌∙◌, inl, inr, arith}
-use Rattle.std.specs.Prelude.{codes}
-use Rattle.std.specs.Str.{bytes_eq}
-use Rattle.std.specs.Option.{option_map_or}
-use Rattle.std.specs.List.{AllByRecursion, IsDistinct}
-use Rattle.std.proofs.lemmas.Bool.{cases_Bool, and_from}
-use Rattle.std.proofs.lemmas.List.{length-append}
+use Rattle.std.proofs.Common.{◌≡◌, ℕ, ◌+◌, Bool, true, false, not, ◌&&◌, ◌||◌, List, [], ◌∷◌, length, Some, None, Ok, refl, sym, ap, ◌∙◌, inl, inr, arith, codes, bytes_eq, length-append}
 use Rattle.toml.specs.Data.{Data}
+use Rattle.misp_lists.proofs.Prelude.{AllByRecursion, IsDistinct, and_from, cases_Bool, ok_keeps, option_map_or}
+use Rattle.misp_lists.proofs.All.{all_last}
+use Rattle.misp_lists.proofs.Distinct.{distinct_last, distinct_none}
 use Rattle.misp_orgs.specs.Org.{OrgFields}
 use Rattle.misp_orgs.specs.Admin.{AreDistinct, same_uuid, same_key, same_name}
 use Rattle.misp_script.specs.declared.description.Host.{Host}
 use Rattle.misp_script.specs.declared.description.HostKey.{HostKey}
 use Rattle.misp_script.specs.declared.description.HostLink.{HostLink}
-use Rattle.misp_script.specs.declared.fault.DescNeed.TheVariants as needs
+use Rattle.misp_script.specs.declared.fault.DescNeed.{DescNeed}
 use Rattle.misp_script.specs.Entries.{Body, entry_of, text_at, text_or_none_at, said, flag_or_at, refused_if, no_other, each}
-use Rattle.misp_script.specs.Tables.{org_name_at, uuid_at, has_name, has_number, org_at, next_org, host_name_at, has_host, host_at, next_host, host_of, has_key, known_host_at, known_org_at, api_key_at, role_at, partner_at, key_at, next_key, has_link, host_in, is_taken, link_at, next_link}
+use Rattle.misp_script.specs.Tables.{org_name_at, uuid_at, has_name, has_number, org_at, next_org, host_name_at, has_host, host_at, next_host, host_of, has_key, known_host_at, known_org_at, api_key_at, role_at, partner_at, key_at}
+use Rattle.misp_script.specs.Tables.{next_key, has_link, host_in, is_taken, link_at, next_link}
 use Rattle.misp_script.specs.Network.{keys_of, links_of}
-use Rattle.misp_script.proofs.Parts.{bytes_eq-refl, all_last, distinct_last, distinct_none, distinct_own}
-use Rattle.misp_script.proofs.Steps.{bind_keeps, ok_keeps, not_bad, each_keeps, adds_keep, or_bad_is, text_is}
+use Rattle.misp_script.proofs.Parts.{bytes_eq-refl, distinct_own}
+use Rattle.misp_script.proofs.Steps.{bind_keeps, not_bad, each_keeps, adds_keep, or_bad_is, text_is}
 
 -- ---- organisations
 
@@ -26,9 +24,9 @@ unfolding org_at
 org_new before it o h =
     let P : OrgFields → Type 0 = λ o. has_number before o.uuid.0.0 ≡ false in
     bind_keeps P (org_name_at it) _ (λ name is1.
-    bind_keeps P (refused_if (has_name before name) it (codes "name") needs.Distinct) _ (λ new_name is2.
+    bind_keeps P (refused_if (has_name before name) it (codes "name") DescNeed.Distinct) _ (λ new_name is2.
     bind_keeps P (uuid_at it) _ (λ uuid is3.
-    bind_keeps P (refused_if (has_number before uuid.0) it (codes "uuid") needs.Distinct) _ (λ new_uuid is4.
+    bind_keeps P (refused_if (has_number before uuid.0) it (codes "uuid") DescNeed.Distinct) _ (λ new_uuid is4.
     bind_keeps P (no_other it (codes "name" ∷ codes "uuid" ∷ [])) _ (λ no_more is5.
     ok_keeps P _ (not_bad (has_number before uuid.0) _ _ new_uuid is4)))))) o h
 
@@ -47,7 +45,7 @@ unfolding host_at
 host_new before it x h =
     let P : Host → Type 0 = λ x. has_host before x.name ≡ false in
     bind_keeps P (host_name_at it) _ (λ name is1.
-    bind_keeps P (refused_if (has_host before name) it (codes "name") needs.Distinct) _ (λ new is2.
+    bind_keeps P (refused_if (has_host before name) it (codes "name") DescNeed.Distinct) _ (λ new is2.
     bind_keeps P (text_or_none_at it (codes "address")) _ (λ address is3.
     bind_keeps P (no_other it (codes "name" ∷ codes "address" ∷ [])) _ (λ no_more is4.
     ok_keeps P _ (not_bad (has_host before name) _ _ new is2))))) x h
@@ -76,7 +74,7 @@ key_new orgs hosts before it k h =
     let P : HostKey → Type 0 = λ k. has_key before k.at k.key.key ≡ false in
     bind_keeps P (known_host_at hosts it (codes "instance")) _ (λ at is1.
     bind_keeps P (api_key_at it) _ (λ key is2.
-    bind_keeps P (refused_if (has_key before at key) it (codes "key") needs.Distinct) _ (λ new is3.
+    bind_keeps P (refused_if (has_key before at key) it (codes "key") DescNeed.Distinct) _ (λ new is3.
     bind_keeps P (known_org_at orgs it (codes "org")) _ (λ org is4.
     bind_keeps P (role_at it) _ (λ role is5.
     bind_keeps P (partner_at hosts it role) _ (λ partner is6.
@@ -115,13 +113,13 @@ host_is (x ∷ xs) text name h = elim (cases_Bool (bytes_eq x.name text)) [
 
 host_read : (hosts : List Host) (it : Body) (member name : List ℕ) → known_host_at hosts it member ≡ Ok name → host_in hosts it member ≡ Some name
 host_read hosts it member name h =
-    bind_keeps (λ x. host_in hosts it member ≡ Some x) (text_at it member) (λ text. said it member needs.Known (host_of hosts text))
-    (λ text is x read. ap (λ o. option_map_or (host_of hosts) o None) (text_is it member text is) ∙ or_bad_is _ needs.Known (host_of hosts text) x read) name h
+    bind_keeps (λ x. host_in hosts it member ≡ Some x) (text_at it member) (λ text. said it member DescNeed.Known (host_of hosts text))
+    (λ text is x read. ap (λ o. option_map_or (host_of hosts) o None) (text_is it member text is) ∙ or_bad_is _ DescNeed.Known (host_of hosts text) x read) name h
 
 host_there : (hosts : List Host) (it : Body) (member name : List ℕ) → known_host_at hosts it member ≡ Ok name → has_host hosts name ≡ true
 host_there hosts it member name h =
-    bind_keeps (λ x. has_host hosts x ≡ true) (text_at it member) (λ text. said it member needs.Known (host_of hosts text))
-    (λ text is x read. host_is hosts text x (or_bad_is _ needs.Known (host_of hosts text) x read)) name h
+    bind_keeps (λ x. has_host hosts x ≡ true) (text_at it member) (λ text. said it member DescNeed.Known (host_of hosts text))
+    (λ text is x read. host_is hosts text x (or_bad_is _ DescNeed.Known (host_of hosts text) x read)) name h
 
 link_new : (orgs : List OrgFields) (hosts : List Host) (before : List HostLink) (it : Body) (l : HostLink) → link_at orgs hosts before it ≡ Ok l
     → (has_link before l.at l.link.name ≡ false) × (is_apart hosts l ≡ true)
@@ -129,10 +127,10 @@ unfolding link_at
 link_new orgs hosts before it l h =
     let P : HostLink → Type 0 = λ l. (has_link before l.at l.link.name ≡ false) × (is_apart hosts l ≡ true) in
     bind_keeps P (host_name_at it) _ (λ name is1.
-    bind_keeps P (refused_if (is_taken hosts before it name) it (codes "name") needs.Distinct) _ (λ new is2.
+    bind_keeps P (refused_if (is_taken hosts before it name) it (codes "name") DescNeed.Distinct) _ (λ new is2.
     bind_keeps P (known_host_at hosts it (codes "at")) _ (λ at is3.
     bind_keeps P (known_host_at hosts it (codes "to")) _ (λ peer is4.
-    bind_keeps P (refused_if (bytes_eq peer at) it (codes "to") needs.Distinct) _ (λ other is5.
+    bind_keeps P (refused_if (bytes_eq peer at) it (codes "to") DescNeed.Distinct) _ (λ other is5.
     bind_keeps P (api_key_at it) _ (λ key is6.
     bind_keeps P (known_org_at orgs it (codes "holder")) _ (λ holder is7.
     bind_keeps P (known_org_at orgs it (codes "push_org")) _ (λ push_org is8.

@@ -1,11 +1,10 @@
 -- Texts, and lists of tables.
-use Rattle.std.proofs.Common.{◌≡◌, ℕ, Bool, true, false, List, [], ◌∷◌, codes, map, Some, refl, sym, ap}
-use Rattle.std.specs.Str.{IsUtf8, is_utf8}
-use Rattle.std.proofs.lemmas.Str.{IsUtf8-from_is_utf8, is_utf8-from_IsUtf8}
+use Rattle.std.proofs.Common.{◌≡◌, ℕ, Bool, true, false, List, [], ◌∷◌, codes, map, Some, refl, sym, ap, IsUtf8}
 use Rattle.toml.specs.Data.{Data, as_array}
 use Rattle.toml.specs.View.{items_of, view}
 use Rattle.toml.specs.declared.value.Value.{Value}
-use Rattle.misp_script.specs.declared.fault.DescNeed.TheVariants as needs
+use Rattle.misp_lists.proofs.Prelude.{IsUtf8-from_is_utf8, is_utf8, is_utf8-from_IsUtf8}
+use Rattle.misp_script.specs.declared.fault.DescNeed.{DescNeed}
 use Rattle.misp_script.specs.Faults.{bad}
 use Rattle.misp_script.specs.Network.{listed, items_in, parsed_at, document_at}
 
@@ -18,7 +17,7 @@ pub of_text : (bytes : List ℕ) → IsUtf8 bytes → document_at bytes ≡ pars
 of_text bytes text = rw (is_utf8-from_IsUtf8 bytes text) refl
 
 -- what is no text is refused
-pub of_no_text : (bytes : List ℕ) → (IsUtf8 bytes → ⊥) → document_at bytes ≡ bad (codes "-") needs.Toml
+pub of_no_text : (bytes : List ℕ) → (IsUtf8 bytes → ⊥) → document_at bytes ≡ bad (codes "-") DescNeed.Toml
 of_no_text bytes other = rw (not_true (is_utf8 bytes) (λ h. other (IsUtf8-from_is_utf8 bytes h))) refl
 
 -- the items of a list are the list

@@ -1,50 +1,24 @@
 -- The places of names, and organisations that ascend.
-use Rattle.std.proofs.Common.{◌≡◌, ℕ, suc, ◌+◌, ◌<◌, ltb, Bool, true, false, cond, List, [], ◌∷◌, ◌++◌, length, get_or, map, find, position, Option, Some, None, option_map, is_some, Result, Ok, Err, IfSome, refl, sym, ap, ◌∙◌, inl, inr, arith, Vec}
-use Rattle.std.specs.declared.cmp.Ordering.{Ordering}
-use Rattle.std.specs.declared.cmp.Ordering.TheVariants.{Less}
-use Rattle.std.specs.Ordering.{is_eq, nat_cmp}
-use Rattle.std.specs.Cmp.Lexicographic.{slice_cmp}
-use Rattle.std.specs.Global.{Global}
+use Rattle.std.proofs.Common.{◌≡◌, ℕ, suc, ◌+◌, ◌<◌, ltb, Bool, true, false, cond, List, [], ◌∷◌, ◌++◌, length, map, position, Option, Some, None, option_map, is_some, IfSome, refl, sym, ap, ◌∙◌, inl, inr, arith, Vec, Ordering, Less}
+use Rattle.std.proofs.Common.{is_eq, nat_cmp, Global, bytes_eq, BTreeMap}
 use Rattle.std.specs.Cmp.{eq_by_cmp_equiv}
-use Rattle.std.proofs.lemmas.Cmp.{nat_list_cmp_total}
-use Rattle.std.specs.Str.{bytes_eq}
-use Rattle.std.specs.Result.{MatchResult, is_ok}
-use Rattle.std.specs.List.{AllByRecursion, list_any, position_or_len}
-use Rattle.std.specs.List.Sorted.{IsStrictlySortedBy}
-use Rattle.std.specs.BTreeMap.{BTreeMap, UpdatesBy}
-use Rattle.std.specs.Map.{IsKeyTest, AreApart, KeepsOthers, lookup}
-use Rattle.std.proofs.lemmas.Bool.{cases_Bool}
-use Rattle.std.proofs.lemmas.Bool.Decides.{nat_tests}
+use Rattle.std.specs.List.{position_or_len}
+use Rattle.std.specs.BTreeMap.{UpdatesBy}
+use Rattle.std.specs.Map.{IsKeyTest, AreApart, KeepsOthers}
 use Rattle.std.proofs.lemmas.List.{map-append}
 use Rattle.std.proofs.lemmas.List.Quantifiers.{position-Some}
-use Rattle.std.proofs.lemmas.Map.Text.{is_eq-slice_cmp}
+use Rattle.misp_lists.proofs.Prelude.{IsStrictlySortedBy, cases_Bool, is_eq-slice_cmp, lookup, nat_list_cmp_total, nat_tests, slice_cmp}
+use Rattle.misp_lists.proofs.All.{all_map}
 use Rattle.misp_script.specs.Directory.{Roster, place_of, roster_names, place_in, HasPlaces}
 use Rattle.misp_script.proofs.Lookups.{bytes_eq-true}
 use Rattle.misp_script.proofs.Parts.{bytes_eq-refl}
 
 -- ---- organisations
 
-all_map : {A B : Type 0} (f : A → B) (P : B → Type 0) (xs : List A) → AllByRecursion (λ x. P (f x)) xs → AllByRecursion P (map f xs)
-all_map f P [] all = tt
-all_map f P (x ∷ xs) all = (all.0, all_map f P xs all.1)
-
--- what ascends by a number has numbers that ascend
 pub ascend_map : {A B : Type 0} (f : A → B) (order : B → B → Ordering) (xs : List A) → IsStrictlySortedBy (λ a b. order (f a) (f b)) xs → IsStrictlySortedBy order (map f xs)
 unfolding IsStrictlySortedBy
 ascend_map f order [] up = tt
-ascend_map f order (x ∷ xs) up = (all_map f (λ y. order (f x) y ≡ Less) xs up.0, ascend_map f order xs up.1)
-
-any_from_find : {A : Type 0} (p : A → Bool) (xs : List A) → is_some (find p xs) ≡ list_any p xs
-any_from_find p [] = refl
-any_from_find p (x ∷ xs) = elim (cases_Bool (p x)) [
-  | inl hit ↦ rw hit refl
-  | inr miss ↦ rw miss (any_from_find p xs)
-]
-
--- a search that ends at an item finds one
-pub any_from_search : {A : Type 0} (p : A → Bool) (xs : List A) (d : A) (r : Result ℕ ℕ) → MatchResult r (λ i. (e : A) → find p xs ≡ Some (get_or xs i e)) (λ i. find p xs ≡ None) → is_ok r ≡ list_any p xs
-any_from_search p xs d (Ok i) found = sym (ap is_some (found d)) ∙ any_from_find p xs
-any_from_search p xs d (Err i) none = sym (ap is_some none) ∙ any_from_find p xs
+ascend_map f order (x ∷ xs) up = (all_map f (λ y. order (f x) (f y) ≡ Less) (λ y. order (f x) y ≡ Less) (λ y h. h) xs up.0, ascend_map f order xs up.1)
 
 -- ---- places
 

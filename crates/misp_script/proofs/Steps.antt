@@ -1,10 +1,9 @@
 -- What holds of what is read in the end.
 use Rattle.std.proofs.Common.{◌≡◌, ℕ, ◌+◌, Bool, true, false, List, [], ◌∷◌, ◌++◌, Option, Some, None, Ok, Err, refl, ap}
 use Rattle.std.specs.Prelude.{⊤}
-use Rattle.std.specs.Option.{option_map_or}
 use Rattle.toml.specs.Data.{Data, get, as_str}
+use Rattle.misp_lists.proofs.Prelude.{ok_keeps, option_map_or}
 use Rattle.misp_script.specs.declared.fault.DescNeed.{DescNeed}
-use Rattle.misp_script.specs.declared.fault.DescNeed.TheVariants as needs
 use Rattle.misp_script.specs.Faults.{Reading, ◌>>=◌, bad, or_bad, bad_if}
 use Rattle.misp_script.specs.Entries.{Body, text_of, text_at, text_in, member_path, each}
 
@@ -13,12 +12,6 @@ pub bind_keeps : {A B : Type 0} (P : B → Type 0) (read : Reading A) (f : A →
     → ((x : A) → read ≡ Ok x → (y : B) → f x ≡ Ok y → P y) → (y : B) → read >>= f ≡ Ok y → P y
 bind_keeps P (Ok x) f each y h = each x refl y h
 bind_keeps P (Err fault) f each y h = absurd cc
-
-abbrev pub given : {A : Type 0} → A → Reading A
-given x = Ok x
-
-pub ok_keeps : {A : Type 0} (P : A → Type 0) (x : A) → P x → (y : A) → given x ≡ given y → P y
-ok_keeps P x holds y h = let same : x ≡ y = cc in rw (← same) holds
 
 pub not_bad : (test : Bool) (path : List ℕ) (need : DescNeed) (x : ⊤) → bad_if test path need ≡ Ok x → test ≡ false
 not_bad true path need x h = absurd cc
@@ -39,9 +32,9 @@ pub or_bad_is : {A : Type 0} (path : List ℕ) (need : DescNeed) (o : Option A) 
 or_bad_is path need None x h = absurd cc
 or_bad_is path need (Some y) x h = let same : y ≡ x = cc in ap (λ z. Some z) same
 
-text_by : (path : List ℕ) (got : Option Data) (text : List ℕ) → option_map_or (text_of path) got (bad path needs.Present) ≡ Ok text → option_map_or as_str got None ≡ Some text
+text_by : (path : List ℕ) (got : Option Data) (text : List ℕ) → option_map_or (text_of path) got (bad path DescNeed.Present) ≡ Ok text → option_map_or as_str got None ≡ Some text
 text_by path None text h = absurd cc
-text_by path (Some d) text h = or_bad_is path needs.Text (as_str d) text h
+text_by path (Some d) text h = or_bad_is path DescNeed.Text (as_str d) text h
 
 -- a text that is read is there
 pub text_is : (it : Body) (name text : List ℕ) → text_at it name ≡ Ok text → text_in it name ≡ Some text

@@ -1,14 +1,12 @@
 -- The text of a uuid is ASCII.
-use Rattle.std.proofs.Common.{◌≡◌, ℕ, ◌<◌, ◌==◌, ◌&&◌, true, false, List, get_or, slice_index, length, None, refl, inl, inr, arith}
-use Rattle.std.specs.List.{list_all}
-use Rattle.std.specs.Str.{IsAscii, IsUtf8}
-use Rattle.std.proofs.lemmas.Bool.{cases_Bool, cases_lt, and_parts}
-use Rattle.std.proofs.lemmas.Bool.Decides.{nat_tests}
+use Rattle.std.proofs.Common.{◌≡◌, ℕ, ◌<◌, ◌==◌, ◌&&◌, true, false, List, get_or, slice_index, length, None, refl, inl, inr, arith, IsAscii, IsUtf8}
+use Rattle.std.proofs.lemmas.Bool.{cases_lt}
 use Rattle.std.proofs.lemmas.List.{get_or_past}
 use Rattle.std.proofs.lemmas.List.Sums.{AllPass-from_list_all}
 use Rattle.std.proofs.lemmas.Str.{IsUtf8-from_ascii}
 use Rattle.uuid.specs.Text.{by_index, is_hex_digit, is_hyphen_place, hyphen_place, digit_place, digits_of, has_hyphens}
 use Rattle.uuid.proofs.TextLemmas.{by_index_at, by_index_length}
+use Rattle.misp_lists.proofs.Prelude.{and_parts, cases_Bool, list_all, nat_tests}
 use Rattle.misp_ids.specs.Uid.{read_uid}
 
 digit_small : (byte : ℕ) → is_hex_digit byte ≡ true → byte < 128

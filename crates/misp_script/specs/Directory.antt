@@ -1,13 +1,8 @@
 -- The instances that a line may name, and the organisations known at each.
 use Rattle.std.specs.Prelude.{◌≡◌, ℕ, ◌==◌, Bool, false, List, map, position, bytes_eq, slice_get, Option, Vec}
-use Rattle.std.specs.declared.cmp.Ordering.{Ordering}
 use Rattle.std.specs.Global.{Global}
-use Rattle.std.specs.Ordering.{nat_cmp}
-use Rattle.std.specs.Cmp.Lexicographic.{slice_cmp}
-use Rattle.std.specs.List.{list_any}
-use Rattle.std.specs.List.Sorted.{IsStrictlySortedBy}
-use Rattle.std.specs.Option.{option_map_or}
-use Rattle.std.specs.BTreeMap.{BTreeMap, get_by}
+use Rattle.std.specs.BTreeMap.{get_by}
+use Rattle.misp_lists.specs.Prelude.{BTreeMap, list_any, nat_cmp, option_map_or, slice_cmp}
 use Rattle.misp_ids.specs.declared.uid.OrgId.{OrgId}
 use Rattle.misp_script.specs.declared.description.Description.{Description}
 use Rattle.misp_script.specs.declared.description.Entry.{Entry}
@@ -45,14 +40,6 @@ knows rosters at org =
     option_map_or (λ roster. is_among roster.orgs org) (slice_get rosters at) false
 
 -- ---- how it is kept
-
--- by the number that the identifier is
-abbrev pub by_number : OrgId → OrgId → Ordering
-by_number a b = nat_cmp a.0.0 b.0.0
-
--- each organisation stands once, in ascending order
-abbrev pub IsRoster : Roster → Type 0
-IsRoster roster = IsStrictlySortedBy by_number roster.orgs
 
 -- the place that the map has for a text
 abbrev pub place_in : BTreeMap (Vec ℕ Global) ℕ → List ℕ → Option ℕ

@@ -1,12 +1,8 @@
 -- The entries of a list of tables, and their members.
 use Rattle.std.specs.Prelude.{ℕ, ◌+◌, Bool, List, [], ◌∷◌, ◌++◌, codes, decimal, bytes_eq, Option, is_some, None, Ok, ⊤, if◌then◌else◌}
-use Rattle.std.specs.List.{list_any}
-use Rattle.std.specs.Option.{option_map_or}
 use Rattle.toml.specs.Data.{Data, Members, no_members, member, get, as_str, as_bool, as_table}
-use Rattle.toml.specs.View.{view}
+use Rattle.misp_lists.specs.Prelude.{list_any, option_map_or}
 use Rattle.misp_script.specs.declared.fault.DescNeed.{DescNeed}
-use Rattle.misp_script.specs.declared.fault.DescNeed.TheVariants as needs
-use Rattle.misp_script.specs.declared.listed.Listed.{Listed}
 use Rattle.misp_script.specs.Faults.{Reading, ◌>>=◌, bad, or_bad, bad_if}
 
 -- ---- paths
@@ -26,9 +22,6 @@ pub record Body : Type 0 where
   pub path : List ℕ
   pub value : Data
 
-abbrev pub body_of : Listed → Body
-body_of it = record { path = entry_path it.list.now it.index; value = view it.value.now }
-
 abbrev pub entry_of : List ℕ → ℕ → Data → Body
 entry_of list n d = record { path = entry_path list n; value = d }
 
@@ -38,13 +31,13 @@ has it name = is_some (get name it.value)
 
 -- a text at a member's path
 abbrev pub text_of : List ℕ → Data → Reading (List ℕ)
-text_of path d = or_bad path needs.Text (as_str d)
+text_of path d = or_bad path DescNeed.Text (as_str d)
 
 -- the text that a member must have
 abbrev pub text_at : Body → List ℕ → Reading (List ℕ)
 text_at it name =
     option_map_or (text_of (member_path it.path name)) (get name it.value)
-    (bad (member_path it.path name) needs.Present)
+    (bad (member_path it.path name) DescNeed.Present)
 
 -- the text of a member, which is empty where there is none
 abbrev pub text_or_none_at : Body → List ℕ → Reading (List ℕ)
@@ -57,7 +50,7 @@ text_in it name = option_map_or as_str (get name it.value) None
 
 -- a flag at a member's path
 abbrev pub flag_of : List ℕ → Data → Reading Bool
-flag_of path d = or_bad path needs.Flag (as_bool d)
+flag_of path d = or_bad path DescNeed.Flag (as_bool d)
 
 -- the flag of a member, or what it is where there is none
 abbrev pub flag_or_at : Body → List ℕ → Bool → Reading Bool
@@ -80,7 +73,7 @@ abbrev pub none_beside : List ℕ → List (List ℕ) → Members → Reading �
 none_beside path names no_members = Ok tt
 none_beside path names (member name d ms) =
     if named_among names name then none_beside path names ms
-    else bad (member_path path name) needs.Member
+    else bad (member_path path name) DescNeed.Member
 
 abbrev pub no_other : Body → List (List ℕ) → Reading ⊤
 no_other it names = option_map_or (none_beside it.path names) (as_table it.value) (Ok tt)

@@ -1,24 +1,22 @@
 -- The first fault of a description.
 use Rattle.std.specs.Prelude.{◌≡◌, ℕ, Bool, List, codes, Option, Some, None, Result, Ok, Err, ⊤, if◌then◌else◌}
 use Rattle.misp_script.specs.declared.fault.DescNeed.{DescNeed}
-use Rattle.misp_script.specs.declared.fault.DescNeed.TheVariants as needs
 use Rattle.misp_script.specs.declared.fault.DescFault.{DescFault}
-use Rattle.misp_script.specs.declared.fault.DescFault.TheVariants as faults
 
 -- the word for a need
 unfoldable pub need_name : DescNeed → List ℕ
-need_name needs.Toml = codes "toml"
-need_name needs.Member = codes "member"
-need_name needs.Limit = codes "limit"
-need_name needs.Present = codes "present"
-need_name needs.Text = codes "text"
-need_name needs.Flag = codes "flag"
-need_name needs.Name = codes "name"
-need_name needs.Uuid = codes "uuid"
-need_name needs.Key = codes "key"
-need_name needs.Role = codes "role"
-need_name needs.Known = codes "known"
-need_name needs.Distinct = codes "distinct"
+need_name DescNeed.Toml = codes "toml"
+need_name DescNeed.Member = codes "member"
+need_name DescNeed.Limit = codes "limit"
+need_name DescNeed.Present = codes "present"
+need_name DescNeed.Text = codes "text"
+need_name DescNeed.Flag = codes "flag"
+need_name DescNeed.Name = codes "name"
+need_name DescNeed.Uuid = codes "uuid"
+need_name DescNeed.Key = codes "key"
+need_name DescNeed.Role = codes "role"
+need_name DescNeed.Known = codes "known"
+need_name DescNeed.Distinct = codes "distinct"
 
 -- a value, or the first fault
 abbrev pub Reading : Type 0 → Type 0
@@ -31,22 +29,17 @@ abbrev pub ◌>>=◌ : {A B : Type 0} → Reading A → (A → Reading B) → Re
 
 -- the fault is the one that reading gives, unless memory ran out
 abbrev pub Fails : {A : Type 0} → DescFault → Reading A → Type 0
-Fails faults.NoMemory read = Unit {0}
-Fails (faults.Bad path need) read = read ≡ Err (faults.Bad path need)
+Fails DescFault.NoMemory read = Unit {0}
+Fails (DescFault.Bad path need) read = read ≡ Err (DescFault.Bad path need)
 
 -- What a function returned is what reading gives, unless memory ran out.
 abbrev pub Gives : {A : Type 0} → Reading A → Reading A → Type 0
 Gives (Ok x) read = read ≡ Ok x
 Gives (Err fault) read = Fails fault read
 
--- the same of what it returned as view shows it
-abbrev pub Shows : {X A : Type 0} → (X → A) → Reading X → Reading A → Type 0
-Shows view (Ok x) read = read ≡ Ok (view x)
-Shows view (Err fault) read = Fails fault read
-
 -- a need at a path
 abbrev pub bad : {A : Type 0} → List ℕ → DescNeed → Reading A
-bad path need = Err (faults.Bad path need)
+bad path need = Err (DescFault.Bad path need)
 
 -- what there is, or a need at the path
 abbrev pub or_bad : {A : Type 0} → List ℕ → DescNeed → Option A → Reading A

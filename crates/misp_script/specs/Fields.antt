@@ -2,7 +2,6 @@
 use Rattle.std.specs.Prelude.{◌≡◌, ℕ, ◌+◌, ◌-◌, ◌==◌, Bool, List, length, take, drop, position, Option, Some, None, option_map, Result, Ok, Err, ⊤}
 use Rattle.std.specs.Option.{option_map_or}
 use Rattle.misp_script.specs.declared.field.BadLine.{BadLine}
-use Rattle.misp_script.specs.declared.field.Field.{Field}
 
 -- a value, or the place of the first field that is missing or not so
 abbrev pub Reading : Type 0 → Type 0
@@ -18,19 +17,11 @@ abbrev pub Shows : {X A : Type 0} → (X → A) → Reading X → Reading A → 
 Shows view (Ok x) read = read ≡ Ok (view x)
 Shows view (Err bad) read = read ≡ Err bad
 
--- a field: where it begins, its bytes, and what follows the space behind it, if there is one
+-- a field: where it begins, its bytes, and what follows the space after it, if there is one
 pub record FieldData : Type 0 where
   pub place : ℕ
   pub text : List ℕ
   pub rest : Option (List ℕ)
-
-abbrev pub field_of : Field → FieldData
-field_of field =
-    record {
-      place = field.place;
-      text = field.text.now;
-      rest = option_map (λ rest. rest.now) field.rest;
-    }
 
 abbrev pub is_space : ℕ → Bool
 is_space byte = byte == 32

@@ -1,11 +1,9 @@
 -- What is looked up while a description is read.
 use Rattle.std.specs.Prelude.{◌≡◌, ℕ, Bool, List, String}
 use Rattle.std.specs.Global.{Global}
-use Rattle.std.specs.declared.cmp.Ordering.{Ordering}
-use Rattle.std.specs.Ordering.{nat_cmp, ordering_then}
-use Rattle.std.specs.Cmp.Lexicographic.{slice_cmp}
-use Rattle.std.specs.BTreeMap.{BTreeMap, get_by_text}
-use Rattle.std.specs.BTreeSet.{BTreeSet, contains}
+use Rattle.std.specs.BTreeMap.{get_by_text}
+use Rattle.std.specs.BTreeSet.{BTreeSet}
+use Rattle.misp_lists.specs.Prelude.{BTreeMap, Ordering, contains, nat_cmp, ordering_then, slice_cmp}
 use Rattle.misp_ids.specs.declared.uid.OrgId.{OrgId}
 use Rattle.misp_orgs.specs.Org.{OrgFields}
 use Rattle.misp_script.specs.declared.description.Host.{Host}

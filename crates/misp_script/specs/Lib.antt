@@ -2,12 +2,14 @@ pub mod Directory
 pub mod Entries
 pub mod Faults
 pub mod Fields
+pub mod Kept
 pub mod Known
 pub mod Limits
 pub mod Lines
 pub mod Names
 pub mod Network
 pub mod Numbers
+pub mod Seen
 pub mod Source
 pub mod Step
 pub mod Tables

@@ -6,14 +6,14 @@ use Rattle.toml.specs.Data.{Data, Items, no_items, item, Members, no_members, me
 use Rattle.toml.specs.Parse.{parse_document}
 use Rattle.misp_orgs.specs.declared.link.Link.{Link}
 use Rattle.misp_orgs.specs.Keys.{KeyFields}
-use Rattle.misp_orgs.specs.Admin.{AreDistinct, admin_of}
+use Rattle.misp_orgs.specs.Admin.{admin_of}
 use Rattle.misp_orgs.specs.Org.{OrgFields}
 use Rattle.misp_script.specs.declared.description.Description.{Description}
 use Rattle.misp_script.specs.declared.description.Entry.{Entry}
 use Rattle.misp_script.specs.declared.description.Host.{Host}
 use Rattle.misp_script.specs.declared.description.HostKey.{HostKey}
 use Rattle.misp_script.specs.declared.description.HostLink.{HostLink}
-use Rattle.misp_script.specs.declared.fault.DescNeed.TheVariants as needs
+use Rattle.misp_script.specs.declared.fault.DescNeed.{DescNeed}
 use Rattle.misp_script.specs.Faults.{Reading, ◌>>=◌, bad, or_bad, bad_if}
 use Rattle.misp_script.specs.Limits.{org_limit, instance_limit, key_limit, link_limit}
 use Rattle.misp_script.specs.Entries.{named_among, each}
@@ -22,11 +22,11 @@ use Rattle.misp_script.specs.Tables.{next_org, next_host, next_key, next_link}
 -- ---- the text
 
 abbrev pub parsed_at : List ℕ → Reading Members
-parsed_at text = or_bad (codes "-") needs.Toml (parse_document text)
+parsed_at text = or_bad (codes "-") DescNeed.Toml (parse_document text)
 
 -- a text of TOML
 abbrev pub document_at : List ℕ → Reading Members
-document_at bytes = if is_utf8 bytes then parsed_at bytes else bad (codes "-") needs.Toml
+document_at bytes = if is_utf8 bytes then parsed_at bytes else bad (codes "-") DescNeed.Toml
 
 -- ---- the members of the whole
 
@@ -45,7 +45,7 @@ is_list_name name =
 abbrev pub all_known : Members → Reading ⊤
 all_known no_members = Ok tt
 all_known (member name d ms) =
-    if is_list_name name && is_table_list d then all_known ms else bad name needs.Member
+    if is_list_name name && is_table_list d then all_known ms else bad name DescNeed.Member
 
 -- the items as a list
 abbrev pub listed : Items → List Data
@@ -62,7 +62,7 @@ entries_at name ms = option_map_or items_in (get_member name ms) []
 -- ---- limits
 
 abbrev pub at_most : ℕ → List ℕ → List Data → Reading ⊤
-at_most limit name ds = bad_if (nat_lt limit (length ds)) name needs.Limit
+at_most limit name ds = bad_if (nat_lt limit (length ds)) name DescNeed.Limit
 
 abbrev pub within_limits : Members → Reading ⊤
 within_limits ms = do
@@ -80,11 +80,6 @@ keys_of keys name = map (λ k. k.key) (filter (λ k. bytes_eq k.at name) keys)
 -- its links
 abbrev pub links_of : List HostLink → List ℕ → List Link
 links_of links name = map (λ l. l.link) (filter (λ l. bytes_eq l.at name) links)
-
--- at no instance an identifier, a key or the name of a link stands twice
-abbrev pub AreApart : List OrgFields → List HostKey → List HostLink → Type 0
-AreApart orgs keys links =
-    (name : List ℕ) → AreDistinct orgs (keys_of keys name) (links_of links name)
 
 -- an instance knows every organisation; its keys and links are those of its name
 abbrev pub instance_of : List OrgFields → List HostKey → List HostLink → Host → Entry

@@ -13,7 +13,7 @@ ends_line (byte ∷ rest) = is_line_feed byte
 abbrev pub is_mark : List ℕ → Bool
 is_mark text = starts_with nat_eq text (codes "---") && ends_line (drop 3 text)
 
--- a line begins at the place: the first, or behind an LF
+-- a line begins at the place: the first, or after an LF
 abbrev pub begins_line : List ℕ → ℕ → Bool
 begins_line source at = (at == 0) || is_line_feed (slice_index source (at - 1))
 

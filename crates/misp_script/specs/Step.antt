@@ -1,15 +1,12 @@
 -- What a line says.
-use Rattle.std.specs.Prelude.{ℕ, ◌<◌, ◌&&◌, Bool, nat_le, nat_lt, List, [], length, codes, bytes_eq, Option, Some, None, option_map, unwrap_or, Ok, true, false, if◌then◌else◌}
+use Rattle.std.specs.Prelude.{ℕ, ◌<◌, ◌&&◌, Bool, nat_le, nat_lt, List, [], length, codes, bytes_eq, Option, Some, None, option_map, unwrap_or, Ok, true, false, if◌then◌else◌, option_and_then}
 use Rattle.std.specs.List.{list_all}
-use Rattle.std.specs.Option.{option_and_then}
 use Rattle.misp_ids.specs.declared.uid.Uid.{Uid}
 use Rattle.misp_ids.specs.declared.uid.OrgId.{OrgId}
 use Rattle.misp_ids.specs.Uid.{read_uid}
-use Rattle.misp_script.specs.declared.deed.Verb.{Verb}
-use Rattle.misp_script.specs.declared.deed.Verb.TheVariants as verbs
+use Rattle.misp_script.specs.declared.command.Verb.{Verb}
 use Rattle.misp_script.specs.declared.step.Step.{Step}
-use Rattle.misp_script.specs.declared.step.Deed.{Deed}
-use Rattle.misp_script.specs.declared.step.Deed.TheVariants as deeds
+use Rattle.misp_script.specs.declared.step.Command.{Command}
 use Rattle.misp_script.specs.declared.step.RequestLine.{RequestLine}
 use Rattle.misp_script.specs.declared.step.GroupLine.{GroupLine}
 use Rattle.misp_script.specs.Directory.{Roster, roster_names, place_of, knows}
@@ -34,16 +31,16 @@ pub record GroupData : Type 0 where
   pub add : Bool
   pub body : List ℕ
 
-pub data DeedData : Type 0 where
-  Nothing : DeedData
-  Request : RequestData → DeedData
-  Group : GroupData → DeedData
+pub data CommandData : Type 0 where
+  Nothing : CommandData
+  Request : RequestData → CommandData
+  Group : GroupData → CommandData
 
--- a step: its moment, its word and its deed
+-- a step: its moment, its word and its command
 pub record StepData : Type 0 where
   pub time : ℕ
   pub word : ℕ
-  pub deed : DeedData
+  pub command : CommandData
 
 abbrev pub request_data : RequestLine → RequestData
 request_data r =
@@ -58,16 +55,16 @@ request_data r =
 abbrev pub group_data : GroupLine → GroupData
 group_data g = record { at = g.at; org = g.org; add = g.add; body = g.body.now }
 
-abbrev pub deed_data : Deed → DeedData
-deed_data deeds.Nothing = Nothing
-deed_data (deeds.Request request) = Request (request_data request)
-deed_data (deeds.Group group) = Group (group_data group)
+abbrev pub command_data : Command → CommandData
+command_data Command.Nothing = Nothing
+command_data (Command.Request request) = Request (request_data request)
+command_data (Command.Group group) = Group (group_data group)
 
 abbrev pub step_data : Step → StepData
-step_data step = record { time = step.time; word = step.word; deed = deed_data step.deed }
+step_data step = record { time = step.time; word = step.word; command = command_data step.command }
 
 -- its instance is one of so many
-abbrev pub IsPlaced : ℕ → DeedData → Type 0
+abbrev pub IsPlaced : ℕ → CommandData → Type 0
 IsPlaced count Nothing = Unit {0}
 IsPlaced count (Request request) = request.at < count
 IsPlaced count (Group group) = group.at < count
@@ -76,10 +73,10 @@ IsPlaced count (Group group) = group.at < count
 
 abbrev pub verb_of : List ℕ → Option Verb
 verb_of text =
-    if bytes_eq text (codes "none") then Some verbs.Nothing
-    else if bytes_eq text (codes "req") then Some verbs.Request
-    else if bytes_eq text (codes "group-add") then Some verbs.AddGroup
-    else if bytes_eq text (codes "group-edit") then Some verbs.EditGroup
+    if bytes_eq text (codes "none") then Some Verb.Nothing
+    else if bytes_eq text (codes "req") then Some Verb.Request
+    else if bytes_eq text (codes "group-add") then Some Verb.AddGroup
+    else if bytes_eq text (codes "group-edit") then Some Verb.EditGroup
     else None
 
 -- a byte from 33 to 126
@@ -140,13 +137,13 @@ group_of rosters line add left = do
   body ← rest_of line org.rest
   Ok (record { at = at; org = named; add = add; body = body })
 
-abbrev pub deed_of : List Roster → List ℕ → Verb → Option (List ℕ) → Reading DeedData
-deed_of rosters line verbs.Nothing left = no_field line left >>= λ done. Ok Nothing
-deed_of rosters line verbs.Request left =
+abbrev pub command_of : List Roster → List ℕ → Verb → Option (List ℕ) → Reading CommandData
+command_of rosters line Verb.Nothing left = no_field line left >>= λ done. Ok Nothing
+command_of rosters line Verb.Request left =
     request_of rosters line left >>= λ request. Ok (Request request)
-deed_of rosters line verbs.AddGroup left =
+command_of rosters line Verb.AddGroup left =
     group_of rosters line true left >>= λ group. Ok (Group group)
-deed_of rosters line verbs.EditGroup left =
+command_of rosters line Verb.EditGroup left =
     group_of rosters line false left >>= λ group. Ok (Group group)
 
 -- a time, a word, and a verb with its fields
@@ -158,5 +155,5 @@ step_of rosters line = do
   number ← kept word.place (word_of word.text)
   verb ← next_field line word.rest
   named ← kept verb.place (verb_of verb.text)
-  deed ← deed_of rosters line named verb.rest
-  Ok (record { time = moment; word = number; deed = deed })
+  command ← command_of rosters line named verb.rest
+  Ok (record { time = moment; word = number; command = command })

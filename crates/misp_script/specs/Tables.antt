@@ -1,21 +1,18 @@
 -- THE TABLES of a description: the members of each, in the order in which they are read.
-use Rattle.std.specs.Prelude.{ℕ, ◌==◌, ◌&&◌, Bool, not, nat_le, nat_lt, List, [], ◌∷◌, ◌++◌, length, codes, bytes_eq, find, Option, Some, None, option_map, is_some, true, false, Ok, if◌then◌else◌}
-use Rattle.std.specs.List.{list_any}
-use Rattle.std.specs.Option.{option_map_or}
-use Rattle.std.specs.Str.{chars}
+use Rattle.std.specs.Prelude.{ℕ, ◌==◌, ◌&&◌, Bool, not, nat_le, nat_lt, List, [], ◌∷◌, ◌++◌, length, codes, bytes_eq, find, Option, Some, None, option_map, is_some, true, false, Ok, if◌then◌else◌, chars}
 use Rattle.std.specs.Char.{is_control}
 use Rattle.toml.specs.Data.{Data}
+use Rattle.misp_lists.specs.Prelude.{list_any, option_map_or}
 use Rattle.misp_ids.specs.declared.uid.Uid.{Uid}
 use Rattle.misp_ids.specs.declared.uid.OrgId.{OrgId}
 use Rattle.misp_ids.specs.Uid.{read_uid}
 use Rattle.misp_ids.specs.Names.{is_inst_name, is_api_key}
 use Rattle.misp_orgs.specs.declared.role.Role.{Role}
-use Rattle.misp_orgs.specs.declared.role.Role.TheVariants as roles
 use Rattle.misp_orgs.specs.Org.{name_limit, OrgFields}
 use Rattle.misp_script.specs.declared.description.Host.{Host}
 use Rattle.misp_script.specs.declared.description.HostKey.{HostKey}
 use Rattle.misp_script.specs.declared.description.HostLink.{HostLink}
-use Rattle.misp_script.specs.declared.fault.DescNeed.TheVariants as needs
+use Rattle.misp_script.specs.declared.fault.DescNeed.{DescNeed}
 use Rattle.misp_script.specs.Faults.{Reading, ◌>>=◌}
 use Rattle.misp_script.specs.Entries.{Body, entry_of, has, text_in, text_at, text_or_none_at, flag_or_at, said, refused_if, no_other}
 
@@ -44,17 +41,17 @@ has_number orgs number = list_any (λ o. o.uuid.0.0 == number) orgs
 
 abbrev pub org_name_at : Body → Reading (List ℕ)
 org_name_at it =
-    text_at it (codes "name") >>= λ text. said it (codes "name") needs.Name (org_name_of text)
+    text_at it (codes "name") >>= λ text. said it (codes "name") DescNeed.Name (org_name_of text)
 
 abbrev pub uuid_at : Body → Reading Uid
-uuid_at it = text_at it (codes "uuid") >>= λ text. said it (codes "uuid") needs.Uuid (read_uid text)
+uuid_at it = text_at it (codes "uuid") >>= λ text. said it (codes "uuid") DescNeed.Uuid (read_uid text)
 
 unfoldable pub org_at : List OrgFields → Body → Reading OrgFields
 org_at before it = do
   name ← org_name_at it
-  new_name ← refused_if (has_name before name) it (codes "name") needs.Distinct
+  new_name ← refused_if (has_name before name) it (codes "name") DescNeed.Distinct
   uuid ← uuid_at it
-  new_uuid ← refused_if (has_number before uuid.0) it (codes "uuid") needs.Distinct
+  new_uuid ← refused_if (has_number before uuid.0) it (codes "uuid") DescNeed.Distinct
   no_more ← no_other it (codes "name" ∷ codes "uuid" ∷ [])
   Ok (record { uuid = record { 0 = uuid }; name = name })
 
@@ -71,12 +68,12 @@ has_host hosts name = list_any (λ h. bytes_eq h.name name) hosts
 
 abbrev pub host_name_at : Body → Reading (List ℕ)
 host_name_at it =
-    text_at it (codes "name") >>= λ text. said it (codes "name") needs.Name (host_name_of text)
+    text_at it (codes "name") >>= λ text. said it (codes "name") DescNeed.Name (host_name_of text)
 
 unfoldable pub host_at : List Host → Body → Reading Host
 host_at before it = do
   name ← host_name_at it
-  new ← refused_if (has_host before name) it (codes "name") needs.Distinct
+  new ← refused_if (has_host before name) it (codes "name") DescNeed.Distinct
   address ← text_or_none_at it (codes "address")
   no_more ← no_other it (codes "name" ∷ codes "address" ∷ [])
   Ok (record { name = name; address = address })
@@ -92,12 +89,12 @@ key_of text = if is_api_key text then Some text else None
 
 abbrev pub role_of : List ℕ → Option Role
 role_of text =
-    if bytes_eq text (codes "reader") then Some roles.Reader
-    else if bytes_eq text (codes "user") then Some roles.User
-    else if bytes_eq text (codes "publisher") then Some roles.Publisher
-    else if bytes_eq text (codes "orgadmin") then Some roles.OrgAdmin
-    else if bytes_eq text (codes "sync") then Some roles.Sync
-    else if bytes_eq text (codes "siteadmin") then Some roles.SiteAdmin
+    if bytes_eq text (codes "reader") then Some Role.Reader
+    else if bytes_eq text (codes "user") then Some Role.User
+    else if bytes_eq text (codes "publisher") then Some Role.Publisher
+    else if bytes_eq text (codes "orgadmin") then Some Role.OrgAdmin
+    else if bytes_eq text (codes "sync") then Some Role.Sync
+    else if bytes_eq text (codes "siteadmin") then Some Role.SiteAdmin
     else None
 
 -- the instance of this name
@@ -110,25 +107,25 @@ has_key keys at key = list_any (λ k. bytes_eq k.key.key key && bytes_eq k.at at
 
 abbrev pub known_host_at : List Host → Body → List ℕ → Reading (List ℕ)
 known_host_at hosts it name =
-    text_at it name >>= λ text. said it name needs.Known (host_of hosts text)
+    text_at it name >>= λ text. said it name DescNeed.Known (host_of hosts text)
 
 abbrev pub known_org_at : List OrgFields → Body → List ℕ → Reading OrgId
 known_org_at orgs it name =
-    text_at it name >>= λ text. said it name needs.Known (org_named orgs text)
+    text_at it name >>= λ text. said it name DescNeed.Known (org_named orgs text)
 
 abbrev pub api_key_at : Body → Reading (List ℕ)
-api_key_at it = text_at it (codes "key") >>= λ text. said it (codes "key") needs.Key (key_of text)
+api_key_at it = text_at it (codes "key") >>= λ text. said it (codes "key") DescNeed.Key (key_of text)
 
 abbrev pub role_at : Body → Reading Role
-role_at it = text_at it (codes "role") >>= λ text. said it (codes "role") needs.Role (role_of text)
+role_at it = text_at it (codes "role") >>= λ text. said it (codes "role") DescNeed.Role (role_of text)
 
 abbrev pub no_partner_at : Body → Reading (Option (List ℕ))
 no_partner_at it =
-    refused_if (has it (codes "partner")) it (codes "partner") needs.Member >>= λ none. Ok None
+    refused_if (has it (codes "partner")) it (codes "partner") DescNeed.Member >>= λ none. Ok None
 
 -- the partner of a key for synchronisation; no other key has one
 abbrev pub partner_at : List Host → Body → Role → Reading (Option (List ℕ))
-partner_at hosts it roles.Sync =
+partner_at hosts it Role.Sync =
     known_host_at hosts it (codes "partner") >>= λ partner. Ok (Some partner)
 partner_at hosts it role = no_partner_at it
 
@@ -136,7 +133,7 @@ unfoldable pub key_at : List OrgFields → List Host → List HostKey → Body �
 key_at orgs hosts before it = do
   at ← known_host_at hosts it (codes "instance")
   key ← api_key_at it
-  new ← refused_if (has_key before at key) it (codes "key") needs.Distinct
+  new ← refused_if (has_key before at key) it (codes "key") DescNeed.Distinct
   org ← known_org_at orgs it (codes "org")
   role ← role_at it
   partner ← partner_at hosts it role
@@ -166,10 +163,10 @@ is_taken hosts before it name =
 unfoldable pub link_at : List OrgFields → List Host → List HostLink → Body → Reading HostLink
 link_at orgs hosts before it = do
   name ← host_name_at it
-  new ← refused_if (is_taken hosts before it name) it (codes "name") needs.Distinct
+  new ← refused_if (is_taken hosts before it name) it (codes "name") DescNeed.Distinct
   at ← known_host_at hosts it (codes "at")
   peer ← known_host_at hosts it (codes "to")
-  other ← refused_if (bytes_eq peer at) it (codes "to") needs.Distinct
+  other ← refused_if (bytes_eq peer at) it (codes "to") DescNeed.Distinct
   key ← api_key_at it
   holder ← known_org_at orgs it (codes "holder")
   push_org ← known_org_at orgs it (codes "push_org")

@@ -2,7 +2,8 @@
 
 ghost use Rattle.std.specs.Prelude.{◌≡◌, ◌<◌, List, [], ◌∷◌, ◌++◌, map, length, IfOk, IfSome, OnOk};
 ghost use Rattle.std.specs.List.Sorted.{IsStrictlySortedBy};
-ghost use Rattle.misp_script.specs.Directory.{Roster as RosterData, HasPlaces, by_number, is_among, knows, place_of, roster_names, roster_of};
+ghost use Rattle.misp_script.specs.Directory.{Roster as RosterData, HasPlaces, is_among, knows, place_of, roster_names, roster_of};
+ghost use Rattle.misp_script.specs.Kept.{by_number};
 
 use crate::description::Entry;
 use misp_ids::{InstId, NoMemory, OrgId};
@@ -22,7 +23,8 @@ pub(crate) struct Roster {
 }
 
 impl Model for Roster {
-    ghost use Rattle.misp_script.specs.Directory.{Roster, IsRoster};
+    ghost use Rattle.misp_script.specs.Directory.{Roster};
+    ghost use Rattle.misp_script.specs.Kept.{IsRoster};
 
     ghost Value = { Roster };
 

@@ -3,7 +3,8 @@
 ghost use Rattle.std.specs.Prelude.{◌≡◌, map, codes};
 ghost use Rattle.toml.specs.View.{table_view, items_view, view};
 ghost use Rattle.misp_script.specs.declared.fault.DescNeed.TheVariants as needs;
-ghost use Rattle.misp_script.specs.Faults.{Gives, Shows, bad, bad_if};
+ghost use Rattle.misp_script.specs.Faults.{Gives, bad, bad_if};
+ghost use Rattle.misp_script.specs.Seen.{Shows};
 ghost use Rattle.misp_script.specs.Network.{parsed_at, document_at, all_tables, is_table_list, is_list_name, all_known, items_in, entries_at, at_most, within_limits};
 
 use crate::fault::{DescFault, DescNeed};

@@ -1,7 +1,8 @@
 //! The fields of a line.
 
 ghost use Rattle.std.specs.Prelude.{◌≡◌, option_map, position};
-ghost use Rattle.misp_script.specs.Fields.{Shows, is_space, field_of, up_to_space, after_space, field_in, next_field, kept, no_field};
+ghost use Rattle.misp_script.specs.Fields.{Shows, is_space, up_to_space, after_space, field_in, next_field, kept, no_field};
+ghost use Rattle.misp_script.specs.Seen.{field_of};
 
 /// A line that is not of its form: the first byte of the first field that is missing or not so.
 #[derive(Clone, Copy, Debug, PartialEq, Eq)]
@@ -9,7 +10,7 @@ pub struct BadLine {
     pub place: usize,
 }
 
-/// A field, and what follows the space behind it, if there is one.
+/// A field, and what follows the space after it, if there is one.
 #[derive(Clone, Copy, Drop)]
 pub(crate) struct Field<'a> {
     pub(crate) place: usize,
@@ -52,7 +53,7 @@ pub(crate) fn field_in<'a>(line: &[u8], left: &'a [u8]) -> Field<'a>
     }
 }
 
-/// The field behind another of the line.
+/// The field after another of the line.
 pub(crate) fn next_field<'a>(line: &[u8], before: &Field<'a>) -> Result<Field<'a>, BadLine>
     ensures { Shows field_of result (next_field line.now (field_of before.now).rest) }
 {
@@ -72,7 +73,7 @@ pub(crate) fn kept<T: Drop>(place: usize, read: Option<T>) -> Result<T, BadLine>
     }
 }
 
-/// No field is behind another of the line.
+/// No field is after another of the line.
 pub(crate) fn no_field(line: &[u8], before: &Field<'_>) -> Result<(), BadLine>
     ensures { result ≡ no_field line.now (field_of before.now).rest }
 {

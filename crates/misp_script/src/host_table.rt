@@ -6,7 +6,8 @@ ghost use Rattle.misp_script.specs.declared.fault.DescFault.TheVariants.{NoMemor
 ghost use Rattle.misp_script.specs.Known.{NamesHosts};
 ghost use Rattle.toml.specs.View.{view};
 ghost use Rattle.misp_script.specs.Faults.{Gives};
-ghost use Rattle.misp_script.specs.Entries.{body_of, each};
+ghost use Rattle.misp_script.specs.Entries.{each};
+ghost use Rattle.misp_script.specs.Seen.{body_of};
 ghost use Rattle.misp_script.specs.Tables.{has_host, host_of, host_name_at, host_at, next_host};
 
 use crate::description::Host;

@@ -2,8 +2,9 @@
 
 ghost use Rattle.std.specs.Prelude.{◌≡◌, [], ◌∷◌, ◌++◌, Ok, map};
 ghost use Rattle.toml.specs.View.{view};
-ghost use Rattle.misp_script.specs.Faults.{Gives, Shows};
-ghost use Rattle.misp_script.specs.Entries.{body_of, each};
+ghost use Rattle.misp_script.specs.Faults.{Gives};
+ghost use Rattle.misp_script.specs.Seen.{Shows, body_of};
+ghost use Rattle.misp_script.specs.Entries.{each};
 ghost use Rattle.misp_script.specs.Tables.{role_of, has_key, known_host_at, known_org_at, api_key_at, role_at, no_partner_at, partner_at, key_at, next_key};
 
 use crate::description::HostKey;

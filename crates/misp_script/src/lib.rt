@@ -1,7 +1,7 @@
 //! Descriptions of networks, and the lines of scripts.
 #![tactic(auto)]
 
-mod deed;
+mod command;
 mod description;
 mod directory;
 mod document;
@@ -29,4 +29,4 @@ pub use line::read_line;
 pub use lines::split_line;
 pub use network::read_description;
 pub use source::split_source;
-pub use step::{Deed, GroupLine, RequestLine, Step};
+pub use step::{Command, GroupLine, RequestLine, Step};

@@ -2,9 +2,9 @@
 
 ghost use Rattle.std.specs.Prelude.{IfOk, length};
 ghost use Rattle.misp_script.specs.Fields.{Shows};
-ghost use Rattle.misp_script.specs.Step.{step_data, deed_data, step_of, IsPlaced};
+ghost use Rattle.misp_script.specs.Step.{step_data, command_data, step_of, IsPlaced};
 
-use crate::deed::{deed, read_verb};
+use crate::command::{command, read_verb};
 use crate::directory::Directory;
 use crate::field::{BadLine, field_in, kept, next_field};
 use crate::numbers::{time, word};
@@ -15,7 +15,8 @@ use crate::step::Step;
 #[tactic(auto, unfolding(crate::specs::Step::step_of))]
 pub fn read_line<'a>(line: &'a [u8], directory: &Directory) -> Result<Step<'a>, BadLine>
     ensures step { Shows step_data result (step_of directory.now line.now) }
-    ensures placed { IfOk result (λ step. IsPlaced (length directory.now) (deed_data step.deed)) }
+    ensures placed { IfOk result
+        (λ step. IsPlaced (length directory.now) (command_data step.command)) }
 {
     let time_field = field_in(line, line);
     let time = kept(time_field.place, time(time_field.text))?;
@@ -23,6 +24,10 @@ pub fn read_line<'a>(line: &'a [u8], directory: &Directory) -> Result<Step<'a>, 
     let word = kept(word_field.place, word(word_field.text))?;
     let verb_field = next_field(line, &word_field)?;
     let verb = kept(verb_field.place, read_verb(verb_field.text))?;
-    let deed = deed(line, directory, verb, &verb_field)?;
-    Ok(Step { time, word, deed })
+    let command = command(line, directory, verb, &verb_field)?;
+    Ok(Step {
+        time,
+        word,
+        command,
+    })
 }

@@ -3,7 +3,8 @@
 ghost use Rattle.std.specs.Prelude.{◌≡◌, [], ◌∷◌, ◌++◌, Ok, map};
 ghost use Rattle.toml.specs.View.{view};
 ghost use Rattle.misp_script.specs.Faults.{Gives};
-ghost use Rattle.misp_script.specs.Entries.{body_of, each};
+ghost use Rattle.misp_script.specs.Entries.{each};
+ghost use Rattle.misp_script.specs.Seen.{body_of};
 ghost use Rattle.misp_script.specs.Tables.{has_link, host_in, is_taken, link_at, next_link};
 
 use crate::description::HostLink;

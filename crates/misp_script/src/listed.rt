@@ -3,8 +3,9 @@
 ghost use Rattle.std.specs.Prelude.{◌≡◌, ◌∷◌, Err, map, option_map, IfOk};
 ghost use Rattle.toml.specs.View.{view};
 ghost use Rattle.toml.specs.View.{table_view};
-ghost use Rattle.misp_script.specs.Faults.{Gives, Shows, bad};
-ghost use Rattle.misp_script.specs.Entries.{entry_path, member_path, body_of, has, text_in, text_at, text_or_none_at, flag_or_at, said, refused_if, named_among, none_beside, no_other};
+ghost use Rattle.misp_script.specs.Faults.{Gives, bad};
+ghost use Rattle.misp_script.specs.Seen.{Shows, body_of};
+ghost use Rattle.misp_script.specs.Entries.{entry_path, member_path, has, text_in, text_at, text_or_none_at, flag_or_at, said, refused_if, named_among, none_beside, no_other};
 
 use crate::fault::{DescFault, DescNeed};
 use misp_ids::Text;

@@ -2,8 +2,10 @@
 
 ghost use Rattle.std.specs.Prelude.{◌≡◌, IfOk, Ok};
 ghost use Rattle.toml.specs.View.{table_view};
-ghost use Rattle.misp_script.specs.Faults.{Gives, Shows};
-ghost use Rattle.misp_script.specs.Network.{keys_of, links_of, AreApart, instance_of, instances_of, network_at, description_at};
+ghost use Rattle.misp_script.specs.Faults.{Gives};
+ghost use Rattle.misp_script.specs.Seen.{Shows};
+ghost use Rattle.misp_script.specs.Network.{keys_of, links_of, instance_of, instances_of, network_at, description_at};
+ghost use Rattle.misp_script.specs.Kept.{AreApart};
 ghost use Rattle.misp_script.specs.Limits.{org_limit, instance_limit, key_limit, link_limit};
 ghost use Rattle.misp_script.specs.Names.{IsNet};
 

@@ -8,8 +8,9 @@ ghost use Rattle.std.specs.List.{list_any};
 ghost use Rattle.std.specs.Str.{chars};
 ghost use Rattle.std.specs.Char.{is_control};
 ghost use Rattle.toml.specs.View.{view};
-ghost use Rattle.misp_script.specs.Faults.{Gives, Shows};
-ghost use Rattle.misp_script.specs.Entries.{body_of, each};
+ghost use Rattle.misp_script.specs.Faults.{Gives};
+ghost use Rattle.misp_script.specs.Seen.{Shows, body_of};
+ghost use Rattle.misp_script.specs.Entries.{each};
 ghost use Rattle.misp_script.specs.Tables.{is_org_name, org_named, has_name, has_number, org_name_at, uuid_at, org_at, next_org};
 
 use crate::fault::{DescFault, DescNeed};

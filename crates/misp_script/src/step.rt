@@ -9,12 +9,12 @@ pub struct Step<'a> {
     pub time: Stamp,
     /// The word from which its identifiers are made.
     pub word: u128,
-    pub deed: Deed<'a>,
+    pub command: Command<'a>,
 }
 
 /// What is done in a step.
 #[derive(Clone, Copy, Debug, PartialEq, Eq)]
-pub enum Deed<'a> {
+pub enum Command<'a> {
     Nothing,
     Request(RequestLine<'a>),
     Group(GroupLine<'a>),

@@ -1,38 +1,25 @@
 -- Sharing groups as a keeper holds them: they are read, and put where the groups are put.
-use Rattle.std.proofs.Common.{◌≡◌, ℕ, ◌+◌, ◌<◌, ◌≤◌, length, drop, get_or, List, [], ◌∷◌, Bool, true, false, refl, sym, ap, subst, ◌∙◌, map, cond, Option, Some, None, Result, Ok, Err, arith, inl, inr, append-nil}
-use Rattle.std.specs.Prelude.{◌&&◌, ◌==◌, not, bytes_eq, option_map, IfSome, IsTrue}
-use Rattle.std.specs.List.{filter, list_all, AllByRecursion}
-use Rattle.std.specs.List.Sorted.{IsStrictlySortedBy}
+use Rattle.std.proofs.Common.{◌≡◌, ℕ, ◌+◌, ◌<◌, ◌≤◌, length, drop, get_or, List, [], ◌∷◌, Bool, true, false, refl, sym, ap, subst, ◌∙◌, map, cond, Option, Some, None, Result, Ok, Err, arith, inl, inr, append-nil, ◌&&◌, ◌==◌, not, bytes_eq}
+use Rattle.std.proofs.Common.{option_map, IfSome, IsTrue, filter, Less, nat_cmp, is_lt, is_eq, ltb-true, lt-ltb}
 use Rattle.std.specs.Result.{result_ok}
-use Rattle.std.specs.declared.cmp.Ordering.{Ordering}
-use Rattle.std.specs.declared.cmp.Ordering.TheVariants.{Less, Equal, Greater}
-use Rattle.std.specs.Ordering.{nat_cmp, ordering_then, is_lt, is_eq}
-use Rattle.std.specs.Cmp.Lexicographic.{slice_cmp}
 use Rattle.std.proofs.Math.ListN.{drop_of_length-le}
 use Rattle.std.proofs.lemmas.List.{drop_more}
-use Rattle.std.proofs.lemmas.Bool.{cases_Bool, and_parts, and_from, ltb-true, lt-ltb}
-use Rattle.std.proofs.lemmas.Bool.Decides.{nat_tests}
-use Rattle.std.proofs.lemmas.Slice.Eq.{bytes_eq-Decides}
-use Rattle.std.proofs.lemmas.Map.Text.{is_eq-slice_cmp}
-use Rattle.misp_ids.specs.declared.uid.GroupId.{GroupId}
-use Rattle.misp_elem.specs.Spelling.{uid}
-use Rattle.misp_groups.specs.declared.group.GroupFields.{GroupFields as Group}
-use Rattle.misp_ids.specs.Uid.{IsUid}
-use Rattle.misp_groups.specs.Group.{IsGroup}
-use Rattle.misp_format.specs.WholeGroup.{group_text, uncarried}
-use Rattle.misp_format.specs.GroupText.{group_in_text}
+use Rattle.misp_lists.proofs.Prelude.{IsStrictlySortedBy, ascend, cases_Bool, less_of}
+use Rattle.misp_lists.proofs.Orders.{then_equal}
+use Rattle.misp_ids.specs.Same.{same_group, group_before}
 use Rattle.misp_outside.specs.declared.row.AdminRow.{AdminRow}
-use Rattle.misp_outside.specs.Held.{Held, admin_before, same_admin, put_admin, ascend}
-use Rattle.misp_outside.specs.Held as held
-use Rattle.misp_model.specs.Names.{same_group, group_before}
-use Rattle.misp_model.specs.Order.{put}
-use Rattle.misp_model.specs.Acts.{put_group}
-use Rattle.misp_model.proofs.NumberBytes.{uid_cmp}
-use Rattle.misp_levels.specs.Groups.{by_id, by_name, put_groups}
-use Rattle.misp_levels.proofs.Ids.{same_by_id, before_is}
-use Rattle.misp_levels.proofs.Putting.{in_order_again}
+use Rattle.misp_outside.specs.Held.{Held, admin_before, same_admin, put_admin}
+use Rattle.misp_groups.specs.Groups.{by_id, by_name, put_groups}
+use Rattle.misp_groups.proofs.Ids.{same_by_id, before_is}
+use Rattle.misp_groups.proofs.Putting.{in_order_again}
+use Rattle.misp_elem.proofs.KeyOrder.{uid_orders}
+use Rattle.misp_format.specs.Prelude.{IsGroup, group_in_text, uncarried}
+use Rattle.misp_format.specs.WholeGroup.{group_text}
+use Rattle.misp_rules.proofs.Prelude.{AllByRecursion, Group, GroupId, IsUid, and_from, and_parts, bytes_eq-Decides, is_eq-slice_cmp, list_all, nat_tests, ordering_then, put, put_group, slice_cmp, uid}
 use Rattle.misp_store.specs.Raw.{onto}
-use Rattle.misp_store.specs.Sharing.{carried_flag, group_name, group_row, flagged, group_told, is_id, is_row_of, group_where, group_in, groups_in, put_onto, HoldsGroups}
+use Rattle.misp_store.specs.Sharing.{carried_flag, group_name, group_row, flagged, group_told, is_id, is_row_of, group_where, group_in, groups_in, HoldsGroups}
+use Rattle.misp_store.specs.Decoding.{put_onto}
+use Rattle.misp_outside.specs.Held as held
 
 -- ---- names
 
@@ -40,21 +27,16 @@ use Rattle.misp_store.specs.Sharing.{carried_flag, group_name, group_row, flagge
 abbrev IsId : GroupId → Type 0
 IsId id = IsUid id.creator.0 × IsUid id.uuid
 
-then_equal : (o : Ordering) → ordering_then o Equal ≡ o
-then_equal Less = refl
-then_equal Equal = refl
-then_equal Greater = refl
-
 -- names are in the order of their bytes
 names_in_bytes : (a b : GroupId) → IsId a → IsId b → slice_cmp nat_cmp (group_name a) (group_name b) ≡ by_id a b
 unfolding group_name
 names_in_bytes a b h k =
-    uid_cmp a.creator.0 b.creator.0 (uid a.uuid) (uid b.uuid) h.0 k.0
+    uid_orders.by_bytes a.creator.0 b.creator.0 (uid a.uuid) (uid b.uuid) h.0 k.0
     ∙ ap (ordering_then (nat_cmp a.creator.0.0 b.creator.0.0))
     ((λ i. slice_cmp nat_cmp (sym (append-nil (uid a.uuid)) i) (sym (append-nil (uid b.uuid)) i))
-    ∙ uid_cmp a.uuid b.uuid [] [] h.1 k.1 ∙ then_equal (nat_cmp a.uuid.0 b.uuid.0))
+    ∙ uid_orders.by_bytes a.uuid b.uuid [] [] h.1 k.1 ∙ then_equal (nat_cmp a.uuid.0 b.uuid.0))
 
--- the rows of groups stand in the order of the groups
+-- the rows of groups are in the order of the groups
 before_held : (a b : Group) → IsId a.id → IsId b.id → admin_before (group_row a) (group_row b) ≡ group_before a.id b.id
 unfolding admin_before group_row
 before_held a b h k = ap is_lt (names_in_bytes a.id b.id h k) ∙ before_is a.id b.id
@@ -162,8 +144,8 @@ module _ (g : Group) (is : IsRead g) where
   others_held [] are = refl
   others_held (h ∷ hs) are = grind (arith, others_held hs are.1, same_held h g (read_id h are.0) (read_id g is))
 
-  place_held : (gs : List Group) → AreRead gs → held.put admin_before (group_row g) (map group_row gs) ≡ map group_row (put (λ a b. group_before a.id b.id) g gs)
-  unfolding held.put put
+  place_held : (gs : List Group) → AreRead gs → put admin_before (group_row g) (map group_row gs) ≡ map group_row (put (λ a b. group_before a.id b.id) g gs)
+  unfolding put
   place_held [] are = refl
   place_held (h ∷ hs) are = grind (arith, place_held hs are.1, before_held g h (read_id g is) (read_id h are.0))
 
@@ -180,20 +162,15 @@ module _ (g : Group) (is : IsRead g) where
       let others : List Group = filter (λ h. not (same_group h.id g.id)) gs in
       let read : AreRead others = filtered_read (λ h. not (same_group h.id g.id)) gs were.read in
       ap (λ rs. groups_in (put_admin (group_row g) rs)) were.rows_are
-      ∙ ap (λ rs. groups_in (held.put admin_before (group_row g) rs)) (others_held gs were.read)
+      ∙ ap (λ rs. groups_in (put admin_before (group_row g) rs)) (others_held gs were.read)
       ∙ ap groups_in (place_held others read)
       ∙ read_again _ (placed_read others read)
 
 -- ---- in order
 
-is_less : (o : Ordering) → is_lt o ≡ true → o ≡ Less
-is_less Less e = refl
-is_less Equal e = absurd cc
-is_less Greater e = absurd cc
-
 before_named : (a b : Group) → IsId a.id → IsId b.id → admin_before (group_row a) (group_row b) ≡ true → by_name a b ≡ Less
 unfolding admin_before group_row
-before_named a b h k e = is_less (by_id a.id b.id) (sym (ap is_lt (names_in_bytes a.id b.id h k)) ∙ e)
+before_named a b h k e = less_of (by_id a.id b.id) (sym (ap is_lt (names_in_bytes a.id b.id h k)) ∙ e)
 
 all_behind : (g : Group) (gs : List Group) → IsRead g → AreRead gs → list_all (admin_before (group_row g)) (map group_row gs) ≡ true → AllByRecursion (λ h. by_name g h ≡ Less) gs
 all_behind g [] is are e = tt
@@ -290,6 +267,7 @@ module _ (rows : List AdminRow) (i : ℕ) (groups : List Group) (total : Result 
   put_all_done l = sym so_far ∙ ap (λ rs. put_onto groups (groups_in rs)) (drop_of_length-le rows l)
 
 -- what a keeper tells of the groups, where they are put one after another
-pub held_in_order : (held : Option Held) (rows : List AdminRow) (groups : List Group) → IfSome held (λ told. rows ≡ told.admin) → IfSome held (λ told. IsTrue (ascend admin_before rows)) → put_onto [] (groups_in rows) ≡ Ok groups → HoldsGroups held groups
+pub held_in_order : (held : Option Held) (rows : List AdminRow) (groups : List Group) → IfSome held (λ told. rows ≡ told.admin) → IfSome held (λ told. IsTrue (ascend admin_before rows))
+    → put_onto [] (groups_in rows) ≡ Ok groups → HoldsGroups held groups
 held_in_order None rows groups found up e = tt
 held_in_order (Some told) rows groups found up e = subst (λ rs. groups_in rs ≡ Ok groups) found (in_their_order rows groups up e)

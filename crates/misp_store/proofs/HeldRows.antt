@@ -1,22 +1,12 @@
 -- Rows as a keeper holds them: they are read, told by event and put as the tables have them.
-use Rattle.std.proofs.Common.{◌≡◌, List, [], ◌∷◌, Bool, true, false, refl, sym, ap, ◌∙◌, map, cond, Some, None, Ok, arith}
-use Rattle.std.specs.Prelude.{◌&&◌, not}
-use Rattle.std.specs.List.{filter}
-use Rattle.std.proofs.lemmas.Bool.{and_from}
-use Rattle.std.proofs.lemmas.Slice.Eq.{bytes_eq-Decides}
-use Rattle.misp_ids.specs.declared.uid.EventId.{EventId}
-use Rattle.misp_elem.specs.declared.row.RowFields.{RowFields as Row}
-use Rattle.misp_elem.specs.Row.{IsRow, AreRows}
-use Rattle.misp_elem.proofs.Rows.{row_of_again}
+use Rattle.std.proofs.Common.{◌≡◌, List, [], ◌∷◌, Bool, true, false, refl, sym, ap, ◌∙◌, map, cond, Some, None, Ok, arith, ◌&&◌, not, filter}
 use Rattle.misp_outside.specs.Held.{comes_before, same_raw, put_raw, put_rows, rows_of}
-use Rattle.misp_outside.specs.Held as held
-use Rattle.misp_model.specs.Names.{same_org, same_event, same_key, event_of}
-use Rattle.misp_model.specs.Order.{put}
-use Rattle.misp_model.specs.History.{stands_before}
-use Rattle.misp_model.specs.Machine.{put_row, put_all, event_number, name_bytes, event_rows}
-use Rattle.misp_model.proofs.Members.{same_event-refl}
-use Rattle.misp_model.proofs.NameOrder.{rows_in_bytes, same_in_bytes, before_is_less}
+use Rattle.misp_elem.proofs.Rows.{row_of_again}
+use Rattle.misp_rules.proofs.Prelude.{AreRows, EventId, IsRow, Row, and_from, bytes_eq-Decides, event_of, event_rows, name_bytes, put, put_all, put_row, same_event, same_event-refl, same_key, same_org, stands_before}
+use Rattle.misp_rules.specs.Machine.{event_number}
+use Rattle.misp_rules.proofs.NameOrder.{rows_in_bytes, same_in_bytes, before_is_less}
 use Rattle.misp_store.specs.Raw.{raw_row, stands_under, row_read, row_in, onto, rows_in}
+use Rattle.misp_outside.specs.Held as held
 
 -- ---- reading
 
@@ -46,7 +36,7 @@ rows_of_event e (r ∷ rs) = grind (arith, rows_of_event e rs)
 
 -- ---- putting
 
--- rows stand in the order in which they are held
+-- rows are in the order in which they are held
 before_held : (a b : Row) → IsRow a → IsRow b → comes_before (raw_row a) (raw_row b) ≡ stands_before a b
 unfolding comes_before raw_row event_number
 before_held a b h k = sym (rows_in_bytes a b h k ∙ before_is_less (event_number a) (event_number b) (name_bytes a) (name_bytes b))
@@ -62,8 +52,8 @@ others_held : (v : Row) (rows : List Row) → IsRow v → AreRows rows →
 others_held v [] is are = refl
 others_held v (r ∷ rs) is are = grind (arith, others_held v rs is are.1, same_held r v are.0 is)
 
-place_held : (v : Row) (rows : List Row) → IsRow v → AreRows rows → held.put comes_before (raw_row v) (map raw_row rows) ≡ map raw_row (put stands_before v rows)
-unfolding held.put put
+place_held : (v : Row) (rows : List Row) → IsRow v → AreRows rows → put comes_before (raw_row v) (map raw_row rows) ≡ map raw_row (put stands_before v rows)
+unfolding put
 place_held v [] is are = refl
 place_held v (r ∷ rs) is are = grind (arith, place_held v rs is are.1, before_held v r is are.0)
 
@@ -101,7 +91,7 @@ rows_kept e rows are = rows_filtered _ rows are
 
 row_put_held : (v : Row) (rows : List Row) → IsRow v → AreRows rows → put_raw (raw_row v) (map raw_row rows) ≡ map raw_row (put_row v rows)
 unfolding put_raw put_row
-row_put_held v rows is are = ap (held.put comes_before (raw_row v)) (others_held v rows is are) ∙ place_held v _ is (rows_filtered _ rows are)
+row_put_held v rows is are = ap (put comes_before (raw_row v)) (others_held v rows is are) ∙ place_held v _ is (rows_filtered _ rows are)
 
 -- putting rows as they are held is putting them
 pub rows_put_held : (vs rows : List Row) → AreRows vs → AreRows rows → put_rows (map raw_row vs) (map raw_row rows) ≡ map raw_row (put_all vs rows)

@@ -4,3 +4,4 @@ pub mod TableRows
 pub mod OwnerRows
 pub mod RowNames
 pub mod Storable
+pub mod SoFar

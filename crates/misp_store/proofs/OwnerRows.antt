@@ -1,32 +1,13 @@
 -- The rows that one organisation has of one event are held under names that begin with its bytes.
-use Rattle.std.proofs.Common.{◌≡◌, ℕ, List, [], ◌∷◌, ◌++◌, length, take, Bool, true, nat_eq, refl, sym, ap, ◌∙◌, map, arith}
-use Rattle.std.specs.Prelude.{◌&&◌, bytes_eq}
-use Rattle.std.specs.declared.cmp.Ordering.{Ordering}
-use Rattle.std.specs.declared.cmp.Ordering.TheVariants.{Less, Equal, Greater}
-use Rattle.std.specs.Ordering.{nat_cmp, ordering_then, is_eq}
+use Rattle.std.proofs.Common.{◌≡◌, ℕ, List, [], ◌∷◌, ◌++◌, length, nat_eq, refl, sym, ap, ◌∙◌, map, arith, bytes_eq, nat_cmp, is_eq, take_at, append-nil}
 use Rattle.std.specs.List.{starts_with}
-use Rattle.std.proofs.lemmas.Bool.Decides.{nat_tests}
-use Rattle.std.proofs.lemmas.List.{take_at, append-nil}
-use Rattle.std.proofs.lemmas.Map.Text.{is_eq-slice_cmp}
-use Rattle.misp_ids.specs.declared.uid.Uid.{Uid}
-use Rattle.misp_ids.specs.declared.uid.OrgId.{OrgId}
-use Rattle.misp_ids.specs.declared.uid.EventId.{EventId}
-use Rattle.misp_ids.specs.Uid.{IsUid}
-use Rattle.misp_elem.specs.declared.row.RowFields.{RowFields as Row}
-use Rattle.misp_elem.specs.Row.{IsRow, AreRows}
-use Rattle.misp_elem.specs.Spelling.{uid, key}
+use Rattle.misp_lists.proofs.Orders.{in_bytes, then_equal}
 use Rattle.misp_outside.specs.Held.{rows_named}
-use Rattle.misp_model.specs.Names.{same_org, same_event, event_of}
-use Rattle.misp_model.specs.Machine.{name_bytes}
-use Rattle.misp_model.proofs.NumberBytes.{in_bytes, uid_cmp}
+use Rattle.misp_elem.specs.Prelude.{Uid, key}
+use Rattle.misp_elem.proofs.KeyOrder.{uid_orders}
+use Rattle.misp_rules.proofs.Prelude.{AreRows, EventId, IsRow, IsUid, OrgId, Row, is_eq-slice_cmp, name_bytes, nat_tests, same_event, same_org, uid}
 use Rattle.misp_store.specs.Raw.{raw_row, owner_rows}
-use Rattle.misp_store.proofs.HeldRows.{rows_filtered}
 use Rattle.misp_store.proofs.RowNames.{uid_length}
-
-first_alone : (o : Ordering) → ordering_then o Equal ≡ o
-first_alone Less = refl
-first_alone Equal = refl
-first_alone Greater = refl
 
 numbers_same : (m n : ℕ) → is_eq (nat_cmp m n) ≡ nat_eq n m
 numbers_same m n = grind (arith, nat_tests)
@@ -34,7 +15,7 @@ numbers_same m n = grind (arith, nat_tests)
 -- the bytes of two identifiers are the same where their numbers are
 same_bytes : (a b : Uid) → IsUid a → IsUid b → bytes_eq (uid a) (uid b) ≡ nat_eq b.0 a.0
 same_bytes a b h k =
-    let whole : in_bytes (uid a) (uid b) ≡ nat_cmp a.0 b.0 = (λ i. in_bytes (sym (append-nil (uid a)) i) (sym (append-nil (uid b)) i)) ∙ uid_cmp a b [] [] h k ∙ first_alone (nat_cmp a.0 b.0) in
+    let whole : in_bytes (uid a) (uid b) ≡ nat_cmp a.0 b.0 = (λ i. in_bytes (sym (append-nil (uid a)) i) (sym (append-nil (uid b)) i)) ∙ uid_orders.by_bytes a b [] [] h k ∙ then_equal (nat_cmp a.0 b.0) in
     sym (is_eq-slice_cmp (uid a) (uid b)) ∙ ap is_eq whole ∙ numbers_same a.0 b.0
 
 -- bytes that begin with those of one begin with those of another where it is the same
@@ -52,7 +33,3 @@ pub rows_of_owner : (o : OrgId) (e : EventId) (rows : List Row) → IsUid o.0 �
 unfolding rows_named raw_row same_event
 rows_of_owner o e [] h are = refl
 rows_of_owner o e (r ∷ rs) h are = grind (arith, rows_of_owner o e rs h are.1, held_of_owner o r h are.0)
-
--- they are rows
-pub owner_rows_kept : (o : OrgId) (e : EventId) (rows : List Row) → AreRows rows → AreRows (owner_rows o e rows)
-owner_rows_kept o e rows are = rows_filtered _ rows are

@@ -1,26 +1,13 @@
 -- A name has the sixteen bytes of an owner, and then those of a key.
-use Rattle.std.proofs.Common.{◌≡◌, ℕ, ◌+◌, ◌<◌, ◌≤◌, List, [], ◌∷◌, ◌++◌, length, take, drop, Bool, true, false, refl, sym, ap, ◌∙◌, arith, Result, Ok, Err}
-use Rattle.std.specs.Prelude.{◌&&◌, bytes_eq}
+use Rattle.std.proofs.Common.{◌≡◌, ℕ, ◌+◌, ◌<◌, ◌≤◌, List, [], ◌∷◌, ◌++◌, length, take, drop, Bool, true, false, refl, sym, ap, ◌∙◌, arith, ◌&&◌, bytes_eq, is_eq, nat_cmp, take-append-drop, length-append, length-take}
 use Rattle.std.specs.Int.{w128, to_be_bytes}
-use Rattle.std.specs.Ordering.{is_eq, nat_cmp}
-use Rattle.std.specs.Cmp.Lexicographic.{slice_cmp}
-use Rattle.std.proofs.lemmas.Bool.{false_from_ne_true}
-use Rattle.std.proofs.lemmas.List.{take-append-drop, length-append, length-take}
-use Rattle.std.proofs.lemmas.Map.Text.{is_eq-slice_cmp}
-use Rattle.std.proofs.lemmas.Slice.Eq.{bytes_eq-Decides}
-use Rattle.misp_ids.specs.declared.uid.Uid.{Uid}
-use Rattle.misp_elem.specs.declared.key.KeyForm.{KeyForm}
-use Rattle.misp_elem.specs.declared.fault.DecodeFault.{DecodeFault}
+use Rattle.misp_lists.proofs.Prelude.{bytes_eq-Decides, false_from_ne_true, is_eq-slice_cmp, slice_cmp}
 use Rattle.misp_elem.specs.Spelling.{uid, key}
+use Rattle.misp_format.specs.Prelude.{KeyForm, Uid}
 
 -- the bytes spell a key, which is compared
 pub spelled : (bytes : List ℕ) (found k : KeyForm) → bytes ≡ key found → is_eq (slice_cmp nat_cmp (key found) (key k)) ≡ bytes_eq bytes (key k)
 spelled bytes found k e = is_eq-slice_cmp (key found) (key k) ∙ ap (λ b. bytes_eq b (key k)) (sym e)
-
--- they spell none
-pub unspelled : (bytes : List ℕ) (k : KeyForm) (read : Result KeyForm DecodeFault) (fault : DecodeFault) → read ≡ Err fault → (bytes ≡ key k → read ≡ Ok k) → false ≡ bytes_eq bytes (key k)
-unspelled bytes k read fault is only =
-    sym (false_from_ne_true _ (λ t. let spells : read ≡ Ok k = only ((bytes_eq-Decides bytes (key k)).0 t) in absurd cc))
 
 -- bytes are equal where both parts are
 both_parts : (a b c d : List ℕ) → length a ≡ length c → bytes_eq (a ++ b) (c ++ d) ≡ (bytes_eq a c && bytes_eq b d)

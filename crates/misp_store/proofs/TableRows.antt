@@ -1,22 +1,12 @@
 -- Rows that a keeper tells in the order of their names are a table.
-use Rattle.std.proofs.Common.{◌≡◌, ℕ, List, [], ◌∷◌, Bool, true, false, refl, sym, ap, subst, ◌∙◌, ◌++◌, cond, Option, Some, None, Result, Ok, Err}
-use Rattle.std.specs.Prelude.{IfSome, IsTrue}
-use Rattle.std.specs.List.{list_all, AllByRecursion, IsDistinct}
-use Rattle.std.specs.declared.cmp.Ordering.{Ordering}
-use Rattle.std.specs.declared.cmp.Ordering.TheVariants.{Less, Equal, Greater}
-use Rattle.std.specs.Ordering.{is_lt, ordering_reverse}
-use Rattle.std.proofs.lemmas.Bool.{and_parts, eqb-true, false_from_ne_true, false≢true}
-use Rattle.std.proofs.lemmas.Slice.Eq.{bytes_eq-Decides}
-use Rattle.misp_elem.specs.declared.row.RowFields.{RowFields as Row}
-use Rattle.misp_elem.specs.RowReading.{row_of}
-use Rattle.misp_elem.specs.Spelling.{uid, key}
+use Rattle.std.proofs.Common.{◌≡◌, ℕ, List, [], ◌∷◌, Bool, true, false, refl, sym, ap, subst, ◌∙◌, ◌++◌, cond, Option, Some, None, Result, Ok, Err, IfSome, IsTrue, Ordering, Less, Equal, Greater, is_lt, eqb-true}
+use Rattle.misp_lists.specs.Order.{ascend}
 use Rattle.misp_outside.specs.declared.row.RawRow.{RawRow}
-use Rattle.misp_outside.specs.Held.{Held, name_order, raw_name, comes_before, ascend}
+use Rattle.misp_outside.specs.Held.{Held, name_order, raw_name, comes_before}
 use Rattle.misp_outside.proofs.Names.{names_total}
-use Rattle.misp_model.specs.Names.{same_org, same_key, same_event, event_of}
-use Rattle.misp_model.specs.View.{in_one_cell, IsTable}
-use Rattle.misp_model.specs.Machine.{name_bytes}
-use Rattle.misp_model.proofs.Same.{same_org-sound, same_key-sound}
+use Rattle.misp_elem.specs.Prelude.{key, row_of}
+use Rattle.misp_rules.proofs.Prelude.{AllByRecursion, IsDistinct, IsTable, Row, and_parts, bytes_eq-Decides, event_of, false_from_ne_true, false≢true, in_one_cell, list_all, name_bytes, ordering_reverse, same_event, same_key}
+use Rattle.misp_rules.proofs.Prelude.{same_key-sound, same_org, same_org-sound, uid}
 use Rattle.misp_store.specs.Raw.{stands_under, row_read, row_in, onto, rows_in}
 
 -- nothing comes before what has its name

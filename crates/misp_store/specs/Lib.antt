@@ -1,6 +1,8 @@
-pub mod Raw
-pub mod Sharing
 pub mod Batches
+pub mod Decoding
 pub mod Loading
-pub mod Seen
+pub mod Prelude
+pub mod Raw
 pub mod Reach
+pub mod Seen
+pub mod Sharing

@@ -1,17 +1,9 @@
 -- Rows as a keeper holds them.
-use Rattle.std.specs.Prelude.{◌≡◌, ℕ, Bool, ◌&&◌, cond, List, [], ◌∷◌, ◌++◌, filter, Result, Ok, Err, bytes_eq}
-use Rattle.std.specs.declared.option.Option.{Option}
-use Rattle.std.specs.declared.option.Option.TheVariants.{None, Some}
-use Rattle.misp_ids.specs.declared.uid.OrgId.{OrgId}
-use Rattle.misp_ids.specs.declared.uid.EventId.{EventId}
-use Rattle.misp_elem.specs.declared.row.RowFields.{RowFields as Row}
+use Rattle.std.specs.Prelude.{ℕ, Bool, ◌&&◌, cond, List, [], ◌∷◌, filter, Result, Ok, Err, bytes_eq, Option, None, Some}
+use Rattle.misp_elem.specs.Prelude.{EventId, OrgId, event_of, row_of, same_event, same_org}
+use Rattle.misp_effects.specs.Prelude.{RawRow, Row}
+use Rattle.misp_rules.specs.Machine.{name_bytes}
 use Rattle.misp_elem.specs.Spelling as spelling
-use Rattle.misp_elem.specs.RowReading.{row_of}
-use Rattle.misp_model.specs.Names.{same_org, same_event, event_of}
-use Rattle.misp_model.specs.Machine.{name_bytes}
-use Rattle.misp_outside.specs.declared.row.RawRow.{RawRow}
-use Rattle.misp_store.specs.declared.fault.RowFault.{RowFault}
-use Rattle.misp_store.specs.declared.fault.RowFault.TheVariants as faults
 
 -- a row as a keeper holds it: spelled, under its event and its name
 unfoldable pub raw_row : Row → RawRow
@@ -44,20 +36,3 @@ onto name (Some item) (Err first) = Err first
 unfoldable pub rows_in : List RawRow → Result (List Row) (List ℕ)
 rows_in [] = Ok []
 rows_in (raw ∷ raws) = onto raw.name (row_in raw) (rows_in raws)
-
--- these, and then what is read
-abbrev pub after : {A : Type 0} → List A → Result (List A) (List ℕ) → Result (List A) (List ℕ)
-after items (Ok others) = Ok (items ++ others)
-after items (Err name) = Err name
-
--- ---- what a reader answers
-
--- the row that is held there is none
-abbrev pub IsNoRow : RawRow → RowFault → Type 0
-IsNoRow raw (faults.BadRow name) = (name ≡ raw.name) × (row_in raw ≡ None)
-IsNoRow raw faults.NoMemory = Unit {0}
-
--- the first row that is none has this name
-abbrev pub NamesBadRow : Result (List Row) (List ℕ) → RowFault → Type 0
-NamesBadRow read (faults.BadRow name) = read ≡ Err name
-NamesBadRow read faults.NoMemory = Unit {0}

@@ -1,24 +1,13 @@
 -- Sharing groups as a keeper holds them, among the rows of its administration.
-use Rattle.std.specs.Prelude.{◌≡◌, ℕ, ◌^◌, Bool, true, false, ltb, ◌==◌, ◌&&◌, cond, List, [], ◌∷◌, ◌++◌, Result, Ok, Err, bytes_eq, option_map, not, is_ok}
-use Rattle.std.specs.declared.option.Option.{Option}
-use Rattle.std.specs.declared.option.Option.TheVariants.{None, Some}
-use Rattle.std.specs.List.{AllByRecursion, list_all, list_any}
-use Rattle.std.specs.Option.{option_map_or}
+use Rattle.std.specs.Prelude.{◌≡◌, ℕ, ◌^◌, Bool, true, false, ltb, ◌==◌, ◌&&◌, cond, List, [], ◌∷◌, ◌++◌, Result, Ok, Err, bytes_eq, option_map, not, is_ok, Option, None, Some}
 use Rattle.std.specs.Result.{result_ok}
-use Rattle.misp_ids.specs.declared.uid.GroupId.{GroupId}
-use Rattle.misp_groups.specs.declared.group.GroupFields.{GroupFields as Group}
-use Rattle.misp_groups.specs.Group.{IsGroup}
-use Rattle.misp_elem.specs.Spelling.{uid}
+use Rattle.misp_lists.specs.Prelude.{list_all, list_any, option_map_or}
+use Rattle.misp_outside.specs.Held.{same_admin}
+use Rattle.misp_format.specs.Prelude.{AllByRecursion, GroupId, IsGroup, group_in_text}
+use Rattle.misp_effects.specs.Prelude.{AdminRow, Group, Held, KeeperState, uid}
 use Rattle.misp_format.specs.WholeGroup.{group_text}
-use Rattle.misp_format.specs.GroupText.{group_in_text}
-use Rattle.misp_outside.specs.declared.row.AdminRow.{AdminRow}
-use Rattle.misp_outside.specs.Held.{Held, same_admin}
-use Rattle.misp_outside.specs.Stock.{Stock}
-use Rattle.misp_effects.specs.Stocks.{told}
-use Rattle.misp_levels.specs.Groups.{put_groups}
+use Rattle.misp_effects.specs.KeeperStates.{told}
 use Rattle.misp_store.specs.Raw.{onto}
-use Rattle.misp_store.specs.declared.fault.RowFault.{RowFault}
-use Rattle.misp_store.specs.declared.fault.RowFault.TheVariants as faults
 
 -- ---- writing
 
@@ -95,25 +84,6 @@ or_none (Err name) = []
 abbrev pub groups_of : Held → List Group
 groups_of held = or_none (groups_in held.admin)
 
--- ---- putting one after another
-
--- these groups with those that are read put in their places
-abbrev pub put_onto : List Group → Result (List Group) (List ℕ) → Result (List Group) (List ℕ)
-put_onto groups (Ok others) = Ok (put_groups groups others)
-put_onto groups (Err name) = Err name
-
--- ---- what a reader answers
-
--- the group that is held there is none
-abbrev pub IsNoGroup : AdminRow → RowFault → Type 0
-IsNoGroup row (faults.BadRow name) = (name ≡ row.name) × (group_in row ≡ None)
-IsNoGroup row faults.NoMemory = Unit {0}
-
--- the first row that is no group's has this name
-abbrev pub NamesBadGroup : Result (List Group) (List ℕ) → RowFault → Type 0
-NamesBadGroup read (faults.BadRow name) = read ≡ Err name
-NamesBadGroup read faults.NoMemory = Unit {0}
-
 -- ---- keeping
 
 -- where the keeper tells what it holds, it holds these groups
@@ -128,9 +98,9 @@ abbrev pub is_sound : Held → Bool
 is_sound held = is_ok (groups_in held.admin)
 
 -- as far as the keepers tell, every row of the administration is a group
-abbrev pub may_be_sound : List Stock → Bool
+abbrev pub may_be_sound : List KeeperState → Bool
 may_be_sound old = list_all (λ held. option_map_or is_sound held true) (told old)
 
 -- as far as the keepers tell, a row of the administration is none
-abbrev pub may_be_unsound : List Stock → Bool
+abbrev pub may_be_unsound : List KeeperState → Bool
 may_be_unsound old = list_any (λ held. option_map_or (λ h. not (is_sound h)) held true) (told old)

@@ -1,9 +1,10 @@
 //! Rows and groups, as they are loaded from a keeper.
 
 ghost use Rattle.std.specs.Prelude.{◌≡◌, Ok, Err, IfOk, IfErr, IfSome, IsTrue};
-ghost use Rattle.misp_model.specs.View.{IsTable};
+ghost use Rattle.misp_rules.specs.View.{IsTable};
 ghost use Rattle.misp_outside.specs.Causes.{HasCause};
-ghost use Rattle.misp_outside.specs.Held.{ascend, comes_before};
+ghost use Rattle.misp_lists.specs.Order.{ascend};
+ghost use Rattle.misp_outside.specs.Held.{comes_before};
 ghost use Rattle.misp_store.specs.Loading.{NamesFault};
 ghost use Rattle.misp_store.specs.Seen.{rows_within, seen_in};
 ghost use Rattle.misp_store.specs.Sharing.{HoldsGroups, groups_in};
@@ -13,23 +14,23 @@ use crate::reach::Reach;
 use crate::rows::decode_rows;
 use crate::sharing::decode_groups;
 use misp_elem::Row;
-use misp_levels::Groups;
+use misp_groups::Groups;
 use misp_outside::{Keeper, KeeperFault, RawRow};
 use std::alloc::Global;
 
 // What is held within a reach.
-#[tactic(auto, unfolding(misp_outside::specs::Held::ascend, misp_elem::specs::Spelling::uid))]
+#[tactic(auto, unfolding(misp_lists::specs::Order::ascend, misp_elem::specs::Spelling::uid))]
 fn held_within<K: Keeper>(
     keeper: &mut K,
     alloc: Global,
     reach: &Reach,
 ) -> Result<Vec<RawRow>, KeeperFault>
-    ensures found { IfOk result (λ found. IfSome (K.stock keeper.old).held
+    ensures found { IfOk result (λ found. IfSome (K.state keeper.old).held
         (λ held. found.items ≡ rows_within reach.now held.rows)) }
-    ensures order { IfOk result (λ found. IfSome (K.stock keeper.old).held
+    ensures order { IfOk result (λ found. IfSome (K.state keeper.old).held
         (λ _. IsTrue (ascend comes_before found.items))) }
-    ensures held { (K.stock keeper.new).held ≡ (K.stock keeper.old).held }
-    ensures cause { HasCause (K.stock keeper.old).faults (K.stock keeper.new).faults
+    ensures held { (K.state keeper.new).held ≡ (K.state keeper.old).held }
+    ensures cause { HasCause (K.state keeper.old).faults (K.state keeper.new).faults
         (result ≡ Err KeeperFault.Failed) }
     ensures unasked { reach.now ≡ Reach.Nothing → keeper.new ≡ keeper.old }
 {
@@ -43,14 +44,14 @@ fn held_within<K: Keeper>(
 
 /// The rows that the keeper holds within a reach.
 pub fn load<K: Keeper>(keeper: &mut K, alloc: Global, reach: &Reach) -> Result<Vec<Row>, LoadFault>
-    ensures found { IfOk result (λ found. IfSome (K.stock keeper.old).held
+    ensures found { IfOk result (λ found. IfSome (K.state keeper.old).held
         (λ held. (seen_in held).rows reach.now ≡ Ok found.items)) }
-    ensures table { IfOk result (λ found. IfSome (K.stock keeper.old).held
+    ensures table { IfOk result (λ found. IfSome (K.state keeper.old).held
         (λ _. IsTable found.items)) }
-    ensures bad { IfErr result (λ fault. IfSome (K.stock keeper.old).held
+    ensures bad { IfErr result (λ fault. IfSome (K.state keeper.old).held
         (λ held. NamesFault ((seen_in held).rows reach.now) fault)) }
-    ensures held { (K.stock keeper.new).held ≡ (K.stock keeper.old).held }
-    ensures cause { HasCause (K.stock keeper.old).faults (K.stock keeper.new).faults
+    ensures held { (K.state keeper.new).held ≡ (K.state keeper.old).held }
+    ensures cause { HasCause (K.state keeper.old).faults (K.state keeper.new).faults
         (result ≡ Err LoadFault.KeeperFault) }
 
     // Of nothing no keeper is asked.
@@ -62,11 +63,11 @@ pub fn load<K: Keeper>(keeper: &mut K, alloc: Global, reach: &Reach) -> Result<V
 
 /// The groups that the keeper holds.
 pub fn load_groups<K: Keeper>(keeper: &mut K, alloc: Global) -> Result<Groups, LoadFault>
-    ensures ok { IfOk result (HoldsGroups (K.stock keeper.old).held) }
+    ensures ok { IfOk result (HoldsGroups (K.state keeper.old).held) }
     ensures bad { IfErr result (λ fault.
-        IfSome (K.stock keeper.old).held (λ held. NamesFault (groups_in held.admin) fault)) }
-    ensures held { (K.stock keeper.new).held ≡ (K.stock keeper.old).held }
-    ensures cause { HasCause (K.stock keeper.old).faults (K.stock keeper.new).faults
+        IfSome (K.state keeper.old).held (λ held. NamesFault (groups_in held.admin) fault)) }
+    ensures held { (K.state keeper.new).held ≡ (K.state keeper.old).held }
+    ensures cause { HasCause (K.state keeper.old).faults (K.state keeper.new).faults
         (result ≡ Err LoadFault.KeeperFault) }
 {
     let rows = keeper.load_admin(alloc)?;

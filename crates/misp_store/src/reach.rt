@@ -1,11 +1,11 @@
 //! How much of what is held is read.
 
 ghost use Rattle.std.specs.Prelude.{◌≡◌};
-ghost use Rattle.misp_model.specs.Machine.{event_changed};
+ghost use Rattle.misp_rules.specs.Machine.{event_changed};
 ghost use Rattle.misp_store.specs.Reach.{change_reach, reach_of};
 
 use misp_ids::{EventId, OrgId};
-use misp_requests::{Ask, Change};
+use misp_rules::{Ask, Change};
 
 /// How much of the rows of events is read: none, those that one organisation has of one event, all
 /// of one event, or all.
@@ -18,13 +18,13 @@ pub enum Reach {
 }
 
 // The event that a change is about.
-#[tactic(auto, unfolding(misp_model::specs::Machine::event_changed))]
+#[tactic(auto, unfolding(misp_rules::specs::Machine::event_changed))]
 fn event_changed(change: &Change) -> EventId
     ensures { result ≡ event_changed change.now }
 {
     match change {
         Change::AddEvent(submission) => submission.event,
-        Change::AddParts { parts, .. } => parts.event,
+        Change::AddParts { parts, .. } => parts.submission.event,
         Change::EditEvent { event, .. }
         | Change::EditAttribute { event, .. }
         | Change::EditObject { event, .. }
@@ -57,10 +57,10 @@ impl Reach {
                 Reach::Event(*event)
             }
             Ask::Change(change) => change_reach(by, change),
-            Ask::Propose(draft) => Reach::Event(draft.event),
+            Ask::Propose(draft) => Reach::Event(draft.fields.event),
             Ask::Index => Reach::All,
             Ask::Groups => Reach::Nothing,
-            Ask::TakePart(part) => Reach::Event(part.event),
+            Ask::TakePart(part) => Reach::Event(part.fields.event),
         }
     }
 }

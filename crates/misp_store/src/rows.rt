@@ -4,8 +4,10 @@ ghost use Rattle.std.specs.Prelude.{◌≡◌, ◌&&◌, Some, None, Ok, map, []
 ghost use Rattle.misp_elem.specs.Key.{IsKey};
 ghost use Rattle.misp_elem.specs.Row.{IsRow};
 ghost use Rattle.misp_elem.specs.Spelling as spelling;
-ghost use Rattle.misp_model.specs.Names.{same_event, event_of};
-ghost use Rattle.misp_store.specs.Raw.{IsNoRow, NamesBadRow, rows_in, row_in, raw_row, stands_under};
+ghost use Rattle.misp_ids.specs.Same.{same_event};
+ghost use Rattle.misp_elem.specs.Parents.{event_of};
+ghost use Rattle.misp_store.specs.Raw.{rows_in, row_in, raw_row, stands_under};
+ghost use Rattle.misp_store.specs.Decoding.{IsNoRow, NamesBadRow};
 
 use crate::fault::RowFault;
 use misp_elem::{
@@ -22,7 +24,7 @@ fn event_of(row: &Row) -> EventId
 }
 
 // Whether the row is held under its own event.
-#[tactic(auto, unfolding(misp_model::specs::Names::same_event))]
+#[tactic(auto, unfolding(misp_ids::specs::Same::same_event))]
 fn is_at_event(raw: &RawRow, row: &Row) -> bool
     ensures { result ≡ same_event (event_of row.now.key) raw.now.event }
 {
@@ -53,7 +55,7 @@ fn is_name(name: &[u8], owner: &OrgId, key: &Key) -> bool
 }
 
 // Whether the row is held under its own event and name.
-#[tactic(auto, unfolding(crate::specs::Raw::stands_under, misp_model::specs::Machine::name_bytes))]
+#[tactic(auto, unfolding(crate::specs::Raw::stands_under, misp_rules::specs::Machine::name_bytes))]
 fn stands_under(raw: &RawRow, row: &Row) -> bool
     requires { IsRow row.now }
     ensures { result ≡ stands_under raw.now row.now }
@@ -102,7 +104,7 @@ pub(crate) fn decode_rows(alloc: Global, raws: &[RawRow]) -> Result<Vec<Row>, Ro
     Ok(rows)
 }
 
-#[tactic(auto, unfolding(crate::specs::Raw::raw_row, misp_model::specs::Machine::name_bytes))]
+#[tactic(auto, unfolding(crate::specs::Raw::raw_row, misp_rules::specs::Machine::name_bytes))]
 fn raw_row(alloc: Global, row: &Row) -> Result<RawRow, NoMemory>
     ensures { IfOk result (λ raw. raw ≡ raw_row row.now) }
 {

@@ -2,13 +2,13 @@
 
 ghost use Rattle.std.specs.Prelude.{◌≡◌, ◌&&◌, Some, None, Ok, [], map, IfOk, IfErr, OnOk, IsErr, bytes_eq};
 ghost use Rattle.misp_outside.specs.Held.{same_admin};
-ghost use Rattle.misp_store.specs.Sharing.{group_name, group_row, group_told, is_row_of, group_in, groups_in, put_onto, IsStorable, AreStorable, IsNoGroup, NamesBadGroup};
+ghost use Rattle.misp_store.specs.Sharing.{group_name, group_row, group_told, is_row_of, group_in, groups_in, IsStorable, AreStorable};
+ghost use Rattle.misp_store.specs.Decoding.{put_onto, IsNoGroup, NamesBadGroup};
 
 use crate::fault::RowFault;
 use misp_format::{FormatFault, read_group_text, write_group};
-use misp_groups::Group;
+use misp_groups::{Group, Groups};
 use misp_ids::{GroupId, Items, NoMemory};
-use misp_levels::Groups;
 use misp_outside::AdminRow;
 use std::alloc::Global;
 

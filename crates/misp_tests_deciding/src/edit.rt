@@ -8,10 +8,10 @@ mod changing;
 use misp_edit::{AddFault, ChangeFault, add_event, delete, delete_event};
 use misp_elem::{
     Content, Draft, EventDraft, Key, KeyForm, ObjectBody, Place, ReferenceBody, ReferenceDraft,
-    Refusal, Row, RuleName, Submission,
+    Row, Submission,
 };
-use misp_ids::{ElemId, EventId, GroupId, Items, Label, OrgId, Stamp, Uid};
-use misp_levels::Groups;
+use misp_groups::Groups;
+use misp_ids::{ElemId, EventId, GroupId, Items, Label, OrgId, Refusal, RuleName, Stamp, Uid};
 use misp_samples::{here, stamp, text};
 use std::alloc::{AllocError, Global};
 use std::test::*;
@@ -120,7 +120,7 @@ fn submission(alloc: Global, brought: Brought) -> Result<Submission, AllocError>
     })
 }
 
-fn mark(owner: OrgId, stamp: Stamp) -> Row {
+fn tombstone(owner: OrgId, stamp: Stamp) -> Row {
     Row {
         owner,
         key: Key {
@@ -198,13 +198,14 @@ fn the_rows_are_the_events_and_its_parts_and_references(rt: HostRuntime) -> Resu
     Ok(())
 }
 
-// What the caller knows: the rows of an earlier addition, or these without the event's, or a mark.
+// What the caller knows: the rows of an earlier addition, or these without the event's, or a
+// tombstone.
 #[derive(Clone, Copy)]
 enum Known {
     Nothing,
     Copy,
     Parts,
-    Mark,
+    Tombstone,
 }
 
 // What a refusal says: its rule, and the uuid that it names.
@@ -242,7 +243,7 @@ const CASES: [(
     ),
     (
         CALLER,
-        Known::Mark,
+        Known::Tombstone,
         GROUPS,
         [0xb1, 0xb1],
         GROUPS,
@@ -332,7 +333,7 @@ const CASES: [(
     ),
     (
         OTHER,
-        Known::Mark,
+        Known::Tombstone,
         Label::Own,
         [0xb1, 0xb2],
         Label::Inherit,
@@ -341,7 +342,7 @@ const CASES: [(
     ),
 ];
 
-fn known_rows<'a>(known: Known, copy: &'a [Row], marks: &'a [Row]) -> &'a [Row] {
+fn known_rows<'a>(known: Known, copy: &'a [Row], tombstones: &'a [Row]) -> &'a [Row] {
     match known {
         Known::Nothing => &copy[..0],
         Known::Copy => copy,
@@ -349,7 +350,7 @@ fn known_rows<'a>(known: Known, copy: &'a [Row], marks: &'a [Row]) -> &'a [Row] 
             Some((_, parts)) => parts,
             None => copy,
         },
-        Known::Mark => marks,
+        Known::Tombstone => tombstones,
     }
 }
 
@@ -378,9 +379,9 @@ fn fault(alloc: Global, org: OrgId, brought: Brought, rows: &[Row]) -> Result<Op
 #[test]
 fn each_fault_stands_in_its_place(rt: HostRuntime) -> Result<(), Fail> {
     let copy = plain(rt.alloc())?;
-    let marks = [mark(CALLER, stamp(NOW)?)];
+    let tombstones = [tombstone(CALLER, stamp(NOW)?)];
     for (org, known, label, objects, last, reference, told) in &CASES {
-        let rows = known_rows(*known, copy.as_slice(), &marks);
+        let rows = known_rows(*known, copy.as_slice(), &tombstones);
         let brought = Brought {
             label: *label,
             objects: *objects,
@@ -402,7 +403,11 @@ fn deleted(alloc: Global, org: OrgId, rows: &[Row]) -> Result<Result<Vec<Row>, C
 }
 
 // What deleting the event writes, or why it is not deleted.
-fn marked(alloc: Global, org: OrgId, rows: &[Row]) -> Result<Result<Vec<Row>, ChangeFault>, Fail> {
+fn tombstone_for(
+    alloc: Global,
+    org: OrgId,
+    rows: &[Row],
+) -> Result<Result<Vec<Row>, ChangeFault>, Fail> {
     let here = here()?;
     let now = stamp(NOW)?;
     let groups = Groups::new(alloc);
@@ -446,12 +451,12 @@ fn an_element_is_deleted_once(rt: HostRuntime) -> Result<(), Fail> {
 }
 
 #[test]
-fn a_deleted_event_leaves_a_mark(rt: HostRuntime) -> Result<(), Fail> {
+fn a_deleted_event_leaves_a_tombstone(rt: HostRuntime) -> Result<(), Fail> {
     let rows = plain(rt.alloc())?;
-    let row = one_row(marked(rt.alloc(), CALLER, rows.as_slice())?)?;
+    let row = one_row(tombstone_for(rt.alloc(), CALLER, rows.as_slice())?)?;
     assert!(rt; matches!(row.content, Content::Gone) && !row.held);
     let rows = with_row(rows, 0, row);
-    let again = marked(rt.alloc(), CALLER, rows.as_slice())?;
+    let again = tombstone_for(rt.alloc(), CALLER, rows.as_slice())?;
     assert_eq!(rt; again.err(), Some(ChangeFault::NotGranted));
     Ok(())
 }

@@ -6,10 +6,9 @@ ghost use Rattle.std.specs.List.Sorted.{IsStrictlySortedBy};
 ghost use Rattle.std.specs.Str.{is_utf8};
 ghost use Rattle.misp_groups.specs.Group.{by_org, by_server, IsOrg, IsServer};
 
-use misp_elem::RuleName;
-use misp_groups::{Group, GroupFields, GroupOrg, GroupServer};
-use misp_ids::{GroupId, InstId, Items, Label, OrgId, Stamp, Uid, Way};
-use misp_levels::{Groups, Taken, allows, down, hop};
+use misp_groups::{Group, GroupFields, GroupOrg, GroupServer, Groups, Taken, allows};
+use misp_ids::{GroupId, InstId, Items, Label, OrgId, RuleName, Stamp, Uid, Way};
+use misp_levels::{down, hop};
 use misp_samples::text;
 use std::alloc::{AllocError, Global};
 use std::test::*;

@@ -5,7 +5,7 @@ ghost use Rattle.std.specs.List.{list_all};
 
 use crate::rows::{ALPHA, BETA, CARRIED, COMMUNITY, INHERIT, Item, rows_of};
 use misp_elem::Row;
-use misp_levels::Groups;
+use misp_groups::Groups;
 use misp_package::incoming;
 use misp_samples::here;
 use std::alloc::Global;

@@ -1,34 +1,14 @@
-//! The state of no rows, and a copy that is published.
+//! A copy that is published.
 
-ghost use Rattle.std.specs.Prelude.{◌≡◌};
-ghost use Rattle.std.specs.List.{find};
-ghost use Rattle.std.specs.Option.{option_copied};
-ghost use Rattle.misp_publish.specs.Copies.{is_event_row};
-
-use crate::rows::{ALPHA, BETA, COMMUNITY, HELD, INHERIT, Item, NONE, is_event_row, rows_of};
+use crate::rows::{ALPHA, BETA, COMMUNITY, EVENT, HELD, INHERIT, Item, NONE, are_of, rows_of};
+use misp_copies::{ChangeFault, event_row};
 use misp_elem::{Content, Row};
+use misp_groups::Groups;
 use misp_ids::{OrgId, Stamp};
-use misp_publish::{CopyState, release, state};
-use misp_samples::stamp;
+use misp_publish::{publish, release};
+use misp_samples::{here, stamp};
 use std::alloc::Global;
 use std::test::*;
-
-#[test]
-fn of_no_rows_there_is_no_copy(rt: HostRuntime) {
-    assert_eq!(rt; state(&[], &ALPHA), CopyState::None);
-}
-
-// The owner's row of the event itself.
-fn event_row<'a>(rows: &'a [Row], owner: &OrgId) -> Option<&'a Row>
-    ensures { option_copied result ≡ find (is_event_row owner.now) rows.now }
-{
-    for row in rows {
-        if is_event_row(row, owner) {
-            return Some(row);
-        }
-    }
-    None
-}
 
 fn released(alloc: Global, rows: &[Row], now: Stamp) -> Result<Vec<Row>, Fail> {
     match event_row(rows, &BETA) {
@@ -66,5 +46,32 @@ fn a_copy_is_published_with_what_it_holds(rt: HostRuntime) -> Result<(), Fail> {
     assert_eq!(rt; stamps.eq([30, 10, 10]), true);
     assert!(rt; made.first().is_some_and(|row| is_published(row, now)));
     assert!(rt; made.iter().all(|row| row.owner == BETA && !row.held));
+    Ok(())
+}
+
+fn published(
+    alloc: Global,
+    org: OrgId,
+    rows: &[Row],
+) -> Result<Result<Vec<Row>, ChangeFault>, Fail> {
+    let here = here()?;
+    let now = stamp(30)?;
+    let groups = Groups::new(alloc);
+    if !are_of(rows, &EVENT) {
+        return Err(Fail::from("a row of another event"));
+    }
+    Ok(publish(alloc, &EVENT, &org, &groups, &here, now, rows))
+}
+
+#[test]
+fn an_event_is_published_by_its_owner(rt: HostRuntime) -> Result<(), Fail> {
+    let rows = rows_of(rt.alloc(), &COPY)?;
+    let others = published(rt.alloc(), ALPHA, rows.as_slice())?;
+    assert_eq!(rt; others.err(), Some(ChangeFault::NotOwner));
+    let made = published(rt.alloc(), BETA, rows.as_slice())?;
+    let made = made.ok().ok_or("nothing refuses")?;
+    let stamps = made.iter().map(|row| row.stamp.get());
+    assert_eq!(rt; stamps.eq([30, 10, 10]), true);
+    assert!(rt; made.iter().all(|row| !row.held));
     Ok(())
 }

@@ -2,10 +2,10 @@
 
 ghost use Rattle.std.specs.Prelude.{◌≡◌};
 ghost use Rattle.std.specs.List.{list_all};
-ghost use Rattle.misp_model.specs.Names.{event_of, same_event};
-ghost use Rattle.misp_publish.specs.Copies.{is_event_key, is_event_row};
+ghost use Rattle.misp_elem.specs.Parents.{event_of};
+ghost use Rattle.misp_ids.specs.Same.{same_event};
 
-use misp_elem::{KeyForm, Place, Row, decode};
+use misp_elem::{KeyForm, Row, decode};
 use misp_ids::{EventId, OrgId, Uid};
 use std::alloc::{AllocError, Global};
 use std::test::Fail;
@@ -47,7 +47,7 @@ fn put_text(out: &mut Vec<u8>, text: &[u8]) -> Result<(), AllocError> {
     out.extend_from_slice(text)
 }
 
-/// A label's spelling, in which a group's creator and number stand behind a 4.
+/// A label's spelling, in which a group's creator and number are after a 4.
 fn put_label(out: &mut Vec<u8>, label: u8) -> Result<(), AllocError> {
     if label < GROUP {
         out.push(label)?;
@@ -112,7 +112,7 @@ fn event(alloc: Global, owner: OrgId, last: [u8; 3]) -> Result<Vec<u8>, AllocErr
     Ok(out)
 }
 
-fn mark(alloc: Global, owner: OrgId) -> Result<Vec<u8>, AllocError> {
+fn tombstone(alloc: Global, owner: OrgId) -> Result<Vec<u8>, AllocError> {
     let mut out = front(alloc, owner, 0, &[0], [30, OWN, NONE])?;
     out.push(7)?;
     Ok(out)
@@ -176,7 +176,7 @@ pub(crate) enum Item {
     /// Of the event itself: the owner; stamp, label and flags.
     Event(OrgId, [u8; 3]),
     /// The owner.
-    Mark(OrgId),
+    Tombstone(OrgId),
     /// The owner, the object, the attribute; label, flags, and whether it is deleted.
     Attribute(OrgId, Option<u128>, u128, [u8; 3]),
     /// Of Beta's: the object and its label.
@@ -188,7 +188,7 @@ pub(crate) enum Item {
 fn bytes_of(alloc: Global, item: Item) -> Result<Vec<u8>, AllocError> {
     match item {
         Item::Event(owner, last) => event(alloc, owner, last),
-        Item::Mark(owner) => mark(alloc, owner),
+        Item::Tombstone(owner) => tombstone(alloc, owner),
         Item::Attribute(owner, object, uid, last) => attribute(alloc, owner, object, uid, last),
         Item::Object(uid, label) => object(alloc, BETA, uid, label),
         Item::Reference(target, uid) => reference(alloc, BETA, 0x51, target, uid),
@@ -210,28 +210,7 @@ pub(crate) fn rows_of(alloc: Global, items: &[Item]) -> Result<Vec<Row>, Fail> {
     Ok(rows)
 }
 
-#[tactic(auto, unfolding(misp_publish::specs::Copies::is_event_key))]
-fn is_event_key(key: &KeyForm) -> bool
-    ensures { result ≡ is_event_key key.now }
-{
-    match key {
-        KeyForm::Element {
-            place: Place::Event,
-            ..
-        } => true,
-        _ => false,
-    }
-}
-
-/// Whether it is the owner's row of an event itself.
-#[tactic(auto, unfolding(misp_publish::specs::Copies::is_event_row, misp_model::specs::Names::same_org))]
-pub(crate) fn is_event_row(row: &Row, owner: &OrgId) -> bool
-    ensures { result ≡ is_event_row owner.now row.now }
-{
-    row.owner == *owner && is_event_key(&row.key.form)
-}
-
-#[tactic(auto, unfolding(misp_model::specs::Names::event_of))]
+#[tactic(auto, unfolding(misp_elem::specs::Parents::event_of))]
 fn event_of(key: &KeyForm) -> EventId
     ensures { result ≡ event_of key.now }
 {
@@ -242,7 +221,7 @@ fn event_of(key: &KeyForm) -> EventId
     }
 }
 
-#[tactic(auto, unfolding(misp_model::specs::Names::same_event))]
+#[tactic(auto, unfolding(misp_ids::specs::Same::same_event))]
 fn is_of(row: &Row, event: &EventId) -> bool
     ensures { result ≡ same_event (event_of row.now.key) event.now }
 {

@@ -4,12 +4,12 @@
 use crate::rows::{
     ALL, ALPHA, BETA, CARRIED, COMMUNITY, EVENT, GROUP, INHERIT, Item, NONE, OWN, UNKNOWN, rows_of,
 };
+use misp_copies::known;
 use misp_elem::{Row, VisibleEvent};
-use misp_groups::{Group, GroupFields, GroupOrg, GroupServer};
+use misp_groups::{Group, GroupFields, GroupOrg, GroupServer, Groups};
 use misp_ids::{GroupId, Items, OrgId, Stamp, Uid};
-use misp_levels::Groups;
 use misp_samples::{here, text};
-use misp_view::{concerning, group_names, known, shown};
+use misp_view::{concerning, group_names, shown};
 use std::alloc::{AllocError, Global};
 use std::test::*;
 
@@ -17,9 +17,10 @@ const GAMMA: OrgId = OrgId(Uid(0xc));
 
 const DELTA: OrgId = OrgId(Uid(0xd));
 
-/// Alpha has a copy for itself alone, Beta a carried one of a later stamp, and Gamma a mark. Beta
-/// has two objects, the second for itself alone. From the first a reference leads to an attribute
-/// that is for Beta alone, and one to an attribute for all. Two attributes are for groups.
+/// Alpha has a copy for itself alone, Beta a carried one of a later stamp, and Gamma a tombstone.
+/// Beta has two objects, the second for itself alone. From the first a reference leads to an
+/// attribute that is for Beta alone, and one to an attribute for all. Two attributes are for
+/// groups.
 const TABLE: [Item; 17] = [
     Item::Event(ALPHA, [10, OWN, NONE]),
     Item::Attribute(ALPHA, None, 0x41, [ALL, NONE, 0]),
@@ -28,7 +29,7 @@ const TABLE: [Item; 17] = [
     Item::Attribute(BETA, None, 0x41, [OWN, NONE, 0]),
     Item::Attribute(BETA, None, 0x42, [ALL, NONE, 1]),
     Item::Attribute(BETA, None, 0x43, [ALL, NONE, 0]),
-    Item::Mark(GAMMA),
+    Item::Tombstone(GAMMA),
     Item::Object(0x51, INHERIT),
     Item::Object(0x52, OWN),
     Item::Attribute(BETA, Some(0x51), 0x46, [ALL, NONE, 0]),

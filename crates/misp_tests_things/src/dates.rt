@@ -14,7 +14,7 @@ fn a_moment_has_its_date(rt: HostRuntime) -> Result<(), Fail> {
     ];
     for (seconds, text) in &rows {
         let now = Stamp::new(*seconds).unwrap();
-        let date = date_of(rt.alloc(), now)?;
+        let date = date_of(rt.alloc(), now.get())?;
         assert_eq!(rt; date.as_str(), *text);
     }
     Ok(())

@@ -1,5 +1,6 @@
 use misp_elem::{
-    DecodeFault, Key, KeyForm, Place, Row, decode, decode_key, encode, encode_key, encode_name,
+    DecodeFault, Key, KeyForm, Place, Row, decode, decode_key, decode_on_wire, encode, encode_key,
+    encode_name,
 };
 use misp_ids::{ElemId, EventId, OrgId, Uid};
 use std::alloc::{AllocError, Global};
@@ -11,7 +12,7 @@ const EVENT: EventId = EventId(Uid(0xa2a2_a2a2_a2a2_a2a2_a2a2_a2a2_a2a2_a2a2));
 
 const ATTRIBUTE: ElemId = ElemId(Uid(0xa3a3_a3a3_a3a3_a3a3_a3a3_a3a3_a3a3_a3a3));
 
-/// Rows that are kept, as `spelled` reads them, each with the number of its bytes: a mark, an
+/// Rows that are kept, as `spelled` reads them, each with the number of its bytes: a tombstone, an
 /// event, an attribute, an object, a reference, proposals to change and to delete, a verdict and
 /// a sighting.
 const KEPT: [(&[u8], usize); 9] = [
@@ -45,9 +46,9 @@ const KEPT: [(&[u8], usize); 9] = [
     ),
 ];
 
-/// Bytes that are no row, each with the place of its fault: one byte more or fewer than a mark,
-/// another version, no day of the calendar, no domain in its kept form, a proposal to delete the
-/// event itself, a proposal under the key of a sighting, and no value.
+/// Bytes that are no row, each with the place of its fault: one byte more or fewer than a
+/// tombstone, another version, no day of the calendar, no domain in its kept form, a proposal to
+/// delete the event itself, a proposal under the key of a sighting, and no value.
 const FAULTY: [(&[u8], usize); 8] = [
     (b"\x01*\0*\0@\0\0\x07\0", 46),
     (b"\x01*\0*\0@\0\0", 45),
@@ -180,5 +181,55 @@ fn keys_and_names_are_written(rt: HostRuntime) -> Result<(), Fail> {
     assert!(rt; name.as_slice().ends_with(bytes.as_slice()));
     assert_eq!(rt; bytes.len(), 34);
     assert_eq!(rt; decode_key(bytes.as_slice()), Ok(key));
+    Ok(())
+}
+
+/// The event of the rows below.
+const CARRIED: EventId = EventId(Uid(0xa1a1_a1a1_a1a1_a1a1_a1a1_a1a1_a1a1_a1a1));
+
+/// Rows on the wire, each with whether it is the first of the event, and the place of its fault:
+/// the event's own, an attribute, the same first, the event's own once more, and one that is held.
+const ON_WIRE: [(&[u8], bool, Option<usize>); 5] = [
+    (
+        b"\x01~~~~~\0\0*\0@\x03\x02\0~\x08A report~\x0a2024-05-28\x02\x01~~~*~\x05alpha~\0",
+        true,
+        None,
+    ),
+    (
+        b"\x01~~~~~\0\0*\x02*@\x05\x02\x02~\x04text\x03\x01~\x04seen\0~\x01v~\0",
+        false,
+        None,
+    ),
+    (
+        b"\x01~~~~~\0\0*\x02*@\x05\x02\x02~\x04text\x03\x01~\x04seen\0~\x01v~\0",
+        true,
+        Some(34),
+    ),
+    (b"\x01~~~~~\0\0*\0@", false, Some(17)),
+    (b"\x01~~~~~\0\0*\x02*@\x05\x03", false, Some(60)),
+];
+
+/// The place of the fault in these bytes, where they stand on the wire first or after the event.
+fn wire_fault(alloc: Global, bytes: &[u8], is_first: bool) -> Option<usize> {
+    let top = Key {
+        form: KeyForm::Element {
+            event: CARRIED,
+            place: Place::Event,
+        },
+    };
+    let before = if is_first { None } else { Some(top) };
+    match decode_on_wire(alloc, bytes, CARRIED, before) {
+        Err(DecodeFault::BadRow { place }) => Some(place),
+        Err(DecodeFault::NoMemory) => Some(bytes.len()),
+        Ok(_) => None,
+    }
+}
+
+#[test]
+fn rows_are_read_on_the_wire(rt: HostRuntime) -> Result<(), Fail> {
+    for (short, is_first, place) in &ON_WIRE {
+        let bytes = spelled(rt.alloc(), short)?;
+        assert_eq!(rt; wire_fault(rt.alloc(), bytes.as_slice(), *is_first), *place);
+    }
     Ok(())
 }

@@ -4,7 +4,7 @@ mod limits;
 
 use misp_samples::filled;
 use misp_script::{
-    Deed, DescFault, Directory, GroupLine, RequestLine, read_description, read_line, split_line,
+    Command, DescFault, Directory, GroupLine, RequestLine, read_description, read_line, split_line,
     split_source,
 };
 use std::alloc::Global;
@@ -197,11 +197,11 @@ fn request_shown(alloc: Global, request: &RequestLine<'_>) -> Result<String, Fai
 /// The administration of a group, as a test shows it.
 fn group_shown(alloc: Global, group: &GroupLine<'_>) -> Result<String, Fail> {
     let at = group.at;
-    let deed = if group.add { "adds" } else { "edits" };
+    let command = if group.add { "adds" } else { "edits" };
     let org = group.org.0.to_text(alloc)?;
     let org = org.as_str();
     let body = std::str::from_utf8(group.body)?;
-    Ok(format!(in alloc; "{at} {org} {deed} [{body}]")?)
+    Ok(format!(in alloc; "{at} {org} {command} [{body}]")?)
 }
 
 /// What a line is read as: its step, or the place of its fault.
@@ -209,12 +209,12 @@ fn step_shown(alloc: Global, line: &str, directory: &Directory) -> Result<String
     match read_line(line.as_bytes(), directory) {
         Ok(step) => {
             let time = step.time.get();
-            let deed = match &step.deed {
-                Deed::Nothing => String::from_str(alloc, "none")?,
-                Deed::Request(request) => request_shown(alloc, request)?,
-                Deed::Group(group) => group_shown(alloc, group)?,
+            let command = match &step.command {
+                Command::Nothing => String::from_str(alloc, "none")?,
+                Command::Request(request) => request_shown(alloc, request)?,
+                Command::Group(group) => group_shown(alloc, group)?,
             };
-            Ok(format!(in alloc; "{time} {deed}")?)
+            Ok(format!(in alloc; "{time} {command}")?)
         }
         Err(bad) => {
             let place = bad.place;

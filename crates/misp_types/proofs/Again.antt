@@ -1,13 +1,10 @@
 -- What is kept of a value is kept as it is.
-use Rattle.std.proofs.Common.{◌≡◌, ℕ, suc, ◌+◌, ◌-◌, ◌<◌, ◌==◌, Bool, true, false, cond, List, ◌∷◌, ◌++◌, length, get_or, codes, option_map, Option, Some, None, Result, Ok, Err, IfOk, length-append, append_assoc, refl, sym, ap, ap₂, ◌∙◌, arith}
+use Rattle.std.proofs.Common.{◌≡◌, ℕ, suc, ◌+◌, ◌-◌, ◌<◌, ◌==◌, Bool, true, false, cond, List, ◌∷◌, ◌++◌, length, get_or, codes, option_map, Option, Some, None, Result, Ok, Err, IfOk, length-append, append_assoc, refl, sym, ap, ap₂, ◌∙◌}
+use Rattle.std.proofs.Common.{arith, get_or-append-add}
 use Rattle.std.proofs.Math.Seq.{take-append_seam, drop-append-add, get_or-append_seam}
-use Rattle.std.proofs.lemmas.List.{get_or-append-add}
 use Rattle.misp_types.specs.declared.fault.ValueFault.{ValueFault}
-use Rattle.misp_types.specs.declared.fault.ValueFault.TheVariants as faults
 use Rattle.misp_types.specs.declared.kinds.Form.{Form}
-use Rattle.misp_types.specs.declared.kinds.Form.TheVariants as forms
 use Rattle.misp_types.specs.declared.kinds.Rule.{Rule}
-use Rattle.misp_types.specs.declared.kinds.Rule.TheVariants as rules
 use Rattle.misp_types.specs.Checked.{Checked, Shows}
 use Rattle.misp_types.specs.Kinds.{rule_of}
 use Rattle.misp_types.specs.Values.{last_bar, around, split_value, part_of, joined, pair_of, two_at, two_of, by_rule, kept_of, IsKept}
@@ -58,39 +55,39 @@ two_at_again : (first second : Form) → MayEnd second → (parts : Option (List
 two_at_again first second may None kept e = no_fault _ kept e
 two_at_again first second may (Some (x, y)) kept e = pair_again first second may x y kept e
 
--- no file name, domain or system stands behind the `|`
+-- no file name, domain or system is after the `|`
 Ends : Rule → Type 0
-Ends (rules.One form) = Unit {0}
-Ends (rules.Two first second) = MayEnd second
-Ends rules.File = Unit {0}
+Ends (Rule.One form) = Unit {0}
+Ends (Rule.Two first second) = MayEnd second
+Ends Rule.File = Unit {0}
 
 rule_again : (rule : Rule) → Ends rule → (value kept : List ℕ) → by_rule rule value ≡ Ok kept → by_rule rule kept ≡ Ok kept
 unfolding Ends
-rule_again (rules.One form) ends value kept e = (text_again form value kept e).0
-rule_again (rules.Two first second) ends value kept e = two_at_again first second ends (split_value value) kept (unless (length value == 0) _ faults.WrongLength kept e).1
-rule_again rules.File ends value kept e = no_fault _ kept e
+rule_again (Rule.One form) ends value kept e = (text_again form value kept e).0
+rule_again (Rule.Two first second) ends value kept e = two_at_again first second ends (split_value value) kept (unless (length value == 0) _ ValueFault.WrongLength kept e).1
+rule_again Rule.File ends value kept e = no_fault _ kept e
 
 either : (b : Bool) (x y : Rule) → Ends x → Ends y → Ends (cond b x y)
 either true x y l r = l
 either false x y l r = r
 
-digest_ends : (digits : ℕ) → Ends (rules.Two forms.Any (forms.Digest digits))
+digest_ends : (digits : ℕ) → Ends (Rule.Two Form.Any (Form.Digest digits))
 unfolding Ends
 digest_ends digits = tt
 
-address_ends : Ends (rules.Two forms.Domain forms.Address)
+address_ends : Ends (Rule.Two Form.Domain Form.Address)
 unfolding Ends
 address_ends = tt
 
-port_ends : Ends (rules.Two forms.Address forms.Port)
+port_ends : Ends (Rule.Two Form.Address Form.Port)
 unfolding Ends
 port_ends = tt
 
-file_ends : Ends rules.File
+file_ends : Ends Rule.File
 unfolding Ends
 file_ends = tt
 
-one_ends : (form : Form) → Ends (rules.One form)
+one_ends : (form : Form) → Ends (Rule.One form)
 unfolding Ends
 one_ends form = tt
 

@@ -1,5 +1,6 @@
 -- What is kept of digests, addresses and ports has no `|`.
-use Rattle.std.proofs.Common.{◌≡◌, ℕ, zero, suc, ◌+◌, ◌-◌, ◌<◌, ◌≤◌, nat_le, Bool, true, false, cond, not, ◌&&◌, ◌||◌, List, [], ◌∷◌, length, get_or, take, drop, count_by, position, is_some, Option, Some, None, Ok, get_or-take, get_or-drop, length-take, length-drop, true≢false, refl, sym, ap, ◌∙◌, ⊎_elim, arith}
+use Rattle.std.proofs.Common.{◌≡◌, ℕ, zero, suc, ◌+◌, ◌-◌, ◌<◌, ◌≤◌, nat_le, Bool, true, false, cond, not, ◌&&◌, ◌||◌, List, [], ◌∷◌, length, get_or, take, drop, count_by, position, is_some, Option, Some, None, Ok, get_or-take}
+use Rattle.std.proofs.Common.{get_or-drop, length-take, length-drop, true≢false, refl, sym, ap, ◌∙◌, ⊎_elim, arith}
 use Rattle.std.specs.Char.{is_ascii_digit, is_ascii_hexdigit}
 use Rattle.std.specs.List.{list_all, position_or_len, slice_split, onto_first}
 use Rattle.std.proofs.lemmas.Bool.{and_parts, and_from, cases_eq, cases_lt}
@@ -7,7 +8,6 @@ use Rattle.std.proofs.lemmas.Grind.{common_steps}
 use Rattle.std.proofs.lemmas.List.Quantifiers.{position-Some}
 use Rattle.std.proofs.lemmas.List.Sums.{fails_before_first}
 use Rattle.misp_types.specs.declared.kinds.Form.{Form}
-use Rattle.misp_types.specs.declared.kinds.Form.TheVariants as forms
 use Rattle.misp_types.specs.Numbers.{is_numeral, is_number}
 use Rattle.misp_types.specs.Addresses.{is_slash, is_colon, is_dot, is_colon_byte, has_colon, is_colon_form, is_dotted_form, most_bits}
 use Rattle.misp_types.specs.Forms.{digest, address_fault_at, address, by_form, text_of}
@@ -117,22 +117,22 @@ at_barless (Some at) s p e =
 address_barless : (s kept : List ℕ) → address s ≡ Ok kept → Barless s
 address_barless s kept e = at_barless _ s refl (address_kept s kept e).0
 
--- the forms that may stand behind the `|`
+-- the forms that may be after the `|`
 abbrev pub MayEnd : Form → Type 0
-MayEnd (forms.Digest digits) = Unit {0}
-MayEnd forms.Address = Unit {0}
-MayEnd forms.Domain = ⊥
-MayEnd forms.Port = Unit {0}
-MayEnd forms.System = ⊥
-MayEnd forms.Any = ⊥
+MayEnd (Form.Digest digits) = Unit {0}
+MayEnd Form.Address = Unit {0}
+MayEnd Form.Domain = ⊥
+MayEnd Form.Port = Unit {0}
+MayEnd Form.System = ⊥
+MayEnd Form.Any = ⊥
 
 ends_barless : (form : Form) → MayEnd form → (s kept : List ℕ) → by_form form s ≡ Ok kept → Barless s
-ends_barless (forms.Digest digits) may s kept e = digest_barless digits s kept e
-ends_barless forms.Address may s kept e = address_barless s kept e
-ends_barless forms.Domain may s kept e = absurd may
-ends_barless forms.Port may s kept e = number_barless 1 65535 s (port_kept s kept e).0
-ends_barless forms.System may s kept e = absurd may
-ends_barless forms.Any may s kept e = absurd may
+ends_barless (Form.Digest digits) may s kept e = digest_barless digits s kept e
+ends_barless Form.Address may s kept e = address_barless s kept e
+ends_barless Form.Domain may s kept e = absurd may
+ends_barless Form.Port may s kept e = number_barless 1 65535 s (port_kept s kept e).0
+ends_barless Form.System may s kept e = absurd may
+ends_barless Form.Any may s kept e = absurd may
 
 pub kept_barless : (form : Form) → MayEnd form → (s kept : List ℕ) → text_of form s ≡ Ok kept → Barless kept
 kept_barless form may s kept e = ends_barless form may kept kept (form_again form s kept (unless _ _ _ kept e).1)

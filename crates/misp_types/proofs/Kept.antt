@@ -9,9 +9,7 @@ use Rattle.std.proofs.lemmas.Bool.Decides.{nat_tests}
 use Rattle.std.proofs.lemmas.Fmt.{decimal-digits_value}
 use Rattle.std.proofs.lemmas.List.{length-map}
 use Rattle.misp_types.specs.declared.fault.ValueFault.{ValueFault}
-use Rattle.misp_types.specs.declared.fault.ValueFault.TheVariants as faults
 use Rattle.misp_types.specs.declared.kinds.Form.{Form}
-use Rattle.misp_types.specs.declared.kinds.Form.TheVariants as forms
 use Rattle.misp_types.specs.Checked.{Checked}
 use Rattle.misp_types.specs.Numbers.{is_numeral, not_below, number_in, is_number}
 use Rattle.misp_types.specs.Forms.{lower, lower_unless_at, lower_unless_part, digest, domain, address_fault, address, port, after_mark, numbered, system, by_form, text_of}
@@ -81,7 +79,7 @@ says least most s n e =
 one_digit : (d : ℕ) → is_ascii_digit d ≡ true → digit_value d < 10
 one_digit d h = grind (arith, nat_tests)
 
-all_digits : (s : List ℕ) → list_all is_ascii_digit s ≡ true → AllDigits 10 s
+pub all_digits : (s : List ℕ) → list_all is_ascii_digit s ≡ true → AllDigits 10 s
 all_digits [] h = tt
 all_digits (d ∷ ds) h = (one_digit d (and_parts _ _ h).0, all_digits ds (and_parts _ _ h).1)
 
@@ -126,12 +124,12 @@ lower_form : (f : List ℕ → Checked) → ((t : List ℕ) → f (lower t) ≡ 
 lower_form f blind s kept is e = ap f is ∙ blind s ∙ e
 
 pub form_again : (form : Form) (s kept : List ℕ) → by_form form s ≡ Ok kept → by_form form kept ≡ Ok kept
-form_again (forms.Digest digits) s kept e = lower_form (digest digits) (digest_blind digits) s kept (digest_kept digits s kept e).1 e
-form_again forms.Address s kept e = lower_form address address_kept_blind s kept (address_kept s kept e).1 e
-form_again forms.Domain s kept e = lower_form domain domain_blind s kept (domain_kept s kept e) e
-form_again forms.Port s kept e = ap port (port_kept s kept e).1 ∙ e
-form_again forms.System s kept e = (system_again s kept e).0
-form_again forms.Any s kept e = refl
+form_again (Form.Digest digits) s kept e = lower_form (digest digits) (digest_blind digits) s kept (digest_kept digits s kept e).1 e
+form_again Form.Address s kept e = lower_form address address_kept_blind s kept (address_kept s kept e).1 e
+form_again Form.Domain s kept e = lower_form domain domain_blind s kept (domain_kept s kept e) e
+form_again Form.Port s kept e = ap port (port_kept s kept e).1 ∙ e
+form_again Form.System s kept e = (system_again s kept e).0
+form_again Form.Any s kept e = refl
 
 lower_filled : (s kept : List ℕ) → kept ≡ lower s → 0 < length s → 0 < length kept
 lower_filled s kept is some = omega (arith, ap length is, length-map s to_ascii_lowercase)
@@ -140,12 +138,12 @@ same_filled : (s kept : List ℕ) → kept ≡ s → 0 < length s → 0 < length
 same_filled s kept is some = omega (arith, ap length is)
 
 form_filled : (form : Form) (s kept : List ℕ) → by_form form s ≡ Ok kept → 0 < length s → 0 < length kept
-form_filled (forms.Digest digits) s kept e = lower_filled s kept (digest_kept digits s kept e).1
-form_filled forms.Address s kept e = lower_filled s kept (address_kept s kept e).1
-form_filled forms.Domain s kept e = lower_filled s kept (domain_kept s kept e)
-form_filled forms.Port s kept e = same_filled s kept (port_kept s kept e).1
-form_filled forms.System s kept e = λ some. (system_again s kept e).1
-form_filled forms.Any s kept e = same_filled s kept (same_kept s kept e)
+form_filled (Form.Digest digits) s kept e = lower_filled s kept (digest_kept digits s kept e).1
+form_filled Form.Address s kept e = lower_filled s kept (address_kept s kept e).1
+form_filled Form.Domain s kept e = lower_filled s kept (domain_kept s kept e)
+form_filled Form.Port s kept e = same_filled s kept (port_kept s kept e).1
+form_filled Form.System s kept e = λ some. (system_again s kept e).1
+form_filled Form.Any s kept e = same_filled s kept (same_kept s kept e)
 
 some_length : (n : ℕ) → (n == 0) ≡ false → 0 < n
 some_length n h = grind (arith, nat_tests)
@@ -153,7 +151,7 @@ some_length n h = grind (arith, nat_tests)
 filled_length : (n : ℕ) → 0 < n → (n == 0) ≡ false
 filled_length n h = grind (arith, nat_tests)
 
-pub when_filled : (s : List ℕ) (x y : Checked) → 0 < length s → x ≡ y → cond (length s == 0) (Err faults.WrongLength) x ≡ y
+pub when_filled : (s : List ℕ) (x y : Checked) → 0 < length s → x ≡ y → cond (length s == 0) (Err ValueFault.WrongLength) x ≡ y
 when_filled s x y some e = cond-false _ _ _ (filled_length _ some) ∙ e
 
 pub text_again : (form : Form) (s kept : List ℕ) → text_of form s ≡ Ok kept → (text_of form kept ≡ Ok kept) × (0 < length kept)

@@ -1,12 +1,13 @@
 -- What stays of a text in lower case.
-use Rattle.std.proofs.Common.{◌≡◌, ℕ, ◌+◌, ◌==◌, nat_lt, Bool, true, false, cond, not, ◌&&◌, ◌||◌, List, [], ◌∷◌, map, length, take, drop, fold, count_by, position, is_some, Option, Some, None, Ok, Err, true≢false, refl, sym, ap, ap₂, ◌∙◌, arith}
+use Rattle.std.proofs.Common.{◌≡◌, ℕ, ◌+◌, ◌==◌, nat_lt, Bool, true, false, cond, not, ◌&&◌, ◌||◌, List, [], ◌∷◌, map, length, take, drop, fold, count_by, position, is_some, Option, Some, None, Ok, Err, true≢false, refl, sym, ap, ap₂, ◌∙◌}
+use Rattle.std.proofs.Common.{arith}
 use Rattle.std.specs.Char.{is_ascii_digit, is_ascii_hexdigit, to_ascii_lowercase}
 use Rattle.std.specs.List.{list_all, list_any, position_or_len, slice_split, onto_first}
 use Rattle.std.proofs.lemmas.Bool.{and_parts, cond-false}
 use Rattle.std.proofs.lemmas.Bool.Decides.{nat_tests}
 use Rattle.std.proofs.lemmas.List.{length-map, take-map, drop-map}
 use Rattle.std.proofs.lemmas.Str.Ascii.{lowercase-lowercase}
-use Rattle.misp_types.specs.declared.fault.ValueFault.TheVariants as faults
+use Rattle.misp_types.specs.declared.fault.ValueFault.{ValueFault}
 use Rattle.misp_types.specs.Numbers.{is_numeral, number_in, is_number}
 use Rattle.misp_types.specs.Addresses.{is_slash, is_colon, is_dot, is_colon_byte, has_colon, is_colon_form, is_dotted_form, is_address, most_bits}
 use Rattle.misp_types.specs.Forms.{lower, lower_unless_at, lower_unless_part, digest, is_barred, domain, parts_fault, address_fault_at, address_fault, address}
@@ -136,13 +137,13 @@ unless_part_blind (Some part) s = refl
 pub digest_blind : (digits : ℕ) (s : List ℕ) → digest digits (lower s) ≡ digest digits s
 digest_blind digits s =
     let place = position_blind (λ b. not (is_ascii_hexdigit b)) to_ascii_lowercase (λ b. ap not (hex_blind b)) s in
-    ap₂ (λ n at. cond (n == digits) (lower_unless_at at (lower s)) (Err faults.WrongLength)) (length-map s to_ascii_lowercase) place
-    ∙ ap (λ kept. cond (length s == digits) kept (Err faults.WrongLength)) (unless_at_blind _ s)
+    ap₂ (λ n at. cond (n == digits) (lower_unless_at at (lower s)) (Err ValueFault.WrongLength)) (length-map s to_ascii_lowercase) place
+    ∙ ap (λ kept. cond (length s == digits) kept (Err ValueFault.WrongLength)) (unless_at_blind _ s)
 
 pub domain_blind : (s : List ℕ) → domain (lower s) ≡ domain s
 domain_blind s =
-    ap₂ (λ n at. cond (nat_lt 255 n) (Err faults.WrongLength) (lower_unless_at at (lower s))) (length-map s to_ascii_lowercase) (position_blind is_barred to_ascii_lowercase barred_blind s)
-    ∙ ap (λ kept. cond (nat_lt 255 (length s)) (Err faults.WrongLength) kept) (unless_at_blind _ s)
+    ap₂ (λ n at. cond (nat_lt 255 n) (Err ValueFault.WrongLength) (lower_unless_at at (lower s))) (length-map s to_ascii_lowercase) (position_blind is_barred to_ascii_lowercase barred_blind s)
+    ∙ ap (λ kept. cond (nat_lt 255 (length s)) (Err ValueFault.WrongLength) kept) (unless_at_blind _ s)
 
 pub address_kept_blind : (s : List ℕ) → address (lower s) ≡ address s
 address_kept_blind s = ap (λ part. lower_unless_part part (lower s)) (fault_blind s) ∙ unless_part_blind (address_fault s) s

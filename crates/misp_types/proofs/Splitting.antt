@@ -1,8 +1,8 @@
 -- A text that is split at the last of an ASCII character.
-use Rattle.std.proofs.Common.{◌≡◌, ℕ, zero, suc, ◌+◌, ◌-◌, ◌<◌, ◌≤◌, Bor, List, length, get_or, take, drop, length-drop, get_or-drop, Option, Some, None, option_map, MatchOption, refl, sym, ap, ◌∙◌, ⊎_elim, arith}
+use Rattle.std.proofs.Common.{◌≡◌, ℕ, zero, suc, ◌+◌, ◌-◌, ◌<◌, ◌≤◌, Bor, List, length, get_or, take, drop, length-drop, get_or-drop, Option, Some, None, option_map, MatchOption, refl, sym, ap, ◌∙◌, ⊎_elim, arith, ne_eqb, eq-eqb}
 use Rattle.std.specs.Str.Pattern.{RFindsChar}
 use Rattle.std.specs.Path.{rfind_below}
-use Rattle.std.proofs.lemmas.Bool.{ne_eqb, eq-eqb, cond-true, cond-false, cases_eq}
+use Rattle.std.proofs.lemmas.Bool.{cond-true, cond-false, cases_eq}
 use Rattle.std.proofs.lemmas.Str.{len_utf8_ascii}
 use Rattle.std.proofs.lemmas.Str.Pattern.{NoCharPasses-char}
 use Rattle.misp_types.specs.Values.{around}

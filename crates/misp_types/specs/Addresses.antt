@@ -39,6 +39,6 @@ is_dotted_form text =
 abbrev pub is_address : List ℕ → Bool
 is_address text = if has_colon text then is_colon_form text else is_dotted_form text
 
--- the greatest number behind the slash
+-- the greatest number after the slash
 abbrev pub most_bits : List ℕ → ℕ
 most_bits address = if has_colon address then 128 else 32

@@ -1,10 +1,9 @@
 -- The form in which the value of an attribute is kept, or its fault.
 use Rattle.std.specs.Prelude.{◌≡◌, ℕ, ◌+◌, ◌==◌, Bool, false, List, ◌++◌, length, take, drop, codes, Option, Some, None, option_map, Ok, Err, if◌then◌else◌, bytes_eq}
 use Rattle.std.specs.Path.{rfind_below}
-use Rattle.misp_types.specs.declared.fault.ValueFault.TheVariants as faults
+use Rattle.misp_types.specs.declared.fault.ValueFault.{ValueFault}
 use Rattle.misp_types.specs.declared.kinds.Form.{Form}
 use Rattle.misp_types.specs.declared.kinds.Rule.{Rule}
-use Rattle.misp_types.specs.declared.kinds.Rule.TheVariants as rules
 use Rattle.misp_types.specs.Checked.{Checked}
 use Rattle.misp_types.specs.Forms.{text_of}
 use Rattle.misp_types.specs.Kinds.{rule_of}
@@ -13,18 +12,18 @@ use Rattle.misp_types.specs.Kinds.{rule_of}
 abbrev pub last_bar : List ℕ → Option ℕ
 last_bar value = rfind_below 124 value (length value)
 
--- what stands before and behind a place
+-- what is before and after a place
 abbrev pub around : List ℕ → ℕ → List ℕ × List ℕ
 around text at = (take at text, drop (at + 1) text)
 
--- what stands before and behind the last `|`
+-- what is before and after the last `|`
 abbrev pub split_value : List ℕ → Option (List ℕ × List ℕ)
 split_value value = option_map (around value) (last_bar value)
 
 -- each fault of a part is a fault of the part
 abbrev pub part_of : ℕ → Checked → Checked
 part_of part (Ok kept) = Ok kept
-part_of part (Err fault) = Err (faults.WrongPart part)
+part_of part (Err fault) = Err (ValueFault.WrongPart part)
 
 -- both as they are kept, the first fault counting
 abbrev pub joined : Checked → Checked → Checked
@@ -39,20 +38,20 @@ pair_of first second front back =
 
 -- without a `|` the second part is missing
 abbrev pub two_at : Form → Form → Option (List ℕ × List ℕ) → Checked
-two_at first second None = Err (faults.WrongPart 2)
+two_at first second None = Err (ValueFault.WrongPart 2)
 two_at first second (Some (front, back)) = pair_of first second front back
 
 -- a value of two parts, parted by its last `|`
 abbrev pub two_of : Form → Form → List ℕ → Checked
 two_of first second value =
-    if length value == 0 then Err faults.WrongLength
+    if length value == 0 then Err ValueFault.WrongLength
     else two_at first second (split_value value)
 
 -- values of one part, of two, and files
 abbrev pub by_rule : Rule → List ℕ → Checked
-by_rule (rules.One form) value = text_of form value
-by_rule (rules.Two first second) value = two_of first second value
-by_rule rules.File value = Err faults.BinaryType
+by_rule (Rule.One form) value = text_of form value
+by_rule (Rule.Two first second) value = two_of first second value
+by_rule Rule.File value = Err ValueFault.BinaryType
 
 -- what is kept of a value of a type, or its fault
 unfoldable pub kept_of : List ℕ → List ℕ → Checked

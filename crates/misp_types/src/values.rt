@@ -10,7 +10,7 @@ use crate::forms::text_of;
 use crate::kinds::{Form, Rule, rule_of};
 use std::alloc::Global;
 
-/// What stands before and behind the last `|`.
+/// What is before and after the last `|`.
 fn split_value(value: &str) -> Option<(&str, &str)>
     ensures { option_map (λ parts. (parts.0.now, parts.1.now)) result ≡ split_value value.now }
 {

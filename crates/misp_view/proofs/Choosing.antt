@@ -1,16 +1,12 @@
 -- The row that none goes before, found in one pass.
-use Rattle.std.proofs.Common.{◌≡◌, ℕ, ◌+◌, ◌<◌, ◌≤◌, length, get_or, take, Bool, true, false, refl, ap, sym, ◌∙◌, cond, List, [], ◌∷◌, ◌++◌, Option, Some, None, arith}
-use Rattle.std.specs.Prelude.{◌&&◌, ◌||◌, not, ltb, eqb}
-use Rattle.std.specs.List.{list_any, find, filter}
+use Rattle.std.proofs.Common.{◌≡◌, ℕ, ◌+◌, ◌<◌, ◌≤◌, length, get_or, take, Bool, true, false, refl, ap, sym, ◌∙◌, cond, List, [], ◌∷◌, ◌++◌, Option, Some, None, arith, ◌&&◌, ◌||◌, not, ltb, eqb, find, filter, take_all, append-nil}
 use Rattle.std.specs.Option.{option_or}
 use Rattle.std.proofs.lemmas.Bool.{false≢true, and_right, and_left, and_from, not-true, not_from_false}
 use Rattle.std.proofs.lemmas.Bool.Decides.{nat_tests}
 use Rattle.std.proofs.lemmas.List.Folds.{find-append, list_any-append}
-use Rattle.std.proofs.lemmas.List.{take_all, append-nil}
 use Rattle.std.proofs.lemmas.List.Elements.{filter_more}
-use Rattle.misp_elem.specs.declared.row.RowFields.{RowFields as Row}
-use Rattle.misp_model.specs.View.{is_before, first_of_all}
-use Rattle.misp_model.proofs.Lists.{any_weaker, find_passes}
+use Rattle.misp_lists.proofs.Lists.{any_weaker, find_passes, find_by}
+use Rattle.misp_rules.specs.Prelude.{Row, first_of_all, is_before, list_any}
 use Rattle.misp_view.specs.View.{IsBestOf, better}
 
 -- the order of event rows
@@ -82,10 +78,6 @@ step xs x y = ap not (list_any-append (λ other. is_before other y) xs (x ∷ []
     one true b = refl
     one false true = refl
     one false false = refl
-
-find_by : {X : Type 0} (p r : X → Bool) → ((x : X) → p x ≡ r x) → (xs : List X) → find p xs ≡ find r xs
-find_by p r h [] = refl
-find_by p r h (x ∷ xs) = rw (h x, find_by p r h xs) refl
 
 first_step : (xs : List Row) (x : Row) → first_of_all (xs ++ x ∷ []) ≡ option_or (find (λ y. none_before xs y && not (is_before x y)) xs) (cond (none_before xs x && not (is_before x x)) (Some x) None)
 unfolding first_of_all none_before

@@ -1,61 +1,34 @@
 -- The form of one copy, by the lists of what shows there.
-use Rattle.std.proofs.Common.{◌≡◌, ℕ, Bool, true, false, refl, ap, sym, ◌∙◌, arith, List, [], ◌∷◌, map, eqb, ltb}
-use Rattle.std.specs.Prelude.{◌&&◌, not, Option, Some, None, option_map}
-use Rattle.std.specs.List.{list_any, list_all, filter}
-use Rattle.std.specs.BTreeSet.{BTreeSet}
-use Rattle.std.proofs.lemmas.Bool.{and_parts, and_right, false≢true}
-use Rattle.std.proofs.lemmas.Bool.Decides.{nat_tests}
-use Rattle.misp_ids.specs.declared.uid.OrgId.{OrgId}
-use Rattle.misp_ids.specs.declared.uid.EventId.{EventId}
-use Rattle.misp_ids.specs.declared.uid.GroupId.{GroupId}
-use Rattle.misp_elem.specs.declared.key.Place.TheVariants.{Event, Object, Attribute, ObjectAttribute}
-use Rattle.misp_elem.specs.declared.key.KeyForm.{KeyForm as Key}
-use Rattle.misp_elem.specs.declared.key.KeyForm.TheVariants.{Element, Reference, Proposal, Verdict, Sighting}
-use Rattle.misp_elem.specs.declared.row.RowFields.{RowFields as Row}
+use Rattle.std.proofs.Common.{◌≡◌, ℕ, Bool, true, false, refl, ap, sym, ◌∙◌, arith, List, [], map, eqb, ltb, ◌&&◌, not, Option, Some, None, option_map, filter, BTreeSet}
+use Rattle.misp_lists.proofs.Lists.{all_of_kept, any_of_kept, filter_twice, map_where}
 use Rattle.misp_elem.specs.declared.visible.VisibleAttribute.{VisibleAttribute}
-use Rattle.misp_elem.specs.declared.visible.VisibleEvent.{VisibleEvent}
-use Rattle.misp_groups.specs.declared.group.GroupFields.{GroupFields as Group}
-use Rattle.misp_model.specs.Names.{Inst, same_event, same_elem, same_key, event_key}
-use Rattle.misp_model.specs.Order.{in_order}
-use Rattle.misp_model.specs.History.{is_statement}
-use Rattle.misp_model.specs.Asking.{Scene, uuid_at}
-use Rattle.misp_model.specs.View.{granted, is_least}
-use Rattle.misp_model.specs.Shown.{sorted, is_shown, shown_at, is_plain_attribute, is_attribute_of, is_object, is_reference_of, is_verdict_on, is_closed, proposals_on, sightings_on, shown_attribute, object_of, shown_object, creator, form_of, event_row, shown}
-use Rattle.misp_model.proofs.Lists.{all_of_kept}
-use Rattle.misp_view.specs.declared.sight.Sight.{Sight}
+use Rattle.misp_rules.proofs.Prelude.{Attribute, Element, Event, EventId, Group, GroupId, Inst, Key, Object, ObjectAttribute, OrgId, Proposal, Reference, Row, Scene, Sighting, Verdict, VisibleEvent, and_parts, and_right, any_agree}
+use Rattle.misp_rules.proofs.Prelude.{creator, event_key, event_row, false≢true, filter_agree, form_of, granted, in_order, is_attribute_of, is_closed, is_least, is_object, is_plain_attribute, is_reference_of, is_shown, is_statement}
+use Rattle.misp_rules.proofs.Prelude.{is_verdict_on, list_all, list_any, nat_tests, object_of, proposals_on, same_elem, same_event, same_key, shown, shown_at, shown_attribute, shown_object, sightings_on, sorted, uuid_at}
+use Rattle.misp_copies.specs.declared.copy_view.CopyView.{CopyView}
+use Rattle.misp_copies.specs.Kinds.{is_link}
+use Rattle.misp_copies.specs.ElementSet.{Numbers}
+use Rattle.misp_copies.specs.Grants.{granted_in}
+use Rattle.misp_copies.specs.CopyView.{IsCopyView, IsSeen}
+use Rattle.misp_copies.specs.Keys.{is_about}
+use Rattle.misp_copies.specs.StatementsByTarget.{IsByTarget}
+use Rattle.misp_copies.specs.StatementsByKey.{is_lesser}
+use Rattle.misp_copies.proofs.Granted.{of_these, all_of_these, granted_is}
 use Rattle.misp_view.specs.declared.inside.Inside.{Inside}
-use Rattle.misp_view.specs.declared.kinds.Kind.TheVariants as kinds
+use Rattle.misp_view.specs.declared.kinds.Kind.{Kind}
 use Rattle.misp_view.specs.View.{scene_of}
-use Rattle.misp_view.specs.Kinds.{is_link}
 use Rattle.misp_view.specs.Order.{goes_before}
-use Rattle.misp_view.specs.Spots.{Numbers}
-use Rattle.misp_view.specs.Grants.{granted_in}
-use Rattle.misp_view.specs.Sight.{IsSight, IsSeen, is_inner}
+use Rattle.misp_view.specs.Kinds.{is_inner}
 use Rattle.misp_view.specs.Parts.{around}
-use Rattle.misp_view.specs.Keys.{is_about}
-use Rattle.misp_view.specs.Subjects.{IsBySubject}
-use Rattle.misp_view.specs.Tellers.{is_lesser}
 use Rattle.misp_view.specs.Statements.{is_told, is_least_of, is_closed_by, is_open_proposal, is_least_sighting, is_proposal, is_sighting}
 use Rattle.misp_view.specs.Form.{attribute_in, beside, object_in}
 use Rattle.misp_view.specs.Inside.{in_list, IsInside}
-use Rattle.misp_view.proofs.Granted.{filter_where, of_these, all_of_these, granted_is}
-use Rattle.misp_view.proofs.Searches.{any_of_kept}
 use Rattle.misp_view.proofs.StatementKeys.{lesser_told, proposal_told, sighting_told, verdict_told, proposal_class, sighting_class, on_is, of_is}
-use Rattle.misp_view.proofs.Showing.{of_class, sorted_class, sorted_cut, filter_twice, is_reference, list_is, all_sorted}
-
-module _ {X : Type 0} where
-  -- tests that agree on all of these
-  any_where : (p r q : X → Bool) → ((x : X) → q x ≡ true → p x ≡ r x) → (xs : List X) → list_all q xs ≡ true → list_any p xs ≡ list_any r xs
-  any_where p r q h [] e = refl
-  any_where p r q h (x ∷ xs) e = grind (arith, any_where p r q h xs, h x)
-
-map_where : {X Y : Type 0} (f g : X → Y) (q : X → Bool) → ((x : X) → q x ≡ true → f x ≡ g x) → (xs : List X) → list_all q xs ≡ true → map f xs ≡ map g xs
-map_where f g q h [] e = refl
-map_where f g q h (x ∷ xs) e = let both : (q x ≡ true) × (list_all q xs ≡ true) = and_parts _ _ e in λ j. h x both.0 j ∷ map_where f g q h xs both.1 j
+use Rattle.misp_view.proofs.Showing.{of_class, sorted_class, sorted_cut, is_reference, list_is, all_sorted}
 
 -- ---- statements
 
-module _ (groups : List Group) (i : Inst) (o : OrgId) (e : EventId) (w : OrgId) (rows : List Row) (v : Sight) (s : IsSight v groups i o e w rows) where
+module _ (groups : List Group) (i : Inst) (o : OrgId) (e : EventId) (w : OrgId) (rows : List Row) (v : CopyView) (s : IsCopyView v groups i o e w rows) where
   given_is : (row : Row) → of_these rows row ≡ true → granted_in v.grants v.who.now.groups.now v.who.now.here v.who.now.org row ≡ granted rows groups i o row
   given_is row h = ap {A = List Group × Inst × OrgId} (λ m. granted_in v.grants m.0 m.1 m.2 row) (λ k. (s.known k, s.here k, s.org k)) ∙ granted_is groups i o rows v.grants s.grants row h
 
@@ -78,13 +51,13 @@ module _ (groups : List Group) (i : Inst) (o : OrgId) (e : EventId) (w : OrgId) 
 
   least_is : (row : Row) → of_these rows row ≡ true → is_statement row.key ≡ true → (granted_in v.grants v.who.now.groups.now v.who.now.here v.who.now.org row && is_least_of told row) ≡ is_least rows groups i o row
   unfolding is_least is_least_of told
-  least_is row h k = λ j. given_is row h j && not ((any_of_kept (is_lesser row) (is_told v) rows ∙ any_where _ _ (of_these rows) (lesser_row row k) rows (all_of_these rows)) j)
+  least_is row h k = λ j. given_is row h j && not ((any_of_kept (is_lesser row) (is_told v) rows ∙ any_agree _ _ (of_these rows) (lesser_row row k) rows (all_of_these rows)) j)
 
   closed_is : (orgc : OrgId) (k : Key) → is_closed_by told orgc k ≡ is_closed (scene_of groups i o rows) orgc k
   unfolding is_closed_by is_closed told is_told
   closed_is orgc k =
       any_of_kept (λ (row : Row). is_verdict_on k orgc row.key) (is_told v) rows
-      ∙ any_where _ _ (of_these rows) (λ (r : Row) h. verdict_told k r.key orgc (granted_in v.grants v.who.now.groups.now v.who.now.here v.who.now.org r) ∙ ap (λ b. is_verdict_on k orgc r.key && b) (given_is r h)) rows (all_of_these rows)
+      ∙ any_agree _ _ (of_these rows) (λ (r : Row) h. verdict_told k r.key orgc (granted_in v.grants v.who.now.groups.now v.who.now.here v.who.now.org r) ∙ ap (λ b. is_verdict_on k orgc r.key && b) (given_is r h)) rows (all_of_these rows)
 
   proposal_row : (orgc : OrgId) (test : Key → Bool) (row : Row) → of_these rows row ≡ true →
       ((is_told v row && is_open_proposal told orgc row) && test row.key) ≡ ((is_proposal row.key && test row.key) && is_least rows groups i o row && not (is_closed (scene_of groups i o rows) orgc row.key))
@@ -135,7 +108,7 @@ module _ (groups : List Group) (i : Inst) (o : OrgId) (e : EventId) (w : OrgId) 
       ∙ sorted_cut (λ (r : Row). test r.key) (filter (is_open_proposal told orgc) told)
       ∙ ap sorted (ap (filter (λ (r : Row). test r.key)) (filter_twice (is_told v) (is_open_proposal told orgc) rows)
       ∙ filter_twice (λ r. is_told v r && is_open_proposal told orgc r) (λ (r : Row). test r.key) rows
-      ∙ filter_where _ _ (of_these rows) (proposal_row orgc test) rows (all_of_these rows))
+      ∙ filter_agree _ _ (of_these rows) (proposal_row orgc test) rows (all_of_these rows))
 
   sightings_cut : (test : Key → Bool) →
       filter (λ (r : Row). test r.key) (in_order goes_before (filter (is_least_sighting told) told))
@@ -146,7 +119,7 @@ module _ (groups : List Group) (i : Inst) (o : OrgId) (e : EventId) (w : OrgId) 
       ∙ sorted_cut (λ (r : Row). test r.key) (filter (is_least_sighting told) told)
       ∙ ap sorted (ap (filter (λ (r : Row). test r.key)) (filter_twice (is_told v) (is_least_sighting told) rows)
       ∙ filter_twice (λ r. is_told v r && is_least_sighting told r) (λ (r : Row). test r.key) rows
-      ∙ filter_where _ _ (of_these rows) (sighting_row test) rows (all_of_these rows))
+      ∙ filter_agree _ _ (of_these rows) (sighting_row test) rows (all_of_these rows))
 
   module _ (orgc : OrgId) where
     P : List Row
@@ -156,7 +129,7 @@ module _ (groups : List Group) (i : Inst) (o : OrgId) (e : EventId) (w : OrgId) 
     S = in_order goes_before (filter (is_least_sighting told) told)
 
     -- each key has those that are about it, by what they are about
-    module _ (proposals sightings : List Row) (are_proposals : IsBySubject proposals P) (are_sightings : IsBySubject sightings S) where
+    module _ (proposals sightings : List Row) (are_proposals : IsByTarget proposals P) (are_sightings : IsByTarget sightings S) where
       proposals_are : (k : Key) → filter (λ (r : Row). is_about k r.key) proposals ≡ proposals_on (scene_of groups i o rows) orgc k
       unfolding proposals_on P
       proposals_are k =
@@ -218,43 +191,44 @@ module _ (groups : List Group) (i : Inst) (o : OrgId) (e : EventId) (w : OrgId) 
         reference_row (Verdict f n j z) k h = absurd (false≢true h)
         reference_row (Sighting f t j z u) k h = absurd (false≢true h)
 
-        -- those of a list that stand in the object
+        -- those of a list that are in the object
         beside_is : (r : Row) (a b : Key → Bool) → ((k : Key) → (a k && eqb (around r.key) (around k)) ≡ b k) → beside r (shown_at (scene_of groups i o rows) w a) ≡ shown_at (scene_of groups i o rows) w b
         unfolding shown_at
         beside_is r a b h =
             sorted_cut (λ (x : Row). eqb (around r.key) (around x.key)) (filter (λ (row : Row). is_shown (scene_of groups i o rows) w row && a row.key) rows)
             ∙ ap sorted (filter_twice (λ (row : Row). is_shown (scene_of groups i o rows) w row && a row.key) (λ (x : Row). eqb (around r.key) (around x.key)) rows)
-            ∙ ap (λ (f : Row → Bool). sorted (filter f rows)) (λ j row. (one (is_shown (scene_of groups i o rows) w row) (a row.key) (eqb (around r.key) (around row.key)) ∙ ap (λ t. is_shown (scene_of groups i o rows) w row && t) (h row.key)) j)
+            ∙ ap (λ (f : Row → Bool). sorted (filter f rows))
+            (λ j row. (one (is_shown (scene_of groups i o rows) w row) (a row.key) (eqb (around r.key) (around row.key)) ∙ ap (λ t. is_shown (scene_of groups i o rows) w row && t) (h row.key)) j)
           where
             one : (x y z : Bool) → ((x && y) && z) ≡ (x && (y && z))
             one true y z = refl
             one false y z = refl
 
         object_is : (r : Row) → is_object e r.key ≡ true →
-            object_in (in_list kinds.Inner v seen rows) (in_list kinds.Reference v seen rows) proposals sightings r ≡ shown_object (scene_of groups i o rows) orgc w e r
+            object_in (in_list Kind.Inner v seen rows) (in_list Kind.Reference v seen rows) proposals sightings r ≡ shown_object (scene_of groups i o rows) orgc w e r
         unfolding object_in shown_object
         object_is r h = λ j. record {
           row = r;
-          attributes = (all_attributes (beside r (in_list kinds.Inner v seen rows))
-              ∙ ap (λ l. map (shown_attribute (scene_of groups i o rows) orgc) (beside r l)) (list_is groups i o e w rows v s seen are_seen kinds.Inner)
+          attributes = (all_attributes (beside r (in_list Kind.Inner v seen rows))
+              ∙ ap (λ l. map (shown_attribute (scene_of groups i o rows) orgc) (beside r l)) (list_is groups i o e w rows v s seen are_seen Kind.Inner)
               ∙ ap (map (shown_attribute (scene_of groups i o rows) orgc)) (beside_is r (is_inner e) (is_attribute_of e (object_of r.key)) (λ k. inner_row r.key k h))) j;
-          references = (ap (beside r) (list_is groups i o e w rows v s seen are_seen kinds.Reference)
+          references = (ap (beside r) (list_is groups i o e w rows v s seen are_seen Kind.Reference)
               ∙ beside_is r (is_reference groups i o e w rows v s seen are_seen) (is_reference_of (scene_of groups i o rows) w e (object_of r.key)) (λ k. reference_row r.key k h)) j;
         }
 
         all_of_sorted : (q : Row → Bool) (xs : List Row) → list_all q xs ≡ true → list_all q (sorted xs) ≡ true
         all_of_sorted q xs h = all_sorted q xs h
 
-        objects_are : map (object_in (in_list kinds.Inner v seen rows) (in_list kinds.Reference v seen rows) proposals sightings) (in_list kinds.Object v seen rows)
+        objects_are : map (object_in (in_list Kind.Inner v seen rows) (in_list Kind.Reference v seen rows) proposals sightings) (in_list Kind.Object v seen rows)
             ≡ map (shown_object (scene_of groups i o rows) orgc w e) (shown_at (scene_of groups i o rows) w (is_object e))
         unfolding shown_at
         objects_are =
-            ap (map (object_in (in_list kinds.Inner v seen rows) (in_list kinds.Reference v seen rows) proposals sightings)) (list_is groups i o e w rows v s seen are_seen kinds.Object)
+            ap (map (object_in (in_list Kind.Inner v seen rows) (in_list Kind.Reference v seen rows) proposals sightings)) (list_is groups i o e w rows v s seen are_seen Kind.Object)
             ∙ map_where _ _ (λ (r : Row). is_object e r.key) object_is (sorted (filter (λ (row : Row). is_shown (scene_of groups i o rows) w row && is_object e row.key) rows))
             (all_of_sorted _ _ (all_of_kept (λ (r : Row). is_object e r.key) _ (λ row h. (and_parts _ _ h).1) rows))
 
-        attributes_are : map (attribute_in proposals sightings) (in_list kinds.Attribute v seen rows) ≡ map (shown_attribute (scene_of groups i o rows) orgc) (shown_at (scene_of groups i o rows) w (is_plain_attribute e))
-        attributes_are = all_attributes _ ∙ ap (map (shown_attribute (scene_of groups i o rows) orgc)) (list_is groups i o e w rows v s seen are_seen kinds.Attribute)
+        attributes_are : map (attribute_in proposals sightings) (in_list Kind.Attribute v seen rows) ≡ map (shown_attribute (scene_of groups i o rows) orgc) (shown_at (scene_of groups i o rows) w (is_plain_attribute e))
+        attributes_are = all_attributes _ ∙ ap (map (shown_attribute (scene_of groups i o rows) orgc)) (list_is groups i o e w rows v s seen are_seen Kind.Attribute)
 
 -- what shows of an event, by its row
 pub shown_some : (s : Scene) (e : EventId) (owner : Option OrgId) (row : Row) (form : VisibleEvent) → event_row s e owner ≡ Some row → form ≡ form_of s e row → Some form ≡ shown s e owner
@@ -266,15 +240,15 @@ unfolding shown
 shown_none s e owner h = sym (ap (option_map (form_of s e)) h)
 
 -- the form of one copy
-pub form_is : (groups : List Group) (i : Inst) (o : OrgId) (e : EventId) (row copy : Row) (rows : List Row) (v : Sight) (s : IsSight v groups i o e row.owner rows) (n : Inside) (proposals sightings on_event all : List Row)
+pub form_is : (groups : List Group) (i : Inst) (o : OrgId) (e : EventId) (row copy : Row) (rows : List Row) (v : CopyView) (s : IsCopyView v groups i o e row.owner rows) (n : Inside) (proposals sightings on_event all : List Row)
     (orgc : OrgId) (name : List ℕ) (names : List (GroupId × List ℕ)) → copy ≡ row → orgc ≡ creator row → all ≡ filter (is_told v) rows →
-    IsBySubject proposals (in_order goes_before (filter (is_open_proposal all orgc) all)) → IsBySubject sightings (in_order goes_before (filter (is_least_sighting all) all)) →
+    IsByTarget proposals (in_order goes_before (filter (is_open_proposal all orgc) all)) → IsByTarget sightings (in_order goes_before (filter (is_least_sighting all) all)) →
     IsInside n v proposals sightings rows → on_event ≡ filter (λ (r : Row). is_about (event_key e) r.key) proposals → name ≡ [] → names ≡ [] →
     ◌≡◌ {A = VisibleEvent} (record { row = copy; org_name = name; attributes = n.attributes; objects = n.objects; proposals = on_event; group_names = names }) (form_of (scene_of groups i o rows) e row)
 unfolding form_of told P S
 form_is groups i o e row copy rows v s n proposals sightings on_event all orgc name names a b c d f g h k l =
-    let p : IsBySubject proposals (P groups i o e row.owner rows v s (creator row)) = λ q. d q ∙ (λ j. filter (λ (r : Row). is_about q r.key) (in_order goes_before (filter (is_open_proposal (c j) (b j)) (c j)))) in
-    let q : IsBySubject sightings (S groups i o e row.owner rows v s (creator row)) = λ q. f q ∙ (λ j. filter (λ (r : Row). is_about q r.key) (in_order goes_before (filter (is_least_sighting (c j)) (c j)))) in
+    let p : IsByTarget proposals (P groups i o e row.owner rows v s (creator row)) = λ q. d q ∙ (λ j. filter (λ (r : Row). is_about q r.key) (in_order goes_before (filter (is_open_proposal (c j) (b j)) (c j)))) in
+    let q : IsByTarget sightings (S groups i o e row.owner rows v s (creator row)) = λ q. f q ∙ (λ j. filter (λ (r : Row). is_about q r.key) (in_order goes_before (filter (is_least_sighting (c j)) (c j)))) in
     λ j. record {
       row = a j;
       org_name = k j;

@@ -1,7 +1,6 @@
--- Objects with what stands in them, where that is by objects.
+-- Objects with what is in them, where that is by objects.
 use Rattle.std.proofs.Common.{◌≡◌, ap, sym, ◌∙◌, List, map, subst, Bor}
-use Rattle.misp_elem.specs.declared.row.RowFields.{RowFields as Row}
-use Rattle.misp_elem.specs.declared.visible.VisibleObject.{VisibleObject}
+use Rattle.misp_rules.specs.Prelude.{Row, VisibleObject}
 use Rattle.misp_view.specs.Parts.{Rises, around}
 use Rattle.misp_view.specs.Form.{attribute_in, beside, object_in}
 use Rattle.misp_view.specs.Inside.{IsList, IsGrouped}

@@ -1,17 +1,7 @@
 -- What shows of an event hangs on the rows, the groups, the instance and the caller alone.
-use Rattle.std.proofs.Common.{◌≡◌, refl, ap, ◌∙◌, []}
-use Rattle.std.specs.Prelude.{Option, Some, None, Bool, map, option_map}
-use Rattle.misp_ids.specs.declared.uid.OrgId.{OrgId}
-use Rattle.misp_ids.specs.declared.uid.EventId.{EventId}
-use Rattle.misp_ids.specs.declared.uid.ElemId.{ElemId}
-use Rattle.misp_elem.specs.declared.key.KeyForm.{KeyForm as Key}
-use Rattle.misp_elem.specs.declared.key.KeyForm.TheVariants.{Element, Reference, Proposal, Verdict, Sighting}
-use Rattle.misp_elem.specs.declared.row.RowFields.{RowFields as Row}
-use Rattle.misp_elem.specs.declared.visible.VisibleObject.{VisibleObject}
-use Rattle.misp_elem.specs.declared.visible.VisibleEvent.{VisibleEvent}
-use Rattle.misp_model.specs.Names.{event_key}
-use Rattle.misp_model.specs.Asking.{Scene}
-use Rattle.misp_model.specs.Shown.{is_shown, shown_at, is_attribute_of, is_object, is_plain_attribute, object_of, creator, is_reference_of, is_closed, proposals_on, sightings_on, shown_attribute, shown_object, form_of, event_row, shown}
+use Rattle.std.proofs.Common.{◌≡◌, refl, ap, ◌∙◌, [], Option, Some, None, Bool, map, option_map}
+use Rattle.misp_rules.specs.Prelude.{Element, ElemId, EventId, Key, OrgId, Proposal, Reference, Row, Scene, Sighting, Verdict, VisibleEvent, VisibleObject, event_key}
+use Rattle.misp_rules.specs.Shown.{is_shown, shown_at, is_attribute_of, is_object, is_plain_attribute, object_of, creator, is_reference_of, is_closed, proposals_on, sightings_on, shown_attribute, shown_object, form_of, event_row, shown}
 use Rattle.misp_view.specs.View.{scene_of}
 
 -- the scene with another number, moment and names
@@ -33,7 +23,10 @@ event_row_same s e (Some w) = refl
 
 object_same : (s : Scene) (orgc w : OrgId) (e : EventId) (row : Row) → shown_object s orgc w e row ≡ shown_object (bare_scene s) orgc w e row
 unfolding shown_object shown_at is_shown shown_attribute proposals_on sightings_on is_closed
-object_same s orgc w e row = ap {B = VisibleObject} (λ (test : Key → Bool). record { row = row; attributes = map (shown_attribute s orgc) (shown_at s w (is_attribute_of e (object_of row.key))); references = shown_at s w test }) (λ j k. reference_same s w e (object_of row.key) k j)
+object_same s orgc w e row =
+    ap {B = VisibleObject}
+    (λ (test : Key → Bool). record { row = row; attributes = map (shown_attribute s orgc) (shown_at s w (is_attribute_of e (object_of row.key))); references = shown_at s w test })
+    (λ j k. reference_same s w e (object_of row.key) k j)
 
 form_same : (s : Scene) (e : EventId) (row : Row) → form_of s e row ≡ form_of (bare_scene s) e row
 unfolding form_of shown_at is_shown shown_attribute proposals_on sightings_on is_closed

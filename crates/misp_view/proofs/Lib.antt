@@ -1,12 +1,4 @@
-pub mod Pairs
-pub mod SpotSets
-pub mod Granted
 pub mod Origins
-pub mod Cuts
-pub mod Searches
-pub mod KeyOrder
-pub mod LeastOwners
-pub mod BySubject
 pub mod Grouping
 pub mod Showing
 pub mod StatementKeys
@@ -15,6 +7,5 @@ pub mod Forming
 pub mod Wholeness
 pub mod Candidates
 pub mod Choosing
-pub mod Sorting
 pub mod InScene
 pub mod NamedGroups

@@ -1,15 +1,10 @@
 -- The groups that labels name, as a set has them.
-use Rattle.std.proofs.Common.{◌≡◌, ℕ, Bool, true, false, refl, ap, ◌∙◌, eqb, cond, List, map}
-use Rattle.std.specs.Prelude.{◌&&◌, ◌||◌}
-use Rattle.std.specs.List.{list_any, filter}
-use Rattle.std.specs.BTreeSet.{BTreeSet, IsEmpty, contains}
+use Rattle.std.proofs.Common.{◌≡◌, ℕ, Bool, true, false, refl, ap, ◌∙◌, cond, List, map, ◌||◌, filter, BTreeSet}
+use Rattle.std.specs.BTreeSet.{IsEmpty}
 use Rattle.std.specs.BTreeMap.{is_at}
-use Rattle.misp_ids.specs.declared.uid.GroupId.{GroupId}
-use Rattle.misp_elem.specs.declared.visible.VisibleEvent.{VisibleEvent}
-use Rattle.misp_groups.specs.declared.group.GroupFields.{GroupFields as Group}
-use Rattle.misp_model.specs.Names.{same_org, same_group}
-use Rattle.misp_view.specs.Table.{pair_cmp}
-use Rattle.misp_view.proofs.Pairs.{pair_more, none_in}
+use Rattle.misp_rules.specs.Prelude.{Group, GroupId, VisibleEvent, contains, same_group, same_org}
+use Rattle.misp_copies.specs.Table.{pair_cmp}
+use Rattle.misp_copies.proofs.Pairs.{pair_more, none_in}
 use Rattle.misp_view.specs.Naming.{has_group, event_names, group_names, with_name}
 
 -- the set with a group more

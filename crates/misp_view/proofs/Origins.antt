@@ -1,28 +1,13 @@
 -- The order of rows in a list.
-use Rattle.std.proofs.Common.{◌≡◌, ℕ, zero, suc, ◌<◌, Bool, true, false, refl, ap, sym, ◌∙◌, arith, List, [], ◌∷◌, ◌++◌, eqb, ltb, Bor}
-use Rattle.std.specs.Prelude.{◌&&◌, ◌||◌, Option, Some, None}
+use Rattle.std.proofs.Common.{◌≡◌, ℕ, zero, suc, ◌<◌, Bool, true, false, refl, ap, sym, ◌∙◌, arith, List, [], ◌∷◌, ◌++◌, eqb, Bor, ◌||◌, Option, Some, None, Ordering, Less, Equal, Greater, nat_cmp, is_lt}
 use Rattle.std.specs.Cmp.{IsStrictWeakOrder}
-use Rattle.std.specs.List.{list_all}
-use Rattle.std.specs.declared.cmp.Ordering.{Ordering}
-use Rattle.std.specs.declared.cmp.Ordering.TheVariants.{Less, Equal, Greater}
-use Rattle.std.specs.Ordering.{nat_cmp, ordering_then, is_lt}
-use Rattle.std.specs.Cmp.Lexicographic.{slice_cmp}
-use Rattle.std.proofs.lemmas.Bool.{and_parts, false≢true}
-use Rattle.std.proofs.lemmas.Bool.Decides.{nat_tests}
-use Rattle.misp_ids.specs.declared.uid.OrgId.{OrgId}
 use Rattle.misp_ids.specs.Names.{is_name_byte, is_inst_name}
-use Rattle.misp_elem.specs.declared.key.KeyForm.{KeyForm as Key}
-use Rattle.misp_elem.specs.declared.key.KeyForm.TheVariants.{Element, Reference, Proposal, Verdict, Sighting}
-use Rattle.misp_elem.specs.declared.row.RowFields.{RowFields as Row}
+use Rattle.misp_lists.proofs.Orders.{less_weak, then_assoc, less, greater}
 use Rattle.misp_elem.specs.Key.{IsKey}
-use Rattle.misp_elem.specs.Spelling as spelling
-use Rattle.misp_model.specs.Names.{Inst}
-use Rattle.misp_model.specs.Order.{is_less}
-use Rattle.misp_model.specs.History.{spell}
-use Rattle.misp_model.proofs.Ordering.{less_on, less_past}
-use Rattle.misp_model.proofs.NameOrder.{less_is, keys_in_bytes}
-use Rattle.misp_model.proofs.NumberBytes.{then_assoc, less, greater}
+use Rattle.misp_rules.proofs.Prelude.{Element, Inst, Key, OrgId, Proposal, Reference, Row, Sighting, Verdict, and_parts, false≢true, is_less, less_is, list_all, ordering_then, slice_cmp, spell}
+use Rattle.misp_rules.proofs.NameOrder.{keys_in_bytes}
 use Rattle.misp_view.specs.Order.{class_of, origin_of, origin_text, rest_of, goes_before}
+use Rattle.misp_elem.specs.Spelling as spelling
 
 -- no byte of a name is 0
 name_byte : (b : ℕ) → is_name_byte b ≡ true → 0 < b
@@ -55,9 +40,6 @@ origins_cmp a b o h k e =
     ends Less = refl
     ends Equal = refl
     ends Greater = refl
-
-pub lt_is : (a b : ℕ) → is_lt (nat_cmp a b) ≡ ltb a b
-lt_is a b = grind (arith, nat_tests)
 
 -- those of one kind have an origin, or have none
 has_origin : ℕ → Bool
@@ -100,33 +82,10 @@ none_told a b r f g h e c = e ∙ sym (keys_in_bytes a b f g) ∙ one (origin_of
 
 -- ---- the order of rows
 
-pub never : (x : List ℕ) → is_less x x ≡ false
-unfolding is_less
-never [] = refl
-never (a ∷ x) = rw (never x) (one (ltb a a) (eqb a a) (grind (arith, nat_tests)))
-  where
-    one : (b c : Bool) → b ≡ false → (b || c && false) ≡ false
-    one b true h = rw h refl
-    one b false h = rw h refl
-
 pub goes_weak : IsStrictWeakOrder goes_before
 unfolding goes_before
-goes_weak = record { one_way = λ a b h. one_way _ _ h; chain = λ a b c h k. chain _ _ _ h k }
-  where
-    one_way : (x y : List ℕ) → is_less x y ≡ true → is_less y x ≡ false
-    one_way x y h = two (is_less y x) refl
-      where
-        two : (t : Bool) → is_less y x ≡ t → t ≡ false
-        two true e = sym (less_on x y x h e) ∙ never x
-        two false e = refl
+goes_weak = record { one_way = λ a b h. less_weak.one_way _ _ h; chain = λ a b c h k. less_weak.chain _ _ _ h k }
 
-    chain : (x y z : List ℕ) → is_less x y ≡ false → is_less y z ≡ false → is_less x z ≡ false
-    chain x y z h k = two (is_less x z) refl
-      where
-        two : (t : Bool) → is_less x z ≡ t → t ≡ false
-        two true e = sym (less_past x y z e k) ∙ h
-        two false e = refl
-
--- the same behind references
+-- the same after references
 pub goes_behind : IsStrictWeakOrder {X = Bor Row} (λ a b. goes_before a.now b.now)
 goes_behind = record { one_way = λ a b h. goes_weak.one_way a.now b.now h; chain = λ a b c h k. goes_weak.chain a.now b.now c.now h k }

@@ -1,37 +1,23 @@
 -- What the sets say shows of one copy shows.
-use Rattle.std.proofs.Common.{◌≡◌, ℕ, Bool, true, false, refl, ap, sym, ◌∙◌, arith, cond, List, [], ◌∷◌, eqb, ltb}
-use Rattle.std.specs.Prelude.{◌&&◌, ◌||◌, not}
-use Rattle.std.specs.List.{list_any, list_all, filter}
-use Rattle.std.specs.BTreeSet.{BTreeSet}
-use Rattle.std.proofs.lemmas.Bool.{and_parts, and_from, false≢true}
-use Rattle.std.proofs.lemmas.Bool.Decides.{nat_tests}
-use Rattle.misp_ids.specs.declared.uid.OrgId.{OrgId}
-use Rattle.misp_ids.specs.declared.uid.EventId.{EventId}
-use Rattle.misp_elem.specs.declared.key.Place.{Place}
-use Rattle.misp_elem.specs.declared.key.KeyForm.{KeyForm as Key}
-use Rattle.misp_elem.specs.declared.key.KeyForm.TheVariants.{Element, Reference, Proposal, Verdict, Sighting}
-use Rattle.misp_elem.specs.declared.row.RowFields.{RowFields as Row}
-use Rattle.misp_groups.specs.declared.group.GroupFields.{GroupFields as Group}
-use Rattle.misp_model.specs.Names.{Inst, same_org, same_event, same_key, event_of, parents}
-use Rattle.misp_model.specs.Order.{in_order, is_less}
-use Rattle.misp_model.specs.History.{is_statement}
-use Rattle.misp_model.specs.View.{is_row_of, is_deleted, is_live}
-use Rattle.misp_model.specs.Shown.{order_of, sorted, is_shown, shown_at, is_plain_attribute, is_object}
-use Rattle.misp_model.proofs.Same.{same_key-sound}
-use Rattle.misp_model.proofs.Lists.{all_same, all_of_kept}
-use Rattle.misp_model.proofs.Ordering.{less_on, less_past, in_order_cut}
-use Rattle.misp_view.specs.declared.sight.Sight.{Sight}
+use Rattle.std.proofs.Common.{◌≡◌, ℕ, Bool, true, false, refl, ap, sym, ◌∙◌, arith, List, ◌∷◌, eqb, ltb, ◌&&◌, ◌||◌, not, filter, BTreeSet}
+use Rattle.misp_lists.proofs.Lists.{all_of_kept, any_by}
+use Rattle.misp_lists.proofs.Ordering.{tests_in_order, in_order_cut, in_order_same}
+use Rattle.misp_lists.proofs.Orders.{less_on, less_past}
+use Rattle.misp_rules.proofs.Prelude.{Element, EventId, Group, Inst, Key, OrgId, Place, Proposal, Reference, Row, Sighting, Verdict, all_same, and_from, and_parts, event_of, false≢true, filter_agree, in_order, is_deleted, is_less, is_live}
+use Rattle.misp_rules.proofs.Prelude.{is_object, is_plain_attribute, is_row_of, is_shown, is_statement, list_all, list_any, nat_tests, parents, same_event, same_key, same_key-sound, same_org, shown_at, sorted}
+use Rattle.misp_rules.specs.Shown.{order_of}
+use Rattle.misp_copies.specs.declared.copy_view.CopyView.{CopyView}
+use Rattle.misp_copies.specs.OwnRows.{has_deleted}
+use Rattle.misp_copies.specs.Kinds.{is_link}
+use Rattle.misp_copies.specs.ElementSet.{Numbers, has_element, has_key, key_is}
+use Rattle.misp_copies.specs.Grants.{granted_in}
+use Rattle.misp_copies.specs.CopyView.{IsCopyView, IsSeen, shows_in}
+use Rattle.misp_copies.proofs.Granted.{reached, parents_reached, of_these, all_of_these, granted_is}
 use Rattle.misp_view.specs.declared.kinds.Kind.{Kind}
-use Rattle.misp_view.specs.declared.kinds.Kind.TheVariants as kinds
-use Rattle.misp_view.specs.View.{scene_of, has_deleted}
-use Rattle.misp_view.specs.Kinds.{is_link}
+use Rattle.misp_view.specs.View.{scene_of}
 use Rattle.misp_view.specs.Order.{class_of, uuid_of, rest_of, goes_before}
-use Rattle.misp_view.specs.Spots.{Numbers, has_spot, has_key, key_is}
-use Rattle.misp_view.specs.Grants.{granted_in}
-use Rattle.misp_view.specs.Sight.{IsSight, IsSeen, shows_in, is_inner, is_seen_reference, is_of_kind, is_one}
+use Rattle.misp_view.specs.Kinds.{is_inner, is_seen_reference, is_of_kind, is_one}
 use Rattle.misp_view.specs.Inside.{in_list}
-use Rattle.misp_view.proofs.Sorting.{in_order_same, all_in_order}
-use Rattle.misp_view.proofs.Granted.{any_by, filter_where, reached, parents_reached, of_these, all_of_these, granted_is}
 
 -- ---- the order of rows of one kind
 
@@ -64,24 +50,16 @@ sorted_class c h xs all = sym (in_order_same (λ a b. is_less (order_of a.key) (
 -- a list in order has the same elements
 pub all_sorted : (q : Row → Bool) (xs : List Row) → list_all q xs ≡ true → list_all q (sorted xs) ≡ true
 unfolding sorted
-all_sorted q xs h = all_in_order (λ a b. is_less (order_of a.key) (order_of b.key)) (λ a b. is_less (order_of a.key) (order_of b.key)) q (λ a b f g. refl) xs h
+all_sorted q xs h = tests_in_order (λ a b. is_less (order_of a.key) (order_of b.key)) q xs h
 
 -- what is cut out of a list in order
 pub sorted_cut : (q : Row → Bool) (xs : List Row) → filter q (sorted xs) ≡ sorted (filter q xs)
 unfolding sorted
 sorted_cut q xs = in_order_cut (λ a b. is_less (order_of a.key) (order_of b.key)) (λ a b c h k. less_on _ _ _ h k) (λ a b c h k. less_past _ _ _ h k) q xs
 
-pub filter_twice : {X : Type 0} (p q : X → Bool) (xs : List X) → filter q (filter p xs) ≡ filter (λ x. p x && q x) xs
-filter_twice p q [] = refl
-filter_twice p q (x ∷ xs) = one (p x) (filter_twice p q xs)
-  where
-    one : (b : Bool) → filter q (filter p xs) ≡ filter (λ y. p y && q y) xs → filter q (cond b (x ∷ filter p xs) (filter p xs)) ≡ cond (b && q x) (x ∷ filter (λ y. p y && q y) xs) (filter (λ y. p y && q y) xs)
-    one true ih = ap (λ l. cond (q x) (x ∷ l) l) ih
-    one false ih = ih
-
 -- ---- what shows
 
-module _ (groups : List Group) (i : Inst) (o : OrgId) (e : EventId) (w : OrgId) (rows : List Row) (v : Sight) (s : IsSight v groups i o e w rows) where
+module _ (groups : List Group) (i : Inst) (o : OrgId) (e : EventId) (w : OrgId) (rows : List Row) (v : CopyView) (s : IsCopyView v groups i o e w rows) where
   kept_is : (u : OrgId) (k : Key) → reached true k ≡ true → key_is v.deleted u false k ≡ not (has_deleted rows u k)
   unfolding has_key reached
   kept_is u (Element f p) h = ap not (s.deletions u f p)
@@ -97,12 +75,19 @@ module _ (groups : List Group) (i : Inst) (o : OrgId) (e : EventId) (w : OrgId) 
   unfolding shows_in is_shown is_live
   shows_is row h = λ j.
       same_org row.owner (s.owner j) && (ap (λ (m : List Group × Inst × OrgId). granted_in v.grants m.0 m.1 m.2 row) (λ k. (s.known k, s.here k, s.org k)) ∙ granted_is groups i o rows v.grants s.grants row h) j
-      && (not (is_deleted row) && not (s.marks (event_of row.key) row.owner j) && all_kept row j)
+      && (not (is_deleted row) && not (s.tombstones (event_of row.key) row.owner j) && all_kept row j)
 
   module _ (seen : BTreeSet Numbers) (are_seen : IsSeen seen v (list_any (λ row. is_link row.key) rows) rows) where
     -- a reference of the event, whose target shows
     abbrev pub is_reference : Key → Bool
-    is_reference k = elim k [ Reference f x t u ↦ same_event f e && list_any (λ row. is_row_of w (Element e t) row && is_shown (scene_of groups i o rows) w row) rows | Element f p ↦ false | Proposal f n ↦ false | Verdict f n j z ↦ false | Sighting f t j z u ↦ false ]
+    is_reference k =
+        elim k [
+          | Reference f x t u ↦ same_event f e && list_any (λ row. is_row_of w (Element e t) row && is_shown (scene_of groups i o rows) w row) rows
+          | Element f p ↦ false
+          | Proposal f n ↦ false
+          | Verdict f n j z ↦ false
+          | Sighting f t j z u ↦ false
+        ]
 
     seen_row : (linked : Bool) → linked ≡ list_any (λ row. is_link row.key) rows → linked ≡ true → (f : EventId) (t : Place) (row : Row) →
         (is_row_of w (Element f t) row && (linked && shows_in v row)) ≡ (is_row_of w (Element f t) row && is_shown (scene_of groups i o rows) w row)
@@ -135,7 +120,8 @@ module _ (groups : List Group) (i : Inst) (o : OrgId) (e : EventId) (w : OrgId) 
         or_nothing false k = k
 
         one : (k : Key) → (list_any (λ r. is_link r.key) rows || not (is_link k)) ≡ true → is_seen_reference seen v.owner v.event k ≡ is_reference k
-        one (Reference f x t u) k = λ j. same_event f (s.event j) && (ap (λ (m : OrgId × EventId). has_spot seen m.0 m.1 t) (λ n. (s.owner n, s.event n)) ∙ are_seen w e t ∙ any_by _ _ (seen_row linked refl (or_nothing linked k) e t) rows) j
+        one (Reference f x t u) k = λ j.
+            same_event f (s.event j) && (ap (λ (m : OrgId × EventId). has_element seen m.0 m.1 t) (λ n. (s.owner n, s.event n)) ∙ are_seen w e t ∙ any_by _ _ (seen_row linked refl (or_nothing linked k) e t) rows) j
         one (Element f p) k = refl
         one (Proposal f n) k = refl
         one (Verdict f n j z) k = refl
@@ -143,37 +129,37 @@ module _ (groups : List Group) (i : Inst) (o : OrgId) (e : EventId) (w : OrgId) 
 
     -- the test of each kind
     abbrev pub test_of : Kind → Key → Bool
-    test_of kinds.Attribute k = is_plain_attribute e k
-    test_of kinds.Object k = is_object e k
-    test_of kinds.Inner k = is_inner e k
-    test_of kinds.Reference k = is_reference k
+    test_of Kind.Attribute k = is_plain_attribute e k
+    test_of Kind.Object k = is_object e k
+    test_of Kind.Inner k = is_inner e k
+    test_of Kind.Reference k = is_reference k
 
     one_is : (kind : Kind) (row : Row) → of_these rows row ≡ true → is_one kind v seen row ≡ (is_shown (scene_of groups i o rows) w row && test_of kind row.key)
     unfolding is_one is_of_kind
-    one_is kinds.Attribute row h = λ j. shows_is row h j && is_plain_attribute (s.event j) row.key
-    one_is kinds.Object row h = λ j. shows_is row h j && is_object (s.event j) row.key
-    one_is kinds.Inner row h = λ j. shows_is row h j && is_inner (s.event j) row.key
-    one_is kinds.Reference row h = λ j. shows_is row h j && reference_is row h j
+    one_is Kind.Attribute row h = λ j. shows_is row h j && is_plain_attribute (s.event j) row.key
+    one_is Kind.Object row h = λ j. shows_is row h j && is_object (s.event j) row.key
+    one_is Kind.Inner row h = λ j. shows_is row h j && is_inner (s.event j) row.key
+    one_is Kind.Reference row h = λ j. shows_is row h j && reference_is row h j
 
     test_class : (kind : Kind) (k : Key) → test_of kind k ≡ true → eqb 0 (class_of k) ≡ true
     unfolding class_of is_plain_attribute is_object is_inner
     test_class kind (Element f p) h = refl
     test_class kind (Reference f x t u) h = refl
-    test_class kinds.Attribute (Proposal f n) h = absurd (false≢true h)
-    test_class kinds.Object (Proposal f n) h = absurd (false≢true h)
-    test_class kinds.Inner (Proposal f n) h = absurd (false≢true h)
-    test_class kinds.Reference (Proposal f n) h = absurd (false≢true h)
-    test_class kinds.Attribute (Verdict f n j z) h = absurd (false≢true h)
-    test_class kinds.Object (Verdict f n j z) h = absurd (false≢true h)
-    test_class kinds.Inner (Verdict f n j z) h = absurd (false≢true h)
-    test_class kinds.Reference (Verdict f n j z) h = absurd (false≢true h)
-    test_class kinds.Attribute (Sighting f t j z u) h = absurd (false≢true h)
-    test_class kinds.Object (Sighting f t j z u) h = absurd (false≢true h)
-    test_class kinds.Inner (Sighting f t j z u) h = absurd (false≢true h)
-    test_class kinds.Reference (Sighting f t j z u) h = absurd (false≢true h)
+    test_class Kind.Attribute (Proposal f n) h = absurd (false≢true h)
+    test_class Kind.Object (Proposal f n) h = absurd (false≢true h)
+    test_class Kind.Inner (Proposal f n) h = absurd (false≢true h)
+    test_class Kind.Reference (Proposal f n) h = absurd (false≢true h)
+    test_class Kind.Attribute (Verdict f n j z) h = absurd (false≢true h)
+    test_class Kind.Object (Verdict f n j z) h = absurd (false≢true h)
+    test_class Kind.Inner (Verdict f n j z) h = absurd (false≢true h)
+    test_class Kind.Reference (Verdict f n j z) h = absurd (false≢true h)
+    test_class Kind.Attribute (Sighting f t j z u) h = absurd (false≢true h)
+    test_class Kind.Object (Sighting f t j z u) h = absurd (false≢true h)
+    test_class Kind.Inner (Sighting f t j z u) h = absurd (false≢true h)
+    test_class Kind.Reference (Sighting f t j z u) h = absurd (false≢true h)
 
     pub list_is : (kind : Kind) → in_list kind v seen rows ≡ shown_at (scene_of groups i o rows) w (test_of kind)
     unfolding in_list shown_at
     list_is kind =
-        ap (in_order goes_before) (filter_where _ _ (of_these rows) (one_is kind) rows (all_of_these rows))
+        ap (in_order goes_before) (filter_agree _ _ (of_these rows) (one_is kind) rows (all_of_these rows))
         ∙ sorted_class 0 refl _ (all_of_kept (of_class 0) _ (λ row h. test_class kind row.key (and_parts _ _ h).1) rows)

@@ -1,17 +1,9 @@
 -- Of which form a statement is, by its key.
-use Rattle.std.proofs.Common.{◌≡◌, Bool, true, false, refl, ap, ◌∙◌, eqb}
-use Rattle.std.specs.Prelude.{◌&&◌}
-use Rattle.std.proofs.lemmas.Bool.{false≢true}
-use Rattle.misp_ids.specs.declared.uid.OrgId.{OrgId}
-use Rattle.misp_elem.specs.declared.key.KeyForm.{KeyForm as Key}
-use Rattle.misp_elem.specs.declared.key.KeyForm.TheVariants.{Element, Reference, Proposal, Verdict, Sighting}
-use Rattle.misp_elem.specs.declared.row.RowFields.{RowFields as Row}
-use Rattle.misp_model.specs.Names.{same_key}
-use Rattle.misp_model.specs.History.{is_statement}
-use Rattle.misp_model.specs.Shown.{is_proposal_on, is_sighting_on, is_verdict_on}
-use Rattle.misp_model.proofs.Same.{same_key-sound}
+use Rattle.std.proofs.Common.{◌≡◌, Bool, true, false, refl, ap, ◌∙◌, eqb, ◌&&◌}
+use Rattle.misp_rules.proofs.Prelude.{Element, Key, OrgId, Proposal, Reference, Row, Sighting, Verdict, false≢true, is_statement, is_verdict_on, same_key, same_key-sound}
+use Rattle.misp_rules.specs.Shown.{is_proposal_on, is_sighting_on}
+use Rattle.misp_copies.specs.Keys.{target_of, is_about}
 use Rattle.misp_view.specs.Order.{class_of}
-use Rattle.misp_view.specs.Keys.{subject_of, is_about}
 use Rattle.misp_view.specs.Statements.{is_proposal, is_sighting, is_verdict_of}
 
 -- nothing is both
@@ -66,7 +58,7 @@ sighting_class (Proposal e n) h = absurd (false≢true h)
 -- what is on a key is a proposal about it, what is of a key a sighting, and a verdict is about a
 -- proposal
 pub on_is : (k j : Key) → is_proposal_on k j ≡ (is_proposal j && is_about k j)
-unfolding is_proposal is_about subject_of is_proposal_on
+unfolding is_proposal is_about target_of is_proposal_on
 on_is k (Proposal e n) = refl
 on_is k (Sighting e t i o u) = refl
 on_is k (Element e p) = refl
@@ -74,7 +66,7 @@ on_is k (Reference e x t u) = refl
 on_is k (Verdict e n i o) = refl
 
 pub of_is : (k j : Key) → is_sighting_on k j ≡ (is_sighting j && is_about k j)
-unfolding is_sighting is_about subject_of is_sighting_on
+unfolding is_sighting is_about target_of is_sighting_on
 of_is k (Sighting e t i o u) = refl
 of_is k (Proposal e n) = refl
 of_is k (Element e p) = refl
@@ -82,7 +74,7 @@ of_is k (Reference e x t u) = refl
 of_is k (Verdict e n i o) = refl
 
 pub by_is : (k j : Key) (w : OrgId) → (is_about k j && is_verdict_of w j) ≡ is_verdict_on k w j
-unfolding is_verdict_of is_about subject_of is_verdict_on
+unfolding is_verdict_of is_about target_of is_verdict_on
 by_is k (Verdict e n i o) w = refl
 by_is k (Element e p) w = none (same_key (Element e p) k)
 by_is k (Reference e x t u) w = none (same_key (Reference e x t u) k)

@@ -1,68 +1,17 @@
 -- What is shown of an event is whole.
-use Rattle.std.proofs.Common.{◌≡◌, ℕ, Bool, true, false, refl, ap, sym, ◌∙◌, cond, List, [], ◌∷◌, ◌++◌, map, subst, length, take, get_or, ◌+◌, ◌<◌, ◌≤◌}
-use Rattle.std.specs.Prelude.{◌&&◌, ◌||◌, Option, Some, None}
-use Rattle.std.specs.List.{list_any, filter, find, AllByRecursion}
-use Rattle.std.proofs.lemmas.List.{take_all, take_more}
-use Rattle.std.proofs.lemmas.Bool.{and_parts, and_from, false≢true}
-use Rattle.misp_ids.specs.declared.uid.OrgId.{OrgId}
-use Rattle.misp_ids.specs.declared.uid.EventId.{EventId}
-use Rattle.misp_ids.specs.declared.uid.ElemId.{ElemId}
-use Rattle.misp_elem.specs.declared.key.Place.TheVariants.{Event, Object, Attribute, ObjectAttribute}
-use Rattle.misp_elem.specs.declared.key.KeyForm.{KeyForm as Key}
-use Rattle.misp_elem.specs.declared.key.KeyForm.TheVariants.{Element, Reference, Proposal, Verdict, Sighting}
-use Rattle.misp_elem.specs.declared.content.Content.{Content}
-use Rattle.misp_elem.specs.declared.content.Content.TheVariants as contents
-use Rattle.misp_elem.specs.declared.row.RowFields.{RowFields as Row}
-use Rattle.misp_elem.specs.Row.{IsRow, AreRows, content_kind, fits, label_kind}
-use Rattle.misp_groups.specs.declared.group.GroupFields.{GroupFields as Group}
-use Rattle.misp_model.specs.Names.{Inst, same_event, same_elem, same_key, event_key}
-use Rattle.misp_model.specs.Order.{put, in_order}
-use Rattle.misp_model.specs.Asking.{Scene, uuid_at}
-use Rattle.misp_model.specs.View.{IsTable, is_row_of, is_mark, has_copy, has_gone, granted, chosen, first_of_all}
-use Rattle.misp_model.specs.Shown.{sorted, is_shown, shown_at, is_plain_attribute, is_attribute_of, is_object, is_reference_of, object_of, shown_attribute, shown_object, creator, form_of, event_row}
-use Rattle.misp_model.proofs.Same.{same_event-sound, same_elem-sound, same_key-sound}
-use Rattle.misp_model.proofs.Members.{same_org-refl}
-use Rattle.misp_model.proofs.Lists.{find_passes}
-use Rattle.misp_view.specs.View.{scene_of}
+use Rattle.std.proofs.Common.{◌≡◌, Bool, true, false, refl, ap, sym, ◌∙◌, List, [], ◌∷◌, subst, ◌&&◌, ◌||◌, Option, Some, None}
+use Rattle.misp_lists.proofs.All.{all_filter, all_found, all_both, all_map, all_implied}
+use Rattle.misp_ids.proofs.Same.{same_elem-sound}
 use Rattle.misp_elem.specs.Visible.{IsAttributeOf, IsReferenceOf, IsObjectOf, IsWhole}
+use Rattle.misp_rules.proofs.Prelude.{AllByRecursion, AreRows, Attribute, Content, Element, ElemId, Event, EventId, Group, Inst, IsRow, IsTable, Key, Object, ObjectAttribute, OrgId, Proposal, Reference, Row, Scene, Sighting, Verdict}
+use Rattle.misp_rules.proofs.Prelude.{all_in_order, and_from, and_parts, chosen, content_kind, creator, event_key, event_row, false≢true, find_passes, first_of_all, fits, form_of, granted, has_copy, has_gone, is_attribute_of, is_gone}
+use Rattle.misp_rules.proofs.Prelude.{is_object, is_plain_attribute, is_reference_of, is_row_of, is_shown, is_tombstone, label_kind, list_any, object_of, same_elem, same_event, same_event-sound, same_key, same_key-sound, same_org-refl}
+use Rattle.misp_rules.proofs.Prelude.{shown_at, shown_attribute, shown_object, sorted, uuid_at}
+use Rattle.misp_rules.proofs.OneRow.{is_unmixed}
+use Rattle.misp_view.specs.View.{scene_of}
 use Rattle.misp_view.proofs.Candidates.{granted_at}
-use Rattle.misp_model.proofs.OneRow.{is_unmixed}
 
 module _ {X : Type 0} where
-  -- each of a selection, of a list in order, of what is found
-  all_filter : (P : X → Type 0) (q : X → Bool) (xs : List X) → AllByRecursion P xs → AllByRecursion (λ x. P x × (q x ≡ true)) (filter q xs)
-  all_filter P q [] h = tt
-  all_filter P q (x ∷ xs) h = one (q x) refl (all_filter P q xs h.1)
-    where
-      one : (b : Bool) → q x ≡ b → AllByRecursion (λ y. P y × (q y ≡ true)) (filter q xs) → AllByRecursion (λ y. P y × (q y ≡ true)) (cond b (x ∷ filter q xs) (filter q xs))
-      one true e ih = ((h.0, e), ih)
-      one false e ih = ih
-
-  all_put : (P : X → Type 0) (before : X → X → Bool) (x : X) (xs : List X) → P x → AllByRecursion P xs → AllByRecursion P (put before x xs)
-  unfolding put
-  all_put P before x [] p h = (p, tt)
-  all_put P before x (y ∷ xs) p h = one (before x y) (all_put P before x xs p h.1)
-    where
-      one : (b : Bool) → AllByRecursion P (put before x xs) → AllByRecursion P (cond b (x ∷ y ∷ xs) (y ∷ put before x xs))
-      one true ih = (p, h)
-      one false ih = (h.0, ih)
-
-  all_ordered : (P : X → Type 0) (before : X → X → Bool) (xs : List X) → AllByRecursion P xs → AllByRecursion P (in_order before xs)
-  unfolding in_order
-  all_ordered P before [] h = tt
-  all_ordered P before (x ∷ xs) h = all_put P before x (in_order before xs) h.0 (all_ordered P before xs h.1)
-
-  all_found : (P : X → Type 0) (q : X → Bool) (xs : List X) (x : X) → AllByRecursion P xs → find q xs ≡ Some x → P x
-  all_found P q [] x h e = absurd (apart e)
-    where
-      apart : None ≡ Some x → ⊥
-      apart e = cc
-  all_found P q (y ∷ xs) x h e = one (q y) e (all_found P q xs x h.1)
-    where
-      one : (b : Bool) → cond b (Some y) (find q xs) ≡ Some x → (find q xs ≡ Some x → P x) → P x
-      one true f ih = let same : y ≡ x = cc in subst P same h.0
-      one false f ih = ih f
-
   -- each passes a test that it passes of itself
   each_of : (t : X → X → Bool) (pre : X → Bool) → ((x : X) → pre x ≡ true → t x x ≡ true) → (xs ys : List X) → ((x : X) → list_any (t x) ys ≡ true → list_any (t x) xs ≡ true) →
       AllByRecursion (λ x. pre x ≡ true → list_any (t x) xs ≡ true) ys
@@ -73,34 +22,9 @@ module _ {X : Type 0} where
       two true = refl
       two false = refl
 
-all_both : {X : Type 0} (P Q : X → Type 0) (xs : List X) → AllByRecursion P xs → AllByRecursion Q xs → AllByRecursion (λ x. P x × Q x) xs
-all_both P Q [] a b = tt
-all_both P Q (x ∷ xs) a b = ((a.0, b.0), all_both P Q xs a.1 b.1)
-
-all_map : {X Y : Type 0} (f : X → Y) (P : X → Type 0) (Q : Y → Type 0) → ((x : X) → P x → Q (f x)) → (xs : List X) → AllByRecursion P xs → AllByRecursion Q (map f xs)
-all_map f P Q h [] a = tt
-all_map f P Q h (x ∷ xs) a = (h x a.0, all_map f P Q h xs a.1)
-
-all_weak : {X : Type 0} (P Q : X → Type 0) → ((x : X) → P x → Q x) → (xs : List X) → AllByRecursion P xs → AllByRecursion Q xs
-all_weak P Q h [] a = tt
-all_weak P Q h (x ∷ xs) a = (h x a.0, all_weak P Q h xs a.1)
-
 each_row : (rows : List Row) → AreRows rows → AllByRecursion IsRow rows
 each_row [] h = tt
 each_row (r ∷ rows) h = (h.0, each_row rows h.1)
-
--- the first of these rows and one more are rows
-rows_last : (rows : List Row) (row : Row) → AreRows rows → IsRow row → AreRows (rows ++ row ∷ [])
-rows_last [] row h k = (k, tt)
-rows_last (r ∷ rows) row h k = (h.0, rows_last rows row h.1 k)
-
-pub rows_more : (rows : List Row) (i : ℕ) (row : Row) → i < length rows → row ≡ get_or rows i row → AreRows (take i rows) → IsRow row → AreRows (take (i + 1) rows)
-rows_more rows i row lt e h k =
-    subst AreRows (sym (take_more rows i row lt))
-    (rows_last (take i rows) (get_or rows i row) h (subst IsRow e k))
-
-pub rows_all : (rows : List Row) (i : ℕ) → length rows ≤ i → AreRows (take i rows) → AreRows rows
-rows_all rows i le h = subst AreRows (take_all i rows le) h
 
 -- ---- the keys of each kind
 
@@ -156,8 +80,8 @@ module _ (s : Scene) (w : OrgId) (are : AreRows s.rows) where
   at_of : (test : Key → Bool) → AllByRecursion (λ (r : Row). IsRow r × (test r.key ≡ true)) (shown_at s w test)
   unfolding shown_at sorted
   at_of test =
-      all_ordered _ _ _
-      (all_weak _ _ (λ r h. (h.0, (and_parts _ _ h.1).1)) _
+      all_in_order _ _ _
+      (all_implied _ _ (λ r h. (h.0, (and_parts _ _ h.1).1)) _
       (all_filter IsRow (λ (row : Row). is_shown s w row && test row.key) s.rows (each_row s.rows are)))
 
   attribute_of : (e : EventId) (orgc : OrgId) (r : Row) → IsRow r × (is_plain_attribute e r.key ≡ true) → IsAttributeOf e None (shown_attribute s orgc r)
@@ -175,45 +99,45 @@ module _ (s : Scene) (w : OrgId) (are : AreRows s.rows) where
     uuid = object_of r.key;
     key = object_key e r.key h.1;
     attributes = all_map _ _ _ (inner_of e (object_of r.key) orgc) _ (at_of (is_attribute_of e (object_of r.key)));
-    references = all_weak _ _ (reference_of s w e (object_of r.key)) _ (at_of (is_reference_of s w e (object_of r.key)));
+    references = all_implied _ _ (reference_of s w e (object_of r.key)) _ (at_of (is_reference_of s w e (object_of r.key)));
   }
 
--- a row of the event itself that is no mark has an event's content
-no_mark : (r : Row) (e : EventId) → IsRow r → r.key ≡ event_key e → is_mark r ≡ false → content_kind r.content ≡ 0
-unfolding is_mark event_key
-no_mark r e is k m = one r.content refl m (subst (λ q. fits q (label_kind r.label) (r.held, r.carried) (content_kind r.content) ≡ true) k is.1.1.1.1.1.0)
+-- a row of the event itself that is no tombstone has an event's content
+no_tombstone : (r : Row) (e : EventId) → IsRow r → r.key ≡ event_key e → is_tombstone r ≡ false → content_kind r.content ≡ 0
+unfolding is_tombstone is_gone event_key
+no_tombstone r e is k m = one r.content refl m (subst (λ q. fits q (label_kind r.label) (r.held, r.carried) (content_kind r.content) ≡ true) k is.1.1.1.1.1.0)
   where
-    one : (c : Content) → r.content ≡ c → is_mark r ≡ false → fits (Element e Event) (label_kind r.label) (r.held, r.carried) (content_kind r.content) ≡ true → content_kind r.content ≡ 0
-    one c g n f = two c (subst (λ d. is_mark (record r { content = d }) ≡ false) g n) (subst (λ d. fits (Element e Event) (label_kind r.label) (r.held, r.carried) (content_kind d) ≡ true) g f) g
+    one : (c : Content) → r.content ≡ c → is_tombstone r ≡ false → fits (Element e Event) (label_kind r.label) (r.held, r.carried) (content_kind r.content) ≡ true → content_kind r.content ≡ 0
+    one c g n f = two c (subst (λ d. is_tombstone (record r { content = d }) ≡ false) g n) (subst (λ d. fits (Element e Event) (label_kind r.label) (r.held, r.carried) (content_kind d) ≡ true) g f) g
       where
-        two : (d : Content) → is_mark (record r { content = d }) ≡ false → fits (Element e Event) (label_kind r.label) (r.held, r.carried) (content_kind d) ≡ true → r.content ≡ d → content_kind r.content ≡ 0
-        two (contents.Event b) x y z = ap content_kind z
-        two (contents.Object b) x y z = absurd (false≢true y)
-        two (contents.Attribute b) x y z = absurd (false≢true y)
-        two (contents.Reference b) x y z = absurd (false≢true y)
-        two (contents.Proposal b) x y z = absurd (false≢true y)
-        two (contents.Verdict b) x y z = absurd (false≢true y)
-        two (contents.Sighting b) x y z = absurd (false≢true y)
-        two contents.Gone x y z = absurd (false≢true (sym x))
+        two : (d : Content) → is_tombstone (record r { content = d }) ≡ false → fits (Element e Event) (label_kind r.label) (r.held, r.carried) (content_kind d) ≡ true → r.content ≡ d → content_kind r.content ≡ 0
+        two (Content.Event b) x y z = ap content_kind z
+        two (Content.Object b) x y z = absurd (false≢true y)
+        two (Content.Attribute b) x y z = absurd (false≢true y)
+        two (Content.Reference b) x y z = absurd (false≢true y)
+        two (Content.Proposal b) x y z = absurd (false≢true y)
+        two (Content.Verdict b) x y z = absurd (false≢true y)
+        two (Content.Sighting b) x y z = absurd (false≢true y)
+        two Content.Gone x y z = absurd (false≢true (sym x))
 
 -- the row of the event itself that is looked at
 module _ (groups : List Group) (i : Inst) (o : OrgId) (rows : List Row) (e : EventId) (are : AreRows rows) (table : IsTable rows) where
   abbrev Known : Row → Type 0
-  Known r = IsRow r × ((same_key r.key (event_key e) && is_mark r) ≡ true → has_gone rows r.owner e ≡ true)
+  Known r = IsRow r × ((same_key r.key (event_key e) && is_tombstone r) ≡ true → has_gone rows r.owner e ≡ true)
 
   all_known : AllByRecursion Known rows
   unfolding has_gone is_row_of
   all_known = all_both _ _ rows (each_row rows are)
-      (each_of (λ x row. is_row_of x.owner (event_key e) row && is_mark row) (λ (r : Row). same_key r.key (event_key e) && is_mark r)
+      (each_of (λ x row. is_row_of x.owner (event_key e) row && is_tombstone row) (λ (r : Row). same_key r.key (event_key e) && is_tombstone r)
       (λ x h. and_from _ _ (and_from _ _ (same_org-refl x.owner) (and_parts _ _ h).0) (and_parts _ _ h).1) rows rows (λ x h. h))
 
   whole_row : (r : Row) → Known r → same_key r.key (event_key e) ≡ true → granted rows groups i o r ≡ true → content_kind r.content ≡ 0
-  whole_row r k m g = no_mark r e k.0 (same_key-sound r.key (event_key e) m) (one (is_mark r) refl)
+  whole_row r k m g = no_tombstone r e k.0 (same_key-sound r.key (event_key e) m) (one (is_tombstone r) refl)
     where
       copied : has_copy rows r.owner e ≡ true
       copied = (and_parts _ _ (sym (granted_at rows groups i o r e m) ∙ g)).0
 
-      one : (b : Bool) → is_mark r ≡ b → b ≡ false
+      one : (b : Bool) → is_tombstone r ≡ b → b ≡ false
       one true h = absurd (false≢true (sym (is_unmixed rows r.owner e table copied) ∙ k.1 (and_from _ _ m h)))
       one false h = refl
 

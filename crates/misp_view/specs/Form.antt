@@ -1,15 +1,8 @@
 -- The form of one copy, by the lists of what shows there.
 use Rattle.std.specs.Prelude.{Bool, eqb, ◌&&◌, List, map, filter}
-use Rattle.misp_ids.specs.declared.uid.OrgId.{OrgId}
-use Rattle.misp_ids.specs.declared.uid.EventId.{EventId}
-use Rattle.misp_elem.specs.declared.row.RowFields.{RowFields as Row}
-use Rattle.misp_elem.specs.declared.visible.VisibleAttribute.{VisibleAttribute}
-use Rattle.misp_elem.specs.declared.visible.VisibleObject.{VisibleObject}
-use Rattle.misp_groups.specs.declared.group.GroupFields.{GroupFields as Group}
-use Rattle.misp_model.specs.Names.{Inst, event_key}
-use Rattle.misp_model.specs.View.{is_row_of, granted}
+use Rattle.misp_rules.specs.Prelude.{EventId, Group, Inst, OrgId, Row, VisibleAttribute, VisibleObject, event_key, granted, is_row_of}
+use Rattle.misp_copies.specs.Keys.{is_about}
 use Rattle.misp_view.specs.Parts.{around}
-use Rattle.misp_view.specs.Keys.{is_about}
 
 -- an attribute, with those of the proposals and sightings that are about it
 unfoldable pub attribute_in : List Row → List Row → Row → VisibleAttribute
@@ -20,11 +13,11 @@ attribute_in proposals sightings row =
       sightings = filter (λ (r : Row). is_about row.key r.key) sightings;
     }
 
--- those of a list that stand in the object of the row
+-- those of a list that are in the object of the row
 abbrev pub beside : Row → List Row → List Row
 beside row list = filter (λ (r : Row). eqb (around row.key) (around r.key)) list
 
--- an object, with what stands in it of the attributes and the references
+-- an object, with what is in it of the attributes and the references
 unfoldable pub object_in : List Row → List Row → List Row → List Row → Row → VisibleObject
 object_in inner references proposals sightings row =
     record {

@@ -1,23 +1,19 @@
--- What stands in one copy of an event, by the lists of what shows there.
+-- What is in one copy of an event, by the lists of what shows there.
 use Rattle.std.specs.Prelude.{◌≡◌, ℕ, eqb, List, map, filter}
-use Rattle.std.specs.Borrow.{Bor}
-use Rattle.std.specs.BTreeSet.{BTreeSet}
-use Rattle.std.specs.List.{list_any}
-use Rattle.misp_elem.specs.declared.row.RowFields.{RowFields as Row}
-use Rattle.misp_model.specs.Order.{in_order}
-use Rattle.misp_view.specs.declared.sight.Sight.{Sight}
+use Rattle.misp_rules.specs.Prelude.{Bor, BTreeSet, Row, in_order, list_any}
+use Rattle.misp_copies.specs.declared.copy_view.CopyView.{CopyView}
+use Rattle.misp_copies.specs.Kinds.{is_link}
+use Rattle.misp_copies.specs.ElementSet.{Numbers}
+use Rattle.misp_copies.specs.CopyView.{IsSeen}
 use Rattle.misp_view.specs.declared.kinds.Kind.{Kind}
-use Rattle.misp_view.specs.declared.kinds.Kind.TheVariants as kinds
 use Rattle.misp_view.specs.declared.inside.Inside.{Inside}
-use Rattle.misp_view.specs.Kinds.{is_link}
 use Rattle.misp_view.specs.Order.{goes_before}
-use Rattle.misp_view.specs.Spots.{Numbers}
-use Rattle.misp_view.specs.Sight.{IsSeen, is_one}
+use Rattle.misp_view.specs.Kinds.{is_one}
 use Rattle.misp_view.specs.Parts.{Rises, around}
 use Rattle.misp_view.specs.Form.{attribute_in, object_in}
 
 -- the rows that show and are of this kind, in their order
-unfoldable pub in_list : Kind → Sight → BTreeSet Numbers → List Row → List Row
+unfoldable pub in_list : Kind → CopyView → BTreeSet Numbers → List Row → List Row
 in_list kind v seen rows = in_order goes_before (filter (is_one kind v seen) rows)
 
 -- the references are to these rows
@@ -31,12 +27,12 @@ pub record IsGrouped (list : List (Bor Row)) (rows : List Row) : Type 0 where
       ≡ filter (λ (r : Row). eqb g (around r.key)) rows
 
 -- the attributes outside objects and the objects of the lists, with these proposals and sightings
-pub record IsInside (n : Inside) (v : Sight) (proposals sightings rows : List Row) : Type 0 where
+pub record IsInside (n : Inside) (v : CopyView) (proposals sightings rows : List Row) : Type 0 where
   pub seen : BTreeSet Numbers
   pub are_seen : IsSeen seen v (list_any (λ row. is_link row.key) rows) rows
   pub attributes : n.attributes
-      ≡ map (attribute_in proposals sightings) (in_list kinds.Attribute v seen rows)
+      ≡ map (attribute_in proposals sightings) (in_list Kind.Attribute v seen rows)
   pub objects : n.objects
-      ≡ map (object_in (in_list kinds.Inner v seen rows) (in_list kinds.Reference v seen rows)
+      ≡ map (object_in (in_list Kind.Inner v seen rows) (in_list Kind.Reference v seen rows)
       proposals sightings)
-      (in_list kinds.Object v seen rows)
+      (in_list Kind.Object v seen rows)

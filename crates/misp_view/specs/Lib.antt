@@ -1,14 +1,7 @@
 pub mod View
-pub mod Kinds
-pub mod Keys
 pub mod Order
-pub mod Table
-pub mod Spots
-pub mod Grants
-pub mod Sight
+pub mod Kinds
 pub mod Parts
-pub mod Subjects
-pub mod Tellers
 pub mod Statements
 pub mod Form
 pub mod Inside

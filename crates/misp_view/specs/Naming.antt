@@ -1,16 +1,7 @@
 -- The names of the groups that the labels of a shown event name.
-use Rattle.std.specs.Prelude.{ℕ, Bool, false, ◌||◌, List, map}
-use Rattle.std.specs.List.{list_any, filter}
-use Rattle.std.specs.BTreeSet.{BTreeSet, contains}
-use Rattle.misp_ids.specs.declared.uid.GroupId.{GroupId}
-use Rattle.misp_ids.specs.declared.label.Label.{Label}
-use Rattle.misp_ids.specs.declared.label.Label.TheVariants as labels
-use Rattle.misp_elem.specs.declared.visible.VisibleAttribute.{VisibleAttribute}
-use Rattle.misp_elem.specs.declared.visible.VisibleObject.{VisibleObject}
-use Rattle.misp_elem.specs.declared.visible.VisibleEvent.{VisibleEvent}
-use Rattle.misp_groups.specs.declared.group.GroupFields.{GroupFields as Group}
-use Rattle.misp_model.specs.Names.{same_group}
-use Rattle.misp_view.specs.Table.{pair_cmp}
+use Rattle.std.specs.Prelude.{ℕ, Bool, false, ◌||◌, List, map, filter}
+use Rattle.misp_rules.specs.Prelude.{BTreeSet, Group, GroupId, Label, VisibleAttribute, VisibleEvent, VisibleObject, contains, list_any, same_group}
+use Rattle.misp_copies.specs.Table.{pair_cmp}
 
 -- groups with their names
 abbrev pub GroupNames : Type 0
@@ -18,12 +9,12 @@ GroupNames = List (GroupId × List ℕ)
 
 -- the label names the group
 unfoldable pub label_names : GroupId → Label → Bool
-label_names id (labels.Group g) = same_group g id
-label_names id labels.Own = false
-label_names id labels.Community = false
-label_names id labels.Connected = false
-label_names id labels.All = false
-label_names id labels.Inherit = false
+label_names id (Label.Group g) = same_group g id
+label_names id Label.Own = false
+label_names id Label.Community = false
+label_names id Label.Connected = false
+label_names id Label.All = false
+label_names id Label.Inherit = false
 
 unfoldable pub attribute_names : GroupId → VisibleAttribute → Bool
 attribute_names id a = label_names id a.row.label

@@ -1,13 +1,6 @@
 -- The order of rows in a list.
 use Rattle.std.specs.Prelude.{ℕ, Bool, List, [], ◌∷◌, ◌++◌, Option, Some, None}
-use Rattle.misp_ids.specs.declared.uid.OrgId.{OrgId}
-use Rattle.misp_elem.specs.declared.key.KeyForm.{KeyForm as Key}
-use Rattle.misp_elem.specs.declared.key.KeyForm.TheVariants.{Element, Reference, Proposal, Verdict, Sighting}
-use Rattle.misp_elem.specs.declared.row.RowFields.{RowFields as Row}
-use Rattle.misp_model.specs.Names.{Inst}
-use Rattle.misp_model.specs.Order.{is_less}
-use Rattle.misp_model.specs.History.{spell}
-use Rattle.misp_model.specs.Asking.{uuid_at}
+use Rattle.misp_rules.specs.Prelude.{Element, Inst, Key, OrgId, Proposal, Reference, Row, Sighting, Verdict, is_less, spell, uuid_at}
 
 -- the number of its kind: elements and references, proposals, verdicts, sightings
 unfoldable pub class_of : Key → ℕ

@@ -1,14 +1,9 @@
 -- What belongs to one object.
-use Rattle.std.specs.Prelude.{◌≡◌, ℕ, eqb, List, map}
-use Rattle.std.specs.Borrow.{Bor}
-use Rattle.std.specs.List.{filter}
+use Rattle.std.specs.Prelude.{◌≡◌, ℕ, eqb, List, map, filter}
 use Rattle.std.specs.List.Sorted.{IsNonDecreasingBy}
-use Rattle.misp_elem.specs.declared.key.Place.TheVariants.{Event, Object, Attribute, ObjectAttribute}
-use Rattle.misp_elem.specs.declared.key.KeyForm.{KeyForm as Key}
-use Rattle.misp_elem.specs.declared.key.KeyForm.TheVariants.{Element, Reference, Proposal, Verdict, Sighting}
-use Rattle.misp_elem.specs.declared.row.RowFields.{RowFields as Row}
+use Rattle.misp_rules.specs.Prelude.{Attribute, Bor, Element, Event, Key, Object, ObjectAttribute, Proposal, Reference, Row, Sighting, Verdict}
 
--- the number of the object that it is, or that it stands in; else 0
+-- the number of the object that it is, or that it is in; else 0
 unfoldable pub around : Key → ℕ
 around (Element e (Object x)) = x.0.0
 around (Element e (ObjectAttribute x a)) = x.0.0

@@ -1,20 +1,14 @@
 -- The statements that show, of those that are granted.
 use Rattle.std.specs.Prelude.{Bool, true, false, not, ◌&&◌, List}
-use Rattle.std.specs.List.{list_any}
-use Rattle.misp_ids.specs.declared.uid.OrgId.{OrgId}
-use Rattle.misp_elem.specs.declared.key.KeyForm.{KeyForm as Key}
-use Rattle.misp_elem.specs.declared.key.KeyForm.TheVariants.{Element, Reference, Proposal, Verdict, Sighting}
-use Rattle.misp_elem.specs.declared.row.RowFields.{RowFields as Row}
-use Rattle.misp_model.specs.Names.{same_org}
-use Rattle.misp_model.specs.History.{is_statement}
-use Rattle.misp_model.specs.Shown.{is_verdict_on}
-use Rattle.misp_view.specs.declared.sight.Sight.{Sight}
-use Rattle.misp_view.specs.Keys.{is_about}
-use Rattle.misp_view.specs.Tellers.{is_lesser}
-use Rattle.misp_view.specs.Grants.{granted_in}
+use Rattle.misp_rules.specs.Prelude.{Element, Key, OrgId, Proposal, Reference, Row, Sighting, Verdict, is_statement, list_any, same_org}
+use Rattle.misp_rules.specs.Shown.{is_verdict_on}
+use Rattle.misp_copies.specs.declared.copy_view.CopyView.{CopyView}
+use Rattle.misp_copies.specs.Keys.{is_about}
+use Rattle.misp_copies.specs.StatementsByKey.{is_lesser}
+use Rattle.misp_copies.specs.Grants.{granted_in}
 
 -- it is a statement, and granted
-unfoldable pub is_told : Sight → Row → Bool
+unfoldable pub is_told : CopyView → Row → Bool
 is_told v row =
     is_statement row.key
     && granted_in v.grants v.who.now.groups.now v.who.now.here v.who.now.org row
@@ -52,8 +46,8 @@ is_verdict_of judge (Sighting e t i o u) = false
 
 -- it is a proposal of the least of these owners, and none of these verdicts is about it
 unfoldable pub is_open_among : List Row → List Row → Row → Bool
-is_open_among tellers verdicts row =
-    is_proposal row.key && is_least_of tellers row
+is_open_among by_key verdicts row =
+    is_proposal row.key && is_least_of by_key row
     && not (list_any (λ r. is_about row.key r.key) verdicts)
 
 -- it is a proposal of the least owner, and not closed

@@ -3,8 +3,7 @@
 ghost use Rattle.std.specs.Prelude.{◌≡◌, map, IfOk};
 ghost use Rattle.misp_view.specs.Form.{attribute_in};
 
-use crate::rows::copy;
-use crate::subjects::Subjects;
+use misp_copies::{StatementsByTarget, copy};
 use misp_elem::{Row, VisibleAttribute};
 use misp_ids::{Items, NoMemory};
 use std::alloc::Global;
@@ -14,8 +13,8 @@ use std::alloc::Global;
 fn attribute(
     alloc: Global,
     row: &Row,
-    proposals: &Subjects,
-    sightings: &Subjects,
+    proposals: &StatementsByTarget,
+    sightings: &StatementsByTarget,
 ) -> Result<VisibleAttribute, NoMemory>
     ensures { IfOk result (λ attribute. attribute
         ≡ attribute_in proposals.now sightings.now row.now) }
@@ -33,8 +32,8 @@ fn attribute(
 pub(crate) fn attributes(
     alloc: Global,
     list: &[&Row],
-    proposals: &Subjects,
-    sightings: &Subjects,
+    proposals: &StatementsByTarget,
+    sightings: &StatementsByTarget,
 ) -> Result<Items<VisibleAttribute>, NoMemory>
     ensures { IfOk result (λ items. items
         ≡ map (attribute_in proposals.now sightings.now) (map (λ r. r.now) list.now)) }

@@ -3,26 +3,15 @@
 ghost use Rattle.std.specs.Prelude.{◌≡◌, true};
 ghost use Rattle.std.specs.List.{Contains};
 ghost use Rattle.std.specs.Option.{option_copied, option_map};
-ghost use Rattle.misp_model.specs.Names.{event_key, same_key};
-ghost use Rattle.misp_model.specs.View.{has_copy, is_before, chosen};
+ghost use Rattle.misp_elem.specs.Parents.{event_key};
+ghost use Rattle.misp_elem.specs.SameKey.{same_key};
+ghost use Rattle.misp_rules.specs.View.{has_copy, chosen};
 ghost use Rattle.misp_view.specs.View.{better, is_granted_itself};
 
-use crate::copies::has_copy;
-use crate::rows::{is_itself, is_mark, is_open};
-use crate::viewer::Viewer;
+use misp_copies::{Viewer, has_copy, is_before, is_itself, is_open};
 use misp_elem::Row;
+use misp_groups::Groups;
 use misp_ids::{EventId, InstId, OrgId};
-use misp_levels::Groups;
-
-// Whether the first goes before the second.
-#[tactic(auto, unfolding(misp_model::specs::View::is_before))]
-fn is_before(a: &Row, b: &Row) -> bool
-    ensures { result ≡ is_before a.now b.now }
-{
-    b.stamp.get() < a.stamp.get()
-        || b.stamp.get() == a.stamp.get()
-            && (b.carried && !a.carried || b.carried == a.carried && a.owner.0.0 < b.owner.0.0)
-}
 
 // The best so far, or one more row, where that counts and goes before it.
 fn better<'a>(best: Option<&'a Row>, row: &'a Row, counts: bool) -> Option<&'a Row>
@@ -35,13 +24,13 @@ fn better<'a>(best: Option<&'a Row>, row: &'a Row, counts: bool) -> Option<&'a R
     }
 }
 
-// Whether a row of the event itself has a copy beside it: it is one where it is no mark, so only
-// for a mark the other rows are looked through.
+// Whether a row of the event itself has a copy beside it: it is one where it is no tombstone, so
+// only for a tombstone the other rows are looked through.
 fn is_of_copy(rows: &[Row], event: &EventId, row: &Row) -> bool
     ensures { Contains rows.now row.now → same_key row.now.key (event_key event.now) ≡ true →
         result ≡ has_copy rows.now row.now.owner event.now }
 {
-    if !is_mark(row) {
+    if !row.is_tombstone() {
         return true;
     }
     has_copy(rows, &row.owner, event)

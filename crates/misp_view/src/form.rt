@@ -3,24 +3,20 @@
 ghost use Rattle.std.specs.Prelude.{◌≡◌, IfOk, IfSome, OnOk};
 ghost use Rattle.misp_elem.specs.Row.{AreRows};
 ghost use Rattle.misp_elem.specs.Visible.{IsWhole};
-ghost use Rattle.misp_model.specs.View.{IsTable, known};
+ghost use Rattle.misp_rules.specs.View.{IsTable, known};
 ghost use Rattle.std.specs.List.{find};
 ghost use Rattle.std.specs.Option.{option_copied};
-ghost use Rattle.misp_model.specs.Shown.{creator, event_row, form_of, shown};
+ghost use Rattle.misp_rules.specs.Shown.{creator, event_row, form_of, shown};
 ghost use Rattle.misp_view.specs.View.{scene_of};
 ghost use Rattle.misp_view.specs.Form.{is_granted_row_of};
 
 use crate::choice::chosen_row;
-use crate::granting::is_granted;
 use crate::inside::inside_of;
-use crate::keys::event_key;
-use crate::rows::{copy, is_event_row};
-use crate::sight::Sight;
 use crate::statements::{proposals, sightings, told};
-use crate::viewer::Viewer;
+use misp_copies::{CopyView, Viewer, copy, event_key, is_granted, is_row_of_event};
 use misp_elem::{Content, Row, VisibleEvent};
+use misp_groups::Groups;
 use misp_ids::{EventId, InstId, Items, NoMemory, OrgId, Text};
-use misp_levels::Groups;
 use std::alloc::Global;
 
 // Whether it is the owner's row of the event itself, and is granted.
@@ -29,7 +25,7 @@ fn is_granted_row_of(rows: &[Row], who: &Viewer, event: &EventId, owner: &OrgId,
     ensures { result ≡ is_granted_row_of who.now.groups.now who.now.here who.now.org
         event.now owner.now rows.now row.now }
 {
-    is_event_row(row, owner, event) && is_granted(rows, who, row)
+    is_row_of_event(row, owner, event) && is_granted(rows, who, row)
 }
 
 // The row of the event itself in the named owner's copy.
@@ -43,7 +39,7 @@ fn row_of<'a>(rows: &'a [Row], who: &Viewer, event: &EventId, owner: &OrgId) -> 
 }
 
 // The row of the event itself in the named owner's copy, or in the chosen one.
-#[tactic(auto, unfolding(misp_model::specs::Shown::event_row, crate::specs::Form::is_granted_row_of))]
+#[tactic(auto, unfolding(misp_rules::specs::Shown::event_row, crate::specs::Form::is_granted_row_of))]
 fn event_row<'a>(
     rows: &'a [Row],
     who: &Viewer,
@@ -61,7 +57,7 @@ fn event_row<'a>(
 }
 
 // Who created the event, by its row.
-#[tactic(auto, unfolding(misp_model::specs::Shown::creator))]
+#[tactic(auto, unfolding(misp_rules::specs::Shown::creator))]
 fn creator(row: &Row) -> OrgId
     ensures { result ≡ creator row.now }
 {
@@ -84,11 +80,11 @@ fn form(
         event.now row.now) }
     ensures rows { OnOk result (AreRows rows.now) }
 {
-    let sight = Sight::of(alloc, rows, who, event, &row.owner)?;
-    let told = told(alloc, &sight, rows)?;
+    let copy_view = CopyView::of(alloc, rows, who, event, &row.owner)?;
+    let told = told(alloc, &copy_view, rows)?;
     let proposals = proposals(alloc, told.as_slice(), &creator(row))?;
     let sightings = sightings(alloc, told.as_slice())?;
-    let inside = inside_of(alloc, rows, &sight, &proposals, &sightings)?;
+    let inside = inside_of(alloc, rows, &copy_view, &proposals, &sightings)?;
     let on_event = proposals.about(alloc, &event_key(event))?;
     Ok(VisibleEvent {
         row: copy(row)?,

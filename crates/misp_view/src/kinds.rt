@@ -2,11 +2,10 @@
 
 ghost use Rattle.std.specs.Prelude.{◌≡◌, ◌&&◌, map, IfOk};
 ghost use Rattle.std.specs.List.{filter};
-ghost use Rattle.misp_model.specs.Shown.{is_plain_attribute, is_object};
-ghost use Rattle.misp_view.specs.Sight.{is_inner, is_seen_reference, is_of_kind, is_one};
+ghost use Rattle.misp_rules.specs.Shown.{is_plain_attribute, is_object};
+ghost use Rattle.misp_view.specs.Kinds.{is_inner, is_seen_reference, is_of_kind, is_one};
 
-use crate::sight::Sight;
-use crate::spots::{Spots, has_spot};
+use misp_copies::{CopyView, ElementSet, has_element};
 use misp_elem::{KeyForm, Place, Row};
 use misp_ids::{EventId, NoMemory, OrgId};
 use std::alloc::Global;
@@ -21,7 +20,7 @@ pub(crate) enum Kind {
 }
 
 // Whether it is an attribute of the event outside objects.
-#[tactic(auto, unfolding(misp_model::specs::Shown::is_plain_attribute, misp_model::specs::Names::same_event))]
+#[tactic(auto, unfolding(misp_rules::specs::Shown::is_plain_attribute, misp_ids::specs::Same::same_event))]
 fn is_plain_attribute(row: &Row, event: &EventId) -> bool
     ensures { result ≡ is_plain_attribute event.now row.now.key }
 {
@@ -35,7 +34,7 @@ fn is_plain_attribute(row: &Row, event: &EventId) -> bool
 }
 
 // Whether it is an object of the event.
-#[tactic(auto, unfolding(misp_model::specs::Shown::is_object, misp_model::specs::Names::same_event))]
+#[tactic(auto, unfolding(misp_rules::specs::Shown::is_object, misp_ids::specs::Same::same_event))]
 fn is_object(row: &Row, event: &EventId) -> bool
     ensures { result ≡ is_object event.now row.now.key }
 {
@@ -49,7 +48,7 @@ fn is_object(row: &Row, event: &EventId) -> bool
 }
 
 // Whether it is an attribute in an object of the event.
-#[tactic(auto, unfolding(crate::specs::Sight::is_inner, misp_model::specs::Names::same_event))]
+#[tactic(auto, unfolding(crate::specs::Kinds::is_inner, misp_ids::specs::Same::same_event))]
 fn is_inner(row: &Row, event: &EventId) -> bool
     ensures { result ≡ is_inner event.now row.now.key }
 {
@@ -63,8 +62,8 @@ fn is_inner(row: &Row, event: &EventId) -> bool
 }
 
 // Whether it is a reference of the event whose target shows.
-#[tactic(auto, unfolding(crate::specs::Sight::is_seen_reference, misp_model::specs::Names::same_event))]
-fn is_seen_reference(row: &Row, owner: &OrgId, event: &EventId, seen: &Spots) -> bool
+#[tactic(auto, unfolding(crate::specs::Kinds::is_seen_reference, misp_ids::specs::Same::same_event))]
+fn is_seen_reference(row: &Row, owner: &OrgId, event: &EventId, seen: &ElementSet) -> bool
     ensures { result ≡ is_seen_reference seen.now owner.now event.now row.now.key }
 {
     match &row.key.form {
@@ -72,14 +71,14 @@ fn is_seen_reference(row: &Row, owner: &OrgId, event: &EventId, seen: &Spots) ->
             event: of,
             target,
             ..
-        } => of == event && has_spot(seen, owner, event, target),
+        } => of == event && has_element(seen, owner, event, target),
         _ => false,
     }
 }
 
 // Whether it is of this kind.
-#[tactic(auto, unfolding(crate::specs::Sight::is_of_kind))]
-fn is_of_kind(kind: Kind, row: &Row, owner: &OrgId, event: &EventId, seen: &Spots) -> bool
+#[tactic(auto, unfolding(crate::specs::Kinds::is_of_kind))]
+fn is_of_kind(kind: Kind, row: &Row, owner: &OrgId, event: &EventId, seen: &ElementSet) -> bool
     ensures { result ≡ is_of_kind kind seen.now owner.now event.now row.now.key }
 {
     match kind {
@@ -91,28 +90,28 @@ fn is_of_kind(kind: Kind, row: &Row, owner: &OrgId, event: &EventId, seen: &Spot
 }
 
 // Whether it shows, and is of this kind.
-#[tactic(auto, unfolding(crate::specs::Sight::is_one))]
-fn is_one(kind: Kind, sight: &Sight, seen: &Spots, row: &Row) -> bool
-    ensures { result ≡ is_one kind sight.now seen.now row.now }
+#[tactic(auto, unfolding(crate::specs::Kinds::is_one))]
+fn is_one(kind: Kind, copy_view: &CopyView, seen: &ElementSet, row: &Row) -> bool
+    ensures { result ≡ is_one kind copy_view.now seen.now row.now }
 {
-    let is_kind = is_of_kind(kind, row, &sight.owner, &sight.event, seen);
-    is_kind && sight.shows(row)
+    let is_kind = is_of_kind(kind, row, &copy_view.owner, &copy_view.event, seen);
+    is_kind && copy_view.shows(row)
 }
 
 /// The rows that show and are of this kind, in the order in which they stand.
 pub(crate) fn collect<'a>(
     alloc: Global,
     kind: Kind,
-    sight: &Sight,
-    seen: &Spots,
+    copy_view: &CopyView,
+    seen: &ElementSet,
     rows: &'a [Row],
 ) -> Result<Vec<&'a Row>, NoMemory>
     ensures { IfOk result (λ list. map (λ r. r.now) list.items
-        ≡ filter (is_one kind sight.now seen.now) rows.now) }
+        ≡ filter (is_one kind copy_view.now seen.now) rows.now) }
 {
     let mut list = Vec::new(alloc);
     for row in rows {
-        if is_one(kind, sight, seen, row) {
+        if is_one(kind, copy_view, seen, row) {
             list.push(row)?;
         }
     }

@@ -1,17 +1,16 @@
 //! The groups that concern an organisation.
 
 ghost use Rattle.std.specs.Prelude.{◌≡◌, ◌||◌, filter, IfOk};
-ghost use Rattle.misp_model.specs.Acts.{concerns};
-ghost use Rattle.misp_model.specs.Audience.{allows};
-ghost use Rattle.misp_model.specs.Names.{same_org};
+ghost use Rattle.misp_rules.specs.Answers.{concerns};
+ghost use Rattle.misp_groups.specs.Audience.{allows};
+ghost use Rattle.misp_ids.specs.Same.{same_org};
 
-use misp_groups::Group;
+use misp_groups::{Group, Groups, allows};
 use misp_ids::{InstId, NoMemory, OrgId};
-use misp_levels::{Groups, allows};
 use std::alloc::Global;
 
 // Whether the organisation created the group, or the group allows it here.
-#[tactic(auto, unfolding(misp_model::specs::Names::same_org))]
+#[tactic(auto, unfolding(misp_ids::specs::Same::same_org))]
 fn concerns(group: &Group, org: &OrgId, here: &InstId) -> bool
     ensures { result ≡ concerns org.now here.now group.now }
 {

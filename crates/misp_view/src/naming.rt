@@ -6,8 +6,8 @@ ghost use Rattle.misp_ids.specs.declared.uid.GroupId.{GroupId as Id};
 ghost use Rattle.misp_view.specs.Naming.{label_names, attribute_names, object_names, event_names, group_names, has_group, with_name};
 
 use misp_elem::{NoMemory, Row, VisibleAttribute, VisibleEvent, VisibleObject};
+use misp_groups::Groups;
 use misp_ids::{GroupId, Label, Text};
-use misp_levels::Groups;
 use std::alloc::Global;
 use std::collections::BTreeSet;
 

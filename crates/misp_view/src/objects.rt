@@ -6,27 +6,26 @@ ghost use Rattle.misp_view.specs.Parts.{Rises};
 
 use crate::attributes::attributes;
 use crate::parts::part;
-use crate::rows::{copies, copy};
-use crate::subjects::Subjects;
+use misp_copies::{StatementsByTarget, copies_of, copy};
 use misp_elem::{Row, VisibleObject};
 use misp_ids::{Items, NoMemory};
 use std::alloc::Global;
 
-// An object, with what stands in it of the attributes and the references, which are by objects.
+// An object, with what is in it of the attributes and the references, which are by objects.
 fn object(
     alloc: Global,
     row: &Row,
     inner: &[&Row],
     references: &[&Row],
-    proposals: &Subjects,
-    sightings: &Subjects,
+    proposals: &StatementsByTarget,
+    sightings: &StatementsByTarget,
 ) -> Result<VisibleObject, NoMemory>
     ensures { Rises inner.now → Rises references.now → IfOk result (λ object. object
         ≡ object_in (map (λ r. r.now) inner.now) (map (λ r. r.now) references.now)
         proposals.now sightings.now row.now) }
 {
     let attributes = attributes(alloc, part(inner, row), proposals, sightings)?;
-    let references = copies(alloc, part(references, row))?;
+    let references = copies_of(alloc, part(references, row))?;
     Ok(VisibleObject {
         row: copy(row)?,
         attributes,
@@ -34,15 +33,15 @@ fn object(
     })
 }
 
-/// These objects, each with what stands in it of the attributes and the references, which are by
+/// These objects, each with what is in it of the attributes and the references, which are by
 /// objects.
 pub(crate) fn objects(
     alloc: Global,
     list: &[&Row],
     inner: &[&Row],
     references: &[&Row],
-    proposals: &Subjects,
-    sightings: &Subjects,
+    proposals: &StatementsByTarget,
+    sightings: &StatementsByTarget,
 ) -> Result<Items<VisibleObject>, NoMemory>
     ensures { Rises inner.now → Rises references.now → IfOk result (λ items. items
         ≡ map (object_in (map (λ r. r.now) inner.now) (map (λ r. r.now) references.now)

@@ -2,10 +2,10 @@
 
 ghost use Rattle.std.specs.Prelude.{◌≡◌, map, IfOk};
 ghost use Rattle.std.specs.Ordering.{is_lt};
-ghost use Rattle.misp_model.specs.Order.{in_order, is_less};
+ghost use Rattle.misp_lists.specs.Order.{in_order, is_less};
 ghost use Rattle.misp_view.specs.Order.{class_of, uuid_of, origin_of, origin_text, rest_of, goes_before};
 
-use misp_elem::{KeyForm, Place, Row, compare_keys};
+use misp_elem::{KeyForm, Row, compare_keys, uuid_at};
 use misp_ids::{InstId, NoMemory, OrgId};
 use std::cmp::Ordering;
 
@@ -23,16 +23,12 @@ fn class(row: &Row) -> u8
 }
 
 // The number of what it names.
-#[tactic(auto, unfolding(crate::specs::Order::uuid_of, misp_model::specs::Asking::uuid_at))]
+#[tactic(auto, unfolding(crate::specs::Order::uuid_of))]
 fn uuid(row: &Row) -> u128
     ensures { result ≡ uuid_of row.now.key }
 {
     match &row.key.form {
-        KeyForm::Element { event, place } => match place {
-            Place::Event => event.0.0,
-            Place::Object(element) | Place::Attribute(element) => element.0.0,
-            Place::ObjectAttribute(_, attribute) => attribute.0.0,
-        },
+        KeyForm::Element { event, place } => uuid_at(*event, *place),
         KeyForm::Reference { uuid, .. } | KeyForm::Sighting { uuid, .. } => uuid.0.0,
         KeyForm::Proposal { name, .. } | KeyForm::Verdict { name, .. } => name.uuid.0.0,
     }
@@ -76,7 +72,7 @@ fn rest_goes_before(a: &Row, b: &Row) -> bool
 }
 
 // Whether the first goes before the second.
-#[tactic(auto, unfolding(crate::specs::Order::goes_before, misp_model::specs::Order::is_less))]
+#[tactic(auto, unfolding(crate::specs::Order::goes_before, misp_lists::specs::Order::is_less))]
 fn goes_before(a: &Row, b: &Row) -> bool
     ensures { result ≡ goes_before a.now b.now }
 {

@@ -7,7 +7,7 @@ ghost use Rattle.misp_view.specs.Parts.{around, IsByObject, Rises};
 use misp_elem::{KeyForm, Place, Row};
 use misp_ids::NoMemory;
 
-// The number of the object that it is, or that it stands in.
+// The number of the object that it is, or that it is in.
 #[tactic(auto, unfolding(crate::specs::Parts::around))]
 fn around(row: &Row) -> u128
     ensures { result ≡ around row.now.key }
@@ -31,7 +31,7 @@ pub(crate) fn by_object<'a>(rows: Vec<&'a Row>) -> Result<Vec<&'a Row>, NoMemory
     Ok(list)
 }
 
-/// Those of a list by objects that stand in the same object as the row.
+/// Those of a list by objects that are in the same object as the row.
 pub(crate) fn part<'a, 'b>(list: &'b [&'a Row], row: &Row) -> &'b [&'a Row]
     ensures { Rises list.now → map (λ r. r.now) result.now
         ≡ filter (λ r. eqb (around row.now.key) (around r.key)) (map (λ r. r.now) list.now) }

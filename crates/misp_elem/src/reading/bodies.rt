@@ -1,9 +1,9 @@
-//! Reading what stands in a row.
+//! Reading what is in a row.
 
 ghost use Rattle.std.specs.Prelude.{◌≡◌};
-ghost use Rattle.misp_elem.specs.Row.{is_removal, least_kind};
+ghost use Rattle.misp_elem.specs.Contents.{is_removal, least_kind};
 ghost use Rattle.misp_elem.specs.Reading.{Reads, Gives};
-ghost use Rattle.misp_elem.specs.RowReading.{event_body_at, object_body_at, attribute_body_at, reference_body_at, removal_at, proposed_value_at, proposal_body_at, sighting_body_at};
+ghost use Rattle.misp_elem.specs.ContentReading.{event_body_at, object_body_at, attribute_body_at, reference_body_at, removal_at, proposed_value_at, proposal_body_at, sighting_body_at};
 
 use crate::content::{
     AttributeBody, EventBody, ObjectBody, ProposalBody, ReferenceBody, SightingBody,
@@ -24,7 +24,7 @@ fn least_kind(remove: bool) -> usize
 }
 
 impl Reader<'_> {
-    #[tactic(auto, unfolding(crate::specs::RowReading::event_body_at))]
+    #[tactic(auto, unfolding(crate::specs::ContentReading::event_body_at))]
     pub(super) fn event_body(&mut self, alloc: Global) -> Result<EventBody, Stop>
         ensures { Gives result self.new (event_body_at self.old) }
     {
@@ -50,7 +50,7 @@ impl Reader<'_> {
         })
     }
 
-    #[tactic(auto, unfolding(crate::specs::RowReading::object_body_at))]
+    #[tactic(auto, unfolding(crate::specs::ContentReading::object_body_at))]
     pub(super) fn object_body(&mut self, alloc: Global) -> Result<ObjectBody, Stop>
         ensures { Gives result self.new (object_body_at self.old) }
     {
@@ -74,7 +74,7 @@ impl Reader<'_> {
         })
     }
 
-    #[tactic(auto, unfolding(crate::specs::RowReading::attribute_body_at))]
+    #[tactic(auto, unfolding(crate::specs::ContentReading::attribute_body_at))]
     pub(super) fn attribute_body(&mut self, alloc: Global) -> Result<AttributeBody, Stop>
         ensures { Gives result self.new (attribute_body_at self.old) }
     {
@@ -98,7 +98,7 @@ impl Reader<'_> {
         })
     }
 
-    #[tactic(auto, unfolding(crate::specs::RowReading::reference_body_at))]
+    #[tactic(auto, unfolding(crate::specs::ContentReading::reference_body_at))]
     pub(super) fn reference_body(&mut self, alloc: Global) -> Result<ReferenceBody, Stop>
         ensures { Gives result self.new (reference_body_at self.old) }
     {
@@ -112,7 +112,7 @@ impl Reader<'_> {
         })
     }
 
-    #[tactic(auto, unfolding(crate::specs::RowReading::removal_at))]
+    #[tactic(auto, unfolding(crate::specs::ContentReading::removal_at))]
     fn removal(&mut self, may: bool) -> Result<bool, BadField>
         ensures { Reads result self.new (removal_at may self.old) }
     {
@@ -121,7 +121,7 @@ impl Reader<'_> {
         if may || !remove { Ok(remove) } else { Err(bad) }
     }
 
-    #[tactic(auto, unfolding(crate::specs::RowReading::proposed_value_at))]
+    #[tactic(auto, unfolding(crate::specs::ContentReading::proposed_value_at))]
     fn proposed_value(
         &mut self,
         alloc: Global,
@@ -138,7 +138,7 @@ impl Reader<'_> {
         }
     }
 
-    #[tactic(auto, unfolding(crate::specs::RowReading::proposal_body_at))]
+    #[tactic(auto, unfolding(crate::specs::ContentReading::proposal_body_at))]
     pub(super) fn proposal_body(&mut self, alloc: Global, may: bool) -> Result<ProposalBody, Stop>
         ensures { Gives result self.new (proposal_body_at may self.old) }
     {
@@ -162,7 +162,7 @@ impl Reader<'_> {
         })
     }
 
-    #[tactic(auto, unfolding(crate::specs::RowReading::sighting_body_at))]
+    #[tactic(auto, unfolding(crate::specs::ContentReading::sighting_body_at))]
     pub(super) fn sighting_body(&mut self, alloc: Global) -> Result<SightingBody, Stop>
         ensures { Gives result self.new (sighting_body_at self.old) }
     {

@@ -3,7 +3,7 @@
 ghost use Rattle.std.specs.Prelude.{◌≡◌};
 ghost use Rattle.misp_elem.specs.Row.{fits, may_remove};
 ghost use Rattle.misp_elem.specs.Reading.{Gives};
-ghost use Rattle.misp_elem.specs.RowReading.{content_at};
+ghost use Rattle.misp_elem.specs.ContentReading.{content_at};
 
 use crate::content::Content;
 use crate::fault::Stop;
@@ -42,7 +42,7 @@ fn may_remove(key: &KeyForm) -> bool
 }
 
 impl Reader<'_> {
-    #[tactic(auto, unfolding(crate::specs::RowReading::content_at))]
+    #[tactic(auto, unfolding(crate::specs::ContentReading::content_at))]
     pub(super) fn content(
         &mut self,
         alloc: Global,

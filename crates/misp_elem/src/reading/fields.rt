@@ -2,7 +2,7 @@
 
 ghost use Rattle.std.specs.Prelude.{◌≡◌, ◌-◌, length, true, false, MatchOption};
 ghost use Rattle.std.specs.Int.{w32, w64};
-ghost use Rattle.misp_elem.specs.Row.{is_text};
+ghost use Rattle.misp_elem.specs.Fields.{is_text};
 ghost use Rattle.misp_elem.specs.Reading.{Reads, Gives, number_at, between_at, stamp_at, text_at, date_at, flag_at, optional_at};
 
 use crate::fault::{BadField, Stop};

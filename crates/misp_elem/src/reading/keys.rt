@@ -13,7 +13,7 @@ use crate::reading::Reader;
 
 impl Reader<'_> {
     #[tactic(auto, unfolding(crate::specs::KeyReading::place_at))]
-    fn place(&mut self, barred: &[u8]) -> Result<Place, BadField>
+    pub(super) fn place(&mut self, barred: &[u8]) -> Result<Place, BadField>
         ensures { Reads result self.new (place_at barred.now self.old) }
     {
         let bad = self.bad();

@@ -3,7 +3,8 @@
 ghost use Rattle.std.specs.Prelude.{◌≡◌, List, IfOk, Ok};
 ghost use Rattle.misp_elem.specs.declared.row.RowFields.{RowFields};
 ghost use Rattle.misp_elem.specs.Spelling as spelling;
-ghost use Rattle.misp_elem.specs.Row.{barred_labels, label_kind, IsRow};
+ghost use Rattle.misp_elem.specs.Row.{barred_labels, IsRow};
+ghost use Rattle.misp_ids.specs.Labels.{label_kind};
 ghost use Rattle.misp_elem.specs.Reading.{Reads, Gives, GivesAll, Answers, answer};
 ghost use Rattle.misp_elem.specs.RowReading.{group_at, label_at, flags_at, fields_at, row_at, row_of};
 
@@ -15,7 +16,7 @@ use misp_ids::{GroupId, Label};
 use std::alloc::Global;
 
 /// What the labels of rows of this key may not be.
-fn barred(key: &KeyForm) -> &'static [u8]
+pub(super) fn barred(key: &KeyForm) -> &'static [u8]
     ensures { result.now ≡ barred_labels key.now }
 {
     match key {
@@ -24,20 +25,6 @@ fn barred(key: &KeyForm) -> &'static [u8]
             _ => &[],
         },
         _ => &[0, 1, 2, 3, 4],
-    }
-}
-
-/// The number that spells a label's form.
-fn kind_of(label: &Label) -> u8
-    ensures { result ≡ label_kind label.now }
-{
-    match label {
-        Label::Own => 0,
-        Label::Community => 1,
-        Label::Connected => 2,
-        Label::All => 3,
-        Label::Group(_) => 4,
-        Label::Inherit => 5,
     }
 }
 
@@ -52,7 +39,7 @@ impl Reader<'_> {
     }
 
     #[tactic(auto, unfolding(crate::specs::RowReading::label_at))]
-    fn label(&mut self, barred: &[u8]) -> Result<Label, BadField>
+    pub(super) fn label(&mut self, barred: &[u8]) -> Result<Label, BadField>
         ensures { Reads result self.new (label_at barred.now self.old) }
     {
         let bad = self.bad();
@@ -72,7 +59,7 @@ impl Reader<'_> {
     }
 
     #[tactic(auto, unfolding(crate::specs::RowReading::flags_at))]
-    fn flags(&mut self) -> Result<(bool, bool), BadField>
+    pub(super) fn flags(&mut self) -> Result<(bool, bool), BadField>
         ensures { Reads result self.new (flags_at self.old) }
     {
         let bad = self.bad();
@@ -94,7 +81,7 @@ impl Reader<'_> {
         let stamp = self.stamp()?;
         let label = self.label(barred(&key))?;
         let (held, carried) = self.flags()?;
-        let content = self.content(alloc, &key, kind_of(&label), (held, carried))?;
+        let content = self.content(alloc, &key, label.kind(), (held, carried))?;
         Ok(RowFields {
             owner,
             key,

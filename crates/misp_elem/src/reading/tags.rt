@@ -1,9 +1,9 @@
 //! Reading tags.
 
 ghost use Rattle.std.specs.Prelude.{◌≡◌, []};
-ghost use Rattle.misp_elem.specs.Row.{last_name, is_after};
+ghost use Rattle.misp_elem.specs.Fields.{last_name, is_after};
 ghost use Rattle.misp_elem.specs.Reading.{Reads, Gives};
-ghost use Rattle.misp_elem.specs.RowReading.{colour_at, tag_name_at, tag_at, tags_after, tags_at};
+ghost use Rattle.misp_elem.specs.ContentReading.{colour_at, tag_name_at, tag_at, tags_after, tags_at};
 
 use crate::content::Tag;
 use crate::fault::{BadField, Stop};
@@ -30,7 +30,7 @@ fn last_name(tags: &[Tag]) -> &[u8]
 }
 
 impl Reader<'_> {
-    #[tactic(auto, unfolding(crate::specs::RowReading::colour_at))]
+    #[tactic(auto, unfolding(crate::specs::ContentReading::colour_at))]
     fn colour(&mut self) -> Result<[u8; 3], BadField>
         ensures { Reads result self.new (colour_at self.old) }
     {
@@ -44,7 +44,7 @@ impl Reader<'_> {
         Ok(colour)
     }
 
-    #[tactic(auto, unfolding(crate::specs::RowReading::tag_name_at))]
+    #[tactic(auto, unfolding(crate::specs::ContentReading::tag_name_at))]
     fn tag_name(&mut self, alloc: Global, room: usize, before: &[u8]) -> Result<Text, Stop>
         ensures { Gives result self.new (tag_name_at room before.now self.old) }
     {
@@ -56,7 +56,7 @@ impl Reader<'_> {
         Ok(name)
     }
 
-    #[tactic(auto, unfolding(crate::specs::RowReading::tag_at))]
+    #[tactic(auto, unfolding(crate::specs::ContentReading::tag_at))]
     fn tag(&mut self, alloc: Global, room: usize, before: &[u8]) -> Result<Tag, Stop>
         ensures { Gives result self.new (tag_at room before.now self.old) }
     {
@@ -70,7 +70,7 @@ impl Reader<'_> {
         })
     }
 
-    #[tactic(auto, unfolding(crate::specs::RowReading::tags_at))]
+    #[tactic(auto, unfolding(crate::specs::ContentReading::tags_at))]
     pub(super) fn tags(&mut self, alloc: Global, room: usize) -> Result<Items<Tag>, Stop>
         ensures { Gives result self.new (tags_at room self.old) }
     {

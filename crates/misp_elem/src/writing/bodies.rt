@@ -1,7 +1,7 @@
-//! Writing what stands in a row.
+//! Writing what is in a row.
 
 ghost use Rattle.std.specs.Prelude.{◌≡◌, ◌++◌, true, OnOk};
-ghost use Rattle.misp_elem.specs.Row.{IsEventBody, IsObjectBody, IsAttributeBody, IsReferenceBody, IsProposalBody, IsSightingBody, IsContent};
+ghost use Rattle.misp_elem.specs.Contents.{IsEventBody, IsObjectBody, IsAttributeBody, IsReferenceBody, IsProposalBody, IsSightingBody, IsContent};
 ghost use Rattle.misp_elem.specs.Spelling as spelling;
 
 use crate::content::{

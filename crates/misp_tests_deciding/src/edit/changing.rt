@@ -1,28 +1,28 @@
-//! A copy whose attribute is edited, and that is published.
+//! A copy whose attribute is edited.
 
 ghost use Rattle.std.specs.Prelude.{IfOk};
 ghost use Rattle.misp_edit.specs.Edits.{IsAttributeEdit};
 
 use super::{EVENT, NOW};
-use crate::rows::{ALPHA, BETA, COMMUNITY, HELD, INHERIT, Item, are_of, rows_of};
-use misp_edit::{ChangeFault, edit_attribute, publish};
+use crate::rows::{BETA, COMMUNITY, HELD, INHERIT, Item, rows_of};
+use misp_edit::{ChangeFault, edit_attribute};
 use misp_elem::{Content, Place, Row};
-use misp_ids::{ElemId, OrgId, Stamp, Uid};
-use misp_levels::Groups;
-use misp_requests::AttributeEdit;
+use misp_groups::Groups;
+use misp_ids::{ElemId, Stamp, Uid};
+use misp_rules::AttributeEditFields;
 use misp_samples::{here, stamp, text};
 use std::alloc::{AllocError, Global};
 use std::test::Fail;
 
 // An edit of the comment, and of the type with the value.
 #[tactic(auto, unfolding(misp_types::specs::Values::is_kept, misp_types::specs::Values::kept_of, misp_types::specs::Kinds::rule_of, misp_types::specs::Kinds::form_of))]
-fn attribute_edit(alloc: Global, seen: Stamp) -> Result<AttributeEdit, AllocError>
+fn attribute_edit(alloc: Global, seen: Stamp) -> Result<AttributeEditFields, AllocError>
     ensures { IfOk result IsAttributeEdit }
 {
     let comment = text(alloc, "seen")?;
     let kind = text(alloc, "comment")?;
     let value = text(alloc, "x")?;
-    Ok(AttributeEdit {
+    Ok(AttributeEditFields {
         stamp: Some(seen),
         label: None,
         category: None,
@@ -70,32 +70,5 @@ fn an_attribute_is_edited_as_it_was_seen(rt: HostRuntime) -> Result<(), Fail> {
     assert_eq!(rt; made.len(), 1);
     assert!(rt; is_edited(&made[0]) && made[0].held);
     assert_eq!(rt; made[0].stamp.get(), NOW);
-    Ok(())
-}
-
-fn published(
-    alloc: Global,
-    org: OrgId,
-    rows: &[Row],
-) -> Result<Result<Vec<Row>, ChangeFault>, Fail> {
-    let here = here()?;
-    let now = stamp(NOW)?;
-    let groups = Groups::new(alloc);
-    if !are_of(rows, &EVENT) {
-        return Err(Fail::from("a row of another event"));
-    }
-    Ok(publish(alloc, &EVENT, &org, &groups, &here, now, rows))
-}
-
-#[test]
-fn an_event_is_published_by_its_owner(rt: HostRuntime) -> Result<(), Fail> {
-    let rows = rows_of(rt.alloc(), &COPY)?;
-    let others = published(rt.alloc(), ALPHA, rows.as_slice())?;
-    assert_eq!(rt; others.err(), Some(ChangeFault::NotOwner));
-    let made = published(rt.alloc(), BETA, rows.as_slice())?;
-    let made = made.ok().ok_or("nothing refuses")?;
-    let stamps = made.iter().map(|row| row.stamp.get());
-    assert_eq!(rt; stamps.eq([NOW, 10]), true);
-    assert!(rt; made.iter().all(|row| !row.held));
     Ok(())
 }

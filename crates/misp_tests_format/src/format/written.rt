@@ -1,20 +1,20 @@
 //! The texts of an event and of replies.
 
 ghost use Rattle.std.specs.Prelude.{IfSome};
-ghost use Rattle.misp_elem.specs.Row.{IsBetween};
+ghost use Rattle.misp_elem.specs.Fields.{IsBetween};
 
 use super::{A1, ALPHA, E1, is_written};
 use misp_elem::{
-    AttributeBody, Content, EventBody, KeyForm, Place, Refusal, Row, RowFields, RuleName,
-    VisibleAttribute, VisibleEvent,
+    AttributeBody, Content, EventBody, KeyForm, Place, Row, RowFields, VisibleAttribute,
+    VisibleEvent,
 };
 use misp_format::{write_event, write_refusal, write_saved, write_taken};
-use misp_ids::{ElemId, Items, Label, Stamp};
+use misp_ids::{ElemId, Items, Label, Refusal, RuleName, Stamp};
 use misp_samples::{stamp, text};
 use std::alloc::Global;
 use std::test::Fail;
 
-#[tactic(auto, unfolding(misp_elem::specs::Row::is_date))]
+#[tactic(auto, unfolding(misp_elem::specs::Fields::is_date))]
 fn event_row(alloc: Global, stamp: Stamp, never: Stamp) -> Result<Row, Fail> {
     let info = text(alloc, "Wave")?;
     let date = text(alloc, "2023-11-14")?;

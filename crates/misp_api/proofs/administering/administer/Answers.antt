@@ -1,11 +1,7 @@
 use Rattle.std.proofs.Common.{None, ◌≡◌, ◌≤◌, refl, sym, subst}
 use Rattle.misp_ids.specs.declared.stamp.TheConstants.{LAST_SECOND}
-use Rattle.misp_core.specs.Administering.{administered}
-use Rattle.misp_core.specs.Effects.{stop_in}
+use Rattle.misp_core.specs.Prelude.{Effect, Held, administered, groups_of, stop_in}
 use Rattle.misp_core.specs.declared.reply.Reply.{Reply}
-use Rattle.misp_effects.specs.Effect.{Effect}
-use Rattle.misp_outside.specs.Held.{Held}
-use Rattle.misp_store.specs.Sharing.{groups_of}
 use Rattle.misp_api.specs.Administering.{group_form, FormFits}
 use Rattle.misp_api.proofs.Turning.{not_turned, turned_by_fault}
 use Rattle.misp_api.proofs.GroupTexts.{text_by_form, by_instance, by_text, read_fits, unread_fits, no_keeper_read}

@@ -1,5 +1,4 @@
-use Rattle.std.proofs.Common.{◌≡◌, subst}
-use Rattle.std.specs.Prelude.{IfOk, OnErr}
+use Rattle.std.proofs.Common.{◌≡◌, subst, IfOk, OnErr}
 use Rattle.misp_core.specs.Effects.{IsRefused}
 use Rattle.misp_api.specs.Request.{request_data}
 use Rattle.misp_api.proofs.Replying.{refused_by_form, no_keeper}

@@ -1,8 +1,5 @@
-use Rattle.std.proofs.Common.{codes, ◌++◌, take, drop, refl, sym, ◌∙◌, ap, inl, inr}
-use Rattle.std.specs.Str.{bytes_eq}
-use Rattle.std.proofs.lemmas.Bool.{cases_Bool}
-use Rattle.std.proofs.lemmas.List.{take-append-drop}
-use Rattle.std.proofs.lemmas.Slice.Eq.{bytes_eq-Decides}
+use Rattle.std.proofs.Common.{codes, ◌++◌, take, drop, refl, sym, ◌∙◌, ap, inl, inr, bytes_eq, take-append-drop}
+use Rattle.misp_lists.proofs.Prelude.{bytes_eq-Decides, cases_Bool}
 use Rattle.misp_api.proofs.route.view_in.Goals as goal
 
 -- the path does not begin so, or the prefix would have been stripped

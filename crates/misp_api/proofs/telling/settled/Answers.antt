@@ -1,6 +1,5 @@
-use native.Mathlib.Omega.{arith}
-use Rattle.std.proofs.Common.{◌≡◌, Err, sym, ap, subst}
-use Rattle.misp_outside.specs.declared.fault.KeeperFault.TheVariants as faults
+use Rattle.std.proofs.Common.{◌≡◌, sym, subst}
+use Rattle.misp_outside.specs.declared.fault.KeeperFault.{KeeperFault}
 use Rattle.misp_core.proofs.Carried.{DidThere, settled_did, stopped_did}
 use Rattle.misp_core.specs.Effects.{stop_in, by_keeper}
 use Rattle.misp_api.proofs.Told.{no_stop_in}
@@ -24,10 +23,10 @@ returns-in-Ok-clause-cause g c = record {
 }
 
 pub returns-in-Err-Failed-clause-done : goal.returns-in-Err-Failed-clause-done
-returns-in-Err-Failed-clause-done g c = λ p e same some plans. rw c.stopped_by.ensures (stopped_did faults.Failed e _ _ c.in-Err-Failed.ensures.err)
+returns-in-Err-Failed-clause-done g c = λ p e same some plans. rw c.stopped_by.ensures (stopped_did KeeperFault.Failed e _ _ c.in-Err-Failed.ensures.err)
 
 pub returns-clause-done : goal.returns-clause-done
-returns-clause-done g c = λ p e same some plans. rw c.stopped_by-in-Err-NoMemory.ensures (stopped_did faults.NoMemory e _ _ c.in-Err-NoMemory.ensures.err)
+returns-clause-done g c = λ p e same some plans. rw c.stopped_by-in-Err-NoMemory.ensures (stopped_did KeeperFault.NoMemory e _ _ c.in-Err-NoMemory.ensures.err)
 
 pub returns-clause-cause : goal.returns-clause-cause
 returns-clause-cause g c = record {

@@ -1,7 +1,6 @@
-use Rattle.std.proofs.Common.{◌≡◌, ◌∙◌, Ok, Err, sym, ap, subst, refl, inl, inr}
-use Rattle.misp_core.specs.Planning.{IsPlanned, unplanned, stop_planned}
-use Rattle.misp_core.specs.Effects.{stop_in, by_keeper}
-use Rattle.misp_core.specs.declared.reply.Reply.TheVariants as replies
+use Rattle.std.proofs.Common.{◌∙◌, Ok, sym, subst, refl}
+use Rattle.misp_core.specs.Planning.{IsPlanned, unplanned}
+use Rattle.misp_core.specs.declared.reply.Reply.{Reply}
 use Rattle.misp_core.proofs.Carried.{refused_did, DidThere}
 use Rattle.misp_api.proofs.Told.{of_told, text_told, nothing_did}
 use Rattle.misp_api.proofs.telling.tell.Goals as goal
@@ -19,17 +18,17 @@ returns-in-Err-clause-done g c = λ e plans.
 -- ---- nothing is put
 
 pub returns-in-None-clause-text : goal.returns-in-None-clause-text
-returns-in-None-clause-text g c = text_told c.told-in-None.result (replies.Ok c.into_parts-answer.result.0) _ _ c.told-in-None.ensures.reply c.told-in-None.ensures.text
+returns-in-None-clause-text g c = text_told c.told-in-None.result (Reply.Ok c.into_parts-answer.result.0) _ _ c.told-in-None.ensures.reply c.told-in-None.ensures.text
 
 pub returns-in-None-clause-done : goal.returns-in-None-clause-done
 returns-in-None-clause-done g c = λ e plans.
-    of_told c.told-in-None.result (replies.Ok c.into_parts-answer.result.0) _ c.told-in-None.ensures.reply
-    (subst (λ answer. DidThere e c.args.instance.now.held (replies.Ok answer) c.args.instance.now.held) (sym c.into_parts-answer.ensures.answer)
+    of_told c.told-in-None.result (Reply.Ok c.into_parts-answer.result.0) _ c.told-in-None.ensures.reply
+    (subst (λ answer. DidThere e c.args.instance.now.held (Reply.Ok answer) c.args.instance.now.held) (sym c.into_parts-answer.ensures.answer)
     (nothing_did c.in-Ok.plan e c.args.instance.now.held (subst (λ planned. IsPlanned planned e) c.in-Ok.is plans) (sym c.into_parts-answer.ensures.batch ∙ c.in-None.is)))
 
 pub returns-in-None-clause-rose : goal.returns-in-None-clause-rose
 returns-in-None-clause-rose g c =
-    of_told c.told-in-None.result (replies.Ok c.into_parts-answer.result.0) _ c.told-in-None.ensures.reply (λ is. absurd cc)
+    of_told c.told-in-None.result (Reply.Ok c.into_parts-answer.result.0) _ c.told-in-None.ensures.reply (λ is. absurd cc)
 
 -- ---- the batch is put
 

@@ -1,6 +1,5 @@
 use Rattle.std.proofs.Common.{◌≡◌, ◌≤◌, ◌++◌, take, length, arith, sym, ◌∙◌, ap, subst}
-use Rattle.misp_core.specs.declared.reply.Reply.TheVariants as replies
-use Rattle.misp_core.specs.Effects.{IsRefused}
+use Rattle.misp_api.specs.Prelude.{IsRefused, Reply}
 use Rattle.misp_api.specs.Text.{reply_text}
 use Rattle.misp_api.proofs.Told.{text_before, start_within}
 use Rattle.misp_api.proofs.telling.told_and_put.Goals as goal
@@ -18,7 +17,7 @@ pub settled-requires-clause-text : goal.settled-requires-clause-text
 settled-requires-clause-text g c =
     let long : length c.args.text.now.items ≡ c.len-start.result = omega (arith, c.args.text.now.ok.0, c.len-start.ensures) in
     c.in_ok-written.ensures.text
-    ∙ ap (λ front. front ++ reply_text (replies.Ok c.args.answer)) (sym (text_before c.args.text.now.items _ _ _ long c.in_ok-written.ensures.text))
+    ∙ ap (λ front. front ++ reply_text (Reply.Ok c.args.answer)) (sym (text_before c.args.text.now.items _ _ _ long c.in_ok-written.ensures.text))
     ∙ ap (λ reply. take c.len-start.result c.write_answer.new.text.items ++ reply_text reply) (sym c.in_ok-written.ensures.reply)
 
 pub returns-clause-text : goal.returns-clause-text
@@ -28,7 +27,7 @@ returns-clause-text g c =
     ∙ ap (λ front. front ++ reply_text c.settled.result) (text_before c.args.text.now.items _ _ _ long c.in_ok-written.ensures.text)
 
 pub returns-clause-done : goal.returns-clause-done
-returns-clause-done g c = λ p e same some plans. c.settled.ensures.done p e (c.in_ok-written.ensures.reply ∙ ap replies.Ok (sym same)) some plans
+returns-clause-done g c = λ p e same some plans. c.settled.ensures.done p e (c.in_ok-written.ensures.reply ∙ ap Reply.Ok (sym same)) some plans
 
 pub returns-clause-later : goal.returns-clause-later
 returns-clause-later g c = c.settled.ensures.cause.later

@@ -1,15 +1,14 @@
 use Rattle.std.proofs.Common.{◌≡◌, Err, sym, ◌∙◌, ap, subst, map}
 use Rattle.misp_script.specs.Network.{description_at}
-use Rattle.misp_script.specs.declared.fault.DescFault.TheVariants as causes
+use Rattle.misp_script.specs.declared.fault.DescFault.{DescFault}
 use Rattle.misp_app.specs.Status.{Wrote}
 use Rattle.misp_app.specs.Source.{described, IsTold}
-use Rattle.misp_app.proofs.Cutting.{cut_before, cut_there, cut_behind}
-use Rattle.misp_app.proofs.Endings.{by_memory}
+use Rattle.misp_app.proofs.Cutting.{cut_before, cut_behind}
 use Rattle.misp_app.proofs.entry.run_source.Goals as goal
 
 pub returns-in-Err-Bad-clause-told : goal.returns-in-Err-Bad-clause-told
 returns-in-Err-Bad-clause-told g c = λ tells.
-    let said : described c.args.bytes.now ≡ Err (causes.Bad c.in-Err-Bad.path c.in-Err-Bad.need) =
+    let said : described c.args.bytes.now ≡ Err (DescFault.Bad c.in-Err-Bad.path c.in-Err-Bad.need) =
     ap description_at (sym c.split_source.ensures.description) ∙ (rw c.in-Err-Bad.field-0-is at c.in-Err-Bad.ensures.description) in
     subst (λ read. IsTold read (Wrote c.tell_fault.result (g.W.Sink.written c.args.sink.now) (g.W.Sink.written c.tell_fault.new.sink))) (sym said)
     (rw (c.as_str.ensures, c.in-Err-Bad.path-is, c.in-Err-Bad.need-is) at c.tell_fault.ensures.told tells)
@@ -23,7 +22,7 @@ returns-in-Ok-run_net-clause-cut g c = λ is.
 
 -- before any line
 pub returns-in-Err-Bad-clause-cut : goal.returns-in-Err-Bad-clause-cut
-returns-in-Err-Bad-clause-cut g c = λ is. cut_before c.args.bytes.now (map g.K.Keeper.stock c.args.keepers.now.items)
+returns-in-Err-Bad-clause-cut g c = λ is. cut_before c.args.bytes.now (map g.K.Keeper.state c.args.keepers.now.items)
 
 pub returns-in-Err-NoMemory-clause-cut : goal.returns-in-Err-NoMemory-clause-cut
-returns-in-Err-NoMemory-clause-cut g c = λ is. cut_before c.args.bytes.now (map g.K.Keeper.stock c.args.keepers.now.items)
+returns-in-Err-NoMemory-clause-cut g c = λ is. cut_before c.args.bytes.now (map g.K.Keeper.state c.args.keepers.now.items)

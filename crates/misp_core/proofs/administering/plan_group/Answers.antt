@@ -1,16 +1,8 @@
-use Rattle.std.proofs.Common.{◌≡◌, Bool, true, false, not, List, Option, Some, None, IfSome, if◌then◌else◌, refl, ap, subst}
-use Rattle.std.specs.Prelude.{◌==◌}
-use Rattle.misp_ids.specs.declared.uid.OrgId.{OrgId}
-use Rattle.misp_ids.specs.declared.uid.GroupId.{GroupId}
-use Rattle.misp_elem.specs.declared.refusal.RuleName.{RuleName}
-use Rattle.misp_elem.specs.declared.refusal.RuleName.TheVariants.{NotCreator, GroupExists, LockedGroup, TimeLimit}
-use Rattle.misp_elem.specs.Refusal.{bare}
-use Rattle.misp_groups.specs.declared.group.GroupFields.{GroupFields as Group}
-use Rattle.misp_model.specs.Names.{Stamp, same_org}
-use Rattle.misp_model.specs.Asking.{last_stamp}
-use Rattle.misp_model.specs.Audience.{known_group, is_known_group}
-use Rattle.misp_model.specs.Acts.{group_now}
-use Rattle.misp_levels.specs.Groups.{why_kept, why_not}
+use Rattle.std.proofs.Common.{◌≡◌, Bool, true, false, not, List, Option, Some, None, IfSome, if◌then◌else◌, refl, ap, subst, ◌==◌}
+use Rattle.misp_ids.specs.declared.refusal.RuleName.TheVariants.{NotCreator, GroupExists, LockedGroup, TimeLimit}
+use Rattle.misp_groups.specs.Prelude.{GroupId, OrgId, RuleName, Stamp, bare, group_now, is_known_group, known_group, same_org, why_not}
+use Rattle.misp_groups.specs.Groups.{why_kept}
+use Rattle.misp_rules.specs.Prelude.{Group, last_stamp}
 use Rattle.misp_core.specs.Administering.{effect_by, administered}
 use Rattle.misp_core.specs.Effects.{stop_by}
 use Rattle.misp_core.specs.Planning.{Refuses}

@@ -1,7 +1,7 @@
 use Rattle.std.proofs.Common.{Err, ap, sym, subst, ◌∙◌}
 use Rattle.misp_core.specs.Answers.{bad_row}
-use Rattle.misp_core.specs.Effects.{refused}
-use Rattle.misp_core.specs.Planning.{Plans, IsUnread}
+use Rattle.misp_core.specs.Prelude.{Plans, refused}
+use Rattle.misp_core.specs.Handing.{IsUnread}
 use Rattle.misp_core.proofs.Carried.{is_planned, asks_none}
 use Rattle.misp_core.proofs.answering.unread.Goals as goal
 

@@ -1,9 +1,8 @@
 use Rattle.std.proofs.Common.{rules, [], ◌∷◌, ap, sym, ◌∙◌, arith, length-append}
 use Rattle.std.proofs.lemmas.Iterator.Adapters.{YieldsList-from_vec}
 use Rattle.std.proofs.lemmas.Iterator.Consumers.{YieldsList-turn, YieldsList-end}
-use Rattle.misp_model.specs.Acts.{put_group}
-use Rattle.misp_levels.specs.Groups.{put_groups}
-use Rattle.misp_levels.specs.Rooms.{Roomy}
+use Rattle.misp_groups.specs.Rooms.{Roomy}
+use Rattle.misp_effects.specs.Prelude.{put_group, put_groups}
 use Rattle.misp_store.proofs.Storable.{none_put, put_more, each_same}
 use Rattle.misp_core.proofs.settling.put_all.Goals as goal
 

@@ -1,5 +1,5 @@
 use Rattle.std.proofs.Common.{◌≡◌, ◌+◌, length}
-use Rattle.misp_levels.specs.Groups.{put_groups}
+use Rattle.misp_groups.specs.Groups.{put_groups}
 use Rattle.misp_core.proofs.settling.put_all.Given as goal
 
 -- the first are put, and there is memory for the others

@@ -6,5 +6,5 @@ use Rattle.misp_dates.proofs.moment.date_of.Goals as goal
 pub returns : goal.returns
 unfolding date_of
 returns c =
-    let text = jiff_text-nth_day (c.args.now / 86400) c.day_of-day.result c.day_of-day.ensures in
-    record { date = c.of.ensures ∙ c.in_ok-format.ensures.ok ∙ text }
+    let text = jiff_text-nth_day (c.args.seconds / 86400) c.day_of-day.result c.day_of-day.ensures in
+    record { date = c.in_ok-format.ensures.ok ∙ text }

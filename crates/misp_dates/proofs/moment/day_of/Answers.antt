@@ -16,17 +16,17 @@ first_day d year month day =
 pub unreachable-requires : goal.unreachable-requires
 unreachable-requires c =
     let start = first_day c.date.result c.date.ensures.0 c.date.ensures.1 c.date.ensures.2 in
-    let days = c.get-days.result / 86400 in
-    let n : to_z w64 days ≡ pos days = omega (arith, ints, c.get-days.ensures.in_range) in
+    let days = c.args.seconds / 86400 in
+    let n : to_z w64 days ≡ pos days = omega (arith, ints, c.requires) in
     let can = can_add-days c.date.result (to_z w64 days) c.days.result c.days.ensures in
-    let day : IsEpochDay (epoch_day c.date.result +ℤ to_z w64 days) = rw (start, n) (omega (arith, signed_arith, c.get-days.ensures.in_range)) in
+    let day : IsEpochDay (epoch_day c.date.result +ℤ to_z w64 days) = rw (start, n) (omega (arith, signed_arith, c.requires)) in
     let ok = c.checked_add.ensures.succeeds.1 (can.1 day) in
     false≢true (rw c.in-Err.is at ok)
 
 pub returns : goal.returns
 returns c =
     let start = first_day c.date.result c.date.ensures.0 c.date.ensures.1 c.date.ensures.2 in
-    let days = c.get-days.result / 86400 in
-    let n : to_z w64 days ≡ pos days = omega (arith, ints, c.get-days.ensures.in_range) in
+    let days = c.args.seconds / 86400 in
+    let n : to_z w64 days ≡ pos days = omega (arith, ints, c.requires) in
     let moved = date_add-days c.date.result (to_z w64 days) c.days.result c.days.ensures in
-    c.in-Ok.ensures.value ∙ moved ∙ rw (start, n, ← c.get-days.ensures.value) (omega (arith, signed_arith))
+    c.in-Ok.ensures.value ∙ moved ∙ rw (start, n) (omega (arith, signed_arith))

@@ -1,10 +1,6 @@
-use Rattle.std.proofs.Common.{◌∙◌, sym, subst}
-use Rattle.std.specs.Option.{IfSome}
-use Rattle.std.specs.Prelude.{Option, true, ◌≡◌}
-use Rattle.misp_elem.specs.declared.key.Place.{Place}
-use Rattle.misp_dates.specs.Dates.{date_of}
-use Rattle.misp_model.specs.Asking.{Scene, is_place_of}
-use Rattle.misp_edit.specs.Adding.{scene_of}
+use Rattle.std.proofs.Common.{◌∙◌, sym, subst, IfSome, Option, true, ◌≡◌}
+use Rattle.misp_rules.specs.Prelude.{Place, Scene, date_of, is_place_of}
+use Rattle.misp_copies.specs.Scenes.{scene_of}
 use Rattle.misp_edit.specs.Targets.{target_in, target_places}
 use Rattle.misp_edit.proofs.TargetLemmas.{found_is, target_is}
 use Rattle.misp_edit.proofs.RowLemmas.{added_rows_are}

@@ -1,7 +1,5 @@
-use Rattle.std.proofs.Common.{ap, ◌∙◌}
-use Rattle.std.specs.Prelude.{Option}
-use Rattle.misp_elem.specs.declared.row.RowFields.{RowFields as Row}
-use Rattle.misp_model.specs.Asking.{Rule, first_rule}
+use Rattle.std.proofs.Common.{ap, ◌∙◌, Option}
+use Rattle.misp_rules.specs.Prelude.{Row, Rule, first_rule}
 use Rattle.misp_edit.specs.Changing.{ruling, late_rules}
 use Rattle.misp_edit.proofs.ChangeLemmas.{or_first, or_second}
 use Rattle.misp_edit.proofs.barring.admitted_row.Goals as goal

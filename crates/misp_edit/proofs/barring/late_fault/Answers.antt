@@ -1,13 +1,12 @@
-use Rattle.std.proofs.Common.{ap, sym}
-use Rattle.std.specs.Option.{option_copied}
-use Rattle.misp_ids.specs.declared.label.Label.TheVariants as labels
-use Rattle.misp_edit.specs.Changing.{rule_of}
+use Rattle.std.proofs.Common.{ap, sym, option_copied}
+use Rattle.misp_ids.specs.declared.label.Label.{Label}
+use Rattle.misp_copies.specs.Barring.{rule_of}
 use Rattle.misp_edit.proofs.ChangeLemmas.{late_group, late_nothing, late_older, late_limit, late_free, limit_is, limit_not}
 use Rattle.misp_edit.proofs.barring.late_fault.Goals as goal
 
 pub returns-in-Some-clause-rule : goal.returns-in-Some-clause-rule
 unfolding rule_of
-returns-in-Some-clause-rule c = late_group c.args.who.now.groups.now c.args.who.now.here c.args.who.now.org c.args.label c.args.stamp (option_copied c.args.own) (labels.Group c.in-Some.group) c.in-Some.ensures
+returns-in-Some-clause-rule c = late_group c.args.who.now.groups.now c.args.who.now.here c.args.who.now.org c.args.label c.args.stamp (option_copied c.args.own) (Label.Group c.in-Some.group) c.in-Some.ensures
 
 pub returns-in-None-clause-rule : goal.returns-in-None-clause-rule
 returns-in-None-clause-rule c =

@@ -1,5 +1,4 @@
-use Rattle.std.proofs.Common.{◌∙◌, ◌+◌, sym, arith, rules, map, drop}
-use Rattle.std.specs.Ordering.{nat_cmp}
+use Rattle.std.proofs.Common.{◌∙◌, ◌+◌, sym, arith, rules, map, drop, nat_cmp}
 use Rattle.std.specs.BTreeSet.{contains}
 use Rattle.std.proofs.lemmas.Grind.{common_steps}
 use Rattle.misp_edit.proofs.UuidLemmas.{clash_next, clash_at}

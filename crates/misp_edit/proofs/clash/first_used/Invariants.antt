@@ -1,5 +1,4 @@
-use Rattle.std.proofs.Common.{◌≡◌, drop, map}
-use Rattle.std.specs.Ordering.{nat_cmp}
+use Rattle.std.proofs.Common.{◌≡◌, drop, map, nat_cmp}
 use Rattle.std.specs.BTreeSet.{contains}
 use Rattle.misp_edit.specs.Uuids.{clash_in}
 use Rattle.misp_edit.proofs.clash.first_used.Given as goal

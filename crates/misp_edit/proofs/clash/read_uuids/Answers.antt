@@ -1,11 +1,10 @@
-use Rattle.std.proofs.Common.{rules, ℕ, ◌++◌, ◌∙◌, ap}
-use Rattle.std.specs.List.{filter_map}
+use Rattle.std.proofs.Common.{rules, ℕ, ◌++◌, ◌∙◌, ap, filter_map}
 use Rattle.std.proofs.lemmas.List.Sorted.{IsNonDecreasingBy-from_sort_by_key, answers_always}
-use Rattle.misp_model.specs.Order.{in_order}
+use Rattle.misp_lists.proofs.Sorting.{sort_by_number}
+use Rattle.misp_lists.specs.Order.{in_order}
 use Rattle.misp_edit.specs.Adding.{is_read_before}
 use Rattle.misp_edit.specs.Targets.{target_in}
 use Rattle.misp_edit.specs.Uuids.{reference_uuid, numbered_in}
-use Rattle.misp_edit.proofs.SortLemmas.{stable_sort}
 use Rattle.misp_edit.proofs.clash.read_uuids.Goals as goal
 
 abbrev number : ℕ × ℕ → ℕ
@@ -14,7 +13,7 @@ number p = p.0
 pub returns : goal.returns
 unfolding numbered_in
 returns c =
-    stable_sort number c.in_ok-uuids-2.uuids.items c.sort_by_key.new.self.items
+    sort_by_number number c.in_ok-uuids-2.uuids.items c.sort_by_key.new.self.items
     (IsNonDecreasingBy-from_sort_by_key number _ c.in_ok-sort_by_key.ensures.sorted (λ a r q k. search rules))
     (c.in_ok-sort_by_key.ensures.stable number (answers_always _ _ _ (λ f a r g h. search rules)))
     ∙ ap (in_order is_read_before)

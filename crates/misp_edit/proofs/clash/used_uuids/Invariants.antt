@@ -1,7 +1,5 @@
-use Rattle.std.proofs.Common.{◌≡◌, ℕ, ◌||◌, eqb, take}
-use Rattle.std.specs.List.{list_any}
-use Rattle.std.specs.Ordering.{nat_cmp}
-use Rattle.std.specs.BTreeSet.{contains}
+use Rattle.std.proofs.Common.{◌≡◌, ℕ, ◌||◌, eqb, take, nat_cmp}
+use Rattle.misp_lists.specs.Prelude.{contains, list_any}
 use Rattle.misp_edit.specs.Uuids.{has_uuid}
 use Rattle.misp_edit.proofs.clash.used_uuids.Given as goal
 

@@ -1,5 +1,4 @@
-use Rattle.std.proofs.Common.{◌∙◌, ◌++◌, ◌∷◌, [], ℕ, ap, sym}
-use Rattle.std.specs.Prelude.{Option}
+use Rattle.std.proofs.Common.{◌∙◌, ◌++◌, ◌∷◌, [], ℕ, ap, sym, Option}
 use Rattle.misp_elem.specs.Draft.{ReferenceDraftFields as ReferenceDraft}
 use Rattle.misp_edit.specs.Targets.{target_in}
 use Rattle.misp_edit.specs.Uuids.{reference_uuid}

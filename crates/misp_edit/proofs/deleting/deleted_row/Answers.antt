@@ -1,5 +1,5 @@
 use Rattle.std.proofs.Common.{subst}
-use Rattle.misp_elem.specs.Row.{IsStamp, IsRow}
+use Rattle.misp_elem.specs.Prelude.{IsRow, IsStamp}
 use Rattle.misp_edit.proofs.RenewedRows.{deleted_row}
 use Rattle.misp_edit.proofs.deleting.deleted_row.Goals as goal
 

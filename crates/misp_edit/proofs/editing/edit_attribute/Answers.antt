@@ -1,12 +1,11 @@
-use Rattle.std.proofs.Common.{ap, sym, ◌∙◌, [], Vec, Global}
-use Rattle.std.specs.Option.{option_copied}
+use Rattle.std.proofs.Common.{ap, sym, ◌∙◌, [], Vec, Global, option_copied}
 use Rattle.std.proofs.lemmas.Result.{IfErr-weaker, IfOk-weaker}
 use Rattle.misp_elem.specs.declared.row.Row.{Row as RowOf}
-use Rattle.misp_elem.specs.declared.key.KeyForm.TheVariants.{Element}
-use Rattle.misp_requests.specs.declared.change.Change.TheVariants.{EditAttribute}
-use Rattle.misp_model.specs.Asking.{Scene, at_attribute, edited, given}
-use Rattle.misp_edit.specs.Adding.{scene_of}
-use Rattle.misp_edit.specs.Changing.{has_live, ruling}
+use Rattle.misp_rules.specs.Edits.{at_attribute, edited, given}
+use Rattle.misp_history.proofs.Prelude.{EditAttribute, Element, Scene}
+use Rattle.misp_copies.specs.Scenes.{scene_of}
+use Rattle.misp_copies.specs.OwnRows.{has_live}
+use Rattle.misp_edit.specs.Changing.{ruling}
 use Rattle.misp_edit.proofs.ChangeLemmas.{ruled_refused, ruled_nothing, ruled_stamp, ruled_key, ruled_full, ruled_one}
 use Rattle.misp_edit.proofs.EditLaws.{edit_rules_are, edit_writes}
 use Rattle.misp_edit.specs.Edits.{is_attribute_key}
@@ -15,7 +14,10 @@ use Rattle.misp_edit.proofs.editing.edit_attribute.Goals as goal
 pub edited_row-requires-clause-stamp : goal.edited_row-requires-clause-stamp
 edited_row-requires-clause-stamp c =
     let s : Scene = scene_of 0 c.args.here.now c.args.org.now [] c.args.now [] c.args.groups.now c.args.rows.now in
-    ruled_stamp s (EditAttribute c.args.event.now c.args.place.now c.args.edit.now) c.args.event.now c.args.place.now (has_live c.args.rows.now c.args.org.now (Element c.args.event.now c.args.place.now)) c.args.edit.now.label c.args.edit.now.stamp (at_attribute (edited c.args.edit.now)) (λ row. given c.args.edit.now.label row.label) (edit_rules_are s c.args.event.now c.args.place.now c.args.edit.now) (edit_writes s c.args.event.now c.args.place.now c.args.edit.now) c.in-Ok-Some.row.now
+    ruled_stamp s (EditAttribute c.args.event.now c.args.place.now c.args.edit.now) c.args.event.now c.args.place.now
+    (has_live c.args.rows.now c.args.org.now (Element c.args.event.now c.args.place.now)) c.args.edit.now.label c.args.edit.now.stamp (at_attribute (edited c.args.edit.now))
+    (λ row. given c.args.edit.now.label row.label) (edit_rules_are s c.args.event.now c.args.place.now c.args.edit.now) (edit_writes s c.args.event.now c.args.place.now c.args.edit.now)
+    c.in-Ok-Some.row.now
     (c.in-Ok-Some.ensures.rule ∙ ap (λ b. ruling c.args.rows.now c.args.groups.now c.args.here.now c.args.org.now c.args.event.now c.args.place.now b c.args.edit.now.label c.args.edit.now.stamp) c.has_live-fits.ensures)
     (sym (ap option_copied c.in-Ok-Some.field-0-is) ∙ c.in-Ok-Some.ensures.own)
 
@@ -23,20 +25,31 @@ pub edited_row-requires-clause-key : goal.edited_row-requires-clause-key
 unfolding is_attribute_key
 edited_row-requires-clause-key c =
     let s : Scene = scene_of 0 c.args.here.now c.args.org.now [] c.args.now [] c.args.groups.now c.args.rows.now in
-    ap is_attribute_key (ruled_key s (EditAttribute c.args.event.now c.args.place.now c.args.edit.now) c.args.event.now c.args.place.now (has_live c.args.rows.now c.args.org.now (Element c.args.event.now c.args.place.now)) c.args.edit.now.label c.args.edit.now.stamp (at_attribute (edited c.args.edit.now)) (λ row. given c.args.edit.now.label row.label) (edit_rules_are s c.args.event.now c.args.place.now c.args.edit.now) (edit_writes s c.args.event.now c.args.place.now c.args.edit.now) c.in-Ok-Some.row.now
+    ap is_attribute_key
+    (ruled_key s (EditAttribute c.args.event.now c.args.place.now c.args.edit.now) c.args.event.now c.args.place.now
+    (has_live c.args.rows.now c.args.org.now (Element c.args.event.now c.args.place.now)) c.args.edit.now.label c.args.edit.now.stamp (at_attribute (edited c.args.edit.now))
+    (λ row. given c.args.edit.now.label row.label) (edit_rules_are s c.args.event.now c.args.place.now c.args.edit.now)
+    (edit_writes s c.args.event.now c.args.place.now c.args.edit.now) c.in-Ok-Some.row.now
     (c.in-Ok-Some.ensures.rule ∙ ap (λ b. ruling c.args.rows.now c.args.groups.now c.args.here.now c.args.org.now c.args.event.now c.args.place.now b c.args.edit.now.label c.args.edit.now.stamp) c.has_live-fits.ensures)
     (sym (ap option_copied c.in-Ok-Some.field-0-is) ∙ c.in-Ok-Some.ensures.own)) ∙ c.requires.place
 
 pub returns-in-Err-clause-err : goal.returns-in-Err-clause-err
 returns-in-Err-clause-err c = λ act name today.
     let s : Scene = scene_of act c.args.here.now c.args.org.now name c.args.now today c.args.groups.now c.args.rows.now in
-    ruled_refused s (EditAttribute c.args.event.now c.args.place.now c.args.edit.now) c.args.event.now c.args.place.now (has_live c.args.rows.now c.args.org.now (Element c.args.event.now c.args.place.now)) c.args.edit.now.label c.args.edit.now.stamp (at_attribute (edited c.args.edit.now)) (λ row. given c.args.edit.now.label row.label) (edit_rules_are s c.args.event.now c.args.place.now c.args.edit.now) (edit_writes s c.args.event.now c.args.place.now c.args.edit.now) c.in-Err.fault
+    ruled_refused s (EditAttribute c.args.event.now c.args.place.now c.args.edit.now) c.args.event.now c.args.place.now
+    (has_live c.args.rows.now c.args.org.now (Element c.args.event.now c.args.place.now)) c.args.edit.now.label c.args.edit.now.stamp (at_attribute (edited c.args.edit.now))
+    (λ row. given c.args.edit.now.label row.label) (edit_rules_are s c.args.event.now c.args.place.now c.args.edit.now) (edit_writes s c.args.event.now c.args.place.now c.args.edit.now)
+    c.in-Err.fault
     (c.in-Err.ensures.rule ∙ ap (λ b. ruling c.args.rows.now c.args.groups.now c.args.here.now c.args.org.now c.args.event.now c.args.place.now b c.args.edit.now.label c.args.edit.now.stamp) c.has_live-fits.ensures)
 
 pub returns-in-Ok-None-clause-ok : goal.returns-in-Ok-None-clause-ok
 returns-in-Ok-None-clause-ok c = λ act name today.
     let s : Scene = scene_of act c.args.here.now c.args.org.now name c.args.now today c.args.groups.now c.args.rows.now in
-    let done = ruled_nothing s (EditAttribute c.args.event.now c.args.place.now c.args.edit.now) c.args.event.now c.args.place.now (has_live c.args.rows.now c.args.org.now (Element c.args.event.now c.args.place.now)) c.args.edit.now.label c.args.edit.now.stamp (at_attribute (edited c.args.edit.now)) (λ row. given c.args.edit.now.label row.label) (edit_rules_are s c.args.event.now c.args.place.now c.args.edit.now) (edit_writes s c.args.event.now c.args.place.now c.args.edit.now)
+    let done =
+    ruled_nothing s (EditAttribute c.args.event.now c.args.place.now c.args.edit.now) c.args.event.now c.args.place.now
+    (has_live c.args.rows.now c.args.org.now (Element c.args.event.now c.args.place.now)) c.args.edit.now.label c.args.edit.now.stamp (at_attribute (edited c.args.edit.now))
+    (λ row. given c.args.edit.now.label row.label) (edit_rules_are s c.args.event.now c.args.place.now c.args.edit.now)
+    (edit_writes s c.args.event.now c.args.place.now c.args.edit.now)
     (c.in-Ok-None.ensures.rule ∙ ap (λ b. ruling c.args.rows.now c.args.groups.now c.args.here.now c.args.org.now c.args.event.now c.args.place.now b c.args.edit.now.label c.args.edit.now.stamp) c.has_live-fits.ensures)
     (sym (ap option_copied c.in-Ok-None.field-0-is) ∙ c.in-Ok-None.ensures.own) in
     (done.0, c.new.ensures.items ∙ done.1)
@@ -45,7 +58,11 @@ pub returns-in-Ok-Some-clause-err : goal.returns-in-Ok-Some-clause-err
 returns-in-Ok-Some-clause-err c = λ act name today.
     let s : Scene = scene_of act c.args.here.now c.args.org.now name c.args.now today c.args.groups.now c.args.rows.now in
     IfErr-weaker _ _ _
-    (λ fault g. ruled_full s (EditAttribute c.args.event.now c.args.place.now c.args.edit.now) c.args.event.now c.args.place.now (has_live c.args.rows.now c.args.org.now (Element c.args.event.now c.args.place.now)) c.args.edit.now.label c.args.edit.now.stamp (at_attribute (edited c.args.edit.now)) (λ row. given c.args.edit.now.label row.label) (edit_rules_are s c.args.event.now c.args.place.now c.args.edit.now) (edit_writes s c.args.event.now c.args.place.now c.args.edit.now) c.in-Ok-Some.row.now
+    (λ fault g.
+    ruled_full s (EditAttribute c.args.event.now c.args.place.now c.args.edit.now) c.args.event.now c.args.place.now
+    (has_live c.args.rows.now c.args.org.now (Element c.args.event.now c.args.place.now)) c.args.edit.now.label c.args.edit.now.stamp (at_attribute (edited c.args.edit.now))
+    (λ row. given c.args.edit.now.label row.label) (edit_rules_are s c.args.event.now c.args.place.now c.args.edit.now)
+    (edit_writes s c.args.event.now c.args.place.now c.args.edit.now) c.in-Ok-Some.row.now
     (c.in-Ok-Some.ensures.rule ∙ ap (λ b. ruling c.args.rows.now c.args.groups.now c.args.here.now c.args.org.now c.args.event.now c.args.place.now b c.args.edit.now.label c.args.edit.now.stamp) c.has_live-fits.ensures)
     (sym (ap option_copied c.in-Ok-Some.field-0-is) ∙ c.in-Ok-Some.ensures.own) fault g)
     c.edited_row.ensures.err
@@ -54,7 +71,11 @@ pub returns-in-Ok-Some-clause-ok : goal.returns-in-Ok-Some-clause-ok
 returns-in-Ok-Some-clause-ok c = λ act name today.
     let s : Scene = scene_of act c.args.here.now c.args.org.now name c.args.now today c.args.groups.now c.args.rows.now in
     IfOk-weaker c.edited_row.result _ _
-    (λ (made : Vec RowOf Global) g. ruled_one s (EditAttribute c.args.event.now c.args.place.now c.args.edit.now) c.args.event.now c.args.place.now (has_live c.args.rows.now c.args.org.now (Element c.args.event.now c.args.place.now)) c.args.edit.now.label c.args.edit.now.stamp (at_attribute (edited c.args.edit.now)) (λ row. given c.args.edit.now.label row.label) (edit_rules_are s c.args.event.now c.args.place.now c.args.edit.now) (edit_writes s c.args.event.now c.args.place.now c.args.edit.now) c.in-Ok-Some.row.now
+    (λ (made : Vec RowOf Global) g.
+    ruled_one s (EditAttribute c.args.event.now c.args.place.now c.args.edit.now) c.args.event.now c.args.place.now
+    (has_live c.args.rows.now c.args.org.now (Element c.args.event.now c.args.place.now)) c.args.edit.now.label c.args.edit.now.stamp (at_attribute (edited c.args.edit.now))
+    (λ row. given c.args.edit.now.label row.label) (edit_rules_are s c.args.event.now c.args.place.now c.args.edit.now)
+    (edit_writes s c.args.event.now c.args.place.now c.args.edit.now) c.in-Ok-Some.row.now
     (c.in-Ok-Some.ensures.rule ∙ ap (λ b. ruling c.args.rows.now c.args.groups.now c.args.here.now c.args.org.now c.args.event.now c.args.place.now b c.args.edit.now.label c.args.edit.now.stamp) c.has_live-fits.ensures)
     (sym (ap option_copied c.in-Ok-Some.field-0-is) ∙ c.in-Ok-Some.ensures.own) made.items g.0 g.1)
     c.edited_row.ensures.ok

@@ -1,10 +1,10 @@
 use Rattle.std.proofs.Common.{ap, sym, ◌∙◌, subst}
-use Rattle.misp_elem.specs.Row.{IsStamp, IsRow}
-use Rattle.misp_model.specs.Asking.{is_too_long}
+use Rattle.misp_rules.proofs.Prelude.{IsRow, IsStamp, is_too_long}
 use Rattle.misp_edit.proofs.EditedRows.{edited_by_key}
 use Rattle.misp_edit.proofs.editing.edited_row.Goals as goal
 
 pub finished-requires-clause-is_row : goal.finished-requires-clause-is_row
 finished-requires-clause-is_row c = λ short.
     rw (c.label_after.ensures, c.label_of.ensures, c.in-Ok.ensures)
-    (edited_by_key c.args.now c.args.row.now c.args.edit.now c.requires.key (subst IsStamp c.get-now.ensures.value c.get-now.ensures.in_range) (subst IsRow c.row.view_is c.row.invariant) c.requires.stamp c.requires.edit (ap is_too_long (sym c.in-Ok.ensures) ∙ short))
+    (edited_by_key c.args.now c.args.row.now c.args.edit.now c.requires.key (subst IsStamp c.get-now.ensures.value c.get-now.ensures.in_range) (subst IsRow c.row.view_is c.row.invariant)
+    c.requires.stamp c.requires.edit (ap is_too_long (sym c.in-Ok.ensures) ∙ short))

@@ -1,5 +1,4 @@
-use Rattle.std.proofs.Common.{◌≡◌, map, drop}
-use Rattle.std.specs.List.{find}
+use Rattle.std.proofs.Common.{◌≡◌, map, drop, find}
 use Rattle.misp_edit.specs.Labels.{is_unusable}
 use Rattle.misp_edit.proofs.labels.first_of_parts.Given as goal
 

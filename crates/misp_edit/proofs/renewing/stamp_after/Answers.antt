@@ -1,8 +1,7 @@
 use Rattle.std.proofs.Common.{ap, sym, ◌∙◌}
-use Rattle.std.proofs.lemmas.Bool.{false≢true}
 use Rattle.misp_ids.specs.Stamp.{next_stamp as next_of}
-use Rattle.misp_elem.specs.declared.row.RowFields.{RowFields as Row}
-use Rattle.misp_publish.proofs.ReleaseLemmas.{next_none}
+use Rattle.misp_rules.proofs.Prelude.{Row, false≢true}
+use Rattle.misp_copies.proofs.Stamps.{next_none}
 use Rattle.misp_edit.proofs.renewing.stamp_after.Goals as goal
 
 pub unreachable-requires : goal.unreachable-requires

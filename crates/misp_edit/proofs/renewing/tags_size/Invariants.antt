@@ -1,5 +1,4 @@
-use Rattle.std.proofs.Common.{◌≡◌, ◌-◌, ◌^◌, length, min, take}
-use Rattle.std.specs.Prelude.{sum_by}
+use Rattle.std.proofs.Common.{◌≡◌, ◌-◌, ◌^◌, length, min, take, sum_by}
 use Rattle.misp_elem.specs.declared.content.Tag.{Tag}
 use Rattle.misp_edit.proofs.renewing.tags_size.Given as goal
 

@@ -1,8 +1,9 @@
 use Rattle.std.proofs.Common.{rules}
 use Rattle.std.proofs.lemmas.Iterator.Adapters.{YieldsList-from_vec}
 use Rattle.std.proofs.lemmas.Iterator.Consumers.{YieldsList-end}
+use Rattle.misp_elem.proofs.RowLists.{are_rows_push}
 use Rattle.misp_edit.specs.Rows.{part_row}
-use Rattle.misp_edit.proofs.ListLemmas.{are_rows_push, map_push, map_all}
+use Rattle.misp_edit.proofs.ListLemmas.{map_push, map_all}
 use Rattle.misp_edit.proofs.rows.with_parts.Goals as goal
 
 pub loop-draft-preserved : goal.loop-draft-preserved

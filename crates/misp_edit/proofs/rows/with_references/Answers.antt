@@ -1,10 +1,8 @@
-use Rattle.std.proofs.Common.{◌∙◌, sym}
-use Rattle.std.specs.Prelude.{Option}
-use Rattle.misp_elem.specs.declared.row.RowFields.{RowFields as Row}
-use Rattle.misp_elem.specs.Draft.{ReferenceDraftFields as ReferenceDraft}
+use Rattle.std.proofs.Common.{◌∙◌, sym, Option}
+use Rattle.misp_rules.proofs.Prelude.{ReferenceDraft, Row, are_rows_push}
 use Rattle.misp_edit.specs.Targets.{target_in}
 use Rattle.misp_edit.specs.Rows.{row_with_target}
-use Rattle.misp_edit.proofs.ListLemmas.{are_rows_push, filter_map_push_some, filter_map_push_none}
+use Rattle.misp_edit.proofs.ListLemmas.{filter_map_push_some, filter_map_push_none}
 use Rattle.misp_edit.proofs.rows.with_references.Goals as goal
 
 pub loop-draft-preserved-in-Continue-1 : goal.loop-draft-preserved-in-Continue-1

@@ -1,5 +1,4 @@
-use Rattle.std.proofs.Common.{◌≡◌, ◌++◌}
-use Rattle.std.specs.List.{filter_map}
+use Rattle.std.proofs.Common.{◌≡◌, ◌++◌, filter_map}
 use Rattle.misp_elem.specs.Row.{AreRows}
 use Rattle.misp_edit.specs.Targets.{target_in}
 use Rattle.misp_edit.specs.Rows.{row_with_target}

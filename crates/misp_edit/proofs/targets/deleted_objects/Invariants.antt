@@ -1,8 +1,5 @@
-use Rattle.std.proofs.Common.{◌≡◌, take}
-use Rattle.std.specs.List.{list_any}
-use Rattle.std.specs.Ordering.{nat_cmp}
-use Rattle.std.specs.BTreeSet.{contains}
-use Rattle.misp_ids.specs.declared.uid.ElemId.{ElemId}
+use Rattle.std.proofs.Common.{◌≡◌, take, nat_cmp}
+use Rattle.misp_rules.specs.Prelude.{ElemId, contains, list_any}
 use Rattle.misp_edit.specs.Targets.{is_deleted_object}
 use Rattle.misp_edit.proofs.targets.deleted_objects.Given as goal
 

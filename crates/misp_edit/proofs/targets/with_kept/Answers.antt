@@ -1,10 +1,5 @@
-use Rattle.std.proofs.Common.{◌∙◌, ◌+◌, ◌++◌, List, take, sym, subst}
-use Rattle.std.specs.List.{filter_map}
-use Rattle.std.specs.Ordering.{nat_cmp}
-use Rattle.std.specs.BTreeSet.{contains}
-use Rattle.misp_elem.specs.declared.row.RowFields.{RowFields as Row}
-use Rattle.misp_elem.specs.declared.key.Place.{Place}
-use Rattle.std.specs.Prelude.{Option}
+use Rattle.std.proofs.Common.{◌∙◌, ◌+◌, ◌++◌, List, take, sym, subst, filter_map, nat_cmp, Option}
+use Rattle.misp_rules.specs.Prelude.{Place, Row, contains}
 use Rattle.misp_edit.specs.Targets.{AreTargets, kept_place}
 use Rattle.misp_edit.proofs.ListLemmas.{filter_map_some, filter_map_none}
 use Rattle.misp_edit.proofs.TargetLemmas.{targets_push}

@@ -1,8 +1,5 @@
-use Rattle.std.proofs.Common.{List, ◌++◌, take}
-use Rattle.std.specs.List.{filter_map}
-use Rattle.std.specs.Ordering.{nat_cmp}
-use Rattle.std.specs.BTreeSet.{contains}
-use Rattle.misp_elem.specs.declared.key.Place.{Place}
+use Rattle.std.proofs.Common.{List, ◌++◌, take, filter_map, nat_cmp}
+use Rattle.misp_rules.specs.Prelude.{Place, contains}
 use Rattle.misp_edit.specs.Targets.{AreTargets, kept_place}
 use Rattle.misp_edit.proofs.targets.with_kept.Given as goal
 

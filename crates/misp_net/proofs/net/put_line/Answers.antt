@@ -1,9 +1,7 @@
 use Rattle.std.proofs.Common.{◌≡◌, [], ◌∷◌, ◌++◌, sym, ◌∙◌, subst}
 use Rattle.std.proofs.lemmas.List.{length-map}
-use Rattle.misp_script.specs.Step.{step_of}
-use Rattle.misp_effects.proofs.Stocks.{all_kept}
-use Rattle.misp_core.specs.Standing.{host_of}
-use Rattle.misp_net.specs.Lines.{IsAmong}
+use Rattle.misp_effects.proofs.KeeperStates.{all_kept}
+use Rattle.misp_net.specs.Prelude.{IsAmong, host_of, step_of}
 use Rattle.misp_net.proofs.Courses.{line_put}
 use Rattle.misp_net.proofs.Openings.{if_err}
 use Rattle.misp_net.proofs.net.put_line.Goals as goal

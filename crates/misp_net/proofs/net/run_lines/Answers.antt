@@ -1,7 +1,5 @@
-use Rattle.std.proofs.Common.{[], ◌∷◌, ◌++◌, ◌+◌, map, refl, sym, ◌∙◌, ap, arith, append_assoc, length-append}
-use Rattle.misp_script.specs.Step.{step_of}
-use Rattle.misp_net.specs.Hosts.{hosts_of, stocks_of}
-use Rattle.misp_net.specs.Lines.{Act, acts_of}
+use Rattle.std.proofs.Common.{[], ◌∷◌, ◌++◌, map, refl, sym, ◌∙◌, ap, arith, append_assoc, length-append}
+use Rattle.misp_net.specs.Prelude.{Act, acts_of, hosts_of, states_of, step_of}
 use Rattle.misp_net.proofs.Courses.{no_acts, one_more, some_ran}
 use Rattle.misp_net.proofs.Openings.{if_err}
 use Rattle.misp_net.proofs.Steps.{hosts_long}
@@ -9,7 +7,7 @@ use Rattle.misp_net.proofs.net.run_lines.Goals as goal
 
 pub loop-rest-init : goal.loop-rest-init
 loop-rest-init g c = record {
-  run = ([], refl, refl, rw c.new-lines.ensures.items (no_acts (hosts_of c.args.instances.now.items) (stocks_of c.args.instances.now.items)));
+  run = ([], refl, refl, rw c.new-lines.ensures.items (no_acts (hosts_of c.args.instances.now.items) (states_of c.args.instances.now.items)));
   hosts = refl;
   places = refl;
   number = omega arith;

@@ -1,35 +1,31 @@
 use Rattle.std.proofs.Common.{◌≡◌, ℕ, List, ◌++◌, length, map, take, drop, vec_len, sym, ◌∙◌, ap, subst, arith, length-append}
 use Rattle.std.proofs.lemmas.List.{length-map}
-use Rattle.misp_outside.specs.Stock.{Stock}
-use Rattle.misp_effects.specs.Stocks.{AreKept}
-use Rattle.misp_script.specs.declared.description.Description.{Description}
 use Rattle.misp_script.specs.Directory.{roster_of}
-use Rattle.misp_core.specs.Standing.{Standing}
-use Rattle.misp_effects.proofs.Stocks.{all_kept, kept_told, kept_take}
-use Rattle.misp_net.specs.Hosts.{stock_of, described_host, described_hosts, hosts_of, stocks_of}
+use Rattle.misp_effects.proofs.KeeperStates.{all_kept, kept_told, kept_take}
+use Rattle.misp_net.specs.Prelude.{AreKept, Description, KeeperState, Standing, described_host, described_hosts, hosts_of, state_of, states_of}
 use Rattle.misp_net.proofs.Openings.{if_err}
 use Rattle.misp_net.proofs.Courses.{none_ran}
 use Rattle.misp_net.proofs.Privacy.{is_private, are_replied, are_newest}
 use Rattle.misp_net.proofs.Fronts.{AreInFront, opened_long, run_in_front, cut_in_front, others_kept}
 use Rattle.misp_net.proofs.net.run_net.Goals as goal
 
--- the instances stand in front of the other keepers, before and after
-in_front : (net : Description) (opened ran : List Standing) (rest olds news : List Stock) (count : ℕ) → count ≡ length net.instances → hosts_of opened ≡ described_hosts net
-    → AreKept (take count olds) (stocks_of opened) → rest ≡ drop count olds → length ran ≡ length opened → news ≡ stocks_of ran ++ rest
-    → AreInFront (hosts_of opened) (described_hosts net) (stocks_of opened) (stocks_of ran) rest olds news (length net.instances)
+-- the instances are before the other keepers, before and after
+in_front : (net : Description) (opened ran : List Standing) (rest olds news : List KeeperState) (count : ℕ) → count ≡ length net.instances → hosts_of opened ≡ described_hosts net
+    → AreKept (take count olds) (states_of opened) → rest ≡ drop count olds → length ran ≡ length opened → news ≡ states_of ran ++ rest
+    → AreInFront (hosts_of opened) (described_hosts net) (states_of opened) (states_of ran) rest olds news (length net.instances)
 in_front net opened ran rest olds news count long hosts kept left many is = record {
   same = hosts;
   long = opened_long opened net.instances hosts;
-  kept = subst (λ n. AreKept (take n olds) (stocks_of opened)) long kept;
+  kept = subst (λ n. AreKept (take n olds) (states_of opened)) long kept;
   left = subst (λ n. rest ≡ drop n olds) long left;
-  still = length-map ran stock_of ∙ many ∙ sym (length-map opened stock_of);
+  still = length-map ran state_of ∙ many ∙ sym (length-map opened state_of);
   is = is;
 }
 
 pub returns-clause-private : goal.returns-clause-private
 returns-clause-private g c =
-    let front = in_front c.args.net c.in_ok-instances.instances.items c.run_lines-lines.new.instances.items (map g.K.Keeper.stock c.open_all.new.keepers.items)
-    (map g.K.Keeper.stock c.args.keepers.now.items) (map g.K.Keeper.stock c.close_all.new.keepers.items) (vec_len c.into_vec.result)
+    let front = in_front c.args.net c.in_ok-instances.instances.items c.run_lines-lines.new.instances.items (map g.K.Keeper.state c.open_all.new.keepers.items)
+    (map g.K.Keeper.state c.args.keepers.now.items) (map g.K.Keeper.state c.close_all.new.keepers.items) (vec_len c.into_vec.result)
     (c.into_vec.result.ok.0 ∙ ap length c.into_vec.ensures) (c.in_ok-instances.ensures.hosts ∙ ap (map described_host) c.into_vec.ensures)
     c.in_ok-instances.ensures.opened c.in_ok-instances.ensures.rest
     (omega (arith, c.run_lines-lines.ensures.places, c.run_lines-lines.new.instances.ok.0, c.in_ok-instances.instances.ok.0)) c.close_all.ensures in
@@ -37,8 +33,8 @@ returns-clause-private g c =
 
 pub returns-clause-replied : goal.returns-clause-replied
 returns-clause-replied g c =
-    let front = in_front c.args.net c.in_ok-instances.instances.items c.run_lines-lines.new.instances.items (map g.K.Keeper.stock c.open_all.new.keepers.items)
-    (map g.K.Keeper.stock c.args.keepers.now.items) (map g.K.Keeper.stock c.close_all.new.keepers.items) (vec_len c.into_vec.result)
+    let front = in_front c.args.net c.in_ok-instances.instances.items c.run_lines-lines.new.instances.items (map g.K.Keeper.state c.open_all.new.keepers.items)
+    (map g.K.Keeper.state c.args.keepers.now.items) (map g.K.Keeper.state c.close_all.new.keepers.items) (vec_len c.into_vec.result)
     (c.into_vec.result.ok.0 ∙ ap length c.into_vec.ensures) (c.in_ok-instances.ensures.hosts ∙ ap (map described_host) c.into_vec.ensures)
     c.in_ok-instances.ensures.opened c.in_ok-instances.ensures.rest
     (omega (arith, c.run_lines-lines.ensures.places, c.run_lines-lines.new.instances.ok.0, c.in_ok-instances.instances.ok.0)) c.close_all.ensures in
@@ -46,8 +42,8 @@ returns-clause-replied g c =
 
 pub returns-clause-newest : goal.returns-clause-newest
 returns-clause-newest g c =
-    let front = in_front c.args.net c.in_ok-instances.instances.items c.run_lines-lines.new.instances.items (map g.K.Keeper.stock c.open_all.new.keepers.items)
-    (map g.K.Keeper.stock c.args.keepers.now.items) (map g.K.Keeper.stock c.close_all.new.keepers.items) (vec_len c.into_vec.result)
+    let front = in_front c.args.net c.in_ok-instances.instances.items c.run_lines-lines.new.instances.items (map g.K.Keeper.state c.open_all.new.keepers.items)
+    (map g.K.Keeper.state c.args.keepers.now.items) (map g.K.Keeper.state c.close_all.new.keepers.items) (vec_len c.into_vec.result)
     (c.into_vec.result.ok.0 ∙ ap length c.into_vec.ensures) (c.in_ok-instances.ensures.hosts ∙ ap (map described_host) c.into_vec.ensures)
     c.in_ok-instances.ensures.opened c.in_ok-instances.ensures.rest
     (omega (arith, c.run_lines-lines.ensures.places, c.run_lines-lines.new.instances.ok.0, c.in_ok-instances.instances.ok.0)) c.close_all.ensures in
@@ -55,8 +51,8 @@ returns-clause-newest g c =
 
 pub returns-clause-others : goal.returns-clause-others
 returns-clause-others g c =
-    let front = in_front c.args.net c.in_ok-instances.instances.items c.run_lines-lines.new.instances.items (map g.K.Keeper.stock c.open_all.new.keepers.items)
-    (map g.K.Keeper.stock c.args.keepers.now.items) (map g.K.Keeper.stock c.close_all.new.keepers.items) (vec_len c.into_vec.result)
+    let front = in_front c.args.net c.in_ok-instances.instances.items c.run_lines-lines.new.instances.items (map g.K.Keeper.state c.open_all.new.keepers.items)
+    (map g.K.Keeper.state c.args.keepers.now.items) (map g.K.Keeper.state c.close_all.new.keepers.items) (vec_len c.into_vec.result)
     (c.into_vec.result.ok.0 ∙ ap length c.into_vec.ensures) (c.in_ok-instances.ensures.hosts ∙ ap (map described_host) c.into_vec.ensures)
     c.in_ok-instances.ensures.opened c.in_ok-instances.ensures.rest
     (omega (arith, c.run_lines-lines.ensures.places, c.run_lines-lines.new.instances.ok.0, c.in_ok-instances.instances.ok.0)) c.close_all.ensures in
@@ -64,8 +60,8 @@ returns-clause-others g c =
 
 pub returns-in_err-lines-clause-others : goal.returns-in_err-lines-clause-others
 returns-in_err-lines-clause-others g c =
-    let front = in_front c.args.net c.in_ok-instances.instances.items c.run_lines-lines.new.instances.items (map g.K.Keeper.stock c.open_all.new.keepers.items)
-    (map g.K.Keeper.stock c.args.keepers.now.items) (map g.K.Keeper.stock c.close_all.new.keepers.items) (vec_len c.into_vec.result)
+    let front = in_front c.args.net c.in_ok-instances.instances.items c.run_lines-lines.new.instances.items (map g.K.Keeper.state c.open_all.new.keepers.items)
+    (map g.K.Keeper.state c.args.keepers.now.items) (map g.K.Keeper.state c.close_all.new.keepers.items) (vec_len c.into_vec.result)
     (c.into_vec.result.ok.0 ∙ ap length c.into_vec.ensures) (c.in_ok-instances.ensures.hosts ∙ ap (map described_host) c.into_vec.ensures)
     c.in_ok-instances.ensures.opened c.in_ok-instances.ensures.rest
     (omega (arith, c.run_lines-lines.ensures.places, c.run_lines-lines.new.instances.ok.0, c.in_ok-instances.instances.ok.0)) c.close_all.ensures in
@@ -73,8 +69,8 @@ returns-in_err-lines-clause-others g c =
 
 pub returns-in_err-lines-clause-cut : goal.returns-in_err-lines-clause-cut
 returns-in_err-lines-clause-cut g c =
-    let front = in_front c.args.net c.in_ok-instances.instances.items c.run_lines-lines.new.instances.items (map g.K.Keeper.stock c.open_all.new.keepers.items)
-    (map g.K.Keeper.stock c.args.keepers.now.items) (map g.K.Keeper.stock c.close_all.new.keepers.items) (vec_len c.into_vec.result)
+    let front = in_front c.args.net c.in_ok-instances.instances.items c.run_lines-lines.new.instances.items (map g.K.Keeper.state c.open_all.new.keepers.items)
+    (map g.K.Keeper.state c.args.keepers.now.items) (map g.K.Keeper.state c.close_all.new.keepers.items) (vec_len c.into_vec.result)
     (c.into_vec.result.ok.0 ∙ ap length c.into_vec.ensures) (c.in_ok-instances.ensures.hosts ∙ ap (map described_host) c.into_vec.ensures)
     c.in_ok-instances.ensures.opened c.in_ok-instances.ensures.rest
     (omega (arith, c.run_lines-lines.ensures.places, c.run_lines-lines.new.instances.ok.0, c.in_ok-instances.instances.ok.0)) c.close_all.ensures in
@@ -87,7 +83,7 @@ run_lines-lines-requires g c =
     let entries = c.args.net.instances in
     let opened = c.in_ok-instances.instances.items in
     let hosts : hosts_of opened ≡ described_hosts c.args.net = c.in_ok-instances.ensures.hosts ∙ ap (map described_host) c.into_vec.ensures in
-    omega (arith, ap length c.in_ok-directory.ensures, length-map entries roster_of, opened_long opened entries hosts, length-map opened stock_of, c.in_ok-instances.instances.ok.0)
+    omega (arith, ap length c.in_ok-directory.ensures, length-map entries roster_of, opened_long opened entries hosts, length-map opened state_of, c.in_ok-instances.instances.ok.0)
 
 pub close_all-requires : goal.close_all-requires
 close_all-requires g c = omega (arith, c.in_ok-instances.ensures.fewer, c.in_ok-instances.ensures.room, c.run_lines-lines.ensures.places)
@@ -99,10 +95,10 @@ returns-clause-places g c =
     omega (
       arith,
       same,
-      length-append (stocks_of ran) (map g.K.Keeper.stock c.open_all.new.keepers.items),
-      length-map ran stock_of,
-      length-map c.open_all.new.keepers.items g.K.Keeper.stock,
-      length-map c.close_all.new.keepers.items g.K.Keeper.stock,
+      length-append (states_of ran) (map g.K.Keeper.state c.open_all.new.keepers.items),
+      length-map ran state_of,
+      length-map c.open_all.new.keepers.items g.K.Keeper.state,
+      length-map c.close_all.new.keepers.items g.K.Keeper.state,
       c.run_lines-lines.new.instances.ok.0,
       c.open_all.new.keepers.ok.0,
       c.close_all.new.keepers.ok.0,
@@ -117,10 +113,10 @@ returns-in_err-lines-clause-places g c =
     omega (
       arith,
       same,
-      length-append (stocks_of ran) (map g.K.Keeper.stock c.open_all.new.keepers.items),
-      length-map ran stock_of,
-      length-map c.open_all.new.keepers.items g.K.Keeper.stock,
-      length-map c.close_all.new.keepers.items g.K.Keeper.stock,
+      length-append (states_of ran) (map g.K.Keeper.state c.open_all.new.keepers.items),
+      length-map ran state_of,
+      length-map c.open_all.new.keepers.items g.K.Keeper.state,
+      length-map c.close_all.new.keepers.items g.K.Keeper.state,
       c.run_lines-lines.new.instances.ok.0,
       c.open_all.new.keepers.ok.0,
       c.close_all.new.keepers.ok.0,

@@ -1,11 +1,10 @@
-use Rattle.std.proofs.Common.{rules, ◌≡◌, ◌+◌, [], ◌∷◌, ◌++◌, map, drop, vec_len, length, Err, sym, ◌∙◌, ap, arith, length-append}
-use Rattle.std.proofs.lemmas.List.{length-map, length_push, map_push, drop-drop}
+use Rattle.std.proofs.Common.{rules, ◌≡◌, ◌+◌, [], ◌∷◌, ◌++◌, map, drop, vec_len, length, Err, sym, ◌∙◌, ap, arith, length-append, drop-drop}
+use Rattle.std.proofs.lemmas.List.{length-map, length_push, map_push}
 use Rattle.std.proofs.lemmas.Iterator.Adapters.{YieldsList-from_vec}
 use Rattle.std.proofs.lemmas.Iterator.Consumers.{YieldsList-turn, YieldsList-end}
-use Rattle.misp_net.specs.declared.places.NetFault.TheVariants as faults
-use Rattle.misp_effects.proofs.Stocks.{AreBack, all_kept, next_kept, back_kept, back_others, back_failed, back_told}
-use Rattle.misp_core.specs.Standing.{host_of}
-use Rattle.misp_net.specs.Hosts.{described_host, hosts_of, stock_of, stocks_of}
+use Rattle.misp_effects.proofs.KeeperStates.{AreBack, all_kept, next_kept, back_kept, back_others, back_failed, back_told}
+use Rattle.misp_net.specs.declared.places.NetFault.{NetFault}
+use Rattle.misp_net.specs.Prelude.{described_host, host_of, hosts_of, state_of, states_of}
 use Rattle.misp_net.proofs.Openings.{sound_kept, sound_more, if_err}
 use Rattle.misp_net.proofs.places.open_all.Given.{Over}
 use Rattle.misp_net.proofs.places.open_all.Goals as goal
@@ -18,10 +17,10 @@ pub loop-entry-preserved : goal.loop-entry-preserved
 loop-entry-preserved g c =
     let before = c.loop-entry.instances.items in
     let one = c.in-Ok.instance in
-    let olds = map g.K.Keeper.stock c.args.keepers.now.items in
+    let olds = map g.K.Keeper.state c.args.keepers.now.items in
     let items : c.push.new.self.items ≡ before ++ one ∷ [] = rw c.unwrap.ensures at c.push.ensures.items in
     let more : length (c.loop-entry.yielded ++ c.in-Some.entry ∷ []) ≡ length c.loop-entry.yielded + 1 = length_push c.loop-entry.yielded c.in-Some.entry in
-    let split : stocks_of c.push.new.self.items ≡ stocks_of before ++ stock_of one ∷ [] = ap stocks_of items ∙ map_push stock_of before one in
+    let split : states_of c.push.new.self.items ≡ states_of before ++ state_of one ∷ [] = ap states_of items ∙ map_push state_of before one in
     record {
       hosts =
           ap hosts_of items
@@ -30,13 +29,13 @@ loop-entry-preserved g c =
           ∙ sym (map_push described_host c.loop-entry.yielded c.in-Some.entry);
       opened =
           rw (split, more)
-          (next_kept (length c.loop-entry.yielded) olds (stocks_of before) _ (stock_of one) c.loop-entry.invariant.rest c.loop-entry.invariant.opened c.in-Ok.ensures.opened);
+          (next_kept (length c.loop-entry.yielded) olds (states_of before) _ (state_of one) c.loop-entry.invariant.rest c.loop-entry.invariant.opened c.in-Ok.ensures.opened);
       rest =
           c.in-Ok.ensures.rest
           ∙ ap (drop 1) c.loop-entry.invariant.rest
           ∙ drop-drop 1 (length c.loop-entry.yielded) olds
           ∙ ap (λ n. drop n olds) (sym more);
-      sound = rw split (sound_more (stocks_of before) (stock_of one) c.loop-entry.invariant.sound c.in-Ok.ensures.sound);
+      sound = rw split (sound_more (states_of before) (state_of one) c.loop-entry.invariant.sound c.in-Ok.ensures.sound);
       count = search rules;
       room = search rules;
       others = search rules;
@@ -49,13 +48,13 @@ close_all-requires g c = omega (arith, c.open_first.ensures.room, c.in-Err.ensur
 -- ---- the next is not, and all are back
 
 are_back : (g : Over) (c : goal.After-drop-entry-iterator g)
-    → AreBack (map g.K.Keeper.stock c.args.keepers.now.items) (map g.K.Keeper.stock c.loop-entry.keepers.items) (stocks_of c.loop-entry.instances.items)
-    (map g.K.Keeper.stock c.open_first.new.keepers.items) (map g.K.Keeper.stock c.close_all.new.keepers.items) (length c.loop-entry.yielded) (vec_len c.args.entries)
+    → AreBack (map g.K.Keeper.state c.args.keepers.now.items) (map g.K.Keeper.state c.loop-entry.keepers.items) (states_of c.loop-entry.instances.items)
+    (map g.K.Keeper.state c.open_first.new.keepers.items) (map g.K.Keeper.state c.close_all.new.keepers.items) (length c.loop-entry.yielded) (vec_len c.args.entries)
 are_back g c =
     let road = YieldsList-from_vec {s = c.into_iter-entry-iterator.result} c.args.entries.items (search rules) (search rules) in
     let turn = YieldsList-turn road c.loop-entry.yielded c.loop-entry.entry-iterator c.loop-entry.yielded_by c.next.result c.next.new.self c.in-Some.entry c.in-Some.is c.next.ensures.steps in
     record {
-      long = omega (arith, length-map c.loop-entry.instances.items stock_of, c.loop-entry.invariant.count, c.loop-entry.instances.ok.0);
+      long = omega (arith, length-map c.loop-entry.instances.items state_of, c.loop-entry.invariant.count, c.loop-entry.instances.ok.0);
       before = omega (arith, turn.0, c.args.entries.ok.0);
       left = c.loop-entry.invariant.rest;
       is = c.close_all.ensures;
@@ -69,11 +68,11 @@ returns-in-Err-clause-others g c = back_others (are_back g c) c.in-Err.ensures.o
 
 pub returns-in-Err-clause-keeper : goal.returns-in-Err-clause-keeper
 returns-in-Err-clause-keeper g c = λ is.
-    back_failed (are_back g c) (c.open_first.ensures.keeper (let same : c.in-Err.fault ≡ faults.KeeperFault = cc in c.in-Err.is ∙ ap Err same))
+    back_failed (are_back g c) (c.open_first.ensures.keeper (let same : c.in-Err.fault ≡ NetFault.KeeperFault = cc in c.in-Err.is ∙ ap Err same))
 
 pub returns-in-Err-clause-bad_row : goal.returns-in-Err-clause-bad_row
 returns-in-Err-clause-bad_row g c = λ is.
-    back_told (are_back g c) _ (c.open_first.ensures.bad_row (let same : c.in-Err.fault ≡ faults.BadRow = cc in c.in-Err.is ∙ ap Err same))
+    back_told (are_back g c) _ (c.open_first.ensures.bad_row (let same : c.in-Err.fault ≡ NetFault.BadRow = cc in c.in-Err.is ∙ ap Err same))
 
 pub returns-in-Err-clause-places : goal.returns-in-Err-clause-places
 returns-in-Err-clause-places g c =
@@ -81,10 +80,10 @@ returns-in-Err-clause-places g c =
     omega (
       arith,
       same,
-      length-append (stocks_of c.loop-entry.instances.items) (map g.K.Keeper.stock c.open_first.new.keepers.items),
-      length-map c.loop-entry.instances.items stock_of,
-      length-map c.open_first.new.keepers.items g.K.Keeper.stock,
-      length-map c.close_all.new.keepers.items g.K.Keeper.stock,
+      length-append (states_of c.loop-entry.instances.items) (map g.K.Keeper.state c.open_first.new.keepers.items),
+      length-map c.loop-entry.instances.items state_of,
+      length-map c.open_first.new.keepers.items g.K.Keeper.state,
+      length-map c.close_all.new.keepers.items g.K.Keeper.state,
       c.loop-entry.instances.ok.0,
       c.open_first.new.keepers.ok.0,
       c.close_all.new.keepers.ok.0,

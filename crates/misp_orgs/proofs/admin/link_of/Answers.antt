@@ -1,23 +1,21 @@
-use Rattle.std.proofs.Common.{rules, sym, ◌∙◌, ap, Some}
-use Rattle.std.specs.Cmp.Lexicographic.{slice_cmp}
-use Rattle.std.specs.Ordering.{nat_cmp}
-use Rattle.std.specs.Str.{bytes_eq}
-use Rattle.std.proofs.lemmas.Cmp.{nat_list_cmp_total}
-use Rattle.std.proofs.lemmas.Fn.{always_returns_same}
-use Rattle.std.proofs.lemmas.Map.Text.{is_eq-slice_cmp}
-use Rattle.misp_orgs.proofs.Searching.{searched}
+use Rattle.std.proofs.Common.{rules, sym, ◌∙◌, ap, Some, nat_cmp, bytes_eq}
+use Rattle.misp_lists.proofs.Prelude.{always_returns_same, is_eq-slice_cmp, nat_list_cmp_total, searched, slice_cmp}
 use Rattle.misp_orgs.proofs.admin.link_of.Goals as goal
 
 pub returns-in-Ok : goal.returns-in-Ok
 returns-in-Ok c =
     let sought = c.args.name.now in
     let by_order = c.binary_search_by.ensures.position (λ y. (slice_cmp nat_cmp) (y.name) sought) (always_returns_same _ _ _ (λ a r t called. search rules)) in
-    let is = searched (λ y. y.name) (slice_cmp nat_cmp) nat_list_cmp_total sought (λ y. bytes_eq y.name sought) (λ y. is_eq-slice_cmp y.name sought) c.args.links.now c.binary_search_by.result c.requires c.binary_search_by.ensures.bound by_order in
+    let is =
+    searched (λ y. y.name) (slice_cmp nat_cmp) nat_list_cmp_total sought (λ y. bytes_eq y.name sought) (λ y. is_eq-slice_cmp y.name sought) c.args.links.now c.binary_search_by.result
+    c.requires c.binary_search_by.ensures.bound by_order in
     ap Some c.index-links-place.is ∙ sym ((rw c.in-Ok.is at is) c.index-links-place.result)
 
 pub returns-in-Err : goal.returns-in-Err
 returns-in-Err c =
     let sought = c.args.name.now in
     let by_order = c.binary_search_by.ensures.position (λ y. (slice_cmp nat_cmp) (y.name) sought) (always_returns_same _ _ _ (λ a r t called. search rules)) in
-    let is = searched (λ y. y.name) (slice_cmp nat_cmp) nat_list_cmp_total sought (λ y. bytes_eq y.name sought) (λ y. is_eq-slice_cmp y.name sought) c.args.links.now c.binary_search_by.result c.requires c.binary_search_by.ensures.bound by_order in
+    let is =
+    searched (λ y. y.name) (slice_cmp nat_cmp) nat_list_cmp_total sought (λ y. bytes_eq y.name sought) (λ y. is_eq-slice_cmp y.name sought) c.args.links.now c.binary_search_by.result
+    c.requires c.binary_search_by.ensures.bound by_order in
     sym (rw c.in-Err.is at is)

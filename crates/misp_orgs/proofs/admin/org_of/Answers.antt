@@ -1,8 +1,5 @@
-use Rattle.std.proofs.Common.{rules, sym, ◌∙◌, ap, Some, ◌==◌}
-use Rattle.std.specs.Ordering.{nat_cmp}
-use Rattle.std.proofs.lemmas.Cmp.{nat_cmp_total}
-use Rattle.std.proofs.lemmas.Fn.{always_returns_same}
-use Rattle.misp_orgs.proofs.Searching.{numbers_equal, searched}
+use Rattle.std.proofs.Common.{rules, sym, ◌∙◌, ap, Some, ◌==◌, nat_cmp}
+use Rattle.misp_lists.proofs.Prelude.{always_returns_same, nat_cmp_total, numbers_equal, searched}
 use Rattle.misp_orgs.proofs.admin.org_of.Goals as goal
 
 pub returns-in-Ok : goal.returns-in-Ok

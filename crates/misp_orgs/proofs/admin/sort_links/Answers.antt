@@ -1,11 +1,7 @@
-use Rattle.std.proofs.Common.{rules}
-use Rattle.std.specs.Ordering.{is_lt}
-use Rattle.std.specs.Cmp.{IsTotalOrder}
-use Rattle.std.proofs.lemmas.Cmp.{on_total, nat_list_cmp_total}
-use Rattle.std.proofs.lemmas.Fn.{always_returns_same}
-use Rattle.std.proofs.lemmas.Result.{on_ok_weaker}
+use Rattle.std.proofs.Common.{rules, is_lt}
+use Rattle.misp_lists.proofs.Prelude.{IsTotalOrder, always_returns_same, nat_list_cmp_total, on_ok_weaker, on_total}
+use Rattle.misp_lists.proofs.Sorting.{weak, sorted_in_order}
 use Rattle.misp_orgs.specs.Admin.{by_name}
-use Rattle.misp_orgs.proofs.Sorting.{weak, sorted_in_order}
 use Rattle.misp_orgs.proofs.admin.sort_links.Goals as goal
 
 pub returns : goal.returns

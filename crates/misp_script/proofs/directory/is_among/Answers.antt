@@ -1,9 +1,6 @@
-use Rattle.std.proofs.Common.{rules, ◌==◌, ◌∙◌}
-use Rattle.std.specs.Ordering.{nat_cmp}
-use Rattle.std.proofs.lemmas.Cmp.{nat_cmp_total}
-use Rattle.std.proofs.lemmas.Fn.{always_returns_same}
-use Rattle.misp_orgs.proofs.Searching.{numbers_equal, searched}
-use Rattle.misp_script.proofs.Places.{any_from_search}
+use Rattle.std.proofs.Common.{rules, ◌==◌, ◌∙◌, nat_cmp}
+use Rattle.misp_lists.proofs.Prelude.{always_returns_same, nat_cmp_total, numbers_equal, searched}
+use Rattle.misp_lists.proofs.Lists.{any_from_search}
 use Rattle.misp_script.proofs.directory.is_among.Goals as goal
 
 pub returns : goal.returns

@@ -1,7 +1,6 @@
-use Rattle.std.proofs.Common.{◌≡◌, ◌∙◌, ap, map}
-use Rattle.std.proofs.lemmas.List.{take_all}
+use Rattle.std.proofs.Common.{◌≡◌, ◌∙◌, ap, map, take_all}
 use Rattle.misp_orgs.specs.Org.{OrgFields}
-use Rattle.misp_script.specs.Directory.{by_number}
+use Rattle.misp_script.specs.Kept.{by_number}
 use Rattle.misp_script.proofs.Places.{ascend_map}
 use Rattle.misp_script.proofs.directory.orgs_of.Goals as goal
 

@@ -6,7 +6,13 @@ pub overflow_mul-value : goal.overflow_mul-value
 overflow_mul-value c = omega (arith, below_ten c.loop-digit.digit-index c.loop-digit.value (omega (arith, c.loop-digit-test.true, c.requires.few)) c.loop-digit.invariant.bound)
 
 pub overflow_add-value : goal.overflow_add-value
-overflow_add-value c = omega (arith, c.from.ensures, digit_at c.args.digits.now c.loop-digit.digit-index c.requires.digits c.loop-digit-test.true, below_ten c.loop-digit.digit-index c.loop-digit.value (omega (arith, c.loop-digit-test.true, c.requires.few)) c.loop-digit.invariant.bound)
+overflow_add-value c =
+    omega (
+      arith,
+      c.from.ensures,
+      digit_at c.args.digits.now c.loop-digit.digit-index c.requires.digits c.loop-digit-test.true,
+      below_ten c.loop-digit.digit-index c.loop-digit.value (omega (arith, c.loop-digit-test.true, c.requires.few)) c.loop-digit.invariant.bound,
+    )
 
 pub loop-digit-preserved : goal.loop-digit-preserved
 loop-digit-preserved c =

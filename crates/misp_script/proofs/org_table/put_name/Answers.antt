@@ -1,6 +1,5 @@
-use Rattle.std.proofs.Common.{◌≡◌, ◌∙◌, ap, sym, false, true, is_some}
+use Rattle.std.proofs.Common.{◌≡◌, ◌∙◌, ap, sym, false, true, is_some, string_bytes}
 use Rattle.std.specs.BTreeMap.{get_by_text}
-use Rattle.std.specs.String.{string_bytes}
 use Rattle.std.proofs.lemmas.Map.Text.{btree_map_updates_text}
 use Rattle.misp_script.proofs.Lookups.{names_old, names_new}
 use Rattle.misp_script.proofs.org_table.put_name.Goals as goal

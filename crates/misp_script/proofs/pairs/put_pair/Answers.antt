@@ -1,5 +1,4 @@
-use Rattle.std.proofs.Common.{◌∙◌, ap, true, cond}
-use Rattle.std.specs.Ordering.{is_eq}
+use Rattle.std.proofs.Common.{◌∙◌, ap, true, cond, is_eq}
 use Rattle.misp_script.specs.Known.{pair_order, has_pair}
 use Rattle.misp_script.proofs.Lookups.{pair_put}
 use Rattle.misp_script.proofs.pairs.put_pair.Goals as goal

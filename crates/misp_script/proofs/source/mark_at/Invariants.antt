@@ -1,5 +1,4 @@
-use Rattle.std.proofs.Common.{◌≡◌, ◌-◌, length}
-use Rattle.std.specs.Prelude.{find}
+use Rattle.std.proofs.Common.{◌≡◌, ◌-◌, length, find}
 use Rattle.std.specs.List.{range_with_len}
 use Rattle.misp_script.specs.Source.{begins_mark, mark_at}
 use Rattle.misp_script.proofs.source.mark_at.Given as goal

@@ -1,5 +1,6 @@
 use Rattle.std.proofs.Common.{◌≡◌, drop}
-use Rattle.misp_store.specs.Raw.{after, rows_in}
+use Rattle.misp_store.specs.Raw.{rows_in}
+use Rattle.misp_store.proofs.SoFar.{after}
 use Rattle.misp_store.proofs.rows.decode_rows.Given as goal
 
 -- what was read, and then what is left

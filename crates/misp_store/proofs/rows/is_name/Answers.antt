@@ -1,5 +1,4 @@
-use native.Mathlib.Omega.{arith}
-use Rattle.std.proofs.Common.{ap, sym, ◌∙◌, bytes_eq}
+use Rattle.std.proofs.Common.{arith, ap, sym, ◌∙◌, bytes_eq}
 use Rattle.misp_elem.specs.Spelling.{key}
 use Rattle.misp_store.proofs.RowNames.{no_name, owner_there, no_owner}
 use Rattle.misp_store.proofs.rows.is_name.Goals as goal

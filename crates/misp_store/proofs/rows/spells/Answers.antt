@@ -1,5 +1,4 @@
-use Rattle.std.proofs.Common.{◌∙◌, ap}
-use Rattle.std.specs.Ordering.{is_eq}
+use Rattle.std.proofs.Common.{◌∙◌, ap, is_eq}
 use Rattle.misp_store.proofs.RowNames.{spelled}
 use Rattle.misp_store.proofs.rows.spells.Goals as goal
 

@@ -1,5 +1,6 @@
 use Rattle.std.proofs.Common.{◌≡◌, [], drop}
-use Rattle.misp_store.specs.Sharing.{groups_in, put_onto}
+use Rattle.misp_store.specs.Sharing.{groups_in}
+use Rattle.misp_store.specs.Decoding.{put_onto}
 use Rattle.misp_store.proofs.sharing.decode_groups.Given as goal
 
 -- what was read is put, and then what is left

@@ -1,7 +1,5 @@
 use Rattle.std.proofs.Common.{◌≡◌, Ok, subst}
-use Rattle.misp_groups.specs.Group.{IsGroup}
-use Rattle.misp_format.specs.WholeGroup.{uncarried}
-use Rattle.misp_format.specs.GroupText.{group_in_text}
+use Rattle.misp_format.specs.Prelude.{IsGroup, group_in_text, uncarried}
 use Rattle.misp_store.proofs.GroupRows.{read_when}
 use Rattle.misp_store.proofs.sharing.group_row.Goals as goal
 

@@ -1,6 +1,4 @@
-use Rattle.std.proofs.Common.{take}
-use Rattle.std.specs.List.{filter}
-use Rattle.std.specs.Option.{option_copied}
+use Rattle.std.proofs.Common.{take, filter, option_copied}
 use Rattle.misp_view.specs.View.{IsBestOf, is_granted_itself}
 use Rattle.misp_view.proofs.choice.chosen_row.Given as goal
 

@@ -6,7 +6,11 @@ pub returns-then-not-is_itself : goal.returns-then-not-is_itself
 returns-then-not-is_itself c = λ h. other_key c.args.rows.now c.args.who.now.groups.now c.args.who.now.here c.args.who.now.org c.args.row.now c.args.event.now (sym c.is_itself.ensures ∙ c.if-not-is_itself.true)
 
 pub returns-then-not-is_open : goal.returns-then-not-is_open
-returns-then-not-is_open c = λ h. not_open c.args.rows.now c.args.who.now.groups.now c.args.who.now.here c.args.who.now.org c.args.row.now c.args.event.now (sym c.is_itself.ensures ∙ c.if-not-is_itself.false) (sym c.is_open.ensures ∙ c.if-not-is_open.true)
+returns-then-not-is_open c = λ h.
+    not_open c.args.rows.now c.args.who.now.groups.now c.args.who.now.here c.args.who.now.org c.args.row.now c.args.event.now (sym c.is_itself.ensures ∙ c.if-not-is_itself.false)
+    (sym c.is_open.ensures ∙ c.if-not-is_open.true)
 
 pub returns : goal.returns
-returns c = λ h. by_copy c.args.rows.now c.args.who.now.groups.now c.args.who.now.here c.args.who.now.org c.args.row.now c.args.event.now c.is_of_copy.result (sym c.is_itself.ensures ∙ c.if-not-is_itself.false) (sym c.is_open.ensures ∙ c.if-not-is_open.false) (c.is_of_copy.ensures h (sym c.is_itself.ensures ∙ c.if-not-is_itself.false))
+returns c = λ h.
+    by_copy c.args.rows.now c.args.who.now.groups.now c.args.who.now.here c.args.who.now.org c.args.row.now c.args.event.now c.is_of_copy.result
+    (sym c.is_itself.ensures ∙ c.if-not-is_itself.false) (sym c.is_open.ensures ∙ c.if-not-is_open.false) (c.is_of_copy.ensures h (sym c.is_itself.ensures ∙ c.if-not-is_itself.false))

@@ -1,10 +1,8 @@
-use Rattle.std.proofs.Common.{◌≡◌, ap, sym, ◌∙◌, subst}
-use Rattle.std.specs.Prelude.{Some, None}
-use Rattle.std.specs.Option.{option_copied}
-use Rattle.misp_model.specs.Shown.{event_row, shown}
-use Rattle.misp_view.specs.View.{scene_of}
+use Rattle.std.proofs.Common.{◌≡◌, ap, sym, ◌∙◌, subst, Some, None, option_copied}
 use Rattle.misp_elem.specs.Visible.{IsWhole}
-use Rattle.misp_model.proofs.KnownShown.{shown_known}
+use Rattle.misp_rules.specs.Shown.{event_row, shown}
+use Rattle.misp_rules.proofs.KnownShown.{shown_known}
+use Rattle.misp_view.specs.View.{scene_of}
 use Rattle.misp_view.proofs.Forming.{shown_some, shown_none}
 use Rattle.misp_view.proofs.Wholeness.{whole_is}
 use Rattle.misp_view.proofs.form.shown.Goals as goal
@@ -17,7 +15,9 @@ returns-in_ok-form-in-Some c =
     record {
       seen = seen;
       known = λ table. seen ∙ sym (shown_known c.args.rows.now (scene_of c.args.groups.now c.args.here.now c.args.org.now c.args.rows.now) table c.args.event.now c.args.owner);
-      whole = λ table. subst IsWhole (sym c.in_ok-form-in-Some.ensures.form) (whole_is c.args.groups.now c.args.here.now c.args.org.now c.args.rows.now c.args.event.now c.in_ok-form-in-Some.ensures.rows table c.args.owner c.in-Some.row.now found);
+      whole = λ table.
+          subst IsWhole (sym c.in_ok-form-in-Some.ensures.form)
+          (whole_is c.args.groups.now c.args.here.now c.args.org.now c.args.rows.now c.args.event.now c.in_ok-form-in-Some.ensures.rows table c.args.owner c.in-Some.row.now found);
     }
 
 pub returns-in-None : goal.returns-in-None

@@ -1,5 +1,4 @@
-use Rattle.std.proofs.Common.{ap, ◌∙◌, eqb}
-use Rattle.std.specs.List.{filter}
+use Rattle.std.proofs.Common.{ap, ◌∙◌, eqb, filter}
 use Rattle.misp_elem.specs.declared.row.RowFields.{RowFields as Row}
 use Rattle.misp_view.specs.Parts.{around}
 use Rattle.misp_view.proofs.inside.grouped.Goals as goal

@@ -1,5 +1,4 @@
-use Rattle.std.proofs.Common.{ap, ◌∙◌}
-use Rattle.std.specs.Prelude.{◌||◌}
+use Rattle.std.proofs.Common.{ap, ◌∙◌, ◌||◌}
 use Rattle.std.specs.List.{list_any}
 use Rattle.misp_view.specs.Naming.{has_group, attribute_names, object_names, event_names}
 use Rattle.misp_view.proofs.NamedGroups.{none_has, three_more}

@@ -1,5 +1,4 @@
-use Rattle.std.proofs.Common.{◌≡◌, map, take}
-use Rattle.std.specs.List.{filter}
+use Rattle.std.proofs.Common.{◌≡◌, map, take, filter}
 use Rattle.misp_view.specs.Naming.{has_group, with_name}
 use Rattle.misp_view.proofs.naming.names_of.Given as goal
 

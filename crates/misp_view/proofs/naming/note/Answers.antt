@@ -1,5 +1,4 @@
-use Rattle.std.proofs.Common.{◌∙◌, ap, sym}
-use Rattle.std.specs.Prelude.{◌||◌}
+use Rattle.std.proofs.Common.{◌∙◌, ap, sym, ◌||◌}
 use Rattle.misp_view.specs.Naming.{has_group, label_names}
 use Rattle.misp_view.proofs.NamedGroups.{has_more}
 use Rattle.misp_view.proofs.naming.note.Goals as goal

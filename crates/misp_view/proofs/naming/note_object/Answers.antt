@@ -1,7 +1,5 @@
-use Rattle.std.proofs.Common.{ap, ◌∙◌}
-use Rattle.std.proofs.lemmas.Result.{on_ok_weaker}
-use Rattle.std.specs.Prelude.{◌||◌}
-use Rattle.std.specs.List.{list_any}
+use Rattle.std.proofs.Common.{ap, ◌∙◌, ◌||◌}
+use Rattle.misp_lists.proofs.Prelude.{list_any, on_ok_weaker}
 use Rattle.misp_view.specs.Naming.{has_group, attribute_names, object_names}
 use Rattle.misp_view.proofs.NamedGroups.{two_more}
 use Rattle.misp_view.proofs.naming.note_object.Goals as goal

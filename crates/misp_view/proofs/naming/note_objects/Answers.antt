@@ -1,6 +1,5 @@
 use Rattle.std.proofs.Common.{arith}
-use Rattle.std.proofs.lemmas.Grind.{common_steps}
-use Rattle.std.proofs.lemmas.List.Folds.{list_any_more}
+use Rattle.misp_lists.proofs.Prelude.{common_steps, list_any_more}
 use Rattle.misp_view.proofs.naming.note_objects.Goals as goal
 
 pub loop-object-init : goal.loop-object-init

@@ -1,7 +1,5 @@
-use Rattle.std.proofs.Common.{◌≡◌, take}
-use Rattle.std.specs.Prelude.{◌||◌}
-use Rattle.std.specs.List.{list_any}
-use Rattle.misp_ids.specs.declared.uid.GroupId.{GroupId}
+use Rattle.std.proofs.Common.{◌≡◌, take, ◌||◌}
+use Rattle.misp_groups.specs.Prelude.{GroupId, list_any}
 use Rattle.misp_view.specs.Naming.{has_group, object_names}
 use Rattle.misp_view.proofs.naming.note_objects.Given as goal
 

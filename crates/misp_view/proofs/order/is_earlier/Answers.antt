@@ -1,7 +1,7 @@
-use Rattle.std.proofs.Common.{ap, sym, ◌∙◌}
-use Rattle.std.specs.declared.cmp.Ordering.TheVariants.{Less, Equal, Greater}
+use Rattle.std.proofs.Common.{ap, sym, ◌∙◌, Less, Equal, Greater}
 use Rattle.misp_ids.specs.Names.{is_inst_name}
-use Rattle.misp_view.proofs.Origins.{origins_cmp, lt_is}
+use Rattle.misp_lists.proofs.Orders.{numbers_less}
+use Rattle.misp_view.proofs.Origins.{origins_cmp}
 use Rattle.misp_view.proofs.order.is_earlier.Goals as goal
 
 pub returns-in-Less : goal.returns-in-Less
@@ -11,7 +11,7 @@ returns-in-Less c =
 
 pub returns-in-Equal : goal.returns-in-Equal
 returns-in-Equal c =
-    sym (lt_is c.args.a.1.0.0 c.args.b.1.0.0)
+    sym (numbers_less c.args.a.1.0.0 c.args.b.1.0.0)
     ∙ sym (origins_cmp c.args.a c.args.b Equal (ap is_inst_name (sym c.text.ensures.spelling) ∙ c.text.ensures.is_name) (ap is_inst_name (sym c.text-2.ensures.spelling) ∙ c.text-2.ensures.is_name)
     (rw (← c.text.ensures.spelling, ← c.text-2.ensures.spelling) (c.in-Equal.ensures)))
 

@@ -1,8 +1,8 @@
 use Rattle.std.proofs.Common.{rules, ℕ, Bor}
 use Rattle.std.proofs.lemmas.List.Sorted.{IsNonDecreasingBy-from_sort_by_key, answers_always}
 use Rattle.misp_elem.specs.declared.row.RowFields.{RowFields as Row}
+use Rattle.misp_copies.proofs.Cuts.{stable_parts_map}
 use Rattle.misp_view.specs.Parts.{around}
-use Rattle.misp_view.proofs.Cuts.{stable_parts_map}
 use Rattle.misp_view.proofs.parts.by_object.Goals as goal
 
 abbrev number : Bor Row → ℕ

@@ -1,10 +1,6 @@
-use native.Mathlib.Omega.{arith}
-use Rattle.std.proofs.Common.{ap, sym, subst}
-use Rattle.std.specs.Prelude.{Err}
-use Rattle.misp_core.specs.Standing.{host_of}
-use Rattle.misp_requests.specs.Permission.{no_permission}
-use Rattle.misp_core.specs.Effects.{refused}
-use Rattle.misp_core.specs.Planning.{Plans}
+use Rattle.std.proofs.Common.{arith, ap, sym, subst, Err}
+use Rattle.misp_rules.specs.Permission.{no_permission}
+use Rattle.misp_core.specs.Prelude.{Plans, host_of, refused}
 use Rattle.misp_core.proofs.Answered.{barred_planned, unread_planned, asked_planned, just_barred, not_both}
 use Rattle.misp_core.proofs.Carried.{asks_none}
 use Rattle.misp_core.proofs.instance.Instance.plan.Goals as goal

@@ -1,6 +1,6 @@
 use Rattle.std.proofs.Common.{◌≡◌, ◌-◌, []}
-use Rattle.misp_elem.specs.Row.{last_name}
-use Rattle.misp_elem.specs.RowReading.{tags_after}
+use Rattle.misp_elem.specs.Fields.{last_name}
+use Rattle.misp_elem.specs.ContentReading.{tags_after}
 use Rattle.misp_elem.proofs.Tags.{with_front}
 use Rattle.misp_elem.proofs.reading.Reader.tags_of.Given as goal
 

@@ -1,5 +1,5 @@
 use Rattle.std.proofs.Common.{◌-◌, length}
-use Rattle.misp_elem.specs.Row.{text_limit}
+use Rattle.misp_elem.specs.Fields.{text_limit}
 use Rattle.misp_elem.proofs.TagFields.{name_short}
 use Rattle.misp_elem.proofs.writing.bodies.put_attribute_body.Goals as goal
 

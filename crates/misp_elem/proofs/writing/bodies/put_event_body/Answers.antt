@@ -1,12 +1,23 @@
 use Rattle.std.proofs.Common.{◌-◌, length, append_assoc}
-use Rattle.misp_elem.specs.Row.{text_limit}
+use Rattle.misp_elem.specs.Fields.{text_limit}
 use Rattle.misp_elem.proofs.ShortTexts.{date_short}
 use Rattle.misp_elem.proofs.TagFields.{name_short}
 use Rattle.misp_elem.proofs.writing.bodies.put_event_body.Goals as goal
 
 pub returns : goal.returns
 returns c =
-    rw (c.in_ok-put_tags.ensures, c.as_slice.ensures, c.in_ok-put_text-3.ensures, c.in_ok-put_uid.ensures, c.in_ok-put_optional_uid.ensures, c.in_ok-put_stamp.ensures, c.in_ok-put_byte-2.ensures, c.in_ok-put_byte.ensures, c.in_ok-put_text-2.ensures, c.in_ok-put_text.ensures)
+    rw (
+      c.in_ok-put_tags.ensures,
+      c.as_slice.ensures,
+      c.in_ok-put_text-3.ensures,
+      c.in_ok-put_uid.ensures,
+      c.in_ok-put_optional_uid.ensures,
+      c.in_ok-put_stamp.ensures,
+      c.in_ok-put_byte-2.ensures,
+      c.in_ok-put_byte.ensures,
+      c.in_ok-put_text-2.ensures,
+      c.in_ok-put_text.ensures,
+    )
     (simp append_assoc)
 
 pub put_tags-requires-clause-short : goal.put_tags-requires-clause-short

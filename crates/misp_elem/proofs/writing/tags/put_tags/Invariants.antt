@@ -1,6 +1,5 @@
-use Rattle.std.proofs.Common.{◌≡◌, ◌++◌, length, take}
-use Rattle.std.specs.Int.{w32, to_be_bytes}
-use Rattle.std.specs.List.{flat_map}
+use Rattle.std.proofs.Common.{◌≡◌, ◌++◌, length, take, w32, flat_map}
+use Rattle.std.specs.Int.{to_be_bytes}
 use Rattle.misp_elem.specs.Spelling.{tag}
 use Rattle.misp_elem.proofs.writing.tags.put_tags.Given as goal
 

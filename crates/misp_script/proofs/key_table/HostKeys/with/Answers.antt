@@ -1,5 +1,4 @@
-use Rattle.std.proofs.Common.{◌≡◌, ◌&&◌, ◌||◌, ◌∙◌, ap, sym}
-use Rattle.std.specs.Str.{bytes_eq}
+use Rattle.std.proofs.Common.{◌≡◌, ◌&&◌, ◌||◌, ◌∙◌, ap, sym, bytes_eq}
 use Rattle.misp_script.specs.Tables.{has_key}
 use Rattle.misp_script.proofs.Lookups.{any_last}
 use Rattle.misp_script.proofs.key_table.HostKeys.with.Goals as goal

@@ -1,6 +1,7 @@
 use Rattle.std.proofs.Common.{◌≡◌, map}
 use Rattle.toml.specs.View.{members_view}
-use Rattle.misp_script.specs.Entries.{body_of, none_beside}
+use Rattle.misp_script.specs.Entries.{none_beside}
+use Rattle.misp_script.specs.Seen.{body_of}
 use Rattle.misp_script.proofs.listed.Listed.none_beside.Given as goal
 
 -- what is left to look at gives all

@@ -1,6 +1,6 @@
-use Rattle.std.proofs.Common.{◌≡◌, ap, sym, ◌∙◌, subst, rules}
-use Rattle.std.specs.Prelude.{IsTrue}
-use Rattle.misp_outside.specs.Held.{Held, ascend, admin_before}
+use Rattle.std.proofs.Common.{◌≡◌, ap, sym, ◌∙◌, subst, rules, IsTrue}
+use Rattle.misp_lists.specs.Order.{ascend}
+use Rattle.misp_outside.specs.Held.{Held, admin_before}
 use Rattle.misp_outside.specs.Stored.{admin_rows}
 use Rattle.misp_outside.proofs.Lists.{more_found, all_found}
 use Rattle.misp_outside.proofs.Rows.{next_admin, no_admins, admin_ascend}

@@ -1,6 +1,6 @@
-use Rattle.std.proofs.Common.{◌≡◌, ap, sym, ◌∙◌, subst, rules}
-use Rattle.std.specs.Prelude.{IsTrue}
-use Rattle.misp_outside.specs.Held.{Held, ascend, comes_before}
+use Rattle.std.proofs.Common.{◌≡◌, ap, sym, ◌∙◌, subst, rules, IsTrue}
+use Rattle.misp_lists.specs.Order.{ascend}
+use Rattle.misp_outside.specs.Held.{Held, comes_before}
 use Rattle.misp_outside.specs.Stored.{raw_rows}
 use Rattle.misp_outside.proofs.Lists.{more_found, all_found}
 use Rattle.misp_outside.proofs.Rows.{next_row, no_rows, raw_ascend}

@@ -1,6 +1,6 @@
-use Rattle.std.proofs.Common.{◌≡◌, ap, sym, ◌∙◌, subst}
-use Rattle.std.specs.Prelude.{IsTrue}
-use Rattle.misp_outside.specs.Held.{Held, ascend, comes_before, rows_of}
+use Rattle.std.proofs.Common.{◌≡◌, ap, sym, ◌∙◌, subst, IsTrue}
+use Rattle.misp_lists.specs.Order.{ascend}
+use Rattle.misp_outside.specs.Held.{Held, comes_before, rows_of}
 use Rattle.misp_outside.specs.Stored.{raw_rows}
 use Rattle.misp_outside.proofs.Lists.{more_found, all_found}
 use Rattle.misp_outside.proofs.Rows.{next_here, none_here, rows_between, ascend_rows_of, raw_ascend}

@@ -1,6 +1,6 @@
-use Rattle.std.proofs.Common.{◌≡◌, ◌++◌, [], refl, ap, sym, ◌∙◌, subst}
-use Rattle.std.specs.Prelude.{IsTrue}
-use Rattle.misp_outside.specs.Held.{Held, ascend, comes_before, rows_named}
+use Rattle.std.proofs.Common.{◌≡◌, ◌++◌, [], refl, ap, sym, ◌∙◌, subst, IsTrue}
+use Rattle.misp_lists.specs.Order.{ascend}
+use Rattle.misp_outside.specs.Held.{Held, comes_before, rows_named}
 use Rattle.misp_outside.specs.Stored.{raw_rows}
 use Rattle.misp_outside.proofs.Lists.{more_found}
 use Rattle.misp_outside.proofs.Rows.{Cells, raw_ascend}

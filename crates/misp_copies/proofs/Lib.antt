@@ -1,0 +1,13 @@
+pub mod Pairs
+pub mod ElementSets
+pub mod Granted
+pub mod Cuts
+pub mod Searches
+pub mod KeyOrder
+pub mod LeastOwners
+pub mod ByTarget
+pub mod RowLists
+pub mod Seeing
+pub mod CopyLemmas
+pub mod Stamps
+pub mod Barred

@@ -1,0 +1,12 @@
+pub mod Copies
+pub mod OwnRows
+pub mod Kinds
+pub mod Keys
+pub mod Table
+pub mod ElementSet
+pub mod Grants
+pub mod CopyView
+pub mod StatementsByTarget
+pub mod StatementsByKey
+pub mod Scenes
+pub mod Barring

@@ -1,0 +1,187 @@
+//! Sets of elements, each with the owner of a copy that it is in.
+
+ghost use Rattle.std.specs.Prelude.{◌≡◌, ◌&&◌, ◌||◌, not, cond, OnOk};
+ghost use Rattle.std.specs.List.{list_all};
+ghost use Rattle.misp_ids.specs.declared.uid.OrgId.{OrgId as Owner};
+ghost use Rattle.misp_ids.specs.declared.uid.EventId.{EventId as Event};
+ghost use Rattle.misp_elem.specs.declared.key.Place.{Place as SomePlace};
+ghost use Rattle.misp_elem.specs.declared.key.KeyForm.TheVariants.{Element};
+ghost use Rattle.misp_ids.specs.Same.{same_event, same_org};
+ghost use Rattle.misp_elem.specs.SameKey.{same_key, same_place};
+ghost use Rattle.misp_elem.specs.Parents.{above, up_to, parents};
+ghost use Rattle.misp_rules.specs.View.{is_row_of};
+ghost use Rattle.misp_copies.specs.ElementSet.{kind_of, first_of, second_of, has_element, key_is, element_of};
+
+use misp_elem::{KeyForm, Place, Row};
+use misp_ids::{EventId, NoMemory, OrgId};
+use std::collections::BTreeSet;
+
+/// Owners, events and places, as their numbers.
+pub type ElementSet = BTreeSet<(u128, u128, u8, u128, u128)>;
+
+// The number of the place's form.
+fn kind(place: &Place) -> u8
+    ensures { result ≡ kind_of place.now }
+{
+    match place {
+        Place::Event => 0,
+        Place::Object(_) => 1,
+        Place::Attribute(_) => 2,
+        Place::ObjectAttribute(_, _) => 3,
+    }
+}
+
+// The number of the element at the place, or of the object around it.
+fn first(place: &Place) -> u128
+    ensures { result ≡ first_of place.now }
+{
+    match place {
+        Place::Event => 0,
+        Place::Object(element) | Place::Attribute(element) => element.0.0,
+        Place::ObjectAttribute(object, _) => object.0.0,
+    }
+}
+
+// The number of an attribute in an object.
+fn second(place: &Place) -> u128
+    ensures { result ≡ second_of place.now }
+{
+    match place {
+        Place::Event | Place::Object(_) | Place::Attribute(_) => 0,
+        Place::ObjectAttribute(_, attribute) => attribute.0.0,
+    }
+}
+
+// Adds a place of an event, for this owner.
+fn put(
+    elements: &mut ElementSet,
+    owner: &OrgId,
+    event: &EventId,
+    place: &Place,
+) -> Result<(), NoMemory>
+    ensures { OnOk result ((w : Owner) (e : Event) (p : SomePlace) → has_element elements.new w e p
+        ≡ (has_element elements.old w e p
+        || same_org owner.now w && (same_event event.now e && same_place place.now p))) }
+{
+    elements.insert((
+        owner.0.0,
+        event.0.0,
+        kind(place),
+        first(place),
+        second(place),
+    ))?;
+    Ok(())
+}
+
+// The event and the place, where it is the row of an element.
+fn element(row: &Row) -> Option<(EventId, Place)>
+    ensures { result ≡ element_of row.now.key }
+{
+    match &row.key.form {
+        KeyForm::Element { event, place } => Some((*event, *place)),
+        _ => None,
+    }
+}
+
+/// Adds what the row's key names, for this owner, where it is an element and is wanted.
+pub fn add(
+    elements: &mut ElementSet,
+    owner: &OrgId,
+    row: &Row,
+    wanted: bool,
+) -> Result<(), NoMemory>
+    ensures { OnOk result ((w : Owner) (e : Event) (p : SomePlace) → has_element elements.new w e p
+        ≡ (has_element elements.old w e p
+        || (same_org owner.now w && same_key row.now.key (Element e p)) && wanted)) }
+{
+    if !wanted {
+        return Ok(());
+    }
+    match element(row) {
+        Some((event, place)) => {
+            put(elements, owner, &event, &place)?;
+            Ok(())
+        }
+        None => Ok(()),
+    }
+}
+
+/// The same, for the row's own owner.
+#[tactic(auto, unfolding(misp_rules::specs::View::is_row_of))]
+pub fn add_own(elements: &mut ElementSet, row: &Row, wanted: bool) -> Result<(), NoMemory>
+    ensures { OnOk result ((w : Owner) (e : Event) (p : SomePlace) → has_element elements.new w e p
+        ≡ (has_element elements.old w e p || is_row_of w (Element e p) row.now && wanted)) }
+{
+    add(elements, &row.owner, row, wanted)?;
+    Ok(())
+}
+
+/// Whether the place of the event is among these, for this owner.
+#[tactic(auto, unfolding(crate::specs::ElementSet::has_element))]
+pub fn has_element(elements: &ElementSet, owner: &OrgId, event: &EventId, place: &Place) -> bool
+    ensures { result ≡ has_element elements.now owner.now event.now place.now }
+{
+    elements.contains(&(
+        owner.0.0,
+        event.0.0,
+        kind(place),
+        first(place),
+        second(place),
+    ))
+}
+
+// Whether the place of the event is among these, or is not.
+fn is_so(elements: &ElementSet, owner: &OrgId, event: &EventId, place: &Place, there: bool) -> bool
+    ensures { result ≡ cond there (has_element elements.now owner.now event.now place.now)
+        (not (has_element elements.now owner.now event.now place.now)) }
+{
+    has_element(elements, owner, event, place) == there
+}
+
+// Whether each of what stands above a place is among these, or none is.
+#[tactic(auto, unfolding(crate::specs::ElementSet::has_key, misp_elem::specs::Parents::above))]
+fn above(elements: &ElementSet, owner: &OrgId, event: &EventId, place: &Place, there: bool) -> bool
+    ensures { result ≡ list_all (key_is elements.now owner.now there) (above event.now place.now) }
+{
+    match place {
+        Place::Event => true,
+        Place::Object(_) | Place::Attribute(_) => {
+            is_so(elements, owner, event, &Place::Event, there)
+        }
+        Place::ObjectAttribute(object, _) => {
+            is_so(elements, owner, event, &Place::Event, there)
+                && is_so(elements, owner, event, &Place::Object(*object), there)
+        }
+    }
+}
+
+// The same of a place and what stands above it.
+#[tactic(auto, unfolding(crate::specs::ElementSet::has_key, misp_elem::specs::Parents::up_to), using(crate::proofs::ElementSets::all_last))]
+fn up_to(elements: &ElementSet, owner: &OrgId, event: &EventId, place: &Place, there: bool) -> bool
+    ensures { result ≡ list_all (key_is elements.now owner.now there) (up_to event.now place.now) }
+{
+    above(elements, owner, event, place, there) && is_so(elements, owner, event, place, there)
+}
+
+/// Whether each of what stands above the row is among these, for this owner, or none is.
+#[tactic(auto, unfolding(crate::specs::ElementSet::has_key, misp_elem::specs::Parents::parents))]
+pub fn parents(elements: &ElementSet, owner: &OrgId, row: &Row, there: bool) -> bool
+    ensures { result ≡ list_all (key_is elements.now owner.now there) (parents row.now.key) }
+{
+    match &row.key.form {
+        KeyForm::Element { event, place } => above(elements, owner, event, place, there),
+        KeyForm::Reference {
+            event,
+            object,
+            target,
+            ..
+        } => {
+            is_so(elements, owner, event, &Place::Object(*object), there)
+                && up_to(elements, owner, event, target, there)
+        }
+        KeyForm::Proposal { event, name } | KeyForm::Verdict { event, name, .. } => {
+            up_to(elements, owner, event, &name.target, there)
+        }
+        KeyForm::Sighting { event, target, .. } => up_to(elements, owner, event, target, there),
+    }
+}

@@ -1,0 +1,426 @@
+-- Worked examples, computed. Of the organisations Alpha is the first, Beta the second and Gamma the third.
+use Rattle.std.proofs.Common.{ℕ, [], ◌∷◌, false, Some, None, List, length, map, true, ◌≡◌, refl, Option, cond, ◌*◌, ◌+◌, Bool}
+use Rattle.misp_ids.specs.declared.label.Way.TheVariants.{Pull, Push}
+use Rattle.misp_ids.specs.Labels.{label_kind}
+use Rattle.misp_rules.specs.Prelude.{Content, Draft, ElementExists, ElementFull, ElemId, EventExists, EventGone, EventId, Group, GroupNotUsable, Inst, Key, Label, NotGranted, NotOwner, OrgId, Place, Proposal, ProposalExists, Refused}
+use Rattle.misp_rules.specs.Prelude.{Reply, Rule, Saved, Submission, TimeLimit, VisibleAttribute, VisibleObject, Way, is_less, same_inst}
+use Rattle.misp_rules.specs.Answers.{Seen, Other, Taken, Listed, Shares}
+use Rattle.misp_rules.specs.Scene.{LockedCopy, OlderTime, ProposalClosed}
+use Rattle.misp_rules.specs.Shown.{order_of}
+use Rattle.misp_history.proofs.Prelude.{Act, AddEvent, Administers, Ask, Asks, DeleteEvent, EditAttribute, EditEvent, Net, Publish, Route, Syncs, tables}
+use Rattle.misp_history.specs.Outcomes.{Whole, Stopped, run_partly}
+use Rattle.misp_erasure.specs.Kept.{replies, erased, start}
+use Rattle.misp_elem.specs.KeyFacts
+use Rattle.misp_elem.specs.Parents
+use Rattle.misp_elem.specs.RowFacts
+use Rattle.misp_elem.specs.SameKey
+use Rattle.misp_erasure.specs.Erasure
+use Rattle.misp_erasure.specs.Kept
+use Rattle.misp_groups.specs.Audience
+use Rattle.misp_groups.specs.Changes
+use Rattle.misp_history.specs.Acts
+use Rattle.misp_history.specs.History
+use Rattle.misp_history.specs.Merging
+use Rattle.misp_history.specs.Outcomes
+use Rattle.misp_history.specs.Passing
+use Rattle.misp_ids.specs.Moments
+use Rattle.misp_ids.specs.Same
+use Rattle.misp_levels.specs.Levels
+use Rattle.misp_lists.specs.Order
+use Rattle.misp_rules.specs.Adding
+use Rattle.misp_rules.specs.Answers
+use Rattle.misp_rules.specs.Arrival
+use Rattle.misp_rules.specs.Changing
+use Rattle.misp_rules.specs.Closed
+use Rattle.misp_rules.specs.Edits
+use Rattle.misp_rules.specs.RowOrder
+use Rattle.misp_rules.specs.Scene
+use Rattle.misp_rules.specs.Shown
+use Rattle.misp_rules.specs.Statements
+use Rattle.misp_rules.specs.Version
+use Rattle.misp_rules.specs.View
+
+org : ℕ → OrgId
+org n = record { 0 = record { 0 = n } }
+
+event : ℕ → EventId
+event n = record { 0 = record { 0 = n } }
+
+elem_id : ℕ → ElemId
+elem_id n = record { 0 = record { 0 = n } }
+
+attribute : ℕ → ℕ → Label → Draft
+attribute number n l =
+    record {
+      number = number;
+      place = Place.Attribute (elem_id n);
+      label = l;
+      content = Content.Attribute (record { kind = 116 ∷ []; category = 15; to_ids = false; comment = []; deleted = false; value = n ∷ []; tags = [] });
+    }
+
+event_of_two : ℕ → Label → Submission
+event_of_two n l =
+    record {
+      event = event n;
+      body = Some (record { info = 105 ∷ []; date = None; threat_level_id = 4; analysis = 0; extends_uuid = None; tags = [] });
+      label = l;
+      parts = attribute 1 21 Label.Inherit ∷ attribute 2 22 Label.Own ∷ [];
+      references = [];
+    }
+
+no_links : Net
+no_links way i link groups = None
+
+asks : ℕ → ℕ → Ask → Act
+asks o time a = record { at = 97 ∷ []; now = time; command = Asks (record { org = org o; name = [] }) a }
+
+script : List Act
+script =
+    asks 1 100 (Ask.Change (AddEvent (event_of_two 11 Label.Community)))
+    ∷ asks 1 100 (Ask.Change (AddEvent (event_of_two 12 Label.Own)))
+    ∷ asks 2 100 (Ask.View (event 11) None)
+    ∷ asks 3 100 (Ask.View (event 11) None)
+    ∷ asks 1 100 (Ask.View (event 12) None)
+    ∷ []
+
+-- how many attributes a reply shows; 100 for a refusal, 200 for any other
+count : Option Reply → ℕ
+count None = 300
+count (Some (Seen v)) = length v.attributes
+count (Some (Refused r)) = 100
+count (Some (Saved vs)) = length vs
+count (Some (Listed vs)) = 200
+count (Some (Shares gs)) = 200
+count (Some (Taken n)) = 200
+count (Some Other) = 200
+
+-- the instances a, b and c, and the links between them
+a : Inst
+a = 97 ∷ []
+
+b : Inst
+b = 98 ∷ []
+
+c : Inst
+c = 99 ∷ []
+
+-- a link: where it is, to which peer, and whose key it has
+route : Way → Inst → Inst → OrgId → Route
+route Pull at peer o = record { way = Pull; from = peer; «for» = o; dest = at; into = at; holder = o }
+route Push at peer o = record { way = Push; from = at; «for» = o; dest = peer; into = peer; holder = o }
+
+links : Net
+links way i link groups =
+    cond (same_inst link (98 ∷ 97 ∷ [])) (Some (route way b a (org 2)))
+    (cond (same_inst link (99 ∷ 98 ∷ [])) (Some (route way c b (org 3)))
+    (cond (same_inst link (97 ∷ 98 ∷ [])) (Some (route way a b (org 1)))
+    (cond (same_inst link (97 ∷ 118 ∷ [])) (Some (route way a b (org 3)))
+    (cond (same_inst link (98 ∷ 99 ∷ [])) (Some (route way b c (org 3))) None))))
+
+syncs : Way → Inst → Inst → Act
+syncs way i link = record { at = i; now = 0; command = Syncs way link }
+
+asks_at : Inst → ℕ → ℕ → Ask → Act
+asks_at i o time x = record { at = i; now = time; command = Asks (record { org = org o; name = [] }) x }
+
+-- the number of a rule
+rule_number : Rule → ℕ
+rule_number NotGranted = 9
+rule_number NotOwner = 10
+rule_number LockedCopy = 11
+rule_number EventExists = 12
+rule_number EventGone = 13
+rule_number ElementExists = 14
+rule_number GroupNotUsable = 15
+rule_number OlderTime = 16
+rule_number TimeLimit = 17
+rule_number ProposalExists = 19
+rule_number ProposalClosed = 20
+rule_number ElementFull = 39
+
+-- 1000 and the rule; 2000 and the rows written; 3000, and 100 for each attribute, and the event's level
+tell : Option Reply → ℕ
+tell None = 0
+tell (Some (Refused r)) = 1000 + rule_number r
+tell (Some (Saved vs)) = 2000 + length vs
+tell (Some (Seen v)) = 3000 + 100 * length v.attributes + label_kind v.row.label
+tell (Some (Listed vs)) = 4000 + length vs
+tell (Some (Shares gs)) = 4000 + length gs
+tell (Some (Taken n)) = 5000 + n
+tell (Some Other) = 6000
+
+add_one : ℕ → Label → Ask
+add_one n l =
+    Ask.Change (AddEvent (record {
+      event = event n;
+      body = Some (record { info = 105 ∷ []; date = None; threat_level_id = 4; analysis = 0; extends_uuid = None; tags = [] });
+      label = l;
+      parts = attribute 1 21 Label.Inherit ∷ [];
+      references = [];
+    }))
+
+view : ℕ → Ask
+view n = Ask.View (event n) None
+
+publish : ℕ → Ask
+publish n = Ask.Change (Publish (event n))
+
+-- the stamps of the attributes that are shown, and the owner of the copy
+stamps : Option Reply → List ℕ
+stamps None = []
+stamps (Some (Seen v)) = v.row.owner.0.0 ∷ map (λ x. x.row.stamp) v.attributes
+stamps (Some (Refused r)) = []
+stamps (Some (Saved vs)) = []
+stamps (Some (Listed vs)) = []
+stamps (Some (Shares gs)) = []
+stamps (Some (Taken n)) = []
+stamps (Some Other) = []
+
+-- an edit of the comment of an attribute
+comment : ℕ → ℕ → Ask
+comment n x =
+    Ask.Change (EditAttribute (event n) (Place.Attribute (elem_id x))
+    (record { stamp = None; label = None; category = None; to_ids = None; comment = Some (99 ∷ []); kind_value = None }))
+
+relabel : ℕ → Label → Ask
+relabel n l =
+    Ask.Change (EditEvent (event n)
+    (record { stamp = None; label = Some l; info = None; date = None; threat_level_id = None; analysis = None; extends_uuid = None }))
+
+propose : ℕ → ℕ → ℕ → Ask
+propose n x u =
+    Ask.Propose (record {
+      event = event n;
+      target = Place.Attribute (elem_id x);
+      uuid = elem_id u;
+      body = record { remove = false; by_name = []; kind = 116 ∷ []; category = 15; to_ids = true; comment = []; value = 33 ∷ [] };
+    })
+
+accept : ℕ → ℕ → Inst → ℕ → ℕ → Ask
+accept n x i o u = Ask.Judge (event n) (record { target = Place.Attribute (elem_id x); at = i; by = org o; uuid = elem_id u }) true
+
+-- how many references the first object shows, and how many sightings the first attribute
+first_references : List VisibleObject → ℕ
+first_references [] = 900
+first_references (x ∷ xs) = length x.references
+
+first_sightings : List VisibleAttribute → ℕ
+first_sightings [] = 900
+first_sightings (x ∷ xs) = length x.sightings
+
+inside : Option Reply → ℕ
+inside None = 0
+inside (Some (Seen v)) = 1000 + 10 * first_references v.objects + first_sightings v.attributes
+inside (Some (Refused r)) = 1
+inside (Some (Saved vs)) = 2
+inside (Some (Listed vs)) = 3
+inside (Some (Shares gs)) = 3
+inside (Some (Taken n)) = 4
+inside (Some Other) = 5
+
+-- a group of the creator, with organisations, roaming or not
+group : ℕ → List ℕ → Bool → Group
+group o members roams =
+    record {
+      id = record { creator = org o; uuid = record { 0 = 77 } };
+      name = 103 ∷ [];
+      description = [];
+      releasability = [];
+      active = true;
+      roaming = roams;
+      orgs = map (λ m. record { org = org m; name = []; extend = false }) members;
+      servers = [];
+      modified = 0;
+      carried = false;
+    }
+
+administers : Inst → ℕ → ℕ → Bool → Group → Act
+administers i time o add g = record { at = i; now = time; command = Administers (org o) add g }
+
+in_group : Label
+in_group = Label.Group (record { creator = org 1; uuid = record { 0 = 77 } })
+
+add_levels : ℕ → Label → List Draft → Ask
+add_levels n l drafts =
+    Ask.Change (AddEvent (record {
+      event = event n;
+      body = Some (record { info = 105 ∷ []; date = None; threat_level_id = 4; analysis = 0; extends_uuid = None; tags = [] });
+      label = l;
+      parts = drafts;
+      references = [];
+    }))
+
+-- all that a run computes with
+everything : Unit {0}
+unfolding Outcomes.coming Outcomes.arriving Outcomes.takes Outcomes.first_brought Merging.count_bringing Merging.bringing Merging.arrived Merging.passing_rows Merging.arriving_rows
+    Merging.is_welcome_row Merging.has_event_row Merging.counts_row Merging.is_newer_row Merging.is_taken Merging.brought Merging.is_own Merging.cut Merging.others_with Merging.packages
+    Outcomes.synced_partly Outcomes.step_partly Outcomes.run_partly Adding.brings_object Adding.reference_fits Acts.known_at Acts.scene Answers.ask_rules Answers.taken_rows Answers.brings
+    Answers.is_accepted Answers.newer Answers.ok_answer Answers.answer Changes.administration_fails Changes.administered Changes.put_group Changes.takes_group Changes.group_stamp
+    Changes.group_now Answers.concerning Same.group_before Changes.take_group Changes.take_groups Acts.with_groups Acts.synced_groups Acts.synced Acts.asked Acts.step Acts.run Acts.reply_to
+    Acts.replies_to Arrival.is_made_at Arrival.is_welcome Arrival.has_event Arrival.counts Arrival.counted Passing.moved Arrival.handed_in Scene.first_rule Scene.holds_home Scene.holds_copy
+    Scene.holds_tombstone Scene.sees Scene.sees_live Scene.own_row Scene.own_live Scene.is_usable Moments.last_stamp Moments.next_stamp Scene.written Scene.changed KeyFacts.uuid_at
+    Adding.takes_uuid Adding.is_taken Adding.are_distinct Adding.is_place_of Adding.is_target_key Adding.place_in Adding.target_in_copy Adding.target_of Adding.part_version
+    Adding.reference_key Adding.reference_version Adding.parts_written Adding.has_target Adding.uuids_of Adding.clashes Adding.has_unusable Adding.new_event Adding.event_written Edits.given
+    Edits.edited Edits.at_attribute Edits.edited_event Edits.edited_object Edits.at_event Edits.at_object Edits.as_deleted Edits.at_tags Edits.tags_in Edits.untagged Edits.tagged
+    Edits.has_tag Edits.at_publishing Rattle.misp_elem.specs.Fields.tags_size Rattle.misp_elem.specs.Contents.text_size Scene.is_too_long Scene.own_row_is Scene.is_at_limit Scene.changed_row
+    Scene.wants_unusable Scene.is_newer_than Scene.bars Adding.object_is_there Adding.part_fits Adding.fits_parts Changing.is_reference_named Changing.own_reference Changing.row_passes
+    Changing.edit_rules Changing.change_rules Changing.is_held_in Changing.let_out_row Changing.let_out Changing.as_published Changing.change_writes Statements.proposal_key
+    Statements.sees_target Statements.propose_rules Statements.propose_writes Statements.sighting_key Statements.sight_rules Statements.sight_writes Statements.judged_at
+    Statements.judged_place Statements.is_for_new Statements.proposal_row Statements.proposal_body Statements.accepted Statements.made Statements.body_seen Statements.acceptance
+    Statements.judge_writes Statements.can_judge Statements.judge_rules Audience.allows Audience.carries Audience.known_group Audience.is_known_group Audience.group_passes
+    Audience.label_opens Audience.is_open Levels.hop Levels.down Audience.label_lets_out Audience.label_is_known Closed.cut_rows Closed.cut Erasure.cut_world Closed.keeps_reference
+    Closed.cut_body Closed.is_empty Closed.where_kept Closed.erased_ask Erasure.erased_request Erasure.erased_command Erasure.erased_act Erasure.erase Version.has_path Version.is_published
+    Version.is_handed_in KeyFacts.is_statement RowFacts.is_gone History.exportable History.without_local_tags Version.label_now History.content_now History.same_cell History.published_after
+    History.released History.row_of History.is_newest History.newest_from History.newest History.tables RowOrder.spell_place RowOrder.spell_inst RowOrder.spell_name RowOrder.spell
+    RowOrder.stands_before Kept.is_one_of Kept.joined Kept.keys_known Kept.keys_ever_known Kept.acceptance_in Kept.acceptance_of Kept.acceptances Kept.judged_by Kept.proposal_of
+    Kept.with_parents Kept.with_made Kept.with_acceptances Kept.with_proposals Kept.kept_keys Kept.kept Kept.start Kept.erased Kept.replies Same.same_inst Same.same_org Same.same_event
+    Same.same_elem Same.same_group SameKey.same_place SameKey.same_name SameKey.same_key Parents.event_of Parents.event_key Parents.above Parents.up_to Parents.parents SameKey.is_among
+    Order.put Order.in_order Order.is_less Passing.lets_out Passing.sent_copy Passing.is_sent_owner Passing.element_passes Passing.passes_at Passing.passes_by Passing.passes
+    Passing.known_there Passing.passing Shown.order_of Shown.sorted Shown.is_shown Shown.shown_at Shown.is_plain_attribute Shown.is_attribute_of Shown.is_object Shown.is_reference_of
+    Shown.is_proposal_on Shown.is_sighting_on Shown.is_verdict_on Shown.is_closed Shown.proposals_on Shown.sightings_on Shown.shown_attribute Shown.object_of Shown.shown_object Shown.creator
+    Shown.form_of Shown.event_row Shown.shown Shown.is_chosen Shown.index View.is_row_of RowFacts.is_tombstone RowFacts.is_deleted View.has_copy View.has_home View.has_gone View.row_is_open
+    View.has_open View.element_granted View.granted_somewhere View.granted_by View.granted View.is_known View.known View.is_live View.is_before View.first_of_all View.chosen View.is_least
+    count script asks no_links event_of_two elem_id event org attribute add_one a b c route links syncs asks_at rule_number tell view publish stamps comment relabel propose accept
+    first_references first_sightings inside group administers in_group add_levels
+everything = tt
+
+-- Beta sees one attribute of the first event, Gamma and Alpha see what is theirs
+beta : map count (replies (org 2) no_links script) ≡ 300 ∷ 300 ∷ 1 ∷ 300 ∷ 300 ∷ []
+unfolding everything
+beta = refl
+
+alpha : map count (replies (org 1) no_links script) ≡ 3 ∷ 3 ∷ 300 ∷ 300 ∷ 2 ∷ []
+unfolding everything
+alpha = refl
+
+-- with what Beta was never granted left out, Beta is told the same
+beta_erased : map count (replies (org 2) no_links (erased (org 2) no_links script)) ≡ 300 ∷ 300 ∷ 1 ∷ 300 ∷ 300 ∷ []
+unfolding everything
+beta_erased = refl
+
+-- a connected event is pulled as one of the community, and pulled again as one of its holder alone
+pulled_twice : List Act
+pulled_twice =
+    asks_at a 1 100 (add_one 11 Label.Connected) ∷ asks_at a 1 110 (publish 11) ∷ syncs Pull b (98 ∷ 97 ∷ []) ∷ asks_at b 2 120 (view 11)
+    ∷ syncs Pull c (99 ∷ 98 ∷ []) ∷ asks_at c 3 130 (view 11) ∷ asks_at c 2 140 (view 11) ∷ []
+
+each_hop_lowers_the_level : (map tell (replies (org 1) links pulled_twice) ≡ 2002 ∷ 2002 ∷ 0 ∷ 0 ∷ 0 ∷ 0 ∷ 0 ∷ [])
+    × (map tell (replies (org 2) links pulled_twice) ≡ 0 ∷ 0 ∷ 0 ∷ 3101 ∷ 0 ∷ 0 ∷ 1009 ∷ [])
+    × (map tell (replies (org 3) links pulled_twice) ≡ 0 ∷ 0 ∷ 0 ∷ 0 ∷ 0 ∷ 3100 ∷ 0 ∷ [])
+unfolding everything pulled_twice
+each_hop_lowers_the_level = (refl, refl, refl)
+
+-- an edit holds its attribute alone, until the next publishing
+edited_later : List Act
+edited_later =
+    asks_at a 1 100 (add_one 11 Label.Connected) ∷ asks_at a 1 110 (publish 11) ∷ syncs Pull b (98 ∷ 97 ∷ [])
+    ∷ asks_at a 1 150 (comment 11 21) ∷ syncs Pull b (98 ∷ 97 ∷ []) ∷ asks_at b 2 155 (view 11)
+    ∷ asks_at a 1 160 (publish 11) ∷ syncs Pull b (98 ∷ 97 ∷ []) ∷ asks_at b 2 165 (view 11) ∷ []
+
+an_edit_is_held : (map stamps (replies (org 2) links edited_later) ≡ [] ∷ [] ∷ [] ∷ [] ∷ [] ∷ (2 ∷ 100 ∷ []) ∷ [] ∷ [] ∷ (2 ∷ 150 ∷ []) ∷ [])
+    × (map tell (replies (org 1) links edited_later) ≡ 2002 ∷ 2002 ∷ 0 ∷ 2001 ∷ 0 ∷ 0 ∷ 2002 ∷ 0 ∷ 0 ∷ [])
+unfolding everything edited_later
+an_edit_is_held = (refl, refl)
+
+-- a copy that came back is seen where the Home copy is hidden
+came_back : List Act
+came_back =
+    asks_at a 1 100 (add_one 11 Label.All) ∷ asks_at a 1 110 (publish 11) ∷ syncs Pull b (98 ∷ 97 ∷ []) ∷ syncs Pull a (97 ∷ 118 ∷ [])
+    ∷ asks_at a 1 120 (relabel 11 Label.Own) ∷ asks_at a 2 130 (view 11) ∷ []
+
+a_copy_that_came_back_is_seen : map stamps (replies (org 2) links came_back) ≡ [] ∷ [] ∷ [] ∷ [] ∷ [] ∷ (3 ∷ 100 ∷ []) ∷ []
+unfolding everything came_back
+a_copy_that_came_back_is_seen = refl
+
+-- a proposal travels to the Home copy, and its acceptance travels back
+proposed : List Act
+proposed =
+    asks_at a 1 100 (add_one 11 Label.All) ∷ asks_at a 1 110 (publish 11) ∷ syncs Pull b (98 ∷ 97 ∷ []) ∷ asks_at b 2 120 (propose 11 21 9)
+    ∷ syncs Pull a (97 ∷ 98 ∷ []) ∷ asks_at a 1 130 (accept 11 21 b 2 9) ∷ asks_at a 1 140 (publish 11) ∷ syncs Pull b (98 ∷ 97 ∷ [])
+    ∷ asks_at a 1 150 (accept 11 21 b 2 9) ∷ asks_at b 2 160 (view 11) ∷ []
+
+an_acceptance_travels_back : (map tell (replies (org 1) links proposed) ≡ 2002 ∷ 2002 ∷ 0 ∷ 0 ∷ 0 ∷ 2002 ∷ 2002 ∷ 0 ∷ 1020 ∷ 0 ∷ [])
+    × (map stamps (replies (org 2) links proposed) ≡ [] ∷ [] ∷ [] ∷ [] ∷ [] ∷ [] ∷ [] ∷ [] ∷ [] ∷ (2 ∷ 130 ∷ []) ∷ [])
+unfolding everything proposed
+an_acceptance_travels_back = (refl, refl)
+
+-- a deleted event leaves a tombstone; who may not change an event is told why
+deleted : List Act
+deleted =
+    asks_at a 1 100 (add_one 11 Label.Connected) ∷ asks_at a 1 110 (publish 11) ∷ syncs Pull b (98 ∷ 97 ∷ []) ∷ asks_at a 2 111 (comment 11 21) ∷ asks_at b 2 112 (comment 11 21)
+    ∷ asks_at a 1 113 (add_one 11 Label.All) ∷ asks_at b 2 120 (Ask.Change (DeleteEvent (event 11))) ∷ syncs Pull b (98 ∷ 97 ∷ []) ∷ asks_at b 2 130 (add_one 11 Label.All) ∷ []
+
+a_tombstone_is_left : (map tell (replies (org 2) links deleted) ≡ 0 ∷ 0 ∷ 0 ∷ 1010 ∷ 1011 ∷ 0 ∷ 2001 ∷ 0 ∷ 1013 ∷ [])
+    × (map tell (replies (org 1) links deleted) ≡ 2002 ∷ 2002 ∷ 0 ∷ 0 ∷ 0 ∷ 1012 ∷ 0 ∷ 0 ∷ 0 ∷ [])
+unfolding everything deleted
+a_tombstone_is_left = (refl, refl)
+
+-- an event's own attribute, one of the community, one of a group and one that inherits, as Alpha, Beta and Gamma see them
+levels : List Act
+levels =
+    administers a 90 1 true (group 1 (1 ∷ 2 ∷ []) false)
+    ∷ asks_at a 1 100 (add_levels 11 Label.All (attribute 1 21 Label.Own ∷ attribute 2 22 Label.Community ∷ attribute 3 23 in_group ∷ attribute 4 24 Label.Inherit ∷ []))
+    ∷ asks_at a 1 110 (view 11) ∷ asks_at a 2 110 (view 11) ∷ asks_at a 3 110 (view 11) ∷ []
+
+labels_as_each_sees_them : (map tell (replies (org 1) links levels) ≡ 0 ∷ 2005 ∷ 3403 ∷ 0 ∷ 0 ∷ [])
+    × (map tell (replies (org 2) links levels) ≡ 0 ∷ 0 ∷ 0 ∷ 3303 ∷ 0 ∷ [])
+    × (map tell (replies (org 3) links levels) ≡ 0 ∷ 0 ∷ 0 ∷ 0 ∷ 3203 ∷ [])
+unfolding everything levels
+labels_as_each_sees_them = (refl, refl, refl)
+
+-- a group that does not carry keeps its event back, and one that roams lets it out
+carried : List Act
+carried =
+    administers a 90 1 true (group 1 (1 ∷ 2 ∷ []) false) ∷ asks_at a 1 100 (add_one 11 in_group) ∷ asks_at a 1 110 (publish 11)
+    ∷ syncs Pull b (98 ∷ 97 ∷ []) ∷ asks_at b 2 120 (view 11) ∷ administers a 130 1 false (group 1 (1 ∷ 2 ∷ []) true)
+    ∷ syncs Pull b (98 ∷ 97 ∷ []) ∷ asks_at b 2 140 (view 11) ∷ asks_at b 3 140 (view 11) ∷ []
+
+a_roaming_group_lets_out : (map tell (replies (org 2) links carried) ≡ 0 ∷ 0 ∷ 0 ∷ 0 ∷ 1009 ∷ 0 ∷ 0 ∷ 3104 ∷ 0 ∷ [])
+    × (map tell (replies (org 3) links carried) ≡ 0 ∷ 0 ∷ 0 ∷ 0 ∷ 0 ∷ 0 ∷ 0 ∷ 0 ∷ 1009 ∷ [])
+unfolding everything carried
+a_roaming_group_lets_out = (refl, refl)
+
+-- a reference is shown where both its ends are; a sighting is shown to its reporter and to holders
+ends : List Act
+ends =
+    asks_at a 1 100 (Ask.Change (AddEvent (record {
+      event = event 11;
+      body = Some (record { info = 105 ∷ []; date = None; threat_level_id = 4; analysis = 0; extends_uuid = None; tags = [] });
+      label = Label.Community;
+      parts =
+          attribute 1 20 Label.Inherit ∷ attribute 2 21 Label.Own
+          ∷ record {
+            number = 3;
+            place = Place.Object (elem_id 31);
+            label = Label.Community;
+            content = Content.Object (record { name = 120 ∷ []; meta_category = []; description = []; comment = []; template_uuid = None; template_version = 0; deleted = false });
+          }
+          ∷ [];
+      references = record { number = 4; object = elem_id 31; uuid = elem_id 41; referenced = elem_id 21; body = record { relationship_type = []; comment = []; deleted = false } } ∷ [];
+    })))
+    ∷ asks_at a 2 105 (Ask.Sight (event 11) (Place.Attribute (elem_id 20)) (record { uuid = elem_id 51; kind = 0; date = None; source = [] }))
+    ∷ asks_at a 1 110 (view 11) ∷ asks_at a 2 110 (view 11) ∷ asks_at a 3 110 (view 11) ∷ []
+
+both_ends_of_a_reference : (map inside (replies (org 1) links ends) ≡ 2 ∷ 0 ∷ 1011 ∷ 0 ∷ 0 ∷ [])
+    × (map inside (replies (org 2) links ends) ≡ 0 ∷ 2 ∷ 0 ∷ 1001 ∷ 0 ∷ [])
+    × (map inside (replies (org 3) links ends) ≡ 0 ∷ 0 ∷ 0 ∷ 0 ∷ 1000 ∷ [])
+unfolding everything ends
+both_ends_of_a_reference = (refl, refl, refl)
+
+-- of two statements of one uuid the one made at `a` stands before the one made at `ab`
+named : List ℕ → Key
+named i = Proposal (event 11) (record { target = Place.Event; at = i; by = org 500; uuid = elem_id 9 })
+
+order : (is_less (order_of (named a)) (order_of (named (97 ∷ 98 ∷ []))) ≡ true) × (is_less (order_of (named (97 ∷ 98 ∷ []))) (order_of (named a)) ≡ false)
+unfolding everything named
+order = (refl, refl)
+
+-- a pull that stopped after one package took that of the second event, since of the first nothing was taken
+stopped : List Act
+stopped =
+    asks_at a 1 100 (add_one 11 Label.All) ∷ asks_at a 1 110 (publish 11) ∷ asks_at a 1 100 (add_one 12 Label.All) ∷ asks_at a 1 110 (publish 12)
+    ∷ syncs Pull b (98 ∷ 97 ∷ []) ∷ asks_at a 1 150 (comment 12 21) ∷ asks_at a 1 160 (publish 12) ∷ syncs Pull b (98 ∷ 97 ∷ []) ∷ []
+
+stopped_pull : map (λ row. row.stamp) (tables (run_partly links 0 start stopped (Whole ∷ Whole ∷ Whole ∷ Whole ∷ Whole ∷ Whole ∷ Whole ∷ Stopped true 1 ∷ [])).log b) ≡ 110 ∷ 100 ∷ 160 ∷ 150 ∷ []
+unfolding everything stopped
+stopped_pull = refl

@@ -1,0 +1,9 @@
+pub mod Erasing
+pub mod Examples
+pub mod Headline
+pub mod Keeping
+pub mod Least
+pub mod Members
+pub mod Moving
+pub mod Owners
+pub mod Submitting

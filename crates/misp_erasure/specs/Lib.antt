@@ -1,0 +1,2 @@
+pub mod Erasure
+pub mod Kept

@@ -1,5 +1,0 @@
-use Rattle.std.proofs.Common.{refl}
-use Rattle.misp_format.proofs.element.put_attribute_lists.Goals as goal
-
-pub returns : goal.returns
-returns c = rw (← c.attribute.view_is, c.in_ok-put_list-3.ensures, c.as_slice-2.ensures, c.in_ok-put_list-2.ensures, c.as_slice.ensures, c.in_ok-put_sharing_group.ensures, c.in_ok-put_list.ensures, c.as_slice-proposals.ensures) refl

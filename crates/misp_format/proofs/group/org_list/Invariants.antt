@@ -1,8 +1,0 @@
-use Rattle.std.proofs.Common.{◌≡◌, map}
-use Rattle.std.specs.List.{AllByRecursion}
-use Rattle.misp_groups.specs.Group.{IsOrg}
-use Rattle.misp_format.specs.Groups.{org_of}
-use Rattle.misp_format.proofs.group.org_list.Given as goal
-
-abbrev pub invariant-loop-uuid : goal.invariant-loop-uuid
-invariant-loop-uuid l = (l.orgs.items ≡ map org_of l.yielded) × AllByRecursion IsOrg l.orgs.items

@@ -1,0 +1,5 @@
+pub mod Acts
+pub mod History
+pub mod Merging
+pub mod Outcomes
+pub mod Passing

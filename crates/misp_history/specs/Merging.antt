@@ -1,0 +1,155 @@
+-- What a synchronisation does to tables, told by rows alone: which rows pass and as what they
+use Rattle.std.specs.Prelude.{true, false, List, filter, map, Bool, not, ◌&&◌, ◌||◌, leb, ◌≡◌, [], ◌∷◌, ◌++◌, ℕ, suc, zero, Contains, flat_map}
+use Rattle.misp_levels.specs.Levels.{down}
+use Rattle.misp_groups.specs.Audience.{label_is_known}
+use Rattle.misp_rules.specs.Prelude.{Group, Inst, IsTable, OrgId, Row, event_key, event_of, has_copy, has_gone, has_home, in_order, is_made_at, is_row_of, is_statement, is_tombstone, known, list_any, same_event, same_key, same_org}
+use Rattle.misp_rules.specs.Prelude.{stands_before}
+use Rattle.misp_rules.specs.Machine.{put_all}
+use Rattle.misp_history.specs.History.{without_local_tags}
+use Rattle.misp_history.specs.Passing.{Route, passes}
+
+-- a row as it arrives at the end of a route: the holder's, carried and not held, its label one step
+-- down, without the tags that are not exportable
+unfoldable pub arrived : Route → Row → Row
+arrived route row =
+    record {
+      owner = route.holder;
+      key = row.key;
+      stamp = row.stamp;
+      label = down row.label 1;
+      held = false;
+      carried = true;
+      content = without_local_tags row.content;
+    }
+
+-- a row as it is handed in: the owner's, carried and not held
+unfoldable pub handed : OrgId → Row → Row
+handed w row = record row { owner = w; held = false; carried = true }
+
+-- of a table the rows that pass: nothing is looked at but what the organisation of the
+-- synchronisation knows there
+unfoldable pub passing_rows : List Row → List Group → Route → List Row
+passing_rows rows groups route =
+    filter (passes (known rows groups route.from route.«for») groups route)
+    (known rows groups route.from route.«for»)
+
+-- as they arrive
+unfoldable pub arriving_rows : List Row → List Group → Route → List Row
+arriving_rows rows groups route = map (arrived route) (passing_rows rows groups route)
+
+-- what an arriving row has to meet whatever else arrives; rows are the receiver's, i its name
+unfoldable pub is_welcome_row : Inst → List Row → List Group → Row → Bool
+is_welcome_row i rows groups row =
+    not (has_gone rows row.owner (event_of row.key))
+    && (not (has_home rows row.owner (event_of row.key)) || is_statement row.key)
+    && not (is_made_at i row.key) && label_is_known groups row.label
+
+-- the owner has a copy of the row's event, or an event row of it comes that is welcome
+unfoldable pub has_event_row : Inst → List Row → List Group → List Row → Row → Bool
+has_event_row i rows groups coming row =
+    has_copy rows row.owner (event_of row.key)
+    || list_any
+    (λ r. same_key r.key (event_key (event_of row.key)) && is_welcome_row i rows groups r) coming
+
+-- the arriving row counts
+unfoldable pub counts_row : Inst → List Row → List Group → List Row → Row → Bool
+counts_row i rows groups coming row =
+    is_welcome_row i rows groups row
+    && (is_statement row.key || has_event_row i rows groups coming row)
+
+-- no row of its owner and key is as new
+unfoldable pub is_newer_row : List Row → Row → Bool
+is_newer_row rows row =
+    not (list_any (λ r. is_row_of row.owner row.key r && leb row.stamp r.stamp) rows)
+
+-- the arriving rows that are taken: those that count and are newer
+unfoldable pub rows_taken : Inst → List Row → List Group → List Row → List Row
+rows_taken i rows groups coming =
+    filter (is_newer_row rows) (filter (counts_row i rows groups coming) coming)
+
+-- the rows afterwards: each that is taken in the place of its owner's row of that key
+unfoldable pub merged : Inst → List Row → List Group → List Row → List Row
+merged i rows groups coming = put_all (rows_taken i rows groups coming) rows
+
+-- ---- by packages
+
+-- what arrives for an owner: all of it the owner's, carried, and no tombstone
+unfoldable pub arrives : OrgId → Row → Bool
+arrives w row = same_org row.owner w && (row.carried && not (is_tombstone row))
+
+-- a package of what comes: some of it, each key once, and of each event the event's own row
+pub record IsPackageOf (coming part : List Row) : Type 0 where
+  pub apart : IsTable part
+  pub come : (row : Row) → Contains part row → Contains coming row
+  pub with_event : (row : Row) → Contains part row →
+      list_any (λ r. same_key r.key (event_key (event_of row.key))) part ≡ true
+
+-- packages merged one after another
+unfoldable pub merged_by : Inst → List Row → List Group → List (List Row) → List Row
+merged_by i rows groups [] = rows
+merged_by i rows groups (p ∷ ps) = merged_by i (merged i rows groups p) groups ps
+
+-- the row counts and is newer
+unfoldable pub is_taken : Inst → List Row → List Group → List Row → Row → Bool
+is_taken i rows groups coming row = counts_row i rows groups coming row && is_newer_row rows row
+
+-- the rows of a package that pass the test, and of whose name none is among these
+abbrev pub fresh : (Row → Bool) → List Row → List Row → List Row
+fresh test so p =
+    filter (λ row. test row && not (list_any (is_row_of row.owner row.key) so)) p
+
+-- the rows of packages that pass the test, each name once; those of so came before
+unfoldable pub brought : (Row → Bool) → List Row → List (List Row) → List Row
+brought test so [] = []
+brought test so (p ∷ ps) = fresh test so p ++ brought test (so ++ fresh test so p) ps
+
+abbrev pub more_where : {A : Type 0} → List A → ℕ → ℕ
+more_where [] n = n
+more_where (x ∷ xs) n = suc n
+
+abbrev pub fewer_where : {A : Type 0} → List A → ℕ → ℕ
+fewer_where [] n = suc n
+fewer_where (x ∷ xs) n = n
+
+-- how many of the packages bring a row
+unfoldable pub count_bringing : (Row → Bool) → List Row → List (List Row) → ℕ
+count_bringing test so [] = 0
+count_bringing test so (p ∷ ps) =
+    more_where (fresh test so p) (count_bringing test (so ++ fresh test so p) ps)
+
+-- the packages up to the n-th that brings a row
+unfoldable pub bringing : ℕ → (Row → Bool) → List Row → List (List Row) → List (List Row)
+bringing zero test so ps = []
+bringing (suc n) test so [] = []
+bringing (suc n) test so (p ∷ ps) =
+    p ∷ bringing (fewer_where (fresh test so p) n) test (so ++ fresh test so p) ps
+
+-- ---- how what passes is packed
+
+-- the row is of the event itself
+unfoldable pub is_own : Row → Bool
+is_own row = same_key row.key (event_key (event_of row.key))
+
+-- one more in front of the first
+abbrev pub onto : {A : Type 0} → A → List (List A) → List (List A)
+onto x [] = (x ∷ []) ∷ []
+onto x (c ∷ cs) = (x ∷ c) ∷ cs
+
+-- a list cut into parts of 64, where there is room for so many in the first; there is one part at
+-- least
+unfoldable pub cut : {A : Type 0} → ℕ → List A → List (List A)
+cut room [] = [] ∷ []
+cut zero (x ∷ xs) = [] ∷ onto x (cut 63 xs)
+cut (suc room) (x ∷ xs) = onto x (cut room xs)
+
+-- of these the rows of its event but the event's own
+unfoldable pub others_with : List Row → Row → List Row
+others_with rows row =
+    filter (λ r. same_event (event_of r.key) (event_of row.key) && not (is_own r)) rows
+
+-- the packages of rows of one owner: for each event its own row with at most 64 others in each, in
+-- the order of events and keys
+unfoldable pub packages : List Row → List (List Row)
+packages rows =
+    flat_map (λ x. map (λ c. x ∷ c) (cut 64 (others_with (in_order stands_before rows) x)))
+    (filter is_own (in_order stands_before rows))

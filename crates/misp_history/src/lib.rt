@@ -1,0 +1,18 @@
+//! The history of a network: versions, the tables that are the newest of them, and what each act and
+//! each synchronisation leaves.
+#![tactic(auto)]
+
+mod laws;
+mod synchronising;
+mod table;
+
+pub use laws::{
+    a_copy_is_as_its_event_came, a_publishing_clears_the_holds_of_its_copy,
+    a_request_is_decided_without_its_number, an_accepted_request_is_put_row_by_row,
+    one_version_more, what_an_act_leaves,
+};
+pub use synchronising::{
+    a_package_is_handed_in, a_second_synchronisation, a_synchronisation_by_packages,
+    one_synchronisation, packages_are_merged_one_by_one, what_passes_is_granted,
+};
+pub use table::tables_have_one_row_for_each_key;

@@ -1,0 +1,124 @@
+//! What a synchronisation does to the tables.
+
+ghost use Rattle.std.specs.Prelude.{◌≡◌, ℕ, Bool, true, false, List, [], ◌++◌, cond, filter, length, map, take};
+ghost use Rattle.std.specs.List.{list_all, AllByRecursion, Contains};
+ghost use Rattle.misp_ids.specs.Uid.{IsUid};
+ghost use Rattle.misp_ids.specs.declared.uid.OrgId.{OrgId};
+ghost use Rattle.misp_ids.specs.declared.uid.EventId.{EventId};
+ghost use Rattle.misp_elem.specs.declared.row.RowFields.{RowFields as Row};
+ghost use Rattle.misp_elem.specs.Row.{AreRows};
+ghost use Rattle.misp_groups.specs.declared.group.GroupFields.{GroupFields as Group};
+ghost use Rattle.misp_rules.specs.declared.package.PackageFields.{PackageFields as Package};
+ghost use Rattle.misp_rules.specs.declared.ask.Ask.TheVariants.{TakePart};
+ghost use Rattle.misp_ids.specs.Same.{Inst, same_inst};
+ghost use Rattle.misp_groups.specs.Audience.{carries};
+ghost use Rattle.misp_rules.specs.Version.{Version};
+ghost use Rattle.misp_history.specs.History.{tables};
+ghost use Rattle.misp_rules.specs.View.{IsTable, granted};
+ghost use Rattle.misp_rules.specs.Machine.{event_rows, put_all};
+ghost use Rattle.misp_history.specs.Passing.{Route};
+ghost use Rattle.misp_history.specs.Acts.{Act, Caller, World, scene, synced, synced_groups};
+ghost use Rattle.misp_rules.specs.Answers.{Taken, brings, ok_answer};
+ghost use Rattle.misp_groups.specs.Changes.{count_taken};
+ghost use Rattle.misp_history.specs.Outcomes.{arriving, synced_partly, takes};
+ghost use Rattle.misp_history.specs.Merging.{IsPackageOf, arrives, arriving_rows, brought, count_bringing, fresh, handed, is_taken, merged, merged_by, packages, passing_rows, rows_taken};
+
+/// A synchronisation merges what passes of the sender's rows into the rows of its receiver, and
+/// changes no row of another instance.
+pub fn one_synchronisation()
+    ensures here { (n : ℕ) (w : World) (r : Route) →
+        tables (synced n w r).log r.into
+        ≡ merged r.into (tables w.log r.into) (synced_groups w.groups r r.into)
+        (arriving_rows (tables w.log r.from) (w.groups r.from) r) }
+    ensures elsewhere { (n : ℕ) (w : World) (r : Route) (j : Inst) →
+        same_inst r.into j ≡ false → tables (synced n w r).log j ≡ tables w.log j }
+{}
+
+/// What passes of a table was granted there to the organisation of the synchronisation, and arrives
+/// as rows. Of one event the same passes from its own rows as from all.
+pub fn what_passes_is_granted()
+    ensures rows { (rows : List Row) (groups : List Group) (r : Route) → IsTable rows →
+        AreRows rows → IsUid r.holder.0 → AreRows (arriving_rows rows groups r) }
+    ensures here { (e : EventId) (rows : List Row) (groups : List Group) (r : Route) →
+        arriving_rows (event_rows e rows) groups r ≡ event_rows e (arriving_rows rows groups r) }
+    ensures granted { (rows : List Row) (groups : List Group) (r : Route) (x : Row) → IsTable rows →
+        Contains (passing_rows rows groups r) x → granted rows groups r.from r.«for» x ≡ true }
+{}
+
+/// A package that an organisation hands in is merged into the rows of the instance, each of its rows
+/// as it is handed in, and the answer tells how many are taken.
+pub fn a_package_is_handed_in()
+    ensures here { (n : ℕ) (w : World) (act : Act) (c : Caller) (p : Package) →
+        IsTable (map (handed c.org) p.rows) →
+        tables (w.log ++ brings (scene n w act c) (TakePart p)) act.at
+        ≡ merged act.at (tables w.log act.at) (w.groups act.at) (map (handed c.org) p.rows) }
+    ensures elsewhere { (n : ℕ) (w : World) (act : Act) (c : Caller) (p : Package) (j : Inst) →
+        same_inst act.at j ≡ false →
+        tables (w.log ++ brings (scene n w act c) (TakePart p)) j ≡ tables w.log j }
+    ensures answer { (n : ℕ) (w : World) (act : Act) (c : Caller) (p : Package) →
+        ok_answer (scene n w act c) (TakePart p)
+        ≡ Taken (length (rows_taken act.at (tables w.log act.at) (w.groups act.at)
+        (map (handed c.org) p.rows))) }
+{}
+
+/// The same synchronisation once more, with both instances unchanged, takes no group and no row, and
+/// changes nothing.
+pub fn a_second_synchronisation()
+    ensures here { (n m : ℕ) (w : World) (r : Route) → same_inst r.into r.from ≡ false →
+        tables (synced m (synced n w r) r).log r.into ≡ tables (synced n w r).log r.into }
+    ensures elsewhere { (n m : ℕ) (w : World) (r : Route) (j : Inst) → same_inst r.into j ≡ false →
+        tables (synced m (synced n w r) r).log j ≡ tables (synced n w r).log j }
+    ensures groups { (n m : ℕ) (w : World) (r : Route) → same_inst r.into r.from ≡ false →
+        (synced m (synced n w r) r).groups r.into ≡ (synced n w r).groups r.into }
+    ensures taken { (n : ℕ) (w : World) (r : Route) → same_inst r.into r.from ≡ false →
+        rows_taken r.into (tables (synced n w r).log r.into)
+        (synced_groups (synced n w r).groups r r.into)
+        (arriving_rows (tables (synced n w r).log r.from) ((synced n w r).groups r.from) r)
+        ≡ [] }
+    ensures counted { (n : ℕ) (w : World) (r : Route) → same_inst r.into r.from ≡ false →
+        count_taken ((synced n w r).groups r.into)
+        (filter (λ g. carries g r.«for» r.dest) ((synced n w r).groups r.from)) ≡ 0 }
+{}
+
+/// Packages that are merged one after another put what is taken of all that comes, each row with the
+/// first package that has it. Packages that have all that comes are merged as the whole.
+pub fn packages_are_merged_one_by_one()
+    ensures some { (i : Inst) (rows : List Row) (groups : List Group) (coming : List Row)
+        (w : OrgId) (ps : List (List Row)) →
+        IsTable coming → list_all (arrives w) coming ≡ true →
+        AllByRecursion (IsPackageOf coming) ps →
+        merged_by i rows groups ps
+        ≡ put_all (brought (is_taken i rows groups coming) [] ps) rows }
+    ensures all { (log : List Version) (i : Inst) (groups : List Group) (coming : List Row)
+        (w : OrgId) (ps : List (List Row)) →
+        IsTable coming → list_all (arrives w) coming ≡ true →
+        AllByRecursion (IsPackageOf coming) ps →
+        ((x : Row) → Contains coming x → (p : List Row) × (Contains ps p × Contains p x)) →
+        merged_by i (tables log i) groups ps ≡ merged i (tables log i) groups coming }
+    ensures next { (i : Inst) (rows : List Row) (groups : List Group) (coming : List Row)
+        (w : OrgId) (ps : List (List Row)) (p : List Row) →
+        IsTable coming → list_all (arrives w) coming ≡ true →
+        AllByRecursion (IsPackageOf coming) ps → IsPackageOf coming p →
+        rows_taken i (merged_by i rows groups ps) groups p
+        ≡ fresh (is_taken i rows groups coming) (brought (is_taken i rows groups coming) [] ps) p }
+{}
+
+/// A synchronisation that stopped after the batches of its first packages has merged these packages
+/// into the rows of its receiver, one after another, and one that is done has merged all of them.
+/// Neither changes a row of another instance.
+pub fn a_synchronisation_by_packages()
+    ensures stopped { (n k : ℕ) (w : World) (r : Route) (g : Bool) →
+        AreRows (tables w.log r.from) →
+        tables (synced_partly n w r g
+        (count_bringing (takes w r (cond g (synced_groups w.groups r) w.groups r.into)) []
+        (take k (packages (arriving w r))))).log r.into
+        ≡ merged_by r.into (tables w.log r.into) (cond g (synced_groups w.groups r) w.groups r.into)
+        (take k (packages (arriving w r))) }
+    ensures done { (n : ℕ) (w : World) (r : Route) → AreRows (tables w.log r.from) →
+        tables (synced n w r).log r.into
+        ≡ merged_by r.into (tables w.log r.into) ((synced n w r).groups r.into)
+        (packages (arriving w r)) }
+    ensures elsewhere { (n p : ℕ) (w : World) (r : Route) (g : Bool) (j : Inst) →
+        same_inst r.into j ≡ false →
+        tables (synced_partly n w r g p).log j ≡ tables w.log j }
+{}

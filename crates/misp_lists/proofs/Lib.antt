@@ -1,0 +1,11 @@
+pub mod All
+pub mod Bytes
+pub mod Distinct
+pub mod Elements
+pub mod Lists
+pub mod Ordering
+pub mod Orders
+pub mod Prelude
+pub mod Readings
+pub mod Searching
+pub mod Sorting

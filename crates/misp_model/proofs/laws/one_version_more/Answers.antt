@@ -1,7 +1,0 @@
--- The laws are lemmas of proofs/Fresh.antt and proofs/Putting.antt.
-use Rattle.misp_model.proofs.Fresh.{not_handed_in, row_of_fresh}
-use Rattle.misp_model.proofs.Putting.{tables_more}
-use Rattle.misp_model.proofs.laws.one_version_more.Goals as goal
-
-pub returns : goal.returns
-returns c = record { fresh = λ log v p k h. row_of_fresh log v p (not_handed_in v k) h; placed = λ log v i h. tables_more log v i h }

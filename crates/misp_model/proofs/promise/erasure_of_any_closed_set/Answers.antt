@@ -1,9 +1,0 @@
--- The laws are the lemmas of proofs/Erasing.antt.
-use Rattle.misp_model.proofs.Erasing.{replies_cut, run_cut}
-use Rattle.misp_model.proofs.promise.erasure_of_any_closed_set.Goals as goal
-
-pub returns : goal.returns
-returns c = record {
-  replies = λ keep o net n w acts closed kept. replies_cut keep closed o net n w acts kept;
-  states = λ keep o net n w acts closed kept. run_cut keep closed o net n w acts kept;
-}

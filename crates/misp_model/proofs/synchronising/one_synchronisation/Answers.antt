@@ -1,6 +1,0 @@
--- The laws are lemmas of proofs/Merging.antt.
-use Rattle.misp_model.proofs.Merging.{synced_here, synced_elsewhere}
-use Rattle.misp_model.proofs.synchronising.one_synchronisation.Goals as goal
-
-pub returns : goal.returns
-returns c = record { here = λ n w r. synced_here n w r; elsewhere = λ n w r j h. synced_elsewhere n w r j h }

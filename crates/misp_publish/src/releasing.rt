@@ -1,0 +1,146 @@
+//! What a publishing writes.
+
+ghost use Rattle.std.specs.Prelude.{◌≡◌, ◌++◌, true, map, is_some, IfOk, IfErr};
+ghost use Rattle.std.specs.List.{filter, find};
+ghost use Rattle.misp_ids.specs.declared.uid.EventId.{EventId};
+ghost use Rattle.misp_elem.specs.Row.{IsRow, AreRows};
+ghost use Rattle.misp_elem.specs.Parents.{event_key};
+ghost use Rattle.misp_history.specs.History.{fresh_row};
+ghost use Rattle.misp_rules.specs.Edits as asking;
+ghost use Rattle.misp_rules.specs.Scene.{Scene, is_at_limit};
+ghost use Rattle.misp_copies.specs.Copies.{AreOf, is_event_row};
+ghost use Rattle.misp_publish.specs.Release.{Publishes, at_stamp, cleared_row, is_released};
+ghost use Rattle.misp_publish.specs.declared.fault.PublishFault.TheVariants as faults;
+
+use crate::fault::PublishFault;
+use misp_copies::{event_row, is_event_row};
+use misp_elem::{Content, KeyForm, Row, RowFields};
+use misp_ids::{Label, NoMemory, OrgId, Stamp};
+use std::alloc::Global;
+
+// The content, published at this moment.
+#[tactic(auto, unfolding(misp_rules::specs::Edits::at_publishing))]
+fn published(content: &Content, now: Stamp) -> Result<Content, NoMemory>
+    ensures { IfOk result (λ made. made ≡ asking.at_publishing now content.now) }
+{
+    let mut copy = content.clone()?;
+    if let Content::Event(body) = &mut copy {
+        body.publish_stamp = now;
+    }
+    Ok(copy)
+}
+
+fn owner_of(row: &Row) -> OrgId
+    ensures { result ≡ row.now.owner }
+{
+    row.owner
+}
+
+fn key_of(row: &Row) -> KeyForm
+    ensures { result ≡ row.now.key }
+{
+    row.key.form
+}
+
+fn label_of(row: &Row) -> Label
+    ensures { result ≡ row.now.label }
+{
+    row.label
+}
+
+fn published_content(row: &Row, now: Stamp) -> Result<Content, NoMemory>
+    ensures { IfOk result (λ made. made ≡ asking.at_publishing now row.now.content) }
+{
+    published(&row.content, now)
+}
+
+// The event's own row, published at this moment under this stamp.
+#[tactic(auto, unfolding(crate::specs::Release::at_stamp))]
+fn published_row(row: &Row, stamp: Stamp, now: Stamp) -> Result<Row, NoMemory>
+    ensures value { IfOk result (λ made. made ≡ at_stamp stamp now row.now) }
+    ensures is_row { IfOk result IsRow }
+{
+    let (_stamp, _now, _held) = (stamp.get(), now.get(), row.held);
+    let content = published_content(row, now)?;
+    let (owner, key, label) = (owner_of(row), key_of(row), label_of(row));
+    Ok(Row::of(RowFields {
+        owner,
+        key,
+        stamp,
+        label,
+        held: false,
+        carried: false,
+        content,
+    }))
+}
+
+// The row with no hold.
+#[tactic(auto, unfolding(crate::specs::Release::cleared_row))]
+fn cleared(row: &Row) -> Result<Row, NoMemory>
+    ensures value { IfOk result (λ made. made ≡ cleared_row row.now) }
+    ensures is_row { IfOk result IsRow }
+{
+    Ok(Row::of(RowFields {
+        owner: row.owner,
+        key: row.key.form,
+        stamp: row.stamp,
+        label: row.label,
+        held: false,
+        carried: false,
+        content: row.content.clone()?,
+    }))
+}
+
+// Whether it is a held row of the owner's, and not that of an event itself.
+#[tactic(auto, unfolding(crate::specs::Release::is_released, misp_copies::specs::Copies::is_event_row, misp_ids::specs::Same::same_org))]
+fn is_released(row: &Row, owner: &OrgId) -> bool
+    ensures { result ≡ is_released owner.now row.now }
+{
+    row.owner.0.0 == owner.0.0 && (row.held && !is_event_row(row, owner))
+}
+
+// The rows, and after them the held ones of the owner's with no hold.
+fn with_cleared(mut made: Vec<Row>, rows: &[Row], owner: &OrgId) -> Result<Vec<Row>, NoMemory>
+    requires { AreRows made.items }
+    ensures all { IfOk result (λ all. all.items
+        ≡ made.items ++ map cleared_row (filter (is_released owner.now) rows.now)) }
+    ensures are_rows { IfOk result (λ all. AreRows all.items) }
+{
+    for row in rows {
+        if is_released(row, owner) {
+            made.push(cleared(row)?)?;
+        }
+    }
+    Ok(made)
+}
+
+/// The rows that a publishing of the owner's copy writes, where the rows are those of one event and
+/// the copy is there: the event's own with a later stamp, published at this moment and with no
+/// hold, and each held row of the copy with no hold.
+pub fn release(
+    alloc: Global,
+    rows: &[Row],
+    owner: &OrgId,
+    now: Stamp,
+) -> Result<Vec<Row>, PublishFault>
+    requires there { is_some (find (is_event_row owner.now) rows.now) ≡ true }
+    ensures ok { (s : Scene) (e : EventId) →
+        AreOf e rows.now → s.rows ≡ rows.now → s.by ≡ owner.now → s.now ≡ now →
+        IfOk result (λ made. Publishes s e made.items) }
+    ensures limit { (s : Scene) (e : EventId) →
+        AreOf e rows.now → s.rows ≡ rows.now → s.by ≡ owner.now →
+        IfErr result (λ fault. fault ≡ faults.TimeLimit → is_at_limit s (event_key e) ≡ true) }
+    ensures are_rows { IfOk result (λ made. AreRows made.items) }
+{
+    let own = match event_row(rows, owner) {
+        Some(own) => own,
+        None => unreachable!(),
+    };
+    let stamp = match Stamp::next(own.stamp, now) {
+        Some(stamp) => stamp,
+        None => return Err(PublishFault::TimeLimit),
+    };
+    let mut made = Vec::with_capacity(alloc, 1)?;
+    made.push(published_row(own, stamp, now)?)?;
+    Ok(with_cleared(made, rows, owner)?)
+}

@@ -1,0 +1,199 @@
+//! The verbs of lines, and their fields.
+
+ghost use Rattle.std.specs.Prelude.{◌≡◌, ◌<◌, length, option_map, IfOk};
+ghost use Rattle.std.specs.List.{list_all};
+ghost use Rattle.misp_ids.specs.Uid.{read_uid};
+ghost use Rattle.misp_script.specs.Fields.{Shows, kept};
+ghost use Rattle.misp_script.specs.Seen.{field_of};
+ghost use Rattle.misp_script.specs.Step.{IsPlaced, verb_of, is_visible, visible_of, org_of, key_of, body_of, rest_of, request_data, request_of, group_data, group_of, command_data, command_of};
+
+use crate::directory::Directory;
+use crate::field::{BadLine, Field, kept, next_field, no_field};
+use crate::step::{Command, GroupLine, RequestLine};
+use misp_ids::{OrgId, Uid};
+use std::str;
+
+/// The verb of a line.
+#[derive(Clone, Copy, Drop)]
+pub(crate) enum Verb {
+    Nothing,
+    Request,
+    AddGroup,
+    EditGroup,
+}
+
+pub(crate) fn read_verb(text: &[u8]) -> Option<Verb>
+    ensures { result ≡ verb_of text.now }
+{
+    if text == b"none".as_slice() {
+        Some(Verb::Nothing)
+    } else if text == b"req".as_slice() {
+        Some(Verb::Request)
+    } else if text == b"group-add".as_slice() {
+        Some(Verb::AddGroup)
+    } else if text == b"group-edit".as_slice() {
+        Some(Verb::EditGroup)
+    } else {
+        None
+    }
+}
+
+fn is_visible(byte: u8) -> bool
+    ensures { result ≡ is_visible byte }
+{
+    matches!(byte, b'!'..=b'~')
+}
+
+fn are_visible(text: &[u8]) -> bool
+    ensures { result ≡ list_all is_visible text.now }
+{
+    text.iter().all(|byte| is_visible(*byte))
+}
+
+fn visible(text: &[u8]) -> Option<&str>
+    ensures { option_map (λ text. text.now) result ≡ visible_of text.now }
+{
+    if text.is_empty() || !are_visible(text) {
+        return None;
+    }
+    match str::from_utf8(text) {
+        Ok(text) => Some(text),
+        Err(_) => unreachable!(),
+    }
+}
+
+/// The key of a request, for which `-` stands where there is none.
+fn key(text: &str) -> Option<&str>
+    ensures { option_map (λ text. text.now) result ≡ key_of text.now }
+{
+    if text == "-" { None } else { Some(text) }
+}
+
+fn uuid(text: &[u8]) -> Option<Uid>
+    ensures { result ≡ read_uid text.now }
+{
+    match str::from_utf8(text) {
+        Ok(text) => Uid::read(text),
+        Err(_) => None,
+    }
+}
+
+/// The organisation of a uuid, if it is known at the instance of this place.
+fn org(directory: &Directory, at: usize, text: &[u8]) -> Option<OrgId>
+    ensures { result ≡ org_of directory.now at text.now }
+{
+    let org = OrgId(uuid(text)?);
+    if directory.knows(at, &org) {
+        Some(org)
+    } else {
+        None
+    }
+}
+
+/// What follows a field, and nothing where it is the last.
+fn body<'a>(before: &Field<'a>) -> &'a [u8]
+    ensures { result.now ≡ body_of (field_of before.now).rest }
+{
+    match before.rest {
+        Some(body) => body,
+        None => &[],
+    }
+}
+
+/// The rest of a line after a field.
+fn rest<'a>(line: &[u8], before: &Field<'a>) -> Result<&'a [u8], BadLine>
+    ensures { Shows (λ rest. rest.now) result (rest_of line.now (field_of before.now).rest) }
+{
+    match before.rest {
+        Some(rest) => Ok(rest),
+        None => Err(BadLine { place: line.len() }),
+    }
+}
+
+fn visible_field<'a>(field: &Field<'a>) -> Result<&'a str, BadLine>
+    ensures { Shows (λ text. text.now) result
+        (kept (field_of field.now).place (visible_of (field_of field.now).text)) }
+{
+    match visible(field.text) {
+        Some(text) => Ok(text),
+        None => Err(BadLine { place: field.place }),
+    }
+}
+
+#[tactic(auto, unfolding(crate::specs::Step::request_of))]
+fn request<'a>(
+    line: &[u8],
+    directory: &Directory,
+    before: &Field<'a>,
+) -> Result<RequestLine<'a>, BadLine>
+    ensures request { Shows request_data result
+        (request_of directory.now line.now (field_of before.now).rest) }
+    ensures placed { IfOk result (λ request. request.at < length directory.now) }
+{
+    let inst = next_field(line, before)?;
+    let at = kept(inst.place, directory.place_of(inst.text))?;
+    let key_field = next_field(line, &inst)?;
+    let key_text = visible_field(&key_field)?;
+    let method_field = next_field(line, &key_field)?;
+    let method = visible_field(&method_field)?;
+    let target_field = next_field(line, &method_field)?;
+    let target = visible_field(&target_field)?;
+    Ok(RequestLine {
+        at,
+        key: key(key_text),
+        method,
+        target,
+        body: body(&target_field),
+    })
+}
+
+#[tactic(auto, unfolding(crate::specs::Step::group_of))]
+fn group<'a>(
+    line: &[u8],
+    directory: &Directory,
+    add: bool,
+    before: &Field<'a>,
+) -> Result<GroupLine<'a>, BadLine>
+    ensures group { Shows group_data result
+        (group_of directory.now line.now add (field_of before.now).rest) }
+    ensures placed { IfOk result (λ group. group.at < length directory.now) }
+{
+    let inst = next_field(line, before)?;
+    let at = kept(inst.place, directory.place_of(inst.text))?;
+    let org_field = next_field(line, &inst)?;
+    let org = kept(org_field.place, org(directory, at, org_field.text))?;
+    let body = rest(line, &org_field)?;
+    Ok(GroupLine { at, org, add, body })
+}
+
+/// The command of a verb, whose fields are after it.
+pub(crate) fn command<'a>(
+    line: &[u8],
+    directory: &Directory,
+    verb: Verb,
+    before: &Field<'a>,
+) -> Result<Command<'a>, BadLine>
+    ensures command { Shows command_data result
+        (command_of directory.now line.now verb (field_of before.now).rest) }
+    ensures placed { IfOk result
+        (λ command. IsPlaced (length directory.now) (command_data command)) }
+{
+    match verb {
+        Verb::Nothing => {
+            no_field(line, before)?;
+            Ok(Command::Nothing)
+        }
+        Verb::Request => {
+            let request = request(line, directory, before)?;
+            Ok(Command::Request(request))
+        }
+        Verb::AddGroup => {
+            let group = group(line, directory, true, before)?;
+            Ok(Command::Group(group))
+        }
+        Verb::EditGroup => {
+            let group = group(line, directory, false, before)?;
+            Ok(Command::Group(group))
+        }
+    }
+}

@@ -1,0 +1,10 @@
+//! The state of no rows.
+
+use crate::rows::ALPHA;
+use misp_copies::{CopyState, state};
+use std::test::*;
+
+#[test]
+fn of_no_rows_there_is_no_copy(rt: HostRuntime) {
+    assert_eq!(rt; state(&[], &ALPHA), CopyState::None);
+}

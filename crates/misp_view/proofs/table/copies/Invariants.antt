@@ -1,6 +1,0 @@
-use Rattle.std.proofs.Common.{take}
-use Rattle.misp_view.specs.Table.{IsCopies}
-use Rattle.misp_view.proofs.table.copies.Given as goal
-
-abbrev pub invariant-loop-row : goal.invariant-loop-row
-invariant-loop-row l = IsCopies l.pairs (take l.row-index l.rows)
