@@ -1,12 +1,12 @@
 -- What a request asks is built, and its caller is the one whose key it has.
 use Rattle.std.proofs.Common.{◌≡◌, ℕ, Bool, true, false, List, refl, Option, Some, None, Result, Ok, Err, if◌then◌else◌}
 use Rattle.misp_rules.specs.Permission.{permission_of, no_permission}
-use Rattle.misp_core.specs.Answers.{IsAdded, IsBuilt}
-use Rattle.misp_api.specs.Prelude.{AddEvent, Admin, Ask, Asked, Caller, FormatFault, Groups, Reading, RequestData, Route, RuleName, Submission, ViewEvent, added, ask_of, caller_in, event_in, form_of, formed, is_permitted, read_of}
+use Rattle.misp_core.specs.Answers.{IsBuilt}
+use Rattle.misp_rules.specs.declared.change.Change.{Change}
+use Rattle.misp_api.specs.Prelude.{Admin, Ask, Asked, Caller, FormatFault, Reading, RequestData, Route, RuleName, ask_of, caller_in, changed, form_of, is_permitted, read_of}
 use Rattle.misp_api.specs.Prelude.{route_of}
-use Rattle.misp_api.specs.Request.{asked}
 use Rattle.misp_api.specs.Answering.{by_body, by_route, permitted}
-use Rattle.misp_api.proofs.Built.{event_built}
+use Rattle.misp_api.proofs.Built.{ask_is}
 
 -- ---- what is asked
 
@@ -18,18 +18,15 @@ abbrev pub BuiltForm : Reading Asked → Type 0
 BuiltForm (Ok asked) = IsBuilt asked.1
 BuiltForm (Err refusal) = Unit {0}
 
-asked_built : (read : Result Submission FormatFault) → ((s : Submission) → read ≡ Ok s → IsAdded s) → BuiltAsk (asked (formed read))
-asked_built (Ok s) built = built s refl
+asked_built : (read : Result Change FormatFault) → ((c : Change) → read ≡ Ok c → IsBuilt (Ask.Change c)) → BuiltAsk (changed read)
+asked_built (Ok c) built = built c refl
 asked_built (Err FormatFault.NoJson) built = tt
 asked_built (Err (FormatFault.BadField path need)) built = tt
 asked_built (Err (FormatFault.BinaryType path)) built = tt
 asked_built (Err FormatFault.NoMemory) built = tt
 
 ask_built : (route : Route) (body : List ℕ) (word : ℕ) → BuiltAsk (ask_of route body word)
-unfolding added
-ask_built AddEvent body word = asked_built (event_in body word) (event_built body word)
-ask_built (ViewEvent event owner) body word = tt
-ask_built Groups body word = tt
+ask_built = ask_is BuiltAsk (λ ask built. built) asked_built
 
 body_built : (caller : Caller) (read : Reading Ask) → BuiltAsk read → BuiltForm (by_body caller read)
 body_built caller (Ok ask) built = built

@@ -1,16 +1,17 @@
 -- The reply to a request refuses by the first rule that refuses it.
 use Rattle.std.proofs.Common.{◌≡◌, ℕ, Bool, true, false, List, [], ◌∷◌, refl, ap, sym, subst, ◌∙◌, map, option_map, Option, Some, None, Result, Ok, Err, ◌==◌, not, is_some, bytes_eq, if◌then◌else◌, IfSome}
 use Rattle.misp_effects.specs.Effect.{under, stop_of}
-use Rattle.misp_rules.proofs.Prelude.{IfSome_then, Rule, Submission, VisibleEvent, answer, change_rules, first_rule, ok_answer, shown}
+use Rattle.misp_rules.proofs.Prelude.{IfSome_then, Rule, Version, VisibleEvent, answer, change_rules, change_writes, first_rule, ok_answer, shown}
 use Rattle.misp_rules.specs.declared.change.Change.{Change}
 use Rattle.misp_edit.specs.Refusals.{named}
 use Rattle.misp_core.specs.Prelude.{Admin, Ask, Asked, Caller, Did, Effect, EventId, FormatFault, Group, Held, Host, IsBuilt, OrgId, Row, RuleName, Scene, Standing, View, ask_rules, asked_over, forbidden, groups_of, host_of, is_permitted}
 use Rattle.misp_core.specs.Prelude.{option_map_or, reach_of, refused, reply_in, requested, rule_number, scene_at, seeing, seen_in, stop_in}
-use Rattle.misp_core.specs.Answers.{reply_of}
+use Rattle.misp_core.specs.Answers.{reply_of, saved}
+use Rattle.misp_core.proofs.Decisions.{saved_of}
 use Rattle.misp_core.specs.Effects.{telling}
-use Rattle.misp_api.specs.Prelude.{AddEvent, AskFault, Gives, Groups, Reading, Reply, RequestData, Route, ViewEvent, added, ask_of, caller_in, event_in, fault_reply, formed, read_of, route_of}
+use Rattle.misp_api.specs.Prelude.{AskFault, Gives, Reading, Reply, RequestData, Route, ask_of, caller_in, changed, fault_reply, read_of, route_of}
 use Rattle.misp_api.specs.Route.{method_of, by_method}
-use Rattle.misp_api.specs.Request.{asked}
+use Rattle.misp_api.proofs.Built.{ask_is}
 use Rattle.misp_api.specs.Answering.{by_body, by_key, by_route}
 use Rattle.misp_api.specs.Order.{Ground, first_ground, rule_of, IsInOrder, ground_of, row_grounds, grounds, route_asked, is_refused_by, asked_grounds, order}
 use Rattle.misp_effects.specs.Effect as effects
@@ -34,18 +35,21 @@ unfolding first_ground first_rule
 by_seen admin s event owner None = refl
 by_seen admin s event owner (Some v) = refl
 
-by_rule : (admin : Admin) (s : Scene) (b : Submission) (rule : Option Rule)
-    → rule_of (reply_of admin s (Ask.Change (Change.AddEvent b)) (elim rule [ None ↦ ok_answer s (Ask.Change (Change.AddEvent b)) | Some r ↦ model.Refused r ]))
+saved_named : (by : OrgId) (c : Change) (vs : List Version) → rule_of (saved (reach_of by (Ask.Change c)) vs) ≡ None
+saved_named by c vs = ap rule_of (saved_of by c vs)
+
+by_rule : (admin : Admin) (s : Scene) (c : Change) (rule : Option Rule)
+    → rule_of (reply_of admin s (Ask.Change c) (elim rule [ None ↦ ok_answer s (Ask.Change c) | Some r ↦ model.Refused r ]))
     ≡ option_map named rule
 unfolding ok_answer
-by_rule admin s b None = refl
-by_rule admin s b (Some r) = refl
+by_rule admin s c None = saved_named s.by c (change_writes s c)
+by_rule admin s c (Some r) = refl
 
 -- of an ask in its scene
 in_scene : (admin : Admin) (s : Scene) (ask : Ask) → IsBuilt ask → rule_of (reply_in admin s ask) ≡ first_ground (map ground_of (ask_rules s ask))
 unfolding reply_in answer ask_rules ok_answer first_ground first_rule
 in_scene admin s (View event owner) built = by_seen admin s event owner (shown s event owner)
-in_scene admin s (Ask.Change (Change.AddEvent b)) built = by_rule admin s b (first_rule (change_rules s (Change.AddEvent b))) ∙ sym (first_named (change_rules s (Change.AddEvent b)))
+in_scene admin s (Ask.Change c) built = by_rule admin s c (first_rule (change_rules s c)) ∙ sym (first_named (change_rules s c))
 in_scene admin s Ask.Groups built = refl
 in_scene admin s ask built = absurd built
 
@@ -82,19 +86,16 @@ abbrev IsNamed : {A : Type 0} → Reading A → Type 0
 IsNamed (Ok x) = Unit {0}
 IsNamed (Err refusal) = stop_in (Reply.Refused refusal) ≡ None → Some refusal.name ≡ first_ground (by_name refusal.name)
 
-asked_named : (read : Result Submission FormatFault) → IsNamed (asked (formed read))
+asked_named : (read : Result Change FormatFault) → IsNamed (changed read)
 unfolding first_ground
-asked_named (Ok submission) = tt
+asked_named (Ok change) = tt
 asked_named (Err FormatFault.NoJson) = λ went. refl
 asked_named (Err (FormatFault.BadField path need)) = λ went. refl
 asked_named (Err (FormatFault.BinaryType path)) = λ went. refl
 asked_named (Err FormatFault.NoMemory) = λ went. absurd cc
 
 ask_named : (route : Route) (body : List ℕ) (word : ℕ) → IsNamed (ask_of route body word)
-unfolding added
-ask_named AddEvent body word = asked_named (event_in body word)
-ask_named (ViewEvent event owner) body word = tt
-ask_named Groups body word = tt
+ask_named = ask_is IsNamed (λ ask built. tt) (λ read built. asked_named read)
 
 -- ---- from the path on
 

@@ -1,6 +1,7 @@
 pub mod Administering
 pub mod Answering
 pub mod Order
+pub mod Path
 pub mod Prelude
 pub mod Refusing
 pub mod Request

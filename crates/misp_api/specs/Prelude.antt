@@ -7,10 +7,9 @@ pub use Rattle.misp_core.specs.declared.reply.Reply.{Reply}
 pub use Rattle.misp_api.specs.Administering.{grouped}
 unfoldable pub use Rattle.misp_api.specs.Answering.{read_of}
 pub use Rattle.misp_api.specs.Answering.{caller_in, form_of, replied}
-unfoldable pub use Rattle.misp_api.specs.Request.{added}
-pub use Rattle.misp_api.specs.Request.{Gives, Reading, RequestData, ask_of, event_in, formed}
+unfoldable pub use Rattle.misp_api.specs.Request.{ask_of}
+pub use Rattle.misp_api.specs.Request.{Gives, Reading, RequestData, changed, event_in, formed}
 unfoldable pub use Rattle.misp_api.specs.Route.{route_of}
 pub use Rattle.misp_api.specs.Unread.{fault_reply}
 pub use Rattle.misp_api.specs.declared.request.AskFault.{AskFault}
 pub use Rattle.misp_api.specs.declared.route.Route.{Route}
-pub use Rattle.misp_api.specs.declared.route.Route.TheVariants.{AddEvent, Groups, ViewEvent}

@@ -1,11 +1,15 @@
 -- Which request a method and a target are.
-use Rattle.std.specs.Prelude.{ℕ, ◌+◌, ◌==◌, Bool, List, take, drop, position, codes, bytes_eq, Option, Some, None, option_map, Result, Ok, Err, if◌then◌else◌}
+use Rattle.std.specs.Prelude.{ℕ, ◌==◌, Bool, List, take, drop, length, position, codes, bytes_eq, find, Option, Some, None, option_map, Result, Ok, Err, if◌then◌else◌}
 use Rattle.std.specs.Option.{option_map_or}
-use Rattle.misp_ids.specs.Uid.{read_uid}
 use Rattle.misp_ids.specs.declared.refusal.RuleName.TheVariants.{NoRoute, NoMethod}
 use Rattle.misp_groups.specs.Prelude.{OrgId, RuleName, Uid}
+use Rattle.misp_core.specs.Prelude.{EventId}
+use Rattle.misp_elem.specs.Prelude.{ElemId}
+use Rattle.misp_elem.specs.declared.key.Place.{Place}
 use Rattle.misp_api.specs.declared.route.Route.{Route}
-use Rattle.misp_api.specs.declared.route.Route.TheVariants.{AddEvent, ViewEvent, Groups}
+use Rattle.misp_api.specs.declared.path_kind.PathKind.{PathKind}
+use Rattle.misp_api.specs.declared.path_ids.PathIds.{PathIds}
+use Rattle.misp_api.specs.Path.{start_of, begins, kinds, ids_in}
 
 -- ---- targets
 
@@ -18,47 +22,114 @@ path_of target = option_map_or (λ at. take at target) (position is_question_mar
 
 -- ---- paths
 
-abbrev pub is_slash : ℕ → Bool
-is_slash byte = byte == 47
+abbrev pub event : Uid → EventId
+event uuid = record { 0 = uuid }
 
--- the view of an event: the chosen copy, or that of an owner
-abbrev pub view_of : Uid → Option OrgId → Route
-view_of event owner = ViewEvent (record { 0 = event }) owner
+abbrev pub element : Uid → ElemId
+element uuid = record { 0 = uuid }
 
--- the owner must be one
-abbrev pub with_owner : Uid → Option Uid → Option Route
-with_owner event owner = option_map (λ org. view_of event (Some (record { 0 = org }))) owner
+abbrev pub org : Uid → OrgId
+org uuid = record { 0 = uuid }
 
--- and so must the event
-abbrev pub owned_view : Option Uid → Option Uid → Option Route
-owned_view None owner = None
-owned_view (Some event) owner = with_owner event owner
+-- the place of an attribute, outside objects and in one
+abbrev pub outside : Uid → Place
+outside attribute = Place.Attribute (element attribute)
 
--- of a text that is an event, or an event and an owner with the first `/` between them
-abbrev pub view_at : List ℕ → Option ℕ → Option Route
-view_at text None = option_map (λ event. view_of event None) (read_uid text)
-view_at text (Some at) = owned_view (read_uid (take at text)) (read_uid (drop (at + 1) text))
+abbrev pub inside : Uid → Uid → Place
+inside object attribute = Place.ObjectAttribute (element object) (element attribute)
 
--- what is viewed by a path `/events/view/{event}` or `/events/view/{event}/{owner}`
-abbrev pub view_in : List ℕ → Option Route
-view_in path =
-    if bytes_eq (take 13 path) (codes "/events/view/")
-    then view_at (drop 13 path) (position is_slash (drop 13 path)) else None
+-- an event; with an object of it; with a reference of the object
+abbrev pub event_in : PathIds → Option EventId
+event_in (PathIds.One e) = Some (event e)
+event_in ids = None
+
+abbrev pub object_in : PathIds → Option (EventId × ElemId)
+object_in (PathIds.Two e x) = Some (event e, element x)
+object_in ids = None
+
+abbrev pub reference_in : PathIds → Option (EventId × (ElemId × ElemId))
+reference_in (PathIds.Three e x r) = Some (event e, (element x, element r))
+reference_in ids = None
+
+-- with an attribute of it
+abbrev pub attribute_in : PathIds → Option (EventId × Place)
+attribute_in (PathIds.Two e a) = Some (event e, outside a)
+attribute_in (PathIds.Three e x a) = Some (event e, inside x a)
+attribute_in ids = None
+
+-- the event itself, or with an attribute of it
+abbrev pub tagged_in : PathIds → Option (EventId × Place)
+tagged_in (PathIds.One e) = Some (event e, Place.Event)
+tagged_in ids = attribute_in ids
+
+-- an event, with an owner or not
+abbrev pub copy_in : PathIds → Option (EventId × Option OrgId)
+copy_in (PathIds.One e) = Some (event e, None)
+copy_in (PathIds.Two e o) = Some (event e, Some (org o))
+copy_in ids = None
+
+-- an event, with an object of it or not
+abbrev pub parent_in : PathIds → Option (EventId × Option ElemId)
+parent_in (PathIds.One e) = Some (event e, None)
+parent_in (PathIds.Two e x) = Some (event e, Some (element x))
+parent_in ids = None
+
+-- nothing
+abbrev pub alone : Route → PathIds → Option Route
+alone route PathIds.Nobody = Some route
+alone route ids = None
+
+-- the route of paths of a kind that is for attributes, objects or references, with these
+-- identifiers
+abbrev pub element_route : PathKind → PathIds → Option Route
+element_route PathKind.AddAttributes ids =
+    option_map (λ p. Route.AddAttributes p.0 p.1) (parent_in ids)
+element_route PathKind.EditAttribute ids =
+    option_map (λ p. Route.EditAttribute p.0 p.1) (attribute_in ids)
+element_route PathKind.DeleteAttribute ids =
+    option_map (λ p. Route.DeleteAttribute p.0 p.1) (attribute_in ids)
+element_route PathKind.EditObject ids = option_map (λ p. Route.EditObject p.0 p.1) (object_in ids)
+element_route PathKind.DeleteObject ids =
+    option_map (λ p. Route.DeleteObject p.0 p.1) (object_in ids)
+element_route PathKind.AddReference ids =
+    option_map (λ p. Route.AddReference p.0 p.1) (object_in ids)
+element_route PathKind.DeleteReference ids =
+    option_map (λ p. Route.DeleteReference p.0 p.1.0 p.1.1) (reference_in ids)
+element_route kind ids = None
+
+-- of paths of any kind
+abbrev pub route_with : PathKind → PathIds → Option Route
+route_with PathKind.AddEvent ids = alone Route.AddEvent ids
+route_with PathKind.Groups ids = alone Route.Groups ids
+route_with PathKind.ViewEvent ids = option_map (λ p. Route.ViewEvent p.0 p.1) (copy_in ids)
+route_with PathKind.EditEvent ids = option_map Route.EditEvent (event_in ids)
+route_with PathKind.DeleteEvent ids = option_map Route.DeleteEvent (event_in ids)
+route_with PathKind.Publish ids = option_map Route.Publish (event_in ids)
+route_with PathKind.AddObject ids = option_map Route.AddObject (event_in ids)
+route_with PathKind.Tag ids = option_map (λ p. Route.Tag p.0 p.1) (tagged_in ids)
+route_with PathKind.Untag ids = option_map (λ p. Route.Untag p.0 p.1) (tagged_in ids)
+route_with kind ids = element_route kind ids
+
+abbrev pub route_by : PathKind → Option PathIds → Option Route
+route_by kind None = None
+route_by kind (Some ids) = route_with kind ids
+
+-- of a path of a kind
+abbrev pub route_in : List ℕ → Option PathKind → Option Route
+route_in path None = None
+route_in path (Some kind) = route_by kind (ids_in (drop (length (start_of kind)) path))
 
 -- what a path is for
 unfoldable pub path_route : List ℕ → Option Route
-path_route path =
-    if bytes_eq path (codes "/events/add") then Some AddEvent
-    else if bytes_eq path (codes "/sharing_groups/index") then Some Groups
-    else view_in path
+path_route path = route_in path (find (begins path) kinds)
 
 -- ---- routes
 
 -- by which method it is asked for
 abbrev pub method_of : Route → List ℕ
-method_of AddEvent = codes "POST"
-method_of (ViewEvent event owner) = codes "GET"
-method_of Groups = codes "GET"
+method_of (Route.ViewEvent event owner) = codes "GET"
+method_of Route.Groups = codes "GET"
+method_of route = codes "POST"
 
 -- the path must be for something, and the method be its own
 abbrev pub by_method : List ℕ → Option Route → Result Route RuleName

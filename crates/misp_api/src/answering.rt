@@ -12,7 +12,8 @@ ghost use Rattle.misp_api.specs.Request.{Gives, request_data};
 ghost use Rattle.misp_api.specs.Refusing.{TurnsAway};
 ghost use Rattle.misp_api.specs.Text.{reply_text};
 
-use crate::request::{AskFault, Request, read_ask};
+use crate::asking::read_ask;
+use crate::request::{AskFault, Request};
 use crate::route::Route;
 use crate::telling::{tell, told};
 use misp_core::{Instance, Reply};

@@ -3,6 +3,9 @@
 
 mod administering;
 mod answering;
+mod asking;
+mod path_ids;
+mod path_kind;
 mod reply;
 mod request;
 mod route;
@@ -10,6 +13,7 @@ mod telling;
 
 pub use administering::{GroupRequest, administer};
 pub use answering::answer;
+pub use asking::read_ask;
 pub use reply::{put_number, put_reply, put_text};
-pub use request::{AskFault, Request, read_ask};
+pub use request::{AskFault, Request};
 pub use route::Route;

@@ -1,18 +1,12 @@
-//! Requests, and what they ask, by their route and body.
+//! Requests, and why they are not read.
 
-ghost use Rattle.std.specs.Prelude.{◌≡◌, ◌++◌, IfOk, OnOk, Ok, Err, Some, None, codes, string_bytes};
-ghost use Rattle.misp_ids.specs.declared.refusal.RuleName.TheVariants as rules;
-ghost use Rattle.misp_format.specs.Rows as rows;
-ghost use Rattle.misp_core.specs.Answers.{IsBuilt};
-ghost use Rattle.misp_api.specs.Request.{Gives, field_place, event_in, added, ask_of};
+ghost use Rattle.std.specs.Prelude.{◌≡◌, IfOk};
+ghost use Rattle.misp_api.specs.Request.{field_place};
 ghost use Rattle.misp_api.specs.Unread.{Refuses};
 
-use crate::route::Route;
-use misp_elem::Submission;
 use misp_fields::{Need, write_need};
-use misp_format::{FormatFault, read_event, read_json};
+use misp_format::FormatFault;
 use misp_ids::{Refusal, RuleName, Text};
-use misp_rules::{Ask, Change};
 use std::alloc::{AllocError, AllocFailed, Global};
 
 /// A request to an instance.
@@ -82,37 +76,5 @@ pub(crate) fn fault(alloc: Global, fault: FormatFault) -> AskFault
             place: path,
         }),
         FormatFault::NoMemory => AskFault::NoMemory,
-    }
-}
-
-// The event that a body is.
-fn event_in(alloc: Global, body: &[u8], word: u128) -> Result<Submission, FormatFault>
-    ensures { rows.Gives result (event_in body.now word) }
-{
-    let value = read_json(alloc, body)?;
-    read_event(alloc, &value, word)
-}
-
-// The event that a body adds.
-#[tactic(auto, unfolding(crate::specs::Request::added))]
-fn added(alloc: Global, body: &[u8], word: u128) -> Result<Ask, AskFault>
-    ensures ask { Gives result (added body.now word) }
-    ensures built { IfOk result IsBuilt }
-{
-    match event_in(alloc, body, word) {
-        Ok(submission) => Ok(Ask::Change(Change::AddEvent(submission))),
-        Err(stopped) => Err(fault(alloc, stopped)),
-    }
-}
-
-/// What a request asks. Elements without an identifier get those that are made of `word`.
-pub fn read_ask(alloc: Global, route: Route, body: &[u8], word: u128) -> Result<Ask, AskFault>
-    ensures ask { Gives result (ask_of route body.now word) }
-    ensures built { IfOk result IsBuilt }
-{
-    match route {
-        Route::AddEvent => added(alloc, body, word),
-        Route::ViewEvent(event, owner) => Ok(Ask::View { event, owner }),
-        Route::Groups => Ok(Ask::Groups),
     }
 }

@@ -1,9 +1,14 @@
 //! Routes.
 
-ghost use Rattle.std.specs.Prelude.{◌≡◌, position};
-ghost use Rattle.misp_api.specs.Route.{path_of, view_at, view_in, path_route, method_of, route_of, is_slash};
+ghost use Rattle.std.specs.Prelude.{◌≡◌, true, drop, length};
+ghost use Rattle.misp_api.specs.Path.{start_of, begins, ids_in};
+ghost use Rattle.misp_api.specs.Route.{path_of, event_in, object_in, reference_in, attribute_in, tagged_in, copy_in, parent_in, alone, element_route, route_with, route_by, path_route, method_of, route_of};
 
-use misp_ids::{EventId, OrgId, RuleName, Uid};
+use crate::path_ids::{PathIds, ids_in};
+use crate::path_kind::{PathKind, kind_of};
+use misp_elem::Place;
+use misp_ids::{ElemId, EventId, OrgId, RuleName, Uid};
+use misp_rules::{AttributePlace, TaggedPlace};
 
 /// What a request asks for, by its method and path.
 #[derive(Clone, Copy, Debug, PartialEq, Eq)]
@@ -11,6 +16,21 @@ pub enum Route {
     AddEvent,
     /// An event: the chosen copy, or that of this owner.
     ViewEvent(EventId, Option<OrgId>),
+    EditEvent(EventId),
+    DeleteEvent(EventId),
+    Publish(EventId),
+    /// For an object or outside objects.
+    AddAttributes(EventId, Option<ElemId>),
+    EditAttribute(EventId, AttributePlace),
+    DeleteAttribute(EventId, AttributePlace),
+    AddObject(EventId),
+    EditObject(EventId, ElemId),
+    DeleteObject(EventId, ElemId),
+    /// For an object.
+    AddReference(EventId, ElemId),
+    DeleteReference(EventId, ElemId, ElemId),
+    Tag(EventId, TaggedPlace),
+    Untag(EventId, TaggedPlace),
     /// The groups that concern who asks.
     Groups,
 }
@@ -25,29 +45,170 @@ fn path_of(target: &str) -> &str
     }
 }
 
-// The view of an event, or of the copy of an owner.
-fn view_at(text: &str) -> Option<Route>
-    ensures { result ≡ view_at text.now (position is_slash text.now) }
+// Where an attribute is, outside objects or in one.
+fn attribute_in(ids: PathIds) -> Option<(EventId, AttributePlace)>
+    ensures { result ≡ attribute_in ids }
 {
-    match text.split_once('/') {
-        Some((event, owner)) => match (Uid::read(event), Uid::read(owner)) {
-            (Some(event), Some(owner)) => {
-                Some(Route::ViewEvent(EventId(event), Some(OrgId(owner))))
-            }
-            _ => None,
-        },
-        None => match Uid::read(text) {
-            Some(event) => Some(Route::ViewEvent(EventId(event), None)),
-            None => None,
-        },
+    let (event, place) = match ids {
+        PathIds::Two(e, a) => (e, Place::Attribute(ElemId(a))),
+        PathIds::Three(e, x, a) => (e, Place::ObjectAttribute(ElemId(x), ElemId(a))),
+        _ => return None,
+    };
+    match AttributePlace::of(place) {
+        Some(place) => Some((EventId(event), place)),
+        None => None,
     }
 }
 
-fn view_in(path: &str) -> Option<Route>
-    ensures { result ≡ view_in path.now }
+// Where tags are: the event itself, or an attribute of it.
+fn tagged_in(ids: PathIds) -> Option<(EventId, TaggedPlace)>
+    ensures { result ≡ tagged_in ids }
 {
-    match path.strip_prefix("/events/view/") {
-        Some(text) => view_at(text),
+    let (event, place) = match ids {
+        PathIds::One(e) => (e, Place::Event),
+        PathIds::Two(e, a) => (e, Place::Attribute(ElemId(a))),
+        PathIds::Three(e, x, a) => (e, Place::ObjectAttribute(ElemId(x), ElemId(a))),
+        PathIds::Nobody => return None,
+    };
+    match TaggedPlace::of(place) {
+        Some(place) => Some((EventId(event), place)),
+        None => None,
+    }
+}
+
+fn event_in(ids: PathIds) -> Option<EventId>
+    ensures { result ≡ event_in ids }
+{
+    match ids {
+        PathIds::One(e) => Some(EventId(e)),
+        _ => None,
+    }
+}
+
+fn object_in(ids: PathIds) -> Option<(EventId, ElemId)>
+    ensures { result ≡ object_in ids }
+{
+    match ids {
+        PathIds::Two(e, x) => Some((EventId(e), ElemId(x))),
+        _ => None,
+    }
+}
+
+fn reference_in(ids: PathIds) -> Option<(EventId, (ElemId, ElemId))>
+    ensures { result ≡ reference_in ids }
+{
+    match ids {
+        PathIds::Three(e, x, r) => Some((EventId(e), (ElemId(x), ElemId(r)))),
+        _ => None,
+    }
+}
+
+// An event, with an owner or not.
+fn copy_in(ids: PathIds) -> Option<(EventId, Option<OrgId>)>
+    ensures { result ≡ copy_in ids }
+{
+    match ids {
+        PathIds::One(e) => Some((EventId(e), None)),
+        PathIds::Two(e, o) => Some((EventId(e), Some(OrgId(o)))),
+        _ => None,
+    }
+}
+
+// An event, with an object of it or not.
+fn parent_in(ids: PathIds) -> Option<(EventId, Option<ElemId>)>
+    ensures { result ≡ parent_in ids }
+{
+    match ids {
+        PathIds::One(e) => Some((EventId(e), None)),
+        PathIds::Two(e, x) => Some((EventId(e), Some(ElemId(x)))),
+        _ => None,
+    }
+}
+
+fn alone(route: Route, ids: PathIds) -> Option<Route>
+    ensures { result ≡ alone route ids }
+{
+    match ids {
+        PathIds::Nobody => Some(route),
+        _ => None,
+    }
+}
+
+// The route of paths of a kind that is for attributes, objects or references, with these
+// identifiers.
+fn element_route(kind: PathKind, ids: PathIds) -> Option<Route>
+    ensures { result ≡ element_route kind ids }
+{
+    match kind {
+        PathKind::AddAttributes => {
+            let (event, object) = parent_in(ids)?;
+            Some(Route::AddAttributes(event, object))
+        }
+        PathKind::EditAttribute => {
+            let (event, place) = attribute_in(ids)?;
+            Some(Route::EditAttribute(event, place))
+        }
+        PathKind::DeleteAttribute => {
+            let (event, place) = attribute_in(ids)?;
+            Some(Route::DeleteAttribute(event, place))
+        }
+        PathKind::EditObject => {
+            let (event, object) = object_in(ids)?;
+            Some(Route::EditObject(event, object))
+        }
+        PathKind::DeleteObject => {
+            let (event, object) = object_in(ids)?;
+            Some(Route::DeleteObject(event, object))
+        }
+        PathKind::AddReference => {
+            let (event, object) = object_in(ids)?;
+            Some(Route::AddReference(event, object))
+        }
+        PathKind::DeleteReference => {
+            let (event, (object, reference)) = reference_in(ids)?;
+            Some(Route::DeleteReference(event, object, reference))
+        }
+        _ => None,
+    }
+}
+
+// Of paths of any kind.
+fn route_with(kind: PathKind, ids: PathIds) -> Option<Route>
+    ensures { result ≡ route_with kind ids }
+{
+    match kind {
+        PathKind::AddEvent => alone(Route::AddEvent, ids),
+        PathKind::Groups => alone(Route::Groups, ids),
+        PathKind::ViewEvent => {
+            let (event, owner) = copy_in(ids)?;
+            Some(Route::ViewEvent(event, owner))
+        }
+        PathKind::EditEvent => Some(Route::EditEvent(event_in(ids)?)),
+        PathKind::DeleteEvent => Some(Route::DeleteEvent(event_in(ids)?)),
+        PathKind::Publish => Some(Route::Publish(event_in(ids)?)),
+        PathKind::AddObject => Some(Route::AddObject(event_in(ids)?)),
+        PathKind::Tag => {
+            let (event, place) = tagged_in(ids)?;
+            Some(Route::Tag(event, place))
+        }
+        PathKind::Untag => {
+            let (event, place) = tagged_in(ids)?;
+            Some(Route::Untag(event, place))
+        }
+        _ => element_route(kind, ids),
+    }
+}
+
+// The route of a path of a kind.
+fn route_by(path: &str, kind: PathKind) -> Option<Route>
+    ensures { begins path.now kind ≡ true →
+        result ≡ route_by kind (ids_in (drop (length (start_of kind)) path.now)) }
+{
+    match path.strip_prefix(kind.start()) {
+        Some(rest) => match ids_in(rest) {
+            Some(ids) => route_with(kind, ids),
+            None => None,
+        },
         None => None,
     }
 }
@@ -56,25 +217,22 @@ fn view_in(path: &str) -> Option<Route>
 fn path_route(path: &str) -> Option<Route>
     ensures { result ≡ path_route path.now }
 {
-    if path == "/events/add" {
-        Some(Route::AddEvent)
-    } else if path == "/sharing_groups/index" {
-        Some(Route::Groups)
-    } else {
-        view_in(path)
+    match kind_of(path) {
+        Some(kind) => route_by(path, kind),
+        None => None,
+    }
+}
+
+fn method_of(route: &Route) -> &'static str
+    ensures { result.now ≡ method_of route.now }
+{
+    match route {
+        Route::ViewEvent(_, _) | Route::Groups => "GET",
+        _ => "POST",
     }
 }
 
 impl Route {
-    fn method(self) -> &'static str
-        ensures { result.now ≡ method_of self }
-    {
-        match self {
-            Route::AddEvent => "POST",
-            Route::ViewEvent(_, _) | Route::Groups => "GET",
-        }
-    }
-
     /// The route of a method and a target, or the rule by which they are refused.
     #[tactic(auto, unfolding(crate::specs::Route::route_of))]
     pub fn of(method: &str, target: &str) -> Result<Route, RuleName>
@@ -82,7 +240,7 @@ impl Route {
     {
         match path_route(path_of(target)) {
             Some(route) => {
-                if method == route.method() {
+                if method == method_of(&route) {
                     Ok(route)
                 } else {
                     Err(RuleName::NoMethod)

@@ -4,7 +4,7 @@ use Rattle.misp_rules.proofs.Prelude.{EventId, OrgId, Row, Rule, Scene, any_impl
 use Rattle.misp_rules.specs.Scene.{holds_home}
 use Rattle.misp_copies.specs.Barring.{rule_of, Refuses, barring, or_else}
 use Rattle.misp_copies.specs.declared.change_fault.ChangeFault.{ChangeFault}
-use Rattle.misp_copies.specs.declared.change_fault.ChangeFault.TheVariants.{NotGranted, NotOwner, LockedCopy, GroupNotUsable, OlderTime, TimeLimit, ElementFull, NoMemory}
+use Rattle.misp_copies.specs.declared.change_fault.ChangeFault.TheVariants.{NoMemory}
 use Rattle.misp_rules.specs.Scene as rule
 
 -- ---- the first of rules
@@ -50,15 +50,4 @@ bars_are s e fits = bars_by (has_home s.rows s.by e) (has_copy s.rows s.by e) (g
 pub refuses_first : (fault : ChangeFault) (a b : Option Rule) (rules : List (Bool × Rule)) → first_rule rules ≡ or_else a b → rule_of fault ≡ a → Refuses rules fault
 unfolding or_else rule_of
 refuses_first NoMemory a b rules h k = tt
-refuses_first NotGranted a b rules h k = h ∙ ap (λ x. or_else x b) (sym k)
-refuses_first NotOwner a b rules h k = h ∙ ap (λ x. or_else x b) (sym k)
-refuses_first LockedCopy a b rules h k = h ∙ ap (λ x. or_else x b) (sym k)
-refuses_first (GroupNotUsable g) a b rules h k = h ∙ ap (λ x. or_else x b) (sym k)
-refuses_first OlderTime a b rules h k = h ∙ ap (λ x. or_else x b) (sym k)
-refuses_first TimeLimit a b rules h k = h ∙ ap (λ x. or_else x b) (sym k)
-refuses_first ElementFull a b rules h k = h ∙ ap (λ x. or_else x b) (sym k)
-
--- the fault of the next, where the first do not refuse
-pub refuses_next : (fault : ChangeFault) (a b c : Option Rule) (rules : List (Bool × Rule)) → first_rule rules ≡ or_else a (or_else b c) → None ≡ a → rule_of fault ≡ b → Refuses rules fault
-unfolding or_else
-refuses_next fault a b c rules h n k = refuses_first fault b c rules (h ∙ ap (λ x. or_else x (or_else b c)) (sym n)) k
+refuses_first _ a b rules h k = h ∙ ap (λ x. or_else x b) (sym k)

@@ -1,6 +1,6 @@
 -- Of the rows of one event those of an event itself are those of this event.
 use Rattle.std.proofs.Common.{◌≡◌, List, [], ◌∷◌, Bool, true, false, refl, ap, sym, cond, ◌&&◌, ◌||◌, not, Some, find}
-use Rattle.misp_rules.proofs.Prelude.{Element, EventId, Group, Key, OrgId, Place, Proposal, Reference, Row, Sighting, Verdict, Version, and_parts, event_key, event_of, has_copy, has_gone, has_home, is_made_at, is_row_of, is_statement}
+use Rattle.misp_rules.proofs.Prelude.{Element, EventId, Group, Key, OrgId, Place, Row, Version, and_parts, event_key, event_of, has_copy, has_gone, has_home, is_made_at, is_row_of, is_statement}
 use Rattle.misp_rules.proofs.Prelude.{is_tombstone, is_welcome, label_is_known, label_now, list_all, list_any, same_event, same_key, same_org, same_place}
 use Rattle.misp_copies.specs.Copies.{AreOf, copy_state, is_event_key, is_event_row, state_by, state_of, takes}
 
@@ -14,13 +14,8 @@ and_never false = refl
 key_is : (k : Key) (e : EventId) → same_event (event_of k) e ≡ true → same_key k (event_key e) ≡ is_event_key k
 unfolding same_key same_place is_event_key event_of event_key
 key_is (Element f Place.Event) e h = and_end (same_event f e) h
-key_is (Element f (Place.Object x)) e h = and_never (same_event f e)
-key_is (Element f (Place.Attribute x)) e h = and_never (same_event f e)
-key_is (Element f (Place.ObjectAttribute x a)) e h = and_never (same_event f e)
-key_is (Reference f x t u) e h = refl
-key_is (Proposal f n) e h = refl
-key_is (Verdict f n i o) e h = refl
-key_is (Sighting f t i o u) e h = refl
+key_is (Element f _) e h = and_never (same_event f e)
+key_is _ e h = refl
 
 module _ (o : OrgId) (e : EventId) where
   pub row_is : (row : Row) → same_event (event_of row.key) e ≡ true → is_row_of o (event_key e) row ≡ is_event_row o row

@@ -1,7 +1,7 @@
 -- What the sets say is granted is granted.
 use Rattle.std.proofs.Common.{◌≡◌, ℕ, Bool, true, false, refl, ap, ◌∙◌, arith, List, [], ◌∷◌, ◌&&◌, ◌||◌, not, filter, BTreeSet}
 use Rattle.misp_lists.proofs.Lists.{any_by}
-use Rattle.misp_rules.proofs.Prelude.{Attribute, Element, Event, EventId, Group, Inst, Key, Object, ObjectAttribute, OrgId, Place, Proposal, Reference, Row, Sighting, Verdict, above, all_same, and_parts, element_granted, event_of}
+use Rattle.misp_rules.proofs.Prelude.{Element, Event, EventId, Group, Inst, Key, OrgId, Place, Proposal, Reference, Row, Sighting, Verdict, above, all_same, and_parts, element_granted, event_of}
 use Rattle.misp_rules.proofs.Prelude.{false≢true, filter_agree, granted, granted_by, granted_somewhere, has_open, is_known, is_row_of, is_statement, known, list_all, list_any, parents, row_is_open, same_key, same_key-sound, same_org}
 use Rattle.misp_rules.proofs.Prelude.{same_org-refl, up_to}
 use Rattle.misp_copies.specs.declared.grants.Grants.{Grants}
@@ -24,28 +24,18 @@ module _ {X : Type 0} where
 -- what stands above a key is an element, and an event or an object where there are no links
 unfoldable pub reached : Bool → Key → Bool
 reached linked (Element e p) = linked || is_upper (Element e p)
-reached linked (Reference e x t u) = false
-reached linked (Proposal e n) = false
-reached linked (Verdict e n i o) = false
-reached linked (Sighting e t i o u) = false
+reached linked _ = false
 
 above_reached : (linked : Bool) (e : EventId) (p : Place) → list_all (reached linked) (above e p) ≡ true
 unfolding above is_upper reached
 above_reached true e Event = refl
-above_reached true e (Object x) = refl
-above_reached true e (Attribute a) = refl
-above_reached true e (ObjectAttribute x a) = refl
 above_reached false e Event = refl
-above_reached false e (Object x) = refl
-above_reached false e (Attribute a) = refl
-above_reached false e (ObjectAttribute x a) = refl
+above_reached _ e _ = refl
 
 up_to_reached : (e : EventId) (p : Place) → list_all (reached true) (up_to e p) ≡ true
 unfolding up_to above reached
 up_to_reached e Event = refl
-up_to_reached e (Object x) = refl
-up_to_reached e (Attribute a) = refl
-up_to_reached e (ObjectAttribute x a) = refl
+up_to_reached e _ = refl
 
 pub parents_reached : (linked : Bool) (k : Key) → (linked || not (is_link k)) ≡ true → list_all (reached linked) (parents k) ≡ true
 unfolding parents is_link reached up_to
@@ -54,10 +44,7 @@ parents_reached true (Reference e x t u) h = up_to_reached e t
 parents_reached true (Proposal e n) h = up_to_reached e n.target
 parents_reached true (Verdict e n i o) h = up_to_reached e n.target
 parents_reached true (Sighting e t i o u) h = up_to_reached e t
-parents_reached false (Reference e x t u) h = absurd (false≢true h)
-parents_reached false (Proposal e n) h = absurd (false≢true h)
-parents_reached false (Verdict e n i o) h = absurd (false≢true h)
-parents_reached false (Sighting e t i o u) h = absurd (false≢true h)
+parents_reached false _ h = absurd (false≢true h)
 
 module _ (groups : List Group) (i : Inst) (o : OrgId) (rows : List Row) (linked : Bool) (opened : BTreeSet Numbers) (opens : IsOpenings opened groups i o linked rows) where
   -- a row of an element that is reached
@@ -77,10 +64,7 @@ module _ (groups : List Group) (i : Inst) (o : OrgId) (rows : List Row) (linked 
   opened_is : (w : OrgId) (k : Key) → reached linked k ≡ true → key_is opened w true k ≡ has_open rows groups i o w k
   unfolding has_open has_key reached
   opened_is w (Element e p) h = opens w e p ∙ any_by _ _ (open_row w e p h) rows
-  opened_is w (Reference e x t u) h = absurd (false≢true h)
-  opened_is w (Proposal e n) h = absurd (false≢true h)
-  opened_is w (Verdict e n j v) h = absurd (false≢true h)
-  opened_is w (Sighting e t j v u) h = absurd (false≢true h)
+  opened_is w _ h = absurd (false≢true h)
 
   pub all_opened : (w : OrgId) (k : Key) → (linked || not (is_link k)) ≡ true → list_all (key_is opened w true) (parents k) ≡ list_all (has_open rows groups i o w) (parents k)
   all_opened w k h = all_same (key_is opened w true) (has_open rows groups i o w) (reached linked) (opened_is w) (parents k) (parents_reached linked k h)

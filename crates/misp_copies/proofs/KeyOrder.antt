@@ -13,14 +13,9 @@ use Rattle.misp_elem.specs.Spelling as spelling
 -- an answer is known by whether it is less, and whether it is so turned round
 by_less : (o p : Ordering) → is_lt o ≡ is_lt p → is_lt (ordering_reverse o) ≡ is_lt (ordering_reverse p) → o ≡ p
 by_less Less Less h k = refl
-by_less Less Equal h k = absurd (false≢true (sym h))
-by_less Less Greater h k = absurd (false≢true (sym h))
-by_less Equal Less h k = absurd (false≢true h)
 by_less Equal Equal h k = refl
-by_less Equal Greater h k = absurd (false≢true k)
-by_less Greater Less h k = absurd (false≢true h)
-by_less Greater Equal h k = absurd (false≢true (sym k))
 by_less Greater Greater h k = refl
+by_less _ _ h k = absurd cc
 
 -- the order of their bytes is that of their numbers
 pub in_numbers : (a b : Key) → IsKey a → IsKey b → slice_cmp nat_cmp (spelling.key a) (spelling.key b) ≡ key_cmp a b

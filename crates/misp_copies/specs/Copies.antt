@@ -1,6 +1,6 @@
 -- The state of a copy, read off its event's row, and what it takes.
 use Rattle.std.specs.Prelude.{◌≡◌, Bool, true, false, not, cond, ◌&&◌, List}
-use Rattle.misp_rules.specs.Prelude.{Element, EventId, Inst, Key, OrgId, Place, Proposal, Reference, Row, Sighting, Verdict, event_of, has_copy, has_gone, has_home, is_made_at, is_statement, is_tombstone, list_all, list_any, same_event}
+use Rattle.misp_rules.specs.Prelude.{Element, EventId, Inst, Key, OrgId, Place, Row, event_of, has_copy, has_gone, has_home, is_made_at, is_statement, is_tombstone, list_all, list_any, same_event}
 use Rattle.misp_rules.specs.Prelude.{same_org}
 use Rattle.misp_copies.specs.declared.states.CopyState.{CopyState}
 
@@ -20,13 +20,7 @@ copy_state rows o e = state_by (has_gone rows o e) (has_home rows o e) (has_copy
 -- the key is that of an event itself
 unfoldable pub is_event_key : Key → Bool
 is_event_key (Element e Place.Event) = true
-is_event_key (Element e (Place.Object x)) = false
-is_event_key (Element e (Place.Attribute a)) = false
-is_event_key (Element e (Place.ObjectAttribute x a)) = false
-is_event_key (Reference e x t u) = false
-is_event_key (Proposal e n) = false
-is_event_key (Verdict e n i o) = false
-is_event_key (Sighting e t i o u) = false
+is_event_key _ = false
 
 -- the row is the owner's of an event itself
 unfoldable pub is_event_row : OrgId → Row → Bool

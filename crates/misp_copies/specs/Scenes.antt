@@ -1,6 +1,7 @@
 -- The surroundings of a request.
 use Rattle.std.specs.Prelude.{ℕ, List}
 use Rattle.misp_rules.specs.Prelude.{Group, Inst, OrgId, Row, Scene, Stamp}
+use Rattle.misp_copies.specs.declared.viewer.Viewer.{Viewer}
 
 -- the surroundings of a request
 abbrev pub scene_of :
@@ -16,3 +17,8 @@ scene_of act at by by_name now today groups rows =
       rows = rows;
       groups = groups;
     }
+
+-- those of a request of who looks
+abbrev pub scene_for : ℕ → Viewer → List ℕ → Stamp → List ℕ → List Row → Scene
+scene_for act who by_name now today rows =
+    scene_of act who.here who.org by_name now today who.groups.now rows

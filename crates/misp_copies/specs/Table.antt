@@ -1,17 +1,6 @@
 -- Sets of owners and events.
-use Rattle.std.specs.Prelude.{◌≡◌, ℕ, Bool, List, Option, Some, None}
-use Rattle.misp_rules.specs.Prelude.{Attribute, BTreeSet, Element, Event, EventId, Key, Object, ObjectAttribute, Ordering, OrgId, Proposal, Reference, Row, Sighting, Verdict, contains, has_copy, has_gone, nat_cmp, ordering_then}
-
--- the event, where the key is that of an event itself
-abbrev pub event_itself : Key → Option EventId
-event_itself (Element e Event) = Some e
-event_itself (Element e (Object x)) = None
-event_itself (Element e (Attribute a)) = None
-event_itself (Element e (ObjectAttribute x a)) = None
-event_itself (Reference e x t u) = None
-event_itself (Proposal e n) = None
-event_itself (Verdict e n i o) = None
-event_itself (Sighting e t i o u) = None
+use Rattle.std.specs.Prelude.{◌≡◌, ℕ, Bool, List}
+use Rattle.misp_rules.specs.Prelude.{BTreeSet, EventId, Ordering, OrgId, Row, contains, has_copy, has_gone, nat_cmp, ordering_then}
 
 -- the order of pairs: by the first, and of equals by the second
 abbrev pub pair_cmp : ℕ × ℕ → ℕ × ℕ → Ordering

@@ -1,13 +1,12 @@
 //! Which copies there are of an event, and what is in them.
 
 ghost use Rattle.std.specs.Prelude.{◌≡◌};
-ghost use Rattle.misp_elem.specs.declared.key.KeyForm.TheVariants.{Element};
 ghost use Rattle.misp_rules.specs.View.{has_copy, has_gone, has_home, has_open};
 ghost use Rattle.misp_copies.specs.OwnRows.{has_deleted};
 
-use crate::rows::{is_open, is_row_at, is_row_of_event};
+use crate::rows::{is_open, is_row_of, is_row_of_event};
 use crate::viewer::Viewer;
-use misp_elem::{Place, Row};
+use misp_elem::{Key, Row};
 use misp_ids::{EventId, OrgId};
 
 /// Whether the owner has a copy that is not gone.
@@ -35,19 +34,20 @@ pub fn has_home(rows: &[Row], owner: &OrgId, event: &EventId) -> bool
         && (!row.is_tombstone() && !row.carried))
 }
 
-/// Whether the owner has a deleted row of the element at this place.
-pub fn has_deleted(rows: &[Row], owner: &OrgId, event: &EventId, place: &Place) -> bool
-    ensures { result ≡ has_deleted rows.now owner.now (Element event.now place.now) }
+/// Whether the owner has a deleted row of this key.
+pub fn has_deleted(rows: &[Row], owner: &OrgId, key: &Key) -> bool
+    ensures { result ≡ has_deleted rows.now owner.now key.now }
 {
-    rows.iter().any(|row| is_row_at(row, owner, event, place) && row.is_deleted())
+    rows.iter()
+        .any(|row| is_row_of(row, owner, key) && row.is_deleted())
 }
 
-/// Whether the owner has a row of the element at this place that is open to the organisation.
+/// Whether the owner has a row of this key that is open to the organisation.
 #[tactic(auto, unfolding(misp_rules::specs::View::has_open))]
-pub fn has_open(rows: &[Row], who: &Viewer, owner: &OrgId, event: &EventId, place: &Place) -> bool
+pub fn has_open(rows: &[Row], who: &Viewer, owner: &OrgId, key: &Key) -> bool
     ensures { result
-        ≡ has_open rows.now who.now.groups.now who.now.here who.now.org owner.now
-        (Element event.now place.now) }
+        ≡ has_open rows.now who.now.groups.now who.now.here who.now.org owner.now key.now }
 {
-    rows.iter().any(|row| is_row_at(row, owner, event, place) && is_open(row, who))
+    rows.iter()
+        .any(|row| is_row_of(row, owner, key) && is_open(row, who))
 }

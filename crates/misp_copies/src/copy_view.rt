@@ -6,7 +6,7 @@ ghost use Rattle.misp_copies.specs.Grants.{IsElementSet, granted_in};
 ghost use Rattle.misp_elem.specs.RowFacts as view;
 ghost use Rattle.misp_copies.specs.CopyView.{IsCopyView, IsSeen, shows_in};
 
-use crate::element_set::{ElementSet, add, add_own, parents};
+use crate::element_set::{ElementSet, add, add_own, parents_are};
 use crate::grants::Grants;
 use crate::rows::is_owned;
 use crate::table::{Pairs, has, tombstones};
@@ -29,7 +29,7 @@ pub struct CopyView<'a> {
 }
 
 // What is deleted in each copy.
-#[tactic(auto, unfolding(misp_rules::specs::View::is_row_of))]
+#[tactic(auto, unfolding(misp_rules::specs::View::is_row_of), using(crate::proofs::ElementSets::none_has, crate::proofs::RowLists::rows_more, crate::proofs::RowLists::rows_all))]
 fn deletions(alloc: Global, rows: &[Row]) -> Result<ElementSet, NoMemory>
     ensures found { IfOk result (λ elements. IsElementSet elements view.is_deleted rows.now) }
     ensures rows { OnOk result (AreRows rows.now) }
@@ -42,7 +42,7 @@ fn deletions(alloc: Global, rows: &[Row]) -> Result<ElementSet, NoMemory>
 }
 
 impl<'a> CopyView<'a> {
-    /// The copy_view of the owner's copy, where these are the rows.
+    /// The view of the owner's copy, where these are the rows.
     pub fn of(
         alloc: Global,
         rows: &[Row],
@@ -86,11 +86,12 @@ impl<'a> CopyView<'a> {
             && self.grants(row)
             && (!row.is_deleted()
                 && !has(&self.gone, &row.key.event(), &row.owner)
-                && parents(&self.deleted, &row.owner, row, false))
+                && parents_are(&self.deleted, &row.owner, row, false))
     }
 }
 
 /// The places of the elements that show, where there are references.
+#[tactic(auto, using(crate::proofs::ElementSets::none_has))]
 pub fn seen(
     alloc: Global,
     rows: &[Row],

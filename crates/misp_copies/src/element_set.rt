@@ -1,18 +1,19 @@
 //! Sets of elements, each with the owner of a copy that it is in.
 
-ghost use Rattle.std.specs.Prelude.{◌≡◌, ◌&&◌, ◌||◌, not, cond, OnOk};
+ghost use Rattle.std.specs.Prelude.{◌≡◌, ◌&&◌, ◌||◌, OnOk};
 ghost use Rattle.std.specs.List.{list_all};
 ghost use Rattle.misp_ids.specs.declared.uid.OrgId.{OrgId as Owner};
 ghost use Rattle.misp_ids.specs.declared.uid.EventId.{EventId as Event};
+ghost use Rattle.misp_elem.specs.Key.{place_kind};
 ghost use Rattle.misp_elem.specs.declared.key.Place.{Place as SomePlace};
 ghost use Rattle.misp_elem.specs.declared.key.KeyForm.TheVariants.{Element};
 ghost use Rattle.misp_ids.specs.Same.{same_event, same_org};
 ghost use Rattle.misp_elem.specs.SameKey.{same_key, same_place};
-ghost use Rattle.misp_elem.specs.Parents.{above, up_to, parents};
+ghost use Rattle.misp_elem.specs.Parents.{parents};
 ghost use Rattle.misp_rules.specs.View.{is_row_of};
-ghost use Rattle.misp_copies.specs.ElementSet.{kind_of, first_of, second_of, has_element, key_is, element_of};
+ghost use Rattle.misp_copies.specs.ElementSet.{first_of, second_of, has_element, has_key, key_is};
 
-use misp_elem::{KeyForm, Place, Row};
+use misp_elem::{Key, KeyForm, Place, Row, parents};
 use misp_ids::{EventId, NoMemory, OrgId};
 use std::collections::BTreeSet;
 
@@ -21,7 +22,7 @@ pub type ElementSet = BTreeSet<(u128, u128, u8, u128, u128)>;
 
 // The number of the place's form.
 fn kind(place: &Place) -> u8
-    ensures { result ≡ kind_of place.now }
+    ensures { result ≡ place_kind place.now }
 {
     match place {
         Place::Event => 0,
@@ -73,17 +74,8 @@ fn put(
     Ok(())
 }
 
-// The event and the place, where it is the row of an element.
-fn element(row: &Row) -> Option<(EventId, Place)>
-    ensures { result ≡ element_of row.now.key }
-{
-    match &row.key.form {
-        KeyForm::Element { event, place } => Some((*event, *place)),
-        _ => None,
-    }
-}
-
 /// Adds what the row's key names, for this owner, where it is an element and is wanted.
+#[tactic(auto, unfolding(misp_elem::specs::SameKey::same_key))]
 pub fn add(
     elements: &mut ElementSet,
     owner: &OrgId,
@@ -97,12 +89,12 @@ pub fn add(
     if !wanted {
         return Ok(());
     }
-    match element(row) {
-        Some((event, place)) => {
-            put(elements, owner, &event, &place)?;
+    match &row.key.form {
+        KeyForm::Element { event, place } => {
+            put(elements, owner, event, place)?;
             Ok(())
         }
-        None => Ok(()),
+        _ => Ok(()),
     }
 }
 
@@ -130,58 +122,24 @@ pub fn has_element(elements: &ElementSet, owner: &OrgId, event: &EventId, place:
     ))
 }
 
-// Whether the place of the event is among these, or is not.
-fn is_so(elements: &ElementSet, owner: &OrgId, event: &EventId, place: &Place, there: bool) -> bool
-    ensures { result ≡ cond there (has_element elements.now owner.now event.now place.now)
-        (not (has_element elements.now owner.now event.now place.now)) }
+// Whether the element of the key is among these, for this owner.
+#[tactic(auto, unfolding(crate::specs::ElementSet::has_key))]
+fn has_key(elements: &ElementSet, owner: &OrgId, key: &Key) -> bool
+    ensures { result ≡ has_key elements.now owner.now key.now }
 {
-    has_element(elements, owner, event, place) == there
-}
-
-// Whether each of what stands above a place is among these, or none is.
-#[tactic(auto, unfolding(crate::specs::ElementSet::has_key, misp_elem::specs::Parents::above))]
-fn above(elements: &ElementSet, owner: &OrgId, event: &EventId, place: &Place, there: bool) -> bool
-    ensures { result ≡ list_all (key_is elements.now owner.now there) (above event.now place.now) }
-{
-    match place {
-        Place::Event => true,
-        Place::Object(_) | Place::Attribute(_) => {
-            is_so(elements, owner, event, &Place::Event, there)
-        }
-        Place::ObjectAttribute(object, _) => {
-            is_so(elements, owner, event, &Place::Event, there)
-                && is_so(elements, owner, event, &Place::Object(*object), there)
-        }
+    match &key.form {
+        KeyForm::Element { event, place } => has_element(elements, owner, event, place),
+        _ => false,
     }
-}
-
-// The same of a place and what stands above it.
-#[tactic(auto, unfolding(crate::specs::ElementSet::has_key, misp_elem::specs::Parents::up_to), using(crate::proofs::ElementSets::all_last))]
-fn up_to(elements: &ElementSet, owner: &OrgId, event: &EventId, place: &Place, there: bool) -> bool
-    ensures { result ≡ list_all (key_is elements.now owner.now there) (up_to event.now place.now) }
-{
-    above(elements, owner, event, place, there) && is_so(elements, owner, event, place, there)
 }
 
 /// Whether each of what stands above the row is among these, for this owner, or none is.
-#[tactic(auto, unfolding(crate::specs::ElementSet::has_key, misp_elem::specs::Parents::parents))]
-pub fn parents(elements: &ElementSet, owner: &OrgId, row: &Row, there: bool) -> bool
+pub fn parents_are(elements: &ElementSet, owner: &OrgId, row: &Row, there: bool) -> bool
     ensures { result ≡ list_all (key_is elements.now owner.now there) (parents row.now.key) }
 {
-    match &row.key.form {
-        KeyForm::Element { event, place } => above(elements, owner, event, place, there),
-        KeyForm::Reference {
-            event,
-            object,
-            target,
-            ..
-        } => {
-            is_so(elements, owner, event, &Place::Object(*object), there)
-                && up_to(elements, owner, event, target, there)
-        }
-        KeyForm::Proposal { event, name } | KeyForm::Verdict { event, name, .. } => {
-            up_to(elements, owner, event, &name.target, there)
-        }
-        KeyForm::Sighting { event, target, .. } => up_to(elements, owner, event, target, there),
-    }
+    let above = parents(&row.key);
+    above
+        .as_slice()
+        .iter()
+        .all(|key| has_key(elements, owner, key) == there)
 }

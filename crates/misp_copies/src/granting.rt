@@ -1,16 +1,16 @@
 //! What is granted, and what is live.
 
 ghost use Rattle.std.specs.Prelude.{◌≡◌};
-ghost use Rattle.misp_elem.specs.declared.key.KeyForm.TheVariants.{Element};
 ghost use Rattle.misp_rules.specs.View.{element_granted, granted_somewhere, granted, is_live};
 
 use crate::above::{is_kept_above, is_open_above};
 use crate::copies::{has_copy, has_gone};
-use crate::rows::{is_at, is_of, is_open};
+use crate::keys::{are_same, element_key};
+use crate::rows::{is_of, is_open};
 use crate::viewer::Viewer;
-use misp_elem::{KeyForm, Place, Row};
+use misp_elem::{Key, KeyForm, Row};
 use misp_groups::Groups;
-use misp_ids::{EventId, InstId, OrgId};
+use misp_ids::{InstId, OrgId};
 
 // Whether a row is granted as that of an element or a reference is.
 #[tactic(auto, unfolding(misp_rules::specs::View::element_granted))]
@@ -23,14 +23,13 @@ fn element_granted(rows: &[Row], who: &Viewer, row: &Row) -> bool
         && is_open_above(rows, who, row)
 }
 
-// Whether the element at this place is granted in some copy.
+// Whether the element of this key is granted in some copy.
 #[tactic(auto, unfolding(misp_rules::specs::View::granted_somewhere))]
-fn granted_somewhere(rows: &[Row], who: &Viewer, event: &EventId, place: &Place) -> bool
+fn granted_somewhere(rows: &[Row], who: &Viewer, key: &Key) -> bool
     ensures { result
-        ≡ granted_somewhere rows.now who.now.groups.now who.now.here who.now.org
-        (Element event.now place.now) }
+        ≡ granted_somewhere rows.now who.now.groups.now who.now.here who.now.org key.now }
 {
-    rows.iter().any(|row| is_at(row, event, place) && element_granted(rows, who, row))
+    rows.iter().any(|row| are_same(&row.key, key) && element_granted(rows, who, row))
 }
 
 /// Whether a row is granted, where the others of its event are these.
@@ -41,11 +40,12 @@ pub fn is_granted(rows: &[Row], who: &Viewer, row: &Row) -> bool
     match &row.key.form {
         KeyForm::Element { .. } | KeyForm::Reference { .. } => { element_granted(rows, who, row) }
         KeyForm::Proposal { event, name } | KeyForm::Verdict { event, name, .. } => {
-            is_of(&who.org, row) || granted_somewhere(rows, who, event, &name.target)
+            is_of(&who.org, row) || granted_somewhere(rows, who, &element_key(*event, name.target))
         }
         KeyForm::Sighting { event, target, .. } => {
             is_of(&who.org, row)
-                || has_copy(rows, &who.org, event) && granted_somewhere(rows, who, event, target)
+                || has_copy(rows, &who.org, event)
+                    && granted_somewhere(rows, who, &element_key(*event, *target))
         }
     }
 }

@@ -7,7 +7,7 @@ ghost use Rattle.misp_rules.specs.View.{row_is_open};
 ghost use Rattle.misp_copies.specs.Kinds as kinds;
 ghost use Rattle.misp_copies.specs.Grants.{IsOpenings, IsGranted, IsGrants, element_in, granted_in};
 
-use crate::element_set::{ElementSet, add, add_own, has_element, parents};
+use crate::element_set::{ElementSet, add, add_own, has_element, parents_are};
 use crate::rows::{is_link, is_of, is_open, is_upper};
 use crate::table::{Pairs, copies, has};
 use crate::viewer::Viewer;
@@ -50,6 +50,7 @@ fn is_opening(row: &Row, who: &Viewer, linked: bool) -> bool
 
 // What is open to the organisation in each copy: events and objects, and where they are linked
 // attributes too.
+#[tactic(auto, using(crate::proofs::ElementSets::none_has))]
 fn openings(alloc: Global, rows: &[Row], who: &Viewer, linked: bool) -> Result<ElementSet, NoMemory>
     ensures { IfOk result (λ elements.
         IsOpenings elements who.now.groups.now who.now.here who.now.org linked rows.now) }
@@ -70,10 +71,11 @@ fn is_element_granted(copied: &Pairs, opened: &ElementSet, who: &Viewer, row: &R
 {
     has(copied, &row.key.event(), &row.owner)
         && is_open(row, who)
-        && parents(opened, &row.owner, row, true)
+        && parents_are(opened, &row.owner, row, true)
 }
 
 // The elements that are granted to the organisation in some copy, where they are told of.
+#[tactic(auto, using(crate::proofs::ElementSets::none_has))]
 fn granted(
     alloc: Global,
     rows: &[Row],

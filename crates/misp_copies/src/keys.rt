@@ -2,6 +2,7 @@
 
 ghost use Rattle.std.specs.Prelude.{◌≡◌};
 ghost use Rattle.misp_elem.specs.Parents.{event_key};
+ghost use Rattle.misp_elem.specs.declared.key.KeyForm.TheVariants.{Element};
 ghost use Rattle.misp_elem.specs.SameKey.{same_key};
 ghost use Rattle.misp_copies.specs.Keys.{key_cmp, target_of};
 
@@ -17,10 +18,20 @@ pub fn compare(a: &Key, b: &Key) -> Ordering
 }
 
 /// Whether the two are the same.
+#[tactic(auto, using(crate::proofs::KeyOrder::level_is))]
 pub fn are_same(a: &Key, b: &Key) -> bool
     ensures { result ≡ same_key a.now b.now }
 {
     compare(a, b).is_eq()
+}
+
+/// The key of the element at this place.
+pub fn element_key(event: EventId, place: Place) -> Key
+    ensures { result ≡ Element event place }
+{
+    Key {
+        form: KeyForm::Element { event, place },
+    }
 }
 
 /// The key of the event itself.
@@ -28,13 +39,7 @@ pub fn are_same(a: &Key, b: &Key) -> bool
 pub fn event_key(event: &EventId) -> Key
     ensures { result ≡ event_key event.now }
 {
-    // Its number has sixteen bytes, as in each key.
-    let _number = event.0.0;
-    let form = KeyForm::Element {
-        event: *event,
-        place: Place::Event,
-    };
-    Key { form }
+    element_key(*event, Place::Event)
 }
 
 /// What the row is about: the proposal of a verdict, the target of a proposal or a sighting, and

@@ -10,6 +10,7 @@ ghost use Rattle.misp_rules.specs.Arrival.{is_welcome};
 ghost use Rattle.misp_copies.specs.Copies.{copy_state, takes};
 
 /// An arrival is welcome where the state of its owner's copy takes it and its label is known.
+#[tactic(auto, using(crate::proofs::CopyLemmas::welcome_is))]
 pub fn a_copy_takes_what_is_welcome()
     ensures welcome { (rows : List Row) (groups : List Group) (v : Version) →
         is_welcome rows groups v

@@ -28,12 +28,12 @@ pub use copy_view::{CopyView, seen};
 pub use element_set::{ElementSet, has_element};
 pub use granting::{is_granted, live, row_granted};
 pub use grants::{Grants, are_linked};
-pub use keys::{are_same, event_key};
+pub use keys::{are_same, element_key, event_key};
 pub use knowing::known;
 pub use laws::a_copy_takes_what_is_welcome;
 pub use own::{event_row, has_live, own_row, sees_event};
 pub use rows::{
-    copies_of, copy, is_at, is_before, is_itself, is_open, is_owned, is_row_at, is_row_of_event,
+    copies_of, copy, is_before, is_itself, is_open, is_owned, is_row_of, is_row_of_event,
     is_same_org,
 };
 pub use statements_by_key::StatementsByKey;

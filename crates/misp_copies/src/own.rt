@@ -11,7 +11,8 @@ ghost use Rattle.misp_copies.specs.Copies.{is_event_row};
 ghost use Rattle.misp_copies.specs.OwnRows.{has_live};
 
 use crate::granting::{is_granted, live};
-use crate::rows::{is_itself, is_row_at};
+use crate::keys::element_key;
+use crate::rows::{is_itself, is_row_of};
 use crate::states::is_event_row;
 use crate::viewer::Viewer;
 use misp_elem::{Place, Row};
@@ -27,8 +28,9 @@ pub fn own_row<'a>(
     ensures { option_copied result
         ≡ find (is_row_of owner.now (Element event.now place.now)) rows.now }
 {
+    let key = element_key(*event, *place);
     for row in rows {
-        if is_row_at(row, owner, event, place) {
+        if is_row_of(row, owner, &key) {
             return Some(row);
         }
     }
@@ -52,7 +54,9 @@ pub fn event_row<'a>(rows: &'a [Row], owner: &OrgId) -> Option<&'a Row>
 pub fn has_live(rows: &[Row], owner: &OrgId, event: &EventId, place: &Place) -> bool
     ensures { result ≡ has_live rows.now owner.now (Element event.now place.now) }
 {
-    rows.iter().any(|row| is_row_at(row, owner, event, place) && live(rows, row))
+    let key = element_key(*event, *place);
+    rows.iter()
+        .any(|row| is_row_of(row, owner, &key) && live(rows, row))
 }
 
 // Whether it is a row of the event itself that is granted.

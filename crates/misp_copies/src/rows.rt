@@ -1,17 +1,16 @@
 //! What one row says.
 
 ghost use Rattle.std.specs.Prelude.{◌≡◌, map, IfOk};
-ghost use Rattle.misp_elem.specs.declared.key.KeyForm.TheVariants.{Element};
 ghost use Rattle.misp_elem.specs.Parents.{event_key};
-ghost use Rattle.misp_elem.specs.SameKey.{same_key, same_place};
+ghost use Rattle.misp_elem.specs.SameKey.{same_key};
 ghost use Rattle.misp_ids.specs.Same.{same_org};
 ghost use Rattle.misp_copies.specs.Kinds.{is_upper, is_link};
 ghost use Rattle.misp_groups.specs.Audience.{SaysOfGroup};
 ghost use Rattle.misp_rules.specs.View.{is_row_of, row_is_open, is_before};
-ghost use Rattle.misp_copies.specs.Table.{event_itself};
 
+use crate::keys::are_same;
 use crate::viewer::Viewer;
-use misp_elem::{KeyForm, Place, Row};
+use misp_elem::{Key, KeyForm, Place, Row};
 use misp_groups::{allows, open};
 use misp_ids::{EventId, Items, Label, NoMemory, OrgId};
 use std::alloc::Global;
@@ -43,19 +42,6 @@ pub fn is_open(row: &Row, who: &Viewer) -> bool
             &row.label,
             group_allows(&row.label, who),
         )
-}
-
-/// The event, where it is a row of the event itself.
-pub fn event_itself(row: &Row) -> Option<EventId>
-    ensures { result ≡ event_itself row.now.key }
-{
-    match &row.key.form {
-        KeyForm::Element {
-            event,
-            place: Place::Event,
-        } => Some(*event),
-        _ => None,
-    }
 }
 
 /// Whether it is a row of the event itself.
@@ -104,48 +90,12 @@ pub fn is_row_of_event(row: &Row, owner: &OrgId, event: &EventId) -> bool
     is_owned(row, owner) && is_itself(row, event)
 }
 
-// Whether two places of an event are the same.
-#[tactic(auto, unfolding(misp_elem::specs::SameKey::same_place, misp_ids::specs::Same::same_elem))]
-fn same_place(a: &Place, b: &Place) -> bool
-    ensures { result ≡ same_place a.now b.now }
-{
-    match a {
-        Place::Event => matches!(b, Place::Event),
-        Place::Object(x) => match b {
-            Place::Object(y) => x == y,
-            _ => false,
-        },
-        Place::Attribute(x) => match b {
-            Place::Attribute(y) => x == y,
-            _ => false,
-        },
-        Place::ObjectAttribute(x, a) => match b {
-            Place::ObjectAttribute(y, b) => x == y && a == b,
-            _ => false,
-        },
-    }
-}
-
-/// Whether it is a row of the element at this place.
-#[tactic(auto, unfolding(misp_elem::specs::SameKey::same_key, misp_ids::specs::Same::same_event))]
-pub fn is_at(row: &Row, event: &EventId, place: &Place) -> bool
-    ensures { result ≡ same_key row.now.key (Element event.now place.now) }
-{
-    match &row.key.form {
-        KeyForm::Element {
-            event: of,
-            place: at,
-        } => of == event && same_place(at, place),
-        _ => false,
-    }
-}
-
-/// Whether it is the owner's row of the element at this place.
+/// Whether it is the owner's row of this key.
 #[tactic(auto, unfolding(misp_rules::specs::View::is_row_of))]
-pub fn is_row_at(row: &Row, owner: &OrgId, event: &EventId, place: &Place) -> bool
-    ensures { result ≡ is_row_of owner.now (Element event.now place.now) row.now }
+pub fn is_row_of(row: &Row, owner: &OrgId, key: &Key) -> bool
+    ensures { result ≡ is_row_of owner.now key.now row.now }
 {
-    is_owned(row, owner) && is_at(row, event, place)
+    is_owned(row, owner) && are_same(&row.key, key)
 }
 
 /// Whether it is of an event itself or of an object.

@@ -70,6 +70,7 @@ impl<'a> StatementsByTarget<'a> {
     }
 
     /// Whether one is about the key.
+    #[tactic(auto, using(crate::proofs::Searches::any_left))]
     pub fn has(&self, key: &Key) -> bool
         ensures { result ≡ list_any (λ r. is_about key.now r.key) self.now }
     {

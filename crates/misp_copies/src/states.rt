@@ -99,6 +99,7 @@ fn state_of(rows: &[Row], owner: &OrgId) -> CopyState
 }
 
 /// The state of the owner's copy, where the rows are those of one event.
+#[tactic(auto, using(crate::proofs::CopyLemmas::state_is))]
 pub fn state(rows: &[Row], owner: &OrgId) -> CopyState
     ensures { (e : EventId) → AreOf e rows.now → result ≡ copy_state rows.now owner.now e }
 {

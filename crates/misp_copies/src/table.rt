@@ -8,8 +8,7 @@ ghost use Rattle.misp_ids.specs.Same.{same_event, same_org};
 ghost use Rattle.misp_rules.specs.View.{is_row_of};
 ghost use Rattle.misp_copies.specs.Table.{has_pair, IsCopies, IsTombstones};
 
-use crate::rows::event_itself;
-use misp_elem::Row;
+use misp_elem::{KeyForm, Place, Row};
 use misp_ids::{EventId, NoMemory, OrgId};
 use std::alloc::Global;
 use std::collections::BTreeSet;
@@ -28,6 +27,7 @@ fn put(pairs: &mut Pairs, event: EventId, owner: OrgId) -> Result<(), NoMemory>
 }
 
 // Adds those of a row of the event itself, where it is wanted.
+#[tactic(auto, unfolding(misp_rules::specs::View::is_row_of, misp_elem::specs::SameKey::same_key, misp_elem::specs::SameKey::same_place, misp_elem::specs::Parents::event_key))]
 fn add(pairs: &mut Pairs, row: &Row, wanted: bool) -> Result<(), NoMemory>
     ensures { OnOk result ((e : Event) (w : Owner) →
         has_pair pairs.new e w
@@ -36,16 +36,20 @@ fn add(pairs: &mut Pairs, row: &Row, wanted: bool) -> Result<(), NoMemory>
     if !wanted {
         return Ok(());
     }
-    match event_itself(row) {
-        Some(event) => {
-            put(pairs, event, row.owner)?;
+    match &row.key.form {
+        KeyForm::Element {
+            event,
+            place: Place::Event,
+        } => {
+            put(pairs, *event, row.owner)?;
             Ok(())
         }
-        None => Ok(()),
+        _ => Ok(()),
     }
 }
 
 /// Those of whom there is a copy that is not gone.
+#[tactic(auto, unfolding(misp_rules::specs::View::has_copy), using(crate::proofs::Pairs::empty_has))]
 pub(crate) fn copies(alloc: Global, rows: &[Row]) -> Result<Pairs, NoMemory>
     ensures { IfOk result (λ pairs. IsCopies pairs rows.now) }
 {
@@ -57,6 +61,7 @@ pub(crate) fn copies(alloc: Global, rows: &[Row]) -> Result<Pairs, NoMemory>
 }
 
 /// Those whose copy is gone.
+#[tactic(auto, unfolding(misp_rules::specs::View::has_gone), using(crate::proofs::Pairs::empty_has))]
 pub(crate) fn tombstones(alloc: Global, rows: &[Row]) -> Result<Pairs, NoMemory>
     ensures { IfOk result (λ pairs. IsTombstones pairs rows.now) }
 {

@@ -4,7 +4,7 @@ use Rattle.misp_outside.specs.Held.{rows_named}
 use Rattle.misp_effects.specs.Effect.{effect}
 use Rattle.misp_rules.proofs.Prelude.{event_rows, length-map, map-map, ok_answer, uid}
 use Rattle.misp_rules.specs.Answers.{concerning}
-use Rattle.misp_rules.specs.Machine.{event_asked}
+use Rattle.misp_rules.specs.Machine.{event_asked, event_changed}
 use Rattle.misp_rules.specs.Numbers.{scene_as, version_as, versions_as, reply_as}
 use Rattle.misp_rules.proofs.OneEventChanges.{ask_of_event}
 use Rattle.misp_rules.proofs.Numbers.{accepted_as}
@@ -12,6 +12,7 @@ use Rattle.misp_history.proofs.Prelude.{AddEvent, AreRows, Ask, EventId, OrgId, 
 use Rattle.misp_history.proofs.NumberedWrites.{answer_as, fresh_as}
 use Rattle.misp_edit.proofs.RuleLemmas.{refusal_as}
 use Rattle.misp_edit.proofs.OwnCopy.{named_rows, IsAlike, add_named}
+use Rattle.misp_edit.proofs.OneEventRefusals.{change_of_event}
 use Rattle.misp_store.specs.Raw.{raw_row}
 use Rattle.misp_store.specs.declared.reach.Reach.{Reach}
 use Rattle.misp_store.proofs.HeldRows.{rows_filtered}
@@ -61,6 +62,7 @@ pub own_alike : (admin : Admin) (rows : List Row) (s : Scene) (ask : Ask) → Is
 unfolding event_asked
 own_alike admin rows s (View e owner) built = asked_alike admin s (event_rows e rows) rows (View e owner) (record { same = ask_of_event e rows s (View e owner) refl; refusals = λ rule. refl })
 own_alike admin rows s (Ask.Change (AddEvent b)) built = asked_alike admin s (named_rows s.by b.event rows) rows (Ask.Change (AddEvent b)) (add_named b rows s)
+own_alike admin rows s (Ask.Change c) built = asked_alike admin s (event_rows (event_changed c) rows) rows (Ask.Change c) (change_of_event rows s c)
 own_alike admin rows s Ask.Groups built = groups_alike admin s [] rows
 own_alike admin rows s ask built = absurd built
 

@@ -1,18 +1,25 @@
 -- What an ask comes to: the refusal by the first rule that refuses it, or else its answer and what it writes.
 use Rattle.std.proofs.Common.{◌≡◌, ℕ, List, [], ◌∷◌, Bool, true, false, refl, ap, sym, subst, ◌∙◌, map, cond, length, Option, Some, None, option_map, Result, Ok, Err, filter}
 use Rattle.misp_effects.specs.Effect.{effect}
-use Rattle.misp_rules.proofs.Prelude.{AreRows, NotGranted, Other, Rule, Seen, Submission, Version, VisibleEvent, brings, change_writes, event_written, first_rule, is_accepted, length-map, map-map, ok_answer, shown}
+use Rattle.misp_rules.proofs.Prelude.{AreRows, Label, NotGranted, Other, Rule, Seen, Version, VisibleEvent, brings, change_rules, change_writes, first_rule, is_accepted, length-map, map-map, ok_answer, shown}
 use Rattle.misp_rules.specs.declared.change.Change.TheVariants.{AddEvent}
 use Rattle.misp_rules.specs.Answers.{concerns, concerning}
 use Rattle.misp_rules.proofs.Steps.{accepted_where, refused_where, answer_where, refusal_where}
-use Rattle.misp_edit.specs.Adding.{refusing, Adds}
-use Rattle.misp_edit.specs.Refusals.{named, refusal_of}
+use Rattle.misp_rules.specs.declared.change.Change.{Change}
+use Rattle.misp_rules.specs.Machine.{event_changed}
+use Rattle.misp_rules.specs.Scene.{NotOwner, LockedCopy, GroupNotUsable, OlderTime, TimeLimit, ElementFull}
+use Rattle.misp_copies.specs.Barring.{rule_of}
+use Rattle.misp_copies.specs.declared.change_fault.ChangeFault.{ChangeFault}
+use Rattle.misp_edit.specs.Changing.{Changes}
+use Rattle.misp_edit.specs.Refusals.{named, refusal_of, label_place}
 use Rattle.misp_edit.specs.declared.fault.AddFault.{AddFault}
 use Rattle.misp_core.specs.Prelude.{Admin, Answer, Ask, Asked, Effect, EventId, Group, Host, IsBuilt, IsRefused, OrgId, Plan, Refusal, Reply, Row, RuleName, Scene, View, ask_rules, asked_over, asked_where, bare, fresh_row, reach_of}
 use Rattle.misp_core.specs.Prelude.{refused, reply_in, scene_at, seeing, writes_in}
-use Rattle.misp_core.specs.Answers.{reply_of, greatest, event_saved, named_event}
+use Rattle.misp_core.specs.Answers.{reply_of, greatest, event_saved, named_event, saved}
+use Rattle.misp_core.specs.Changing.{NamesGroupOf, rule_named, place_named}
 use Rattle.misp_core.specs.Effects.{stop_by, row_batches, asked}
 use Rattle.misp_core.specs.Planning.{batches_of, rows_put, IsPlan, Refuses}
+use Rattle.misp_copies.specs.Barring as barring
 use Rattle.misp_edit.specs.Refusals as edit
 use Rattle.misp_store.specs.Seen as store
 
@@ -83,42 +90,81 @@ unfolding ask_rules first_rule ok_answer brings concerning
 listed admin s groups is =
     planned admin s Ask.Groups (record { answer = Answer.Groups groups; batch = None }) refl (ap (λ (gs : List Group). Reply.Ok (Answer.Groups gs)) (sym is)) refl tt
 
+-- ---- changes
+
 -- as many rows as versions, of the same stamps
 rows_saved : (event : EventId) (vs : List Version) → Reply.Ok (Answer.Saved (length (map fresh_row vs)) event (greatest (map (λ (row : Row). row.stamp) (map fresh_row vs)))) ≡ event_saved event vs
 unfolding fresh_row
 rows_saved event vs = λ i. Reply.Ok (Answer.Saved (length-map vs fresh_row i) event (greatest (map-map (λ (row : Row). row.stamp) fresh_row vs i)))
 
-module _ (admin : Admin) (s : Scene) (b : Submission) where
-  -- the event is added
-  pub added : (p : Plan) (rows : List Row) → Adds s b rows → AreRows rows → p.answer ≡ Answer.Saved (length rows) b.event (greatest (map (λ (row : Row). row.stamp) rows))
-      → batches_of p.batch ≡ row_batches rows → rows_put p.batch ≡ rows → IsPlan p (asked admin s (Ask.Change (AddEvent b)))
-  unfolding ask_rules ok_answer brings change_writes
-  added p rows adds are answer batches put =
-      planned admin s (Ask.Change (AddEvent b)) p adds.0
-      (sym (
+-- what is saved of a change is of its event
+pub saved_of : (by : OrgId) (c : Change) (vs : List Version) → saved (reach_of by (Ask.Change c)) vs ≡ event_saved (event_changed c) vs
+unfolding event_changed
+saved_of by (AddEvent b) vs = refl
+saved_of by c vs = refl
+
+-- a refusal without a label names no group
+pub none_named : (rule : Rule) → [] ≡ label_place None rule
+none_named GroupNotUsable = refl
+none_named rule = refl
+
+module _ (admin : Admin) (s : Scene) (c : Change) where
+  abbrev ask : Ask
+  ask = Ask.Change c
+
+  -- its rows are put
+  pub changed : (p : Plan) (rows : List Row) → Changes s c rows → AreRows rows → p.answer ≡ Answer.Saved (length rows) (event_changed c) (greatest (map (λ (row : Row). row.stamp) rows))
+      → batches_of p.batch ≡ row_batches rows → rows_put p.batch ≡ rows → IsPlan p (asked admin s ask)
+  unfolding ask_rules ok_answer brings
+  changed p rows changes are answer batches put =
+      planned admin s ask p changes.0
+      (saved_of s.by c (change_writes s c)
+      ∙ sym (
       ap Reply.Ok answer
-      ∙ ap (λ (rs : List Row). Reply.Ok (Answer.Saved (length rs) b.event (greatest (map (λ (row : Row). row.stamp) rs)))) adds.1
-      ∙ rows_saved b.event (event_written s b)
+      ∙ ap (λ (rs : List Row). Reply.Ok (Answer.Saved (length rs) (event_changed c) (greatest (map (λ (row : Row). row.stamp) rs)))) changes.1
+      ∙ rows_saved (event_changed c) (change_writes s c)
       ))
-      (ap row_batches (sym adds.1) ∙ sym batches) (subst AreRows (sym put) are)
+      (ap row_batches (sym changes.1) ∙ sym batches) (subst AreRows (sym put) are)
 
   -- a rule refuses it
-  pub not_added : (refusal : Refusal) → edit.Refuses s b (AddFault.Refused refusal) → Refuses refusal (asked admin s (Ask.Change (AddEvent b)))
+  pub not_changed : (refusal : Refusal) → edit.Refuses s c (AddFault.Refused refusal) → Refuses refusal (asked admin s ask)
   unfolding ask_rules
-  not_added refusal why = not_planned admin s (Ask.Change (AddEvent b)) refusal why
+  not_changed refusal why = not_planned admin s ask refusal why
 
   -- what refuses it writes nothing
-  refused_added : (rule : Option Rule) → refusing s b ≡ rule → IsRefused (asked admin s (Ask.Change (AddEvent b))).reply → (asked admin s (Ask.Change (AddEvent b))).batches ≡ []
+  refused_change : (rule : Option Rule) → first_rule (change_rules s c) ≡ rule → IsRefused (asked admin s ask).reply → (asked admin s ask).batches ≡ []
   unfolding ask_rules ok_answer
-  refused_added None free is = absurd (subst (λ (e : Effect Reply). IsRefused e.reply) (answered admin s (Ask.Change (AddEvent b)) free) is)
-  refused_added (Some rule) by is = ap (λ (e : Effect Reply). e.batches) (refused_so admin s (Ask.Change (AddEvent b)) rule by)
+  refused_change None free is = absurd (subst (λ (e : Effect Reply). IsRefused e.reply) (answered admin s ask free ∙ ap (λ r. effect r (row_batches (map fresh_row (brings s ask)))) (saved_of s.by c (change_writes s c))) is)
+  refused_change (Some rule) by is = ap (λ (e : Effect Reply). e.batches) (refused_so admin s ask rule by)
+
+  -- ---- by a fault
+  module _ (given : Option Label) (names : NamesGroupOf s c given) where
+    -- a rule with its place
+    by_rule : (rule : Rule) (place : List ℕ) (name : RuleName) → first_rule (change_rules s c) ≡ Some rule → label_place given rule ≡ place → Some name ≡ Some (named rule)
+        → Refuses (record { name = name; place = place }) (asked admin s ask)
+    by_rule rule place name why where_ is =
+        let same : named rule ≡ name = cc in
+        not_changed (record { name = name; place = place }) (ap (option_map (refusal_of s ask)) why ∙ (λ i. Some (record { name = same i; place = (names rule ∙ where_) i })))
+
+    -- the refusal of a fault
+    pub by_fault : (fault : ChangeFault) (name : RuleName) (place : List ℕ) → barring.Refuses (change_rules s c) fault → barring.Names given fault → Some name ≡ rule_named fault → place ≡ place_named fault
+        → Refuses (record { name = name; place = place }) (asked admin s ask)
+    unfolding rule_of
+    by_fault (ChangeFault.GroupNotUsable g) name place why group is at = by_rule GroupNotUsable place name why (ap (λ l. label_place l GroupNotUsable) group ∙ sym at) is
+    by_fault ChangeFault.NotGranted name place why group is at = by_rule NotGranted place name why (sym at) is
+    by_fault ChangeFault.NotOwner name place why group is at = by_rule NotOwner place name why (sym at) is
+    by_fault ChangeFault.LockedCopy name place why group is at = by_rule LockedCopy place name why (sym at) is
+    by_fault ChangeFault.OlderTime name place why group is at = by_rule OlderTime place name why (sym at) is
+    by_fault ChangeFault.TimeLimit name place why group is at = by_rule TimeLimit place name why (sym at) is
+    by_fault ChangeFault.ElementFull name place why group is at = by_rule ElementFull place name why (sym at) is
+    by_fault ChangeFault.NoMemory name place why group is at = absurd cc
 
 -- ---- what is refused has no batch
 
 refused_alone : (admin : Admin) (s : Scene) (ask : Ask) → IsBuilt ask → IsRefused (asked admin s ask).reply → (asked admin s ask).batches ≡ []
 unfolding brings
 refused_alone admin s (View event owner) built is = ap row_batches (writes_none admin s (View event owner) refl)
-refused_alone admin s (Ask.Change (AddEvent b)) built is = refused_added admin s b (refusing s b) refl is
+refused_alone admin s (Ask.Change c) built is = refused_change admin s c (first_rule (change_rules s c)) refl is
 refused_alone admin s Ask.Groups built is = ap row_batches (writes_none admin s Ask.Groups refl)
 refused_alone admin s ask built is = absurd built
 

@@ -25,11 +25,12 @@ use Rattle.misp_rules.specs.Answers as model
 abbrev pub IsAdded : Submission → Type 0
 IsAdded b = is_some b.body ≡ true
 
--- the asks that are built: showing an event, adding one, and telling the groups
+-- the asks that are built: showing an event, changing one, and telling the groups
 abbrev pub IsBuilt : Ask → Type 0
 IsBuilt (View event owner) = Unit {0}
 IsBuilt Ask.Groups = Unit {0}
 IsBuilt (Ask.Change (AddEvent b)) = IsAdded b
+IsBuilt (Ask.Change change) = Unit {0}
 IsBuilt ask = ⊥
 
 -- an ask, and whose it is

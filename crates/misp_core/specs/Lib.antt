@@ -1,5 +1,6 @@
 pub mod Administering
 pub mod Answers
+pub mod Changing
 pub mod Effects
 pub mod Handing
 pub mod Keeping

@@ -1,27 +1,26 @@
 //! What a request comes to over the rows of its event.
 
-ghost use Rattle.std.specs.Prelude.{◌≡◌, ◌≤◌, List, None, IfOk, map, length};
+ghost use Rattle.std.specs.Prelude.{◌≡◌, List, None, IfOk};
 ghost use Rattle.misp_elem.specs.declared.row.RowFields.{RowFields};
 ghost use Rattle.misp_rules.specs.View.{IsTable};
 ghost use Rattle.misp_rules.specs.Machine.{seeing};
 ghost use Rattle.misp_rules.specs.declared.ask.Ask.TheVariants.{View};
 ghost use Rattle.misp_rules.specs.declared.ask.Ask.TheVariants as asks;
-ghost use Rattle.misp_rules.specs.declared.change.Change.TheVariants.{AddEvent};
-ghost use Rattle.misp_core.specs.declared.reply.Answer.TheVariants as answers;
-ghost use Rattle.misp_core.specs.Answers.{IsAdded, IsBuilt, named_event, name_in, greatest};
+ghost use Rattle.misp_core.specs.Answers.{IsBuilt, named_event};
 ghost use Rattle.misp_core.specs.Handing.{scene_in, knowing};
-ghost use Rattle.misp_core.specs.Effects.{asked, row_batches, by_keeper};
-ghost use Rattle.misp_core.specs.Planning.{Plans, batches_of, rows_put, stop_planned};
+ghost use Rattle.misp_core.specs.Effects.{asked, by_keeper};
+ghost use Rattle.misp_core.specs.Planning.{Plans, stop_planned};
 
-use crate::planning::{Batch, NoPlan, Plan};
+use crate::changing::plan_change;
+use crate::naming::name_text;
+use crate::planning::{NoPlan, Plan};
 use crate::reply::Answer;
-use crate::site::Site;
+use crate::site::{Site, asker};
 use misp_copies::known;
-use misp_edit::{AddFault, add_event};
-use misp_elem::{NoMemory, Row, Submission, VisibleEvent};
+use misp_elem::{NoMemory, Row, VisibleEvent};
 use misp_groups::Groups;
-use misp_ids::{EventId, Items, OrgId, Refusal, RuleName, Stamp, Text};
-use misp_orgs::{Admin, Caller};
+use misp_ids::{EventId, Items, OrgId, Refusal, RuleName};
+use misp_orgs::Admin;
 use misp_rules::{Ask, Change};
 use misp_view::{concerning, group_names, shown};
 use std::alloc::Global;
@@ -33,101 +32,6 @@ fn told(answer: Answer) -> Plan
     Plan {
         answer,
         batch: None,
-    }
-}
-
-// Rows are put in one batch, and no rows in none.
-fn rows_put(alloc: Global, rows: Vec<Row>) -> Option<Batch>
-    ensures batches { batches_of result ≡ row_batches rows.items }
-    ensures rows { rows_put result ≡ rows.items }
-{
-    let [_, ..] = rows.as_slice() else {
-        return None;
-    };
-    Some(Batch {
-        rows: Items::of(rows),
-        groups: Items::of(Vec::new(alloc)),
-    })
-}
-
-// The name of an organisation, empty where it is not known here.
-fn name_text(alloc: Global, admin: &Admin, org: &OrgId) -> Result<Text, NoMemory>
-    ensures name { IfOk result (λ name. name ≡ name_in admin.now org.now) }
-    ensures short { IfOk result (λ name. length name ≤ 64) }
-{
-    match admin.name_of(org) {
-        Some(name) => Ok(Text::of(String::from_str(alloc, name)?)),
-        None => Ok(Text::of(String::new(alloc))),
-    }
-}
-
-// The greatest of the rows' stamps.
-#[tactic(auto, unfolding(crate::specs::Answers::greatest))]
-fn greatest(rows: &[Row]) -> Stamp
-    ensures { result ≡ greatest (map (λ row. row.stamp) rows.now) }
-{
-    let mut newest = Stamp::first();
-    for row in rows {
-        newest = newest.max(row.stamp);
-    }
-    newest
-}
-
-// What is answered to an addition, and the rows that it writes.
-fn saved(alloc: Global, event: EventId, rows: Vec<Row>) -> Plan
-    ensures answer { result.answer ≡ answers.Saved (length rows.items) event
-        (greatest (map (λ row. row.stamp) rows.items)) }
-    ensures batches { batches_of result.batch ≡ row_batches rows.items }
-    ensures rows { rows_put result.batch ≡ rows.items }
-{
-    let answer = Answer::Saved {
-        elements: rows.len() as u64,
-        event,
-        stamp: greatest(&rows),
-    };
-    Plan {
-        answer,
-        batch: rows_put(alloc, rows),
-    }
-}
-
-// Whose a request is.
-fn asker(caller: &Caller) -> OrgId
-    ensures { result ≡ caller.now.org }
-{
-    caller.org
-}
-
-fn event_in(submission: &Submission) -> EventId
-    ensures { result ≡ submission.now.event }
-{
-    submission.event
-}
-
-// Adds an event, over the rows that the caller knows of it.
-fn add(alloc: Global, site: &Site<'_>, submission: Submission, rows: &[Row]) -> Result<Plan, NoPlan>
-    requires { IsAdded submission }
-    ensures { Plans result (asked site.now.admin.now
-        (knowing (scene_in site.now) rows.now) (asks.Change (AddEvent submission))) }
-{
-    let org = asker(site.caller);
-    let name = name_text(alloc, site.admin, &org)?;
-    let event = event_in(&submission);
-    match add_event(
-        alloc,
-        submission,
-        &org,
-        &name,
-        site.groups,
-        site.here,
-        site.moment,
-        rows,
-    ) {
-        Ok(added) => Ok(saved(alloc, event, added)),
-        Err(fault) => match fault {
-            AddFault::Refused(refusal) => Err(NoPlan::Refused(refusal)),
-            AddFault::NoMemory => Err(NoPlan::NoMemory),
-        },
     }
 }
 
@@ -154,20 +58,20 @@ fn named(
     Ok(event)
 }
 
-// Adds an event, over all rows of it here, of which the caller sees what it knows.
-fn add_known(
+// Changes an event, over all rows of it that are read, of which the caller sees what it knows.
+fn change_known(
     alloc: Global,
     site: &Site<'_>,
-    submission: Submission,
+    change: Change,
     rows: Vec<Row>,
 ) -> Result<Plan, NoPlan>
-    requires { IsAdded submission }
+    requires { IsBuilt (asks.Change change) }
     ensures { Plans result (asked site.now.admin.now
-        (seeing (scene_in site.now) rows.items) (asks.Change (AddEvent submission))) }
+        (seeing (scene_in site.now) rows.items) (asks.Change change)) }
 {
     let org = asker(site.caller);
     let rows = known(alloc, rows, site.groups, site.here, &org)?;
-    add(alloc, site, submission, &rows)
+    plan_change(alloc, site, change, &rows)
 }
 
 // Shows an event, over all rows of it here. In a table of rows the caller sees of them what it sees
@@ -222,7 +126,7 @@ pub(crate) fn plan_request(
     match ask {
         Ask::View { event, owner } => view(alloc, site, &event, owner, &rows),
         Ask::Groups => list(alloc, site),
-        Ask::Change(Change::AddEvent(submission)) => add_known(alloc, site, submission, rows),
+        Ask::Change(change) => change_known(alloc, site, change, rows),
         _ => unreachable!(),
     }
 }

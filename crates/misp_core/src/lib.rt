@@ -4,9 +4,11 @@
 
 mod administering;
 mod answering;
+mod changing;
 mod decide;
 mod instance;
 mod laws;
+mod naming;
 mod planning;
 mod reply;
 mod settling;

@@ -1,14 +1,18 @@
--- What an edit makes of an attribute's row is a row, where its texts are not too long.
+-- What an edit makes of the row of an attribute or an object is a row, where its texts are not too long.
 use Rattle.std.proofs.Common.{◌≡◌, ℕ, ◌+◌, ◌-◌, ◌≤◌, List, [], ◌∷◌, length, Bool, true, false, refl, ap, sym, subst, ◌∙◌, arith, eqb, min, ◌&&◌, ◌||◌, not, nat_le, ◌==◌, sum_by, Option, Some, None, ltb-false}
 use Rattle.std.proofs.lemmas.List.Sums.{sum_by-cons}
 use Rattle.misp_elem.specs.Prelude.{AreTags, AreTagsAfter, IsAttributeBody, IsBetween, IsLabel, IsLabelBut, IsTagName, IsText, IsValue, barred_labels, is_after, is_kept, is_text, is_utf8, text_limit, text_size}
 use Rattle.misp_elem.specs.declared.content.AttributeBody.{AttributeBody}
+use Rattle.misp_elem.specs.declared.content.ObjectBody.{ObjectBody}
+use Rattle.misp_elem.specs.Contents.{IsObjectBody}
 use Rattle.misp_elem.specs.Fields.{tags_size}
-use Rattle.misp_rules.proofs.Prelude.{Content, Element, EventId, IsContent, IsRow, IsStamp, Key, Label, Place, Proposal, Reference, Row, Sighting, Tag, Verdict, and_from, and_parts, at_attribute, content_kind, edited, false≢true, fits}
+use Rattle.misp_rules.proofs.Prelude.{Content, Element, IsContent, IsRow, IsStamp, Key, Label, Place, Proposal, Reference, Row, Sighting, Tag, Verdict, and_from, and_parts, at_attribute, content_kind, edited, false≢true, fits}
 use Rattle.misp_rules.proofs.Prelude.{given, is_gone, is_statement, is_too_long, label_kind, last_stamp, may_remove, nat_tests}
 use Rattle.misp_rules.specs.declared.edit.AttributeEditFields.{AttributeEditFields as AttributeEdit}
+use Rattle.misp_rules.specs.declared.edit.ObjectEditFields.{ObjectEditFields as ObjectEdit}
+use Rattle.misp_rules.specs.Edits.{at_object, edited_object}
+use Rattle.misp_rules.specs.Edit.{IsGiven, IsKindValue, IsAttributeEdit, IsObjectEdit}
 use Rattle.misp_edit.specs.Changing.{renewed}
-use Rattle.misp_edit.specs.Edits.{IsGiven, IsKindValue, IsAttributeEdit, is_attribute_place, is_attribute_key}
 use Rattle.misp_edit.proofs.RenewedRows.{later_stamp}
 
 -- a text fits where it has the room
@@ -45,7 +49,7 @@ fit_after old room before (t ∷ ts) a k =
     let e : sum_by (λ (u : Tag). length u.name) (t ∷ ts) ≡ length t.name + sum_by (λ (u : Tag). length u.name) ts = sum_by-cons (λ (u : Tag). length u.name) t ts in
     ((fit_name old room before t.name a.0.0 (omega arith), a.0.1), fit_after (old - length t.name) (room - length t.name) t.name ts a.1 (omega arith))
 
-fit_tags : (old room : ℕ) (ts : List Tag) → AreTags old ts → tags_size ts ≤ room → AreTags room ts
+pub fit_tags : (old room : ℕ) (ts : List Tag) → AreTags old ts → tags_size ts ≤ room → AreTags room ts
 unfolding tags_size
 fit_tags old room ts a k = (a.0, fit_after old room [] ts a.1 k)
 
@@ -74,12 +78,13 @@ attribute_fits b m n old kind category comment value tags h =
       ),
     )
 
--- the attribute after an edit
-given_holds : {A : Type 0} (P : A → Type 0) (o : Option A) (x : A) → IsGiven P o → P x → P (given o x)
+-- what holds of what is given and of what was there
+pub given_holds : {A : Type 0} (P : A → Type 0) (o : Option A) (x : A) → IsGiven P o → P x → P (given o x)
 unfolding given
 given_holds P None x g h = h
 given_holds P (Some y) x g h = g
 
+-- the attribute after an edit
 module _ (e : AttributeEdit) (b : AttributeBody) (ok : IsAttributeEdit e) (is : IsAttributeBody b) where
   -- the attribute with these
   abbrev with_these : Option (List ℕ × List ℕ) → Option (List ℕ) → AttributeBody
@@ -103,7 +108,7 @@ module _ (e : AttributeEdit) (b : AttributeBody) (ok : IsAttributeEdit e) (is : 
 
   edited_fits : is_too_long (Content.Attribute (edited e b)) ≡ false → IsAttributeBody (edited e b)
   unfolding edited
-  edited_fits h = these_fit e.kind_value e.comment ok.1.1.1 ok.1.1.0 h
+  edited_fits h = these_fit e.kind_value e.comment ok.1.1.1.0 ok.1.1.0 h
 
 edited_content : (e : AttributeEdit) (may : Bool) (c : Content) → IsAttributeEdit e → IsContent may c → is_too_long (at_attribute (edited e) c) ≡ false → IsContent may (at_attribute (edited e) c)
 unfolding at_attribute
@@ -127,58 +132,95 @@ edited_kind e (Content.Verdict b) = refl
 edited_kind e (Content.Sighting b) = refl
 edited_kind e Content.Gone = refl
 
--- a row of an attribute may have any label
-attribute_row : (now : ℕ) (row : Row) (e : EventId) (p : Place) (l : Label) (c : Content) → row.key ≡ Element e p → is_attribute_place p ≡ true → IsStamp now → IsRow row → eqb row.stamp last_stamp ≡ false →
-    IsLabel l → content_kind c ≡ content_kind row.content → IsContent (may_remove row.key) c → IsRow (renewed now row l c)
-unfolding renewed is_attribute_place
-attribute_row now row e p l c k a s is t label kind content = (
-  is.0,
-  (
-    is.1.0,
-    (
-      later_stamp now row.stamp s is.1.1.0 t,
+-- a text that is given or was there fits where it has the room
+given_text : (most room : ℕ) (o : Option (List ℕ)) (x : List ℕ) → IsGiven (IsText 0 text_limit) o → IsText 0 most x → length (given o x) ≤ room → IsText 0 room (given o x)
+unfolding given
+given_text most room None x g h k = fit_text 0 most room x h k
+given_text most room (Some y) x g h k = fit_text 0 text_limit room y g k
+
+object_fits : (e : ObjectEdit) (b : ObjectBody) → IsObjectEdit e → IsObjectBody b → is_too_long (Content.Object (edited_object e b)) ≡ false → IsObjectBody (edited_object e b)
+unfolding edited_object is_too_long text_size
+object_fits e b ok is h =
+    let description : List ℕ = given e.description b.description in
+    let comment : List ℕ = given e.comment b.comment in
+    let size : length b.name + length b.meta_category + length description + length comment ≤ 16384 = ltb-false 16384 (length b.name + length b.meta_category + length description + length comment) h in
+    let room : ℕ = text_limit - length b.name - length b.meta_category in (
+      is.0,
       (
-        subst (λ key. IsLabelBut (barred_labels key) l) (sym k) (any_label p a),
+        is.1.0,
         (
-          tt,
+          given_text room room e.description b.description ok.1.1.0 is.1.1.0 (omega arith),
           (
-            subst (λ key. fits key (label_kind l) (not (is_statement row.key || is_gone c), false) (content_kind c) ≡ true) (sym k)
-                (any_fits p a (subst (λ key. fits key (label_kind row.label) (row.held, row.carried) (content_kind row.content) ≡ true) k is.1.1.1.1.1.0)),
-            content,
+            given_text (room - length b.description) (room - length description) e.comment b.comment ok.1.0 is.1.1.1.0 (omega arith),
+            is.1.1.1.1,
           ),
         ),
       ),
+    )
+
+object_content : (e : ObjectEdit) (may : Bool) (c : Content) → IsObjectEdit e → IsContent may c → is_too_long (at_object (edited_object e) c) ≡ false → IsContent may (at_object (edited_object e) c)
+unfolding at_object
+object_content e may (Content.Object b) ok is h = object_fits e b ok is h
+object_content e may (Content.Attribute b) ok is h = is
+object_content e may (Content.Event b) ok is h = is
+object_content e may (Content.Reference b) ok is h = is
+object_content e may (Content.Proposal b) ok is h = is
+object_content e may (Content.Verdict b) ok is h = is
+object_content e may (Content.Sighting b) ok is h = is
+object_content e may Content.Gone ok is h = is
+
+object_kind : (e : ObjectEdit) (c : Content) → content_kind (at_object (edited_object e) c) ≡ content_kind c
+unfolding at_object
+object_kind e (Content.Object b) = refl
+object_kind e (Content.Attribute b) = refl
+object_kind e (Content.Event b) = refl
+object_kind e (Content.Reference b) = refl
+object_kind e (Content.Proposal b) = refl
+object_kind e (Content.Verdict b) = refl
+object_kind e (Content.Sighting b) = refl
+object_kind e Content.Gone = refl
+
+-- ---- rows that may have any label
+
+some_barred : (n : ℕ) (ns : List ℕ) → (n ∷ ns) ≡ [] → ⊥
+some_barred n ns h = let e : length (n ∷ ns) ≡ 0 = ap length h in omega arith
+
+module _ (now : ℕ) (row : Row) (free : barred_labels row.key ≡ []) (s : IsStamp now) (is : IsRow row) (t : eqb row.stamp last_stamp ≡ false) where
+  free_row : (l : Label) (c : Content) → IsLabel l → content_kind c ≡ content_kind row.content → IsContent (may_remove row.key) c → IsRow (renewed now row l c)
+  unfolding renewed
+  free_row l c label kind content = (
+    is.0,
+    (
+      is.1.0,
+      (
+        later_stamp now row.stamp s is.1.1.0 t,
+        (
+          subst (λ barred. IsLabelBut barred l) (sym free) (refl, label),
+          (tt, (any_fits row.key free is.1.1.1.1.1.0, content)),
+        ),
+      ),
     ),
-  ),
-)
-  where
-    any_label : (p : Place) → is_attribute_place p ≡ true → IsLabelBut (barred_labels (Element e p)) l
-    any_label Place.Event a = absurd (false≢true a)
-    any_label (Place.Object x) a = absurd (false≢true a)
-    any_label (Place.Attribute x) a = (refl, label)
-    any_label (Place.ObjectAttribute x y) a = (refl, label)
+  )
+    where
+      any_fits : (k : Key) → barred_labels k ≡ [] → fits k (label_kind row.label) (row.held, row.carried) (content_kind row.content) ≡ true →
+          fits k (label_kind l) (not (is_statement row.key || is_gone c), false) (content_kind c) ≡ true
+      any_fits (Element e Place.Event) f g = absurd (some_barred 5 [] f)
+      any_fits (Element e (Place.Object x)) f g = ap (λ n. n == 1) kind ∙ g
+      any_fits (Element e (Place.Attribute x)) f g = ap (λ n. n == 2) kind ∙ g
+      any_fits (Element e (Place.ObjectAttribute x y)) f g = ap (λ n. n == 2) kind ∙ g
+      any_fits (Reference e x u v) f g = absurd (some_barred 0 (1 ∷ 2 ∷ 3 ∷ 4 ∷ []) f)
+      any_fits (Proposal e n) f g = absurd (some_barred 0 (1 ∷ 2 ∷ 3 ∷ 4 ∷ []) f)
+      any_fits (Verdict e n i o) f g = absurd (some_barred 0 (1 ∷ 2 ∷ 3 ∷ 4 ∷ []) f)
+      any_fits (Sighting e u i o v) f g = absurd (some_barred 0 (1 ∷ 2 ∷ 3 ∷ 4 ∷ []) f)
 
-    any_fits : (p : Place) → is_attribute_place p ≡ true → fits (Element e p) (label_kind row.label) (row.held, row.carried) (content_kind row.content) ≡ true →
-        fits (Element e p) (label_kind l) (not (is_statement row.key || is_gone c), false) (content_kind c) ≡ true
-    any_fits Place.Event a g = absurd (false≢true a)
-    any_fits (Place.Object x) a g = absurd (false≢true a)
-    any_fits (Place.Attribute x) a g = ap (λ n. n == 2) kind ∙ g
-    any_fits (Place.ObjectAttribute x y) a g = ap (λ n. n == 2) kind ∙ g
+  pub attribute_row : (edit : AttributeEdit) → IsAttributeEdit edit → is_too_long (at_attribute (edited edit) row.content) ≡ false →
+      IsRow (renewed now row (given edit.label row.label) (at_attribute (edited edit) row.content))
+  attribute_row edit ok h =
+      free_row (given edit.label row.label) (at_attribute (edited edit) row.content) (given_holds IsLabel edit.label row.label ok.0 is.1.1.1.0.1)
+      (edited_kind edit row.content) (edited_content edit (may_remove row.key) row.content ok is.1.1.1.1.1.1 h)
 
-pub edited_row : (now : ℕ) (row : Row) (e : EventId) (p : Place) (edit : AttributeEdit) → row.key ≡ Element e p → is_attribute_place p ≡ true → IsStamp now → IsRow row → eqb row.stamp last_stamp ≡ false →
-    IsAttributeEdit edit → is_too_long (at_attribute (edited edit) row.content) ≡ false → IsRow (renewed now row (given edit.label row.label) (at_attribute (edited edit) row.content))
-edited_row now row e p edit k a s is t ok h =
-    attribute_row now row e p (given edit.label row.label) (at_attribute (edited edit) row.content) k a s is t (given_holds IsLabel edit.label row.label ok.0 is.1.1.1.0.1)
-    (edited_kind edit row.content) (edited_content edit (may_remove row.key) row.content ok is.1.1.1.1.1.1 h)
-
-pub edited_by_key : (now : ℕ) (row : Row) (edit : AttributeEdit) → is_attribute_key row.key ≡ true → IsStamp now → IsRow row → eqb row.stamp last_stamp ≡ false →
-    IsAttributeEdit edit → is_too_long (at_attribute (edited edit) row.content) ≡ false → IsRow (renewed now row (given edit.label row.label) (at_attribute (edited edit) row.content))
-unfolding is_attribute_key
-edited_by_key now row edit a s is t ok h = by_key row.key refl a
-  where
-    by_key : (k : Key) → row.key ≡ k → is_attribute_key k ≡ true → IsRow (renewed now row (given edit.label row.label) (at_attribute (edited edit) row.content))
-    by_key (Element e p) k a = edited_row now row e p edit k a s is t ok h
-    by_key (Reference e x u v) k a = absurd (false≢true a)
-    by_key (Proposal e n) k a = absurd (false≢true a)
-    by_key (Verdict e n i o) k a = absurd (false≢true a)
-    by_key (Sighting e u i o v) k a = absurd (false≢true a)
+  pub object_row : (edit : ObjectEdit) → IsObjectEdit edit → is_too_long (at_object (edited_object edit) row.content) ≡ false →
+      IsRow (renewed now row (given edit.label row.label) (at_object (edited_object edit) row.content))
+  object_row edit ok h =
+      free_row (given edit.label row.label) (at_object (edited_object edit) row.content) (given_holds IsLabel edit.label row.label ok.0 is.1.1.1.0.1)
+      (object_kind edit row.content) (object_content edit (may_remove row.key) row.content ok is.1.1.1.1.1.1 h)

@@ -1,11 +1,11 @@
--- The rows of what adding an event writes.
-use Rattle.std.proofs.Common.{◌≡◌, ℕ, List, [], ◌∷◌, ◌++◌, map, Option, Some, None, option_map, option_to_list, refl, ◌∙◌, append_assoc, filter_map}
+-- The rows of what adding an event or parts writes.
+use Rattle.std.proofs.Common.{◌≡◌, ℕ, List, [], ◌∷◌, ◌++◌, map, Option, Some, None, option_map, option_to_list, refl, sym, ◌∙◌, append_assoc, filter_map}
 use Rattle.misp_rules.proofs.Prelude.{Content, Draft, Element, ElemId, EventId, Group, Inst, Label, OrgId, Place, Reference, ReferenceDraft, Row, Scene, Submission, cons_option, event_key, event_written, is_gone, is_published}
 use Rattle.misp_rules.proofs.Prelude.{is_statement, map-append, new_event, part_version, parts_written, reference_key, reference_version, target_of, written}
 use Rattle.misp_rules.specs.Prelude.{EventDraft, Stamp}
 use Rattle.misp_history.specs.History.{fresh_row}
 use Rattle.misp_copies.specs.Scenes.{scene_of}
-use Rattle.misp_edit.specs.Rows.{new_row, part_row, reference_row, row_with_target, event_row, body_of, added_rows}
+use Rattle.misp_edit.specs.Rows.{new_row, part_row, reference_row, row_with_target, event_row, body_of, added_rows, parts_rows}
 
 -- one list after two others
 map_both : {A B C : Type 0} (f : B → C) (g : A → B) (h : A → C) (xs : List A) → ((x : A) → h x ≡ f (g x)) → map h xs ≡ map f (map g xs)
@@ -56,19 +56,20 @@ module _ (act : ℕ) (at : Inst) (w : OrgId) (name : List ℕ) (now : Stamp) (to
         one None ih = ih
         one (Some p) ih = λ i. reference_row_is b.event r p i ∷ ih i
 
-    -- all rows of a body, by what the references name
+    -- the rows of the parts and references of a body, by what the references name
+    pub parts_rows_are : parts_rows target w now b ≡ map fresh_row (parts_written (scene_of act at w name now today groups rows) b)
+    unfolding parts_rows parts_written
+    parts_rows_are =
+        let s : Scene = scene_of act at w name now today groups rows in
+        (λ i. map_both fresh_row (part_version s b.event) (part_row w b.event now) b.parts (part_row_is b.event) i ++ references_are b.references i)
+        ∙ sym (map-append fresh_row (map (part_version s b.event) b.parts) (filter_map (reference_version s b.event b.parts) b.references))
+
+    -- and all rows of it
     pub added_rows_are : added_rows target w name today now b ≡ map fresh_row (event_written (scene_of act at w name now today groups rows) b)
-    unfolding added_rows event_written parts_written
+    unfolding added_rows parts_rows event_written
     added_rows_are =
         let s : Scene = scene_of act at w name now today groups rows in
         append_assoc (map (event_row w name today b.event now b.label) (option_to_list b.body)) (map (part_row w b.event now) b.parts) (filter_map (row_with_target target w b.event now) b.references)
-        ∙ rw (
-          map-append fresh_row (map (λ d. written s (event_key b.event) now b.label (Content.Event (new_event s d))) (option_to_list b.body))
-              (map (part_version s b.event) b.parts ++ filter_map (reference_version s b.event b.parts) b.references),
-          map-append fresh_row (map (part_version s b.event) b.parts) (filter_map (reference_version s b.event b.parts) b.references),
-        )
-        (rw (
-          map_both fresh_row (λ d. written s (event_key b.event) now b.label (Content.Event (new_event s d))) (event_row w name today b.event now b.label) (option_to_list b.body) (event_row_is b.event b.label),
-          map_both fresh_row (part_version s b.event) (part_row w b.event now) b.parts (part_row_is b.event),
-          references_are b.references,
-        ) refl)
+        ∙ (λ i. map_both fresh_row (λ d. written s (event_key b.event) now b.label (Content.Event (new_event s d))) (event_row w name today b.event now b.label) (option_to_list b.body) (event_row_is b.event b.label) i
+        ++ parts_rows_are i)
+        ∙ sym (map-append fresh_row (map (λ d. written s (event_key b.event) now b.label (Content.Event (new_event s d))) (option_to_list b.body)) (parts_written s b))

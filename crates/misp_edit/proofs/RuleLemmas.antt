@@ -4,15 +4,15 @@ use Rattle.misp_ids.specs.Uid.{text_of}
 use Rattle.misp_lists.proofs.Lists.{any_found, any_map, find_by}
 use Rattle.misp_ids.specs.declared.refusal.Refusal.{Refusal}
 use Rattle.misp_groups.specs.Prelude.{RuleName, bare}
-use Rattle.misp_rules.specs.Prelude.{ElementExists, ElemId, EventExists, EventGone, GroupId, GroupNotUsable, Label, Place, Rule, Scene, Submission, change_rules, clashes, first_rule, has_copy, has_gone, has_unusable, holds_copy}
+use Rattle.misp_rules.specs.Prelude.{ElementExists, ElemId, GroupId, GroupNotUsable, Label, Place, Rule, Scene, Submission, change_rules, clashes, first_rule, has_copy, has_gone, has_unusable, holds_copy}
 use Rattle.misp_rules.specs.Prelude.{holds_tombstone, in_order, is_taken, is_usable, list_any, scene_as, target_in_copy}
-use Rattle.misp_rules.specs.declared.ask.Ask.TheVariants.{Change}
 use Rattle.misp_rules.specs.Adding.{target_of, has_target, are_distinct}
 use Rattle.misp_rules.proofs.Numbers.{usable_as}
-use Rattle.misp_history.proofs.Prelude.{AddEvent, Ask}
-use Rattle.misp_edit.specs.declared.fault.AddFault.TheVariants.{Refused}
+use Rattle.misp_history.proofs.Prelude.{AddEvent, AddParts, Ask}
+use Rattle.misp_edit.specs.declared.fault.AddFault.{AddFault}
+use Rattle.misp_edit.specs.declared.fault.AddFault.TheVariants.{Refused, NoMemory}
 use Rattle.misp_edit.specs.Adding.{refusing, numbered_uuids, is_read_before, read_uuids, is_clash, first_clash, labels_of, first_unusable}
-use Rattle.misp_edit.specs.Refusals.{named, added_place, refusal_of, uuid_text, group_text, Refuses}
+use Rattle.misp_edit.specs.Refusals.{named, added_place, refusal_of, uuid_text, group_text, Refuses, Tells, brought_rules, brought_refusal}
 use Rattle.misp_edit.specs.Labels.{is_unusable}
 use Rattle.misp_edit.specs.Uuids.{has_uuid, is_used, numbered_in, clash_in}
 use Rattle.misp_edit.specs.Targets.{target_places, target_in, AreTargets}
@@ -42,15 +42,14 @@ module _ (s : Scene) (b : Submission) where
       sym (any_found (λ l. not (is_usable s l)) (b.label ∷ map (λ d. d.label) b.parts))
       ∙ ap (λ x. not (is_usable s b.label) || x) (any_map (λ d. d.label) (λ l. not (is_usable s l)) b.parts)
 
--- the first of the four rules
-abbrev first_of : (copy tombstone clash group : Bool) → Option Rule
-first_of copy tombstone clash group = first_rule ((copy, EventExists) ∷ (tombstone, EventGone) ∷ (clash, ElementExists) ∷ (group, GroupNotUsable) ∷ [])
+-- the first of the two rules that look at what a body brings
+abbrev first_of : (clash group : Bool) → Option Rule
+first_of clash group = first_rule ((clash, ElementExists) ∷ (group, GroupNotUsable) ∷ [])
 
 -- the rule, by what is found
-rule_is : (s : Scene) (b : Submission) →
-    refusing s b ≡ first_of (holds_copy s b.event) (holds_tombstone s b.event) (is_some (first_clash s b)) (is_some (first_unusable s b))
-unfolding change_rules
-rule_is s b = rw (clash_known s b, unusable_known s b) refl
+brought_is : (s : Scene) (b : Submission) → first_rule (brought_rules s b) ≡ first_of (is_some (first_clash s b)) (is_some (first_unusable s b))
+unfolding brought_rules
+brought_is s b = rw (clash_known s b, unusable_known s b) refl
 
 -- a scene's rows, its groups and its caller say all
 module _ (s : Scene) (b : Submission) where
@@ -67,18 +66,8 @@ module _ (s : Scene) (b : Submission) where
   unusable_by found h = find_by (λ l. not (is_usable s l)) bars usable (b.label ∷ map (λ d. d.label) b.parts) ∙ h
 
   -- the refusal by the first rule that refuses
-  by_rule : (rule : Rule) → refusing s b ≡ Some rule → Refuses s b (Refused (refusal_of s (Change (AddEvent b)) rule))
-  by_rule rule h = ap (option_map (refusal_of s (Change (AddEvent b)))) h
-
-  -- the caller has the event
-  pub exists : has_copy s.rows s.by b.event ≡ true → Refuses s b (Refused (bare RuleName.EventExists))
-  unfolding first_rule holds_copy
-  exists h = by_rule EventExists (rule_is s b ∙ rw h refl)
-
-  -- the caller has its tombstone
-  pub gone : has_copy s.rows s.by b.event ≡ false → has_gone s.rows s.by b.event ≡ true → Refuses s b (Refused (bare RuleName.EventGone))
-  unfolding first_rule holds_copy holds_tombstone
-  gone h k = by_rule EventGone (rule_is s b ∙ rw (h, k) refl)
+  by_rule : (rule : Rule) → first_rule (brought_rules s b) ≡ Some rule → brought_refusal s b ≡ Some (record { name = named rule; place = added_place (first_clash s b) (first_unusable s b) rule })
+  by_rule rule h = ap (option_map (λ r. record { name = named r; place = added_place (first_clash s b) (first_unusable s b) r })) h
 
   -- with what the references name
   module _ (m : BTreeMap ℕ Place) (targets : AreTargets m (target_places s.rows s.by b.event b.parts)) where
@@ -97,30 +86,54 @@ module _ (s : Scene) (b : Submission) where
         ∙ ap (λ ps. clash_in (is_taken s b.event) (map (λ p. p.1) (in_order is_read_before ps))) (numbered_is s b (target_in m) target_by)
         ∙ h
 
-    module _ (h : has_copy s.rows s.by b.event ≡ false) (k : has_gone s.rows s.by b.event ≡ false) where
-      -- a uuid clashes
-      pub clash : (u : ℕ) → found_clash ≡ Some u → Refuses s b (Refused (record { name = RuleName.ElementExists; place = text_of (record { 0 = u }) }))
-      unfolding first_rule holds_copy holds_tombstone
-      clash u e =
-          by_rule ElementExists (rule_is s b ∙ rw (h, k, clash_by _ e) refl)
-          ∙ ap {B = Option Refusal} (λ (c : Option ℕ). Some (record { name = RuleName.ElementExists; place = uuid_text c })) (clash_by _ e)
+    -- a uuid clashes
+    pub clash : (u : ℕ) → found_clash ≡ Some u → Tells (brought_refusal s b) (Refused (record { name = RuleName.ElementExists; place = text_of (record { 0 = u }) }))
+    unfolding first_rule
+    clash u e =
+        by_rule ElementExists (brought_is s b ∙ rw (clash_by _ e) refl)
+        ∙ ap {B = Option Refusal} (λ (c : Option ℕ). Some (record { name = RuleName.ElementExists; place = uuid_text c })) (clash_by _ e)
 
-      module _ (e : found_clash ≡ None) where
-        -- a label is that of a group that is not usable
-        pub group : (g : GroupId) → find bars (b.label ∷ map (λ d. d.label) b.parts) ≡ Some (Label.Group g) →
-            Refuses s b (Refused (record { name = RuleName.GroupNotUsable; place = text_of g.uuid }))
-        unfolding first_rule holds_copy holds_tombstone
-        group g f =
-            by_rule GroupNotUsable (rule_is s b ∙ rw (h, k, clash_by _ e, unusable_by _ f) refl)
-            ∙ ap {B = Option Refusal} (λ (l : Option Label). Some (record { name = RuleName.GroupNotUsable; place = group_text l })) (unusable_by _ f)
+    module _ (e : found_clash ≡ None) where
+      -- a label is that of a group that is not usable
+      pub group : (g : GroupId) → find bars (b.label ∷ map (λ d. d.label) b.parts) ≡ Some (Label.Group g) →
+          Tells (brought_refusal s b) (Refused (record { name = RuleName.GroupNotUsable; place = text_of g.uuid }))
+      unfolding first_rule
+      group g f =
+          by_rule GroupNotUsable (brought_is s b ∙ rw (clash_by _ e, unusable_by _ f) refl)
+          ∙ ap {B = Option Refusal} (λ (l : Option Label). Some (record { name = RuleName.GroupNotUsable; place = group_text l })) (unusable_by _ f)
 
-        -- nothing refuses
-        pub free : find bars (b.label ∷ map (λ d. d.label) b.parts) ≡ None → refusing s b ≡ None
-        unfolding first_rule holds_copy holds_tombstone
-        free f = rule_is s b ∙ rw (h, k, clash_by _ e, unusable_by _ f) refl
+      -- nothing refuses
+      pub free : find bars (b.label ∷ map (λ d. d.label) b.parts) ≡ None → first_rule (brought_rules s b) ≡ None
+      unfolding first_rule
+      free f = brought_is s b ∙ rw (clash_by _ e, unusable_by _ f) refl
+
+-- ---- adding an event
+
+module _ (s : Scene) (b : Submission) where
+  -- the caller has the event
+  pub exists : has_copy s.rows s.by b.event ≡ true → Refuses s (AddEvent b) (Refused (bare RuleName.EventExists))
+  unfolding change_rules first_rule holds_copy
+  exists h = rw h refl
+
+  module _ (h : has_copy s.rows s.by b.event ≡ false) where
+    -- the caller has its tombstone
+    pub gone : has_gone s.rows s.by b.event ≡ true → Refuses s (AddEvent b) (Refused (bare RuleName.EventGone))
+    unfolding change_rules first_rule holds_copy holds_tombstone
+    gone k = rw (h, k) refl
+
+    module _ (k : has_gone s.rows s.by b.event ≡ false) where
+      -- else what it brings is looked at
+      pub looked_at : refusing s b ≡ first_rule (brought_rules s b)
+      unfolding change_rules brought_rules first_rule holds_copy holds_tombstone
+      looked_at = rw (h, k) refl
+
+      pub refused : (fault : AddFault) → Tells (brought_refusal s b) fault → Refuses s (AddEvent b) fault
+      refused (Refused refusal) t = ap (option_map (refusal_of s (Ask.Change (AddEvent b)))) looked_at ∙ t
+      refused NoMemory t = tt
 
 -- a refusal does not depend on the number of its act
 pub refusal_as : (n : ℕ) (s : Scene) (a : Ask) (rule : Rule) → refusal_of (scene_as n s) a rule ≡ refusal_of s a rule
 unfolding first_clash read_uuids numbered_uuids is_clash is_taken has_target target_of target_in_copy first_unusable
-refusal_as n s (Change (AddEvent b)) rule = λ i. record { name = named rule; place = added_place (first_clash s b) (find (λ l. not (usable_as n s l i)) (labels_of b)) rule }
+refusal_as n s (Ask.Change (AddEvent b)) rule = λ i. record { name = named rule; place = added_place (first_clash s b) (find (λ l. not (usable_as n s l i)) (labels_of b)) rule }
+refusal_as n s (Ask.Change (AddParts e b)) rule = λ i. record { name = named rule; place = added_place (first_clash s b) (find (λ l. not (usable_as n s l i)) (labels_of b)) rule }
 refusal_as n s a rule = refl

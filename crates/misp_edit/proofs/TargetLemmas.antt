@@ -1,30 +1,49 @@
 -- What references name.
-use Rattle.std.proofs.Common.{◌≡◌, ◌∙◌, ℕ, Bool, true, false, not, ◌&&◌, ◌==◌, cond, List, [], ◌∷◌, ◌++◌, map, Option, Some, None, option_map, ap, sym, refl, arith, BTreeMap, find, filter_map, IfSome}
-use Rattle.misp_lists.proofs.Lists.{none_either}
+use Rattle.std.proofs.Common.{◌≡◌, ◌∙◌, ℕ, Bool, true, false, not, ◌&&◌, ◌==◌, cond, List, [], ◌∷◌, ◌++◌, map, append-nil, Option, Some, None, option_map, ap, sym, subst, refl, arith, BTreeMap, find, filter_map, IfSome}
 use Rattle.misp_elem.specs.Key.{place_kind, of_reference}
-use Rattle.misp_rules.proofs.Prelude.{Draft, Element, ElemId, EventId, Key, OrgId, Place, Proposal, Reference, Row, Scene, Sighting, Verdict, above, any_weaker, cons_option, event_key, event_of, false≢true, find_passes, has_copy, has_gone}
-use Rattle.misp_rules.proofs.Prelude.{is_deleted, is_live, is_place_of, is_row_of, is_target_key, is_tombstone, list_all, list_any, parents, place_in, same_event, same_event-sound, same_org, same_org-sound, target_in_copy, target_of}
-use Rattle.misp_edit.specs.Targets.{element_place, live_place, kept_place, target_places, or_place, target_in, AreTargets, is_deleted_object, is_under}
+use Rattle.misp_rules.proofs.Prelude.{AreRows, Content, Draft, Element, ElemId, EventId, IsRow, Key, OrgId, Place, Proposal, Reference, Row, Scene, Sighting, Verdict, above, and_parts, cons_option, content_kind, event_of, false≢true}
+use Rattle.misp_rules.proofs.Prelude.{find_passes, fits, has_gone, is_deleted, is_live, is_place_of, is_row_of, is_target_key, label_kind, list_all, list_any, parents, place_in, same_event, same_event-sound, same_key-sound, same_org}
+use Rattle.misp_rules.proofs.Prelude.{same_org-sound, target_in_copy, target_of}
+use Rattle.misp_edit.specs.Objects.{has_object_row, is_object_row}
+use Rattle.misp_edit.specs.Targets.{element_place, live_place, kept_place, target_places, or_place, target_in, AreTargets, is_under}
 
-module _ (rows : List Row) (w : OrgId) (e : EventId) (no_copy : has_copy rows w e ≡ false) (no_tombstone : has_gone rows w e ≡ false)
-    (deleted : ℕ → Bool) (are_deleted : (x : ElemId) → deleted x.0.0 ≡ list_any (is_deleted_object w e x) rows) where
-  -- the owner has no row of the event itself
-  no_event_row : list_any (is_row_of w (event_key e)) rows ≡ false
-  unfolding has_copy has_gone
-  no_event_row = none_either (is_row_of w (event_key e)) is_tombstone rows no_copy no_tombstone
+-- the row of the event itself is not deleted
+event_stays : (e : EventId) (row : Row) → IsRow row → row.key ≡ Element e Place.Event → is_deleted row ≡ false
+unfolding is_deleted
+event_stays e row is k = by row.content refl (subst (λ (key : Key). fits key (label_kind row.label) (row.held, row.carried) (content_kind row.content) ≡ true) k is.1.1.1.1.1.0)
+  where
+    by : (c : Content) → row.content ≡ c → fits (Element e Place.Event) (label_kind row.label) (row.held, row.carried) (content_kind c) ≡ true → is_deleted row ≡ false
+    by (Content.Event b) h f = ap (λ (c : Content). is_deleted (record row { content = c })) h
+    by Content.Gone h f = ap (λ (c : Content). is_deleted (record row { content = c })) h
+    by (Content.Object b) h f = absurd (false≢true f)
+    by (Content.Attribute b) h f = absurd (false≢true f)
+    by (Content.Reference b) h f = absurd (false≢true f)
+    by (Content.Proposal b) h f = absurd (false≢true f)
+    by (Content.Verdict b) h f = absurd (false≢true f)
+    by (Content.Sighting b) h f = absurd (false≢true f)
 
-  -- so none that is deleted
-  none_deleted : list_any (λ r. is_row_of w (Element e Place.Event) r && is_deleted r) rows ≡ false
-  unfolding event_key
-  none_deleted = any_weaker (is_row_of w (Element e Place.Event)) (λ r. is_row_of w (Element e Place.Event) r && is_deleted r) (λ r h. ap (λ b. b && is_deleted r) h) rows no_event_row
+module _ (w : OrgId) (e : EventId) where
+  -- so none of an owner is
+  pub none_deleted : (rows : List Row) → AreRows rows → list_any (λ r. is_row_of w (Element e Place.Event) r && is_deleted r) rows ≡ false
+  unfolding is_row_of
+  none_deleted [] are = refl
+  none_deleted (r ∷ rs) are = rw (one (is_row_of w (Element e Place.Event) r) refl, none_deleted rs are.1) refl
+    where
+      one : (b : Bool) → is_row_of w (Element e Place.Event) r ≡ b → (is_row_of w (Element e Place.Event) r && is_deleted r) ≡ false
+      one false h = ap (λ x. x && is_deleted r) h
+      one true h = ap (λ x. x && is_deleted r) h ∙ event_stays e r are.0 (same_key-sound r.key (Element e Place.Event) (and_parts _ _ h).1)
 
+-- ---- where there is no tombstone
+
+module _ (rows : List Row) (w : OrgId) (e : EventId) (are : AreRows rows) (no_tombstone : has_gone rows w e ≡ false)
+    (deleted : ℕ → Bool) (are_deleted : (x : ElemId) → deleted x.0.0 ≡ has_object_row rows w e true x) where
   -- the parents of a place are there, where its object is not deleted
   parents_there : (p : Place) → list_all (λ k. not (list_any (λ r. is_row_of w k r && is_deleted r) rows)) (above e p) ≡ not (is_under deleted p)
-  unfolding above is_under is_deleted_object
+  unfolding above is_under has_object_row is_object_row
   parents_there Place.Event = refl
-  parents_there (Place.Object x) = rw none_deleted refl
-  parents_there (Place.Attribute a) = rw none_deleted refl
-  parents_there (Place.ObjectAttribute x a) = rw (none_deleted, are_deleted x) (one (list_any (λ r. is_row_of w (Element e (Place.Object x)) r && is_deleted r) rows))
+  parents_there (Place.Object x) = rw (none_deleted w e rows are) refl
+  parents_there (Place.Attribute a) = rw (none_deleted w e rows are) refl
+  parents_there (Place.ObjectAttribute x a) = rw (none_deleted w e rows are, are_deleted x) (one (list_any (λ r. is_row_of w (Element e (Place.Object x)) r && is_deleted r) rows))
     where
       one : (b : Bool) → (not b && true) ≡ not b
       one true = refl
@@ -40,7 +59,7 @@ module _ (rows : List Row) (w : OrgId) (e : EventId) (no_copy : has_copy rows w 
       one true c = refl
       one false c = refl
 
-  live_is : (row : Row) (p : Place) → row.owner ≡ w → row.key ≡ Element e p → is_live rows row ≡ (not (is_deleted row) && not (is_under deleted p))
+  pub live_is : (row : Row) (p : Place) → row.owner ≡ w → row.key ≡ Element e p → is_live rows row ≡ (not (is_deleted row) && not (is_under deleted p))
   unfolding is_live
   live_is row p o k = live_at (is_deleted row) row.owner row.key p o k
 
@@ -78,6 +97,40 @@ module _ (rows : List Row) (w : OrgId) (e : EventId) (no_copy : has_copy rows w 
       AreTargets m (map (λ d. d.place) parts ++ filter_map (kept_place deleted w e) rows) → AreTargets m (target_places rows w e parts)
   unfolding target_places
   targets_are m parts a = λ u. a u ∙ (λ i. find (is_place_of u) (map (λ d. d.place) parts ++ all_kept rows i))
+
+-- ---- where there is one
+
+module _ (rows : List Row) (w : OrgId) (e : EventId) (gone : has_gone rows w e ≡ true) where
+  pub not_live : (row : Row) → row.owner ≡ w → event_of row.key ≡ e → is_live rows row ≡ false
+  unfolding is_live
+  not_live row g h = at (is_deleted row) row.owner row.key g h
+    where
+      one : (b c : Bool) → (not b && not true && c) ≡ false
+      one true c = refl
+      one false c = refl
+
+      at : (b : Bool) (o : OrgId) (k : Key) → o ≡ w → event_of k ≡ e →
+          (not b && not (has_gone rows o (event_of k)) && list_all (λ j. not (list_any (λ r. is_row_of o j r && is_deleted r) rows)) (parents k)) ≡ false
+      at b o k g h = rw (g, h, gone) (one b _)
+
+  no_place : (row : Row) → live_place rows w e row ≡ None
+  unfolding live_place
+  no_place row = by (same_org row.owner w) (same_event (event_of row.key) e) refl refl
+    where
+      by : (a b : Bool) → same_org row.owner w ≡ a → same_event (event_of row.key) e ≡ b → cond (a && (b && is_live rows row)) (element_place row.key) None ≡ None
+      by false b g h = refl
+      by true false g h = refl
+      by true true g h = ap (λ l. cond l (element_place row.key) None) (not_live row (same_org-sound row.owner w g) (same_event-sound (event_of row.key) e h))
+
+  no_places : (rs : List Row) → filter_map (live_place rows w e) rs ≡ []
+  no_places [] = refl
+  no_places (r ∷ rs) = λ i. cons_option (no_place r i) (no_places rs i)
+
+  -- only the parts are named
+  pub parts_alone : (m : BTreeMap ℕ Place) (parts : List Draft) → AreTargets m (map (λ d. d.place) parts) → AreTargets m (target_places rows w e parts)
+  unfolding target_places
+  parts_alone m parts a = λ u.
+      a u ∙ ap (find (is_place_of u)) (sym (append-nil (map (λ d. d.place) parts)) ∙ ap (λ ps. map (λ d. d.place) parts ++ ps) (sym (no_places rows)))
 
 -- ---- the target by the definition
 

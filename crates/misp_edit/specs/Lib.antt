@@ -2,7 +2,8 @@ pub mod Adding
 pub mod Refusals
 pub mod Labels
 pub mod Uuids
+pub mod Objects
 pub mod Targets
 pub mod Rows
 pub mod Changing
-pub mod Edits
+pub mod Limits

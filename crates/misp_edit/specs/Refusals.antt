@@ -1,13 +1,13 @@
 -- What the refusal of an ask says: its rule, and the place of what is refused.
-use Rattle.std.specs.Prelude.{◌≡◌, ℕ, List, [], Option, Some, None, option_map}
+use Rattle.std.specs.Prelude.{◌≡◌, ℕ, Bool, List, [], ◌∷◌, Option, Some, None, option_map}
 use Rattle.misp_ids.specs.Uid.{text_of}
 use Rattle.misp_ids.specs.declared.refusal.Refusal.{Refusal}
 use Rattle.misp_ids.specs.declared.refusal.RuleName.{RuleName}
-use Rattle.misp_rules.specs.Prelude.{Label, Rule, Scene, Submission}
+use Rattle.misp_rules.specs.Prelude.{Label, Rule, Scene, Submission, change_rules, clashes, first_rule, has_unusable}
 use Rattle.misp_rules.specs.declared.ask.Ask.{Ask}
-use Rattle.misp_rules.specs.declared.ask.Ask.TheVariants.{Change}
-use Rattle.misp_rules.specs.declared.change.Change.TheVariants.{AddEvent}
-use Rattle.misp_edit.specs.Adding.{refusing, first_clash, first_unusable}
+use Rattle.misp_rules.specs.declared.change.Change.{Change}
+use Rattle.misp_rules.specs.declared.change.Change.TheVariants.{AddEvent, AddParts, EditEvent, EditAttribute, EditObject}
+use Rattle.misp_edit.specs.Adding.{first_clash, first_unusable}
 use Rattle.misp_edit.specs.declared.fault.AddFault.{AddFault}
 use Rattle.misp_rules.specs.Scene as asking
 
@@ -42,17 +42,52 @@ added_place clash unusable asking.ElementExists = uuid_text clash
 added_place clash unusable asking.GroupNotUsable = group_text unusable
 added_place clash unusable rule = []
 
+-- the label that a refusal by rule 15 names the group of
+abbrev pub label_place : Option Label → Rule → List ℕ
+label_place given asking.GroupNotUsable = group_text given
+label_place given rule = []
+
 -- the place that a refusal of an ask shows
 abbrev pub place_of : Scene → Ask → Rule → List ℕ
-place_of s (Change (AddEvent b)) rule = added_place (first_clash s b) (first_unusable s b) rule
+place_of s (Ask.Change (AddEvent b)) rule =
+    added_place (first_clash s b) (first_unusable s b) rule
+place_of s (Ask.Change (AddParts e b)) rule =
+    added_place (first_clash s b) (first_unusable s b) rule
+place_of s (Ask.Change (EditEvent e edit)) rule = label_place edit.label rule
+place_of s (Ask.Change (EditAttribute e p edit)) rule = label_place edit.label rule
+place_of s (Ask.Change (EditObject e x edit)) rule = label_place edit.label rule
 place_of s ask rule = []
 
 -- the refusal of an ask by a rule
 abbrev pub refusal_of : Scene → Ask → Rule → Refusal
 refusal_of s ask rule = record { name = named rule; place = place_of s ask rule }
 
--- the fault is the refusal by the first rule that refuses to add the event, or memory ran out
-abbrev pub Refuses : Scene → Submission → AddFault → Type 0
-Refuses s b (AddFault.Refused refusal) =
-    option_map (refusal_of s (Change (AddEvent b))) (refusing s b) ≡ Some refusal
-Refuses s b AddFault.NoMemory = Unit {0}
+-- the fault is the refusal by the first rule that refuses the change, or memory ran out
+abbrev pub Refuses : Scene → Change → AddFault → Type 0
+Refuses s c (AddFault.Refused refusal) =
+    option_map (refusal_of s (Ask.Change c)) (first_rule (change_rules s c)) ≡ Some refusal
+Refuses s c AddFault.NoMemory = Unit {0}
+
+-- ---- the rules that look at what a body brings
+
+unfoldable pub brought_rules : Scene → Submission → List (Bool × Rule)
+brought_rules s b =
+    (clashes s b, asking.ElementExists) ∷ (has_unusable s b, asking.GroupNotUsable) ∷ []
+
+-- the refusal by the first of them that refuses
+abbrev pub brought_refusal : Scene → Submission → Option Refusal
+brought_refusal s b =
+    option_map
+    (λ rule.
+    record { name = named rule; place = added_place (first_clash s b) (first_unusable s b) rule })
+    (first_rule (brought_rules s b))
+
+-- the fault is this refusal, or memory ran out
+abbrev pub Tells : Option Refusal → AddFault → Type 0
+Tells expected (AddFault.Refused refusal) = expected ≡ Some refusal
+Tells expected AddFault.NoMemory = Unit {0}
+
+-- the fault of a rule that names no place, and of running out of memory
+unfoldable pub bare_fault : Option Rule → AddFault
+bare_fault None = AddFault.NoMemory
+bare_fault (Some rule) = AddFault.Refused (record { name = named rule; place = [] })

@@ -1,4 +1,4 @@
--- The rows of an added event, by the fields of what is added.
+-- The rows of an added event and of added parts, by the fields of what is added.
 use Rattle.std.specs.Prelude.{ℕ, true, false, not, List, Option, Some, None, map, ◌++◌, option_map, option_to_list, filter_map}
 use Rattle.misp_elem.specs.declared.content.EventBody.{EventBody}
 use Rattle.misp_rules.specs.Prelude.{Content, Draft, Element, ElemId, EventDraft, EventId, Key, Label, OrgId, Place, Reference, ReferenceDraft, Row, Submission, is_gone}
@@ -66,4 +66,10 @@ unfoldable pub added_rows :
 added_rows target w name today now b =
     map (λ d. event_row w name today b.event now b.label d) (option_to_list b.body)
     ++ map (part_row w b.event now) b.parts
+    ++ filter_map (row_with_target target w b.event now) b.references
+
+-- the rows of the parts, and those of the references that have a target
+unfoldable pub parts_rows : (ElemId → Option Place) → OrgId → ℕ → Submission → List Row
+parts_rows target w now b =
+    map (part_row w b.event now) b.parts
     ++ filter_map (row_with_target target w b.event now) b.references

@@ -1,7 +1,7 @@
 -- What references can name, without a scene.
 use Rattle.std.specs.Prelude.{◌≡◌, ℕ, Bool, false, not, cond, ◌&&◌, List, [], ◌∷◌, ◌++◌, map, Option, Some, None, true, IfSome, find, filter_map}
 use Rattle.std.specs.BTreeMap.{BTreeMap}
-use Rattle.misp_rules.specs.Prelude.{BTreeSet, Draft, Element, ElemId, EventId, Key, OrgId, Place, Proposal, Reference, Row, Sighting, Verdict, contains, event_of, is_deleted, is_live, is_place_of, is_row_of, list_any, nat_cmp, same_event}
+use Rattle.misp_rules.specs.Prelude.{Draft, Element, ElemId, EventId, Key, OrgId, Place, Proposal, Reference, Row, Sighting, Verdict, event_of, is_deleted, is_live, is_place_of, nat_cmp, same_event}
 use Rattle.misp_rules.specs.Prelude.{same_org}
 use Rattle.misp_rules.specs.Adding.{place_in}
 use Rattle.std.specs.BTreeMap as tree
@@ -42,15 +42,6 @@ AreOfTheirUuids targets =
 -- of each uuid it has the first of these places
 abbrev pub AreTargets : BTreeMap ℕ Place → List Place → Type 0
 AreTargets targets places = (u : ElemId) → target_in targets u ≡ find (is_place_of u) places
-
--- the owner's row of the object is deleted
-unfoldable pub is_deleted_object : OrgId → EventId → ElemId → Row → Bool
-is_deleted_object w e x row = is_row_of w (Element e (Place.Object x)) row && is_deleted row
-
--- a set has the deleted objects of the owner's copy
-abbrev pub AreDeleted : BTreeSet ℕ → List Row → OrgId → EventId → Type 0
-AreDeleted deleted rows w e =
-    (x : ElemId) → contains nat_cmp deleted x.0.0 ≡ list_any (is_deleted_object w e x) rows
 
 -- an attribute of an object that a set has
 unfoldable pub is_under : (ℕ → Bool) → Place → Bool

@@ -1,14 +1,14 @@
-//! Deleting an element, and an event.
+//! Deleting an element.
 
-ghost use Rattle.std.specs.Prelude.{◌≡◌, ℕ, List, [], ◌∷◌, eqb, false, IfOk, IfErr};
+ghost use Rattle.std.specs.Prelude.{◌≡◌, ℕ, List, [], ◌∷◌, eqb, false, None, IfOk, IfErr};
 ghost use Rattle.misp_elem.specs.Row.{AreRows};
 ghost use Rattle.misp_rules.specs.declared.change.Change.TheVariants.{Delete};
 ghost use Rattle.misp_rules.specs.Changing.{change_rules};
 ghost use Rattle.misp_rules.specs.Edits.{as_deleted};
 ghost use Rattle.misp_rules.specs.Scene.{is_too_long};
 ghost use Rattle.misp_ids.specs.Moments.{last_stamp};
-ghost use Rattle.misp_copies.specs.Scenes.{scene_of};
-ghost use Rattle.misp_copies.specs.Barring.{Refuses};
+ghost use Rattle.misp_copies.specs.Scenes.{scene_for};
+ghost use Rattle.misp_copies.specs.Barring.{Refuses, Names};
 ghost use Rattle.misp_edit.specs.Changing.{Changes, IsFull, renewed};
 
 use crate::barring::admitted_row;
@@ -16,8 +16,7 @@ use crate::contents::deleted;
 use crate::renewing::{finished, label_of};
 use misp_copies::{ChangeFault, Viewer, has_live};
 use misp_elem::{Content, Place, Row};
-use misp_groups::Groups;
-use misp_ids::{EventId, InstId, NoMemory, OrgId, Stamp};
+use misp_ids::{EventId, NoMemory, Stamp};
 use std::alloc::Global;
 
 fn deleted_of(row: &Row) -> Result<Content, NoMemory>
@@ -42,33 +41,27 @@ fn deleted_row(alloc: Global, row: &Row, now: Stamp) -> Result<Vec<Row>, ChangeF
     }
 }
 
-/// The row that deleting the element at this place writes. The groups are those of the instance
-/// `here`, and the rows those that the caller knows of the event.
+/// The row that deleting the element at this place writes. The rows are those that the caller knows
+/// of the event.
 pub fn delete(
     alloc: Global,
     event: &EventId,
     place: &Place,
-    org: &OrgId,
-    groups: &Groups,
-    here: &InstId,
+    who: &Viewer,
     now: Stamp,
     rows: &[Row],
 ) -> Result<Vec<Row>, ChangeFault>
     ensures err { (act : ℕ) (name today : List ℕ) → IfErr result
-        (Refuses (change_rules (scene_of act here.now org.now name now today groups.now rows.now)
+        (Refuses (change_rules (scene_for act who.now name now today rows.now)
         (Delete event.now place.now))) }
     ensures ok { (act : ℕ) (name today : List ℕ) → IfOk result (λ made.
-        Changes (scene_of act here.now org.now name now today groups.now rows.now)
+        Changes (scene_for act who.now name now today rows.now)
         (Delete event.now place.now) made.items) }
     ensures are_rows { IfOk result (λ made. AreRows made.items) }
+    ensures names { IfErr result (Names None) }
 {
-    let who = Viewer {
-        groups,
-        here: *here,
-        org: *org,
-    };
-    let fits = has_live(rows, org, event, place);
-    match admitted_row(rows, &who, event, place, fits, None, None) {
+    let fits = has_live(rows, &who.org, event, place);
+    match admitted_row(rows, who, event, place, fits, None, None) {
         Err(fault) => Err(fault),
         Ok(None) => Ok(Vec::new(alloc)),
         Ok(Some(row)) => deleted_row(alloc, row, now),

@@ -1,6 +1,6 @@
 //! Deleting an event.
 
-ghost use Rattle.std.specs.Prelude.{◌≡◌, ℕ, List, [], ◌∷◌, eqb, false, true, IfOk, IfErr};
+ghost use Rattle.std.specs.Prelude.{◌≡◌, ℕ, List, [], ◌∷◌, eqb, false, true, None, IfOk, IfErr};
 ghost use Rattle.std.specs.List.{find};
 ghost use Rattle.std.specs.Option.{option_copied};
 ghost use Rattle.misp_ids.specs.declared.label.Label.TheVariants as labels;
@@ -14,15 +14,14 @@ ghost use Rattle.misp_rules.specs.Changing.{change_rules};
 ghost use Rattle.misp_ids.specs.Moments.{last_stamp};
 ghost use Rattle.misp_edit.specs.Changing.{Changes, IsFull, event_deleting, renewed};
 ghost use Rattle.misp_copies.specs.Copies.{is_event_key};
-ghost use Rattle.misp_copies.specs.Scenes.{scene_of};
-ghost use Rattle.misp_copies.specs.Barring.{Refuses, outcome};
+ghost use Rattle.misp_copies.specs.Scenes.{scene_for};
+ghost use Rattle.misp_copies.specs.Barring.{Refuses, Names, outcome};
 
 use crate::barring::late_fault;
 use crate::renewing::finished;
 use misp_copies::{ChangeFault, Viewer, may_delete, own_row};
 use misp_elem::{Content, Place, Row};
-use misp_groups::Groups;
-use misp_ids::{EventId, InstId, Label, OrgId, Stamp};
+use misp_ids::{EventId, Label, Stamp};
 use std::alloc::Global;
 
 // The caller's row of the event, where nothing refuses to delete it.
@@ -35,6 +34,7 @@ fn admitted_event<'a>(
         ≡ event_deleting rows.now who.now.groups.now who.now.here who.now.org event.now }
     ensures own { IfOk result (λ own. option_copied own
         ≡ find (is_row_of who.now.org (Element event.now places.Event)) rows.now) }
+    ensures names { IfErr result (Names None) }
 {
     match may_delete(rows, who, event) {
         Err(fault) => Err(fault),
@@ -61,31 +61,25 @@ fn tombstone_for(alloc: Global, row: &Row, now: Stamp) -> Result<Vec<Row>, Chang
     finished(alloc, row, Label::Own, Content::Gone, now)
 }
 
-/// The tombstone that deleting the event writes. The groups are those of the instance `here`, and
-/// the rows those that the caller knows of the event.
+/// The tombstone that deleting the event writes. The rows are those that the caller knows of the
+/// event.
 pub fn delete_event(
     alloc: Global,
     event: &EventId,
-    org: &OrgId,
-    groups: &Groups,
-    here: &InstId,
+    who: &Viewer,
     now: Stamp,
     rows: &[Row],
 ) -> Result<Vec<Row>, ChangeFault>
     ensures err { (act : ℕ) (name today : List ℕ) → IfErr result
-        (Refuses (change_rules (scene_of act here.now org.now name now today groups.now rows.now)
+        (Refuses (change_rules (scene_for act who.now name now today rows.now)
         (DeleteEvent event.now))) }
     ensures ok { (act : ℕ) (name today : List ℕ) → IfOk result (λ made.
-        Changes (scene_of act here.now org.now name now today groups.now rows.now)
+        Changes (scene_for act who.now name now today rows.now)
         (DeleteEvent event.now) made.items) }
     ensures are_rows { IfOk result (λ made. AreRows made.items) }
+    ensures names { IfErr result (Names None) }
 {
-    let who = Viewer {
-        groups,
-        here: *here,
-        org: *org,
-    };
-    match admitted_event(rows, &who, event) {
+    match admitted_event(rows, who, event) {
         Err(fault) => Err(fault),
         Ok(None) => Ok(Vec::new(alloc)),
         Ok(Some(row)) => tombstone_for(alloc, row, now),

@@ -1,11 +1,13 @@
-//! The rules that refuse to add an event.
+//! The rules that refuse what a body brings, and those that refuse to add an event.
 
 ghost use Rattle.std.specs.Prelude.{◌≡◌, ℕ, List, IfOk, IfErr, OnOk, None};
 ghost use Rattle.misp_ids.specs.Uid.{text_of};
 ghost use Rattle.misp_ids.specs.Moments.{Stamp};
+ghost use Rattle.misp_rules.specs.declared.change.Change.TheVariants.{AddEvent};
+ghost use Rattle.misp_rules.specs.Scene.{first_rule};
 ghost use Rattle.misp_copies.specs.Scenes.{scene_of};
 ghost use Rattle.misp_edit.specs.Adding.{refusing};
-ghost use Rattle.misp_edit.specs.Refusals.{Refuses};
+ghost use Rattle.misp_edit.specs.Refusals.{Refuses, Tells, brought_refusal, brought_rules};
 ghost use Rattle.misp_edit.specs.Targets.{target_places, AreTargets};
 
 use crate::clash::first_clash;
@@ -27,6 +29,41 @@ fn refused(alloc: Global, name: RuleName, uuid: Uid) -> Result<AddFault, NoMemor
     Ok(AddFault::Refused(Refusal { name, place }))
 }
 
+// The refusal of what a body brings, if a uuid clashes, or if a label may not be used.
+pub(crate) fn look_at_brought(
+    alloc: Global,
+    submission: &Submission,
+    targets: &Targets,
+    owner: OrgId,
+    groups: &Groups,
+    here: &InstId,
+    rows: &[Row],
+) -> Result<(), AddFault>
+    requires { AreTargets targets.now
+        (target_places rows.now owner submission.now.event submission.now.parts) }
+    ensures err { (act : ℕ) (name : List ℕ) (now : Stamp) (today : List ℕ) → IfErr result
+        (Tells (brought_refusal
+        (scene_of act here.now owner name now today groups.now rows.now) submission.now)) }
+    ensures ok { (act : ℕ) (name : List ℕ) (now : Stamp) (today : List ℕ) → OnOk result
+        (first_rule (brought_rules
+        (scene_of act here.now owner name now today groups.now rows.now) submission.now)
+        ≡ None) }
+{
+    if let Some(uuid) = first_clash(alloc, submission, targets, rows, owner)? {
+        return Err(refused(alloc, RuleName::ElementExists, Uid(uuid))?);
+    }
+    match first_unusable(
+        submission.label,
+        submission.parts.as_slice(),
+        groups,
+        here,
+        &owner,
+    ) {
+        Some(group) => Err(refused(alloc, RuleName::GroupNotUsable, group.uuid)?),
+        None => Ok(()),
+    }
+}
+
 // The refusal by the first rule that refuses, or, where none does, what the references name.
 pub(crate) fn admitted(
     alloc: Global,
@@ -38,7 +75,7 @@ pub(crate) fn admitted(
 ) -> Result<Targets, AddFault>
     ensures err { (act : ℕ) (name : List ℕ) (now : Stamp) (today : List ℕ) → IfErr result
         (Refuses (scene_of act here.now owner name now today groups.now rows.now)
-        submission.now) }
+        (AddEvent submission.now)) }
     ensures ok { (act : ℕ) (name : List ℕ) (now : Stamp) (today : List ℕ) → OnOk result
         (refusing (scene_of act here.now owner name now today groups.now rows.now)
         submission.now ≡ None) }
@@ -46,19 +83,16 @@ pub(crate) fn admitted(
         AreTargets targets
         (target_places rows.now owner submission.now.event submission.now.parts)) }
 {
-    let (event, parts) = (submission.event, submission.parts.as_slice());
+    let event = submission.event;
     if has_copy(rows, &owner, &event) {
         return Err(AddFault::Refused(Refusal::bare(alloc, RuleName::EventExists)));
     }
     if has_gone(rows, &owner, &event) {
         return Err(AddFault::Refused(Refusal::bare(alloc, RuleName::EventGone)));
     }
-    let targets = targets(alloc, parts, rows, owner, event)?;
-    if let Some(uuid) = first_clash(alloc, submission, &targets, rows, owner)? {
-        return Err(refused(alloc, RuleName::ElementExists, Uid(uuid))?);
-    }
-    match first_unusable(submission.label, parts, groups, here, &owner) {
-        Some(group) => Err(refused(alloc, RuleName::GroupNotUsable, group.uuid)?),
-        None => Ok(targets),
+    let targets = targets(alloc, submission.parts.as_slice(), rows, owner, event)?;
+    match look_at_brought(alloc, submission, &targets, owner, groups, here, rows) {
+        Err(fault) => Err(fault),
+        Ok(()) => Ok(targets),
     }
 }

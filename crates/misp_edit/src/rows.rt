@@ -1,4 +1,4 @@
-//! The rows of an added event.
+//! The rows of an added event, and of added parts.
 
 ghost use Rattle.std.specs.Prelude.{◌≡◌, ◌++◌, map, IfOk, IfSome, Some, is_some, true};
 ghost use Rattle.std.specs.List.{filter_map};
@@ -9,7 +9,7 @@ ghost use Rattle.misp_elem.specs.Row.{IsRow, AreRows};
 ghost use Rattle.misp_elem.specs.Draft.{IsOptionalDate, IsLabelOf};
 ghost use Rattle.misp_rules.specs.Adding.{is_place_of};
 ghost use Rattle.misp_edit.specs.Targets.{target_in, AreOfTheirUuids};
-ghost use Rattle.misp_edit.specs.Rows.{held_row, part_row, reference_row, row_with_target, date_given, event_row, body_of, added_rows};
+ghost use Rattle.misp_edit.specs.Rows.{held_row, part_row, reference_row, row_with_target, date_given, event_row, body_of, added_rows, parts_rows};
 
 use crate::targets::Targets;
 use misp_dates::date_of;
@@ -256,5 +256,29 @@ pub(crate) fn added_rows(
     let name = name.clone()?;
     rows.push(event_row(alloc, draft, label, owner, name, event, now)?)?;
     let rows = with_parts(rows, parts.into_vec(), owner, event, now)?;
+    with_references(rows, references.into_vec(), targets, owner, event, now)
+}
+
+// The rows of the parts, and of the references that have a target.
+#[tactic(auto, unfolding(crate::specs::Rows::parts_rows))]
+pub(crate) fn parts_rows(
+    alloc: Global,
+    submission: Submission,
+    targets: &Targets,
+    owner: OrgId,
+    now: Stamp,
+) -> Result<Vec<Row>, NoMemory>
+    requires { AreOfTheirUuids targets.now }
+    ensures all { IfOk result (λ added.
+        added.items ≡ parts_rows (target_in targets.now) owner now submission) }
+    ensures are_rows { IfOk result (λ added. AreRows added.items) }
+{
+    let Submission {
+        event,
+        parts,
+        references,
+        ..
+    } = submission;
+    let rows = with_parts(Vec::new(alloc), parts.into_vec(), owner, event, now)?;
     with_references(rows, references.into_vec(), targets, owner, event, now)
 }

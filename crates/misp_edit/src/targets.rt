@@ -1,78 +1,27 @@
 //! What references name: parts of the same body, and live elements of the caller's copy.
 
-ghost use Rattle.std.specs.Prelude.{◌≡◌, ◌++◌, ◌||◌, List, map, false, IfOk, OnOk};
+ghost use Rattle.std.specs.Prelude.{◌≡◌, ◌++◌, List, map, IfOk, OnOk};
 ghost use Rattle.std.specs.List.{filter_map};
 ghost use Rattle.std.specs.Ordering.{nat_cmp};
 ghost use Rattle.std.specs.BTreeSet.{contains};
 ghost use Rattle.misp_ids.specs.declared.uid.ElemId.{ElemId};
 ghost use Rattle.misp_elem.specs.declared.key.Place.{Place as SomePlace};
-ghost use Rattle.misp_rules.specs.View.{has_copy, has_gone};
 ghost use Rattle.misp_rules.specs.Adding.{is_place_of};
 ghost use Rattle.misp_edit.specs.Uuids.{is_at};
-ghost use Rattle.misp_edit.specs.Targets.{kept_place, target_places, or_place, target_in, AreTargets, is_deleted_object, AreDeleted, is_under};
+ghost use Rattle.misp_edit.specs.Targets.{kept_place, target_places, or_place, target_in, AreTargets, is_under};
 
+use crate::objects::{Objects, own_objects};
+use misp_copies::has_gone;
 use misp_elem::{Draft, KeyForm, Place, Row};
 use misp_ids::{EventId, NoMemory, OrgId};
 use std::alloc::Global;
-use std::collections::{BTreeMap, BTreeSet};
+use std::collections::BTreeMap;
 
 /// The places that references can name, by their uuids.
 pub(crate) type Targets = BTreeMap<u128, Place>;
 
-// The uuid of a deleted object, if the row is the owner's of one in the event.
-#[tactic(auto, unfolding(crate::specs::Targets::is_deleted_object, misp_rules::specs::View::is_row_of, misp_elem::specs::SameKey::same_key, misp_elem::specs::SameKey::same_place, misp_ids::specs::Same::same_event, misp_ids::specs::Same::same_elem, misp_ids::specs::Same::same_org))]
-fn deleted_object(row: &Row, owner: OrgId, event: EventId) -> Option<u128>
-    ensures { (x : ElemId) → is_at result x.0.0 ≡ is_deleted_object owner event x row.now }
-{
-    match row.key.form {
-        KeyForm::Element {
-            event: of,
-            place: Place::Object(object),
-        } => {
-            if row.owner.0.0 == owner.0.0 && of.0.0 == event.0.0 && row.is_deleted() {
-                Some(object.0.0)
-            } else {
-                None
-            }
-        }
-        _ => None,
-    }
-}
-
-// With the object of the row, if it is a deleted one.
-fn note_deleted(
-    deleted: &mut BTreeSet<u128>,
-    row: &Row,
-    owner: OrgId,
-    event: EventId,
-) -> Result<(), NoMemory>
-    ensures { OnOk result ((x : ElemId) → contains nat_cmp deleted.new x.0.0
-        ≡ (contains nat_cmp deleted.old x.0.0 || is_deleted_object owner event x row.now)) }
-{
-    if let Some(uuid) = deleted_object(row, owner, event) {
-        deleted.insert(uuid)?;
-    }
-    Ok(())
-}
-
-// The deleted objects of the owner's copy.
-fn deleted_objects(
-    alloc: Global,
-    rows: &[Row],
-    owner: OrgId,
-    event: EventId,
-) -> Result<BTreeSet<u128>, NoMemory>
-    ensures { IfOk result (λ deleted. AreDeleted deleted rows.now owner event) }
-{
-    let mut deleted = BTreeSet::new(alloc);
-    for row in rows {
-        note_deleted(&mut deleted, row, owner, event)?;
-    }
-    Ok(deleted)
-}
-
 #[tactic(auto, unfolding(crate::specs::Targets::is_under))]
-fn is_under(deleted: &BTreeSet<u128>, place: Place) -> bool
+fn is_under(deleted: &Objects, place: Place) -> bool
     ensures { result ≡ is_under (contains nat_cmp deleted.now) place }
 {
     match place {
@@ -83,7 +32,7 @@ fn is_under(deleted: &BTreeSet<u128>, place: Place) -> bool
 
 // The place of an element of the owner's copy, if neither it nor its object is deleted.
 #[tactic(auto, unfolding(crate::specs::Targets::kept_place, crate::specs::Targets::element_place, misp_rules::specs::Adding::place_in, misp_elem::specs::Parents::event_of, misp_ids::specs::Same::same_event, misp_ids::specs::Same::same_org))]
-fn kept_place(row: &Row, owner: OrgId, event: EventId, deleted: &BTreeSet<u128>) -> Option<Place>
+fn kept_place(row: &Row, owner: OrgId, event: EventId, deleted: &Objects) -> Option<Place>
     ensures { result ≡ kept_place (contains nat_cmp deleted.now) owner event row.now }
 {
     match row.key.form {
@@ -144,7 +93,7 @@ fn with_kept(
     rows: &[Row],
     owner: OrgId,
     event: EventId,
-    deleted: &BTreeSet<u128>,
+    deleted: &Objects,
 ) -> Result<Targets, NoMemory>
     ensures { IfOk result (λ all. (places : List SomePlace) → AreTargets targets places →
         AreTargets all
@@ -158,7 +107,7 @@ fn with_kept(
     Ok(targets)
 }
 
-// What references of a body with these parts name, where the owner has no row of the event itself.
+// What references of a body with these parts name.
 #[tactic(auto, unfolding(crate::specs::Targets::target_places))]
 pub(crate) fn targets(
     alloc: Global,
@@ -167,12 +116,13 @@ pub(crate) fn targets(
     owner: OrgId,
     event: EventId,
 ) -> Result<Targets, NoMemory>
-    requires no_copy { has_copy rows.now owner event ≡ false }
-    requires no_tombstone { has_gone rows.now owner event ≡ false }
     ensures { IfOk result (λ targets.
         AreTargets targets (target_places rows.now owner event parts.now)) }
 {
-    let deleted = deleted_objects(alloc, rows, owner, event)?;
     let targets = of_parts(alloc, parts)?;
+    if has_gone(rows, &owner, &event) {
+        return Ok(targets);
+    }
+    let deleted = own_objects(alloc, rows, owner, event, true)?;
     Ok(with_kept(targets, rows, owner, event, &deleted)?)
 }

@@ -2,12 +2,8 @@
 use Rattle.std.proofs.Common.{◌≡◌, ℕ, Bool, true, false, cond, eqb, length, List, [], ◌∷◌, ◌++◌, Result, Ok, Err, refl, sym, ap, subst, ◌∙◌, append_assoc, ◌⊎◌, inl, inr, append-nil, eqb-true}
 use Rattle.std.proofs.lemmas.List.{nil_from_length}
 use Rattle.misp_lists.proofs.Bytes.{IsBytes}
+pub use Rattle.misp_lists.proofs.Readings.{bind_ok}
 use Rattle.misp_elem.specs.Reading.{Reading, ◌>>=◌, ended}
-
--- the value of a step that did not fail
-pub bind_ok : {A B : Type 0} (r : Result A ℕ) (f : A → Result B ℕ) (y : B) → (r >>= f) ≡ Ok y → (x : A) × (r ≡ Ok x) × (f x ≡ Ok y)
-bind_ok (Ok x) f y e = (x, refl, e)
-bind_ok (Err d) f y e = absurd cc
 
 -- a test that did not fail
 pub guard_ok : {A : Type 0} (b : Bool) (d : ℕ) (r : Result A ℕ) (y : A) → cond b (Err d) r ≡ Ok y → (b ≡ false) × (r ≡ Ok y)

@@ -13,3 +13,4 @@ pub mod Rows
 pub mod Wire
 pub mod KeyOrder
 pub mod Same
+pub mod Sizes

@@ -19,18 +19,7 @@ same_place-sound (ObjectAttribute x a) (ObjectAttribute y b) h =
     let e : x ≡ y = same_elem-sound x y both.0 in
     let f : a ≡ b = same_elem-sound a b both.1 in
     cc
-same_place-sound Event (Object y) h = absurd (false≢true h)
-same_place-sound Event (Attribute y) h = absurd (false≢true h)
-same_place-sound Event (ObjectAttribute y b) h = absurd (false≢true h)
-same_place-sound (Object x) Event h = absurd (false≢true h)
-same_place-sound (Object x) (Attribute y) h = absurd (false≢true h)
-same_place-sound (Object x) (ObjectAttribute y b) h = absurd (false≢true h)
-same_place-sound (Attribute x) Event h = absurd (false≢true h)
-same_place-sound (Attribute x) (Object y) h = absurd (false≢true h)
-same_place-sound (Attribute x) (ObjectAttribute y b) h = absurd (false≢true h)
-same_place-sound (ObjectAttribute x a) Event h = absurd (false≢true h)
-same_place-sound (ObjectAttribute x a) (Object y) h = absurd (false≢true h)
-same_place-sound (ObjectAttribute x a) (Attribute y) h = absurd (false≢true h)
+same_place-sound _ _ h = absurd (false≢true h)
 
 pub same_name-sound : (a b : ProposalName) → same_name a b ≡ true → a ≡ b
 unfolding same_name
@@ -67,26 +56,7 @@ same_key-sound (Sighting e t i o u) (Sighting f s j w v) h =
     let p : ((same_event e f && same_place t s) ≡ true) × (same_inst i j ≡ true) = and_parts _ _ q.0 in
     let m : (same_event e f ≡ true) × (same_place t s ≡ true) = and_parts _ _ p.0 in
     λ k. Sighting (same_event-sound _ _ m.0 k) (same_place-sound _ _ m.1 k) (same_inst-sound _ _ p.1 k) (same_org-sound _ _ q.1 k) (same_elem-sound _ _ r.1 k)
-same_key-sound (Element e p) (Reference f y s v) h = absurd (false≢true h)
-same_key-sound (Element e p) (Proposal f m) h = absurd (false≢true h)
-same_key-sound (Element e p) (Verdict f m j w) h = absurd (false≢true h)
-same_key-sound (Element e p) (Sighting f s j w v) h = absurd (false≢true h)
-same_key-sound (Reference e x t u) (Element f q) h = absurd (false≢true h)
-same_key-sound (Reference e x t u) (Proposal f m) h = absurd (false≢true h)
-same_key-sound (Reference e x t u) (Verdict f m j w) h = absurd (false≢true h)
-same_key-sound (Reference e x t u) (Sighting f s j w v) h = absurd (false≢true h)
-same_key-sound (Proposal e n) (Element f q) h = absurd (false≢true h)
-same_key-sound (Proposal e n) (Reference f y s v) h = absurd (false≢true h)
-same_key-sound (Proposal e n) (Verdict f m j w) h = absurd (false≢true h)
-same_key-sound (Proposal e n) (Sighting f s j w v) h = absurd (false≢true h)
-same_key-sound (Verdict e n i o) (Element f q) h = absurd (false≢true h)
-same_key-sound (Verdict e n i o) (Reference f y s v) h = absurd (false≢true h)
-same_key-sound (Verdict e n i o) (Proposal f m) h = absurd (false≢true h)
-same_key-sound (Verdict e n i o) (Sighting f s j w v) h = absurd (false≢true h)
-same_key-sound (Sighting e t i o u) (Element f q) h = absurd (false≢true h)
-same_key-sound (Sighting e t i o u) (Reference f y s v) h = absurd (false≢true h)
-same_key-sound (Sighting e t i o u) (Proposal f m) h = absurd (false≢true h)
-same_key-sound (Sighting e t i o u) (Verdict f m j w) h = absurd (false≢true h)
+same_key-sound _ _ h = absurd (false≢true h)
 
 -- what two tests of equality say of one key
 pub same_key-keeps : (keep : Key → Bool) (a b : Key) → same_key a b ≡ true → keep b ≡ true → keep a ≡ true

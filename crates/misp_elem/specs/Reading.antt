@@ -9,6 +9,7 @@ use Rattle.misp_ids.specs.declared.uid.ElemId.{ElemId}
 use Rattle.misp_ids.specs.Names.{is_inst_name}
 use Rattle.misp_ids.specs.declared.stamp.TheConstants.{LAST_SECOND}
 use Rattle.misp_types.specs.Values.{is_kept}
+pub use Rattle.misp_lists.specs.Reading.{◌>>=◌}
 use Rattle.misp_elem.specs.declared.fault.BadField.{BadField}
 use Rattle.misp_elem.specs.declared.fault.DecodeFault.{DecodeFault}
 use Rattle.misp_elem.specs.declared.fault.DecodeFault.TheVariants.{BadRow}
@@ -20,11 +21,6 @@ use Rattle.misp_elem.specs.Fields.{is_text, is_date}
 -- a value and the bytes after it, or the fault
 abbrev pub Reading : Type 0 → Type 0
 Reading A = Result (A × List ℕ) ℕ
-
-infixl 10 ◌>>=◌
-abbrev pub ◌>>=◌ : {A B : Type 0} → Result A ℕ → (A → Result B ℕ) → Result B ℕ
-(Ok x) >>= f = f x
-(Err e) >>= f = Err e
 
 -- A function that returned this, and left these bytes, read what reading gives.
 abbrev pub Reads : {A : Type 0} → Result A BadField → List ℕ → Reading A → Type 0

@@ -1,6 +1,6 @@
 //! A few keys.
 
-ghost use Rattle.std.specs.Prelude.{◌≡◌, length, slice_get};
+ghost use Rattle.std.specs.Prelude.{◌≡◌};
 
 use crate::key::Key;
 use std::marker::Model;
@@ -29,21 +29,10 @@ impl Model for Parents {
 }
 
 impl Parents {
-    /// How many they are, at most four.
-    pub fn len(&self) -> usize
-        ensures { result ≡ length self.now }
+    /// The keys, in the order of the definition.
+    pub fn as_slice(&self) -> &[Key]
+        ensures { result.now ≡ self.now }
     {
-        self.count
-    }
-
-    /// The key at place `n`.
-    pub fn get(&self, n: usize) -> Option<Key>
-        ensures { result ≡ slice_get self.now n }
-    {
-        if n < self.count {
-            Some(self.keys[n])
-        } else {
-            None
-        }
+        &self.keys[..self.count]
     }
 }

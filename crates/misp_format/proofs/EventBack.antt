@@ -20,7 +20,8 @@ use Rattle.misp_format.specs.Rows.{row}
 use Rattle.misp_format.specs.Tables.{submission_of, event_itself_at}
 use Rattle.misp_format.specs.Written.{place_uuid, key_uuid, attribute_of, reference_of, object_of, event_of, event_data}
 use Rattle.misp_format.proofs.Back.{row_back, each_back, number_back, within_back, at_most_5, beside, found_beside, row_beside, label_back, uuid_back, optional_back, category_back, kept_back, no_file_type}
-use Rattle.misp_format.proofs.RowFacts.{least_of, attribute_size, reference_size, object_size, event_size, attribute_of_row, object_of_row, reference_of_row, event_of_row, key_of_row, uuid_in_place}
+use Rattle.misp_elem.proofs.Sizes.{least_of}
+use Rattle.misp_format.proofs.RowFacts.{attribute_size, reference_size, object_size, event_size, attribute_of_row, object_of_row, reference_of_row, event_of_row, key_of_row, uuid_in_place}
 use Rattle.misp_format.proofs.TagsBack.{tags_back}
 
 some_bytes : (n : ℕ) → 1 ≤ n → nat_lt 0 n ≡ true

@@ -1,7 +1,7 @@
 -- What the tables bring fits a row.
 use Rattle.std.proofs.Common.{◌≡◌, ℕ, ◌+◌, ◌-◌, ◌<◌, ◌≤◌, Bool, true, false, List, [], ◌∷◌, length, min, Option, Some, None, Result, Ok, Err, refl, subst, arith, lit<, le-leb, ap, ◌∙◌, ◌^◌, nat_lt, codes, IfSome, if◌then◌else◌}
 use Rattle.std.specs.Prelude.{⊤}
-use Rattle.misp_lists.proofs.Prelude.{bytes_eq-Decides, nat_tests}
+use Rattle.misp_lists.proofs.Prelude.{bytes_eq-Decides, nat_tests, ok_keeps}
 use Rattle.misp_types.specs.Values.{keeps, IsKept}
 use Rattle.misp_elem.specs.Prelude.{IsAttributeBody, IsBetween, IsLabel, IsLabelBut, IsOptionalUid, IsText, is_kept, text_limit}
 use Rattle.misp_elem.specs.declared.content.ReferenceBody.{ReferenceBody}
@@ -21,11 +21,16 @@ limit_is_kept : (it : Body) (b : Bool) (need : Need) → ◌≡◌ {A = Reading 
 limit_is_kept it true need h = absurd cc
 limit_is_kept it false need h = refl
 
--- texts that passed the test, where their bytes were counted up to the greatest number
+-- texts that passed the test
+pub passed_limit : (it : Body) (bytes : ℕ) → unless_long it bytes ≡ Ok tt → bytes ≤ text_limit
+passed_limit it bytes h =
+    let short : nat_lt text_limit bytes ≡ false = limit_is_kept it (nat_lt text_limit bytes) Need.Short h in
+    grind (arith, nat_tests)
+
+-- the same, where their bytes were counted up to the greatest number
 pub within_limit : (it : Body) (bytes n : ℕ) → unless_long it bytes ≡ Ok tt → bytes ≡ min n (2 ^ 64 - 1) → n ≤ text_limit
 within_limit it bytes n h is =
-    let short : nat_lt text_limit bytes ≡ false = limit_is_kept it (nat_lt text_limit bytes) Need.Short h in
-    let small : bytes ≤ text_limit = grind (arith, nat_tests) in
+    let small : bytes ≤ text_limit = passed_limit it bytes h in
     let large : text_limit < 2 ^ 64 - 1 = lit< tt in
     omega (arith, is)
 
@@ -45,7 +50,7 @@ optional_fits (Some u) h = h
 category_fits : (it : Body) (category : ℕ) → row it (codes "category") category_of (Ok other_category) ≡ Ok category → IsBetween 0 15 category
 category_fits it category h = row_keeps (IsBetween 0 15) it (codes "category") category_of (Ok other_category) category_ok (λ x is. cc) category h
 
-kept_is_kept : (kind value : List ℕ) → IsKept kind value → is_kept kind value ≡ true
+pub kept_is_kept : (kind value : List ℕ) → IsKept kind value → is_kept kind value ≡ true
 unfolding is_kept
 kept_is_kept kind value h = ap (keeps value) h ∙ (bytes_eq-Decides value value).1 refl
 
@@ -110,11 +115,8 @@ object_fits b some name meta_category description comment uuid version short = (
 
 -- ---- events
 
-date_fits : (it : Body) (date : Option (List ℕ)) → row it (codes "date") some_date_of (Ok None) ≡ Ok date → IsOptionalDate date
-date_fits it date h = row_keeps IsOptionalDate it (codes "date") some_date_of (Ok None) some_date_ok undated date h
-  where
-    undated : (x : Option (List ℕ)) → ◌≡◌ {A = Result (Option (List ℕ)) Need} (Ok None) (Ok x) → IsOptionalDate x
-    undated x h = let e : None ≡ x = cc in subst IsOptionalDate e tt
+pub date_fits : (it : Body) (date : Option (List ℕ)) → row it (codes "date") some_date_of (Ok None) ≡ Ok date → IsOptionalDate date
+date_fits it date h = row_keeps IsOptionalDate it (codes "date") some_date_of (Ok None) some_date_ok (ok_keeps IsOptionalDate None tt) date h
 
 threat_level_fits : (it : Body) (n : ℕ) → row it (codes "threat_level_id") (number_within 1 4) (Ok 4) ≡ Ok n → IsBetween 1 4 n
 threat_level_fits it n h = row_keeps (IsBetween 1 4) it (codes "threat_level_id") (number_within 1 4) (Ok 4) (number_ok 1 4) (λ x is. cc) n h

@@ -1,11 +1,11 @@
 -- What a row gives is what its reader gives, and each reader gives only what fits.
 use Rattle.std.proofs.Common.{◌≡◌, ℕ, ◌<◌, zero, suc, Bool, true, false, ◌&&◌, List, [], ◌∷◌, Option, Some, None, Result, Ok, Err, refl, subst, arith, lit<, codes, nat_le, position, ◌==◌, if◌then◌else◌, bytes_eq}
 use Rattle.std.proofs.lemmas.List.Quantifiers.{position-Some}
-use Rattle.misp_lists.proofs.Prelude.{list_any, nat_tests, option_map_or}
+use Rattle.misp_lists.proofs.Prelude.{bind_keeps, list_any, nat_tests, ok_keeps, option_map_or}
 use Rattle.misp_fields.specs.Fields.{or_need, date_text_of}
 use Rattle.misp_elem.specs.Draft.{IsOptionalDate}
 use Rattle.misp_elem.specs.Fields.{is_date, IsDate}
-use Rattle.misp_format.specs.Prelude.{◌>>=◌, Body, Data, GroupId, Label, Need, Reading, category_of, label_at, label_kind, member_of, number, number_of, number_within, some_date_of, string, text_of}
+use Rattle.misp_format.specs.Prelude.{Body, Data, GroupId, Label, Need, category_of, label_at, label_kind, member_of, number, number_of, number_within, some_date_of, string, text_of}
 use Rattle.misp_format.specs.Kinds.{category_texts, category_in_text}
 use Rattle.misp_format.specs.Labels.{named_group_at, numbered_at}
 use Rattle.misp_format.specs.Readers.{within, some_in}
@@ -69,25 +69,14 @@ number_ok least most d x h = within_ok least most (number_of d) x h
 abbrev Owned : Label → Type 0
 Owned label = (label_kind label == 5) ≡ false
 
-same_label : (label x : Label) → Owned label → ◌≡◌ {A = Reading Label} (Ok label) (Ok x) → Owned x
-same_label label x h is = let e : label ≡ x = cc in subst Owned e h
-
-group_owned : (r : Reading GroupId) (x : Label) → (r >>= λ group. Ok (Label.Group group)) ≡ Ok x → Owned x
-group_owned (Ok group) x h = same_label (Label.Group group) x refl h
-group_owned (Err fault) x h = absurd cc
-
 -- by a number below 5 no label inherits
 numbered_owned : (it : Body) (n : ℕ) (x : Label) → n < 5 → numbered_at it n ≡ Ok x → Owned x
-numbered_owned it zero x below h = same_label Label.Own x refl h
-numbered_owned it (suc zero) x below h = same_label Label.Community x refl h
-numbered_owned it (suc (suc zero)) x below h = same_label Label.Connected x refl h
-numbered_owned it (suc (suc (suc zero))) x below h = same_label Label.All x refl h
-numbered_owned it (suc (suc (suc (suc zero)))) x below h = group_owned (named_group_at it) x h
+numbered_owned it zero x below h = ok_keeps Owned Label.Own refl x h
+numbered_owned it (suc zero) x below h = ok_keeps Owned Label.Community refl x h
+numbered_owned it (suc (suc zero)) x below h = ok_keeps Owned Label.Connected refl x h
+numbered_owned it (suc (suc (suc zero))) x below h = ok_keeps Owned Label.All refl x h
+numbered_owned it (suc (suc (suc (suc zero)))) x below h = bind_keeps Owned (named_group_at it) _ (λ group is. ok_keeps Owned (Label.Group group) refl) x h
 numbered_owned it (suc (suc (suc (suc (suc n))))) x below h = absurd (omega arith)
-
-read_owned : (it : Body) (r : Reading ℕ) (x : Label) → ((n : ℕ) → r ≡ Ok n → n < 5) → (r >>= λ number. numbered_at it number) ≡ Ok x → Owned x
-read_owned it (Ok n) x below h = numbered_owned it n x (below n refl) h
-read_owned it (Err fault) x below h = absurd cc
 
 below_5 : (n : ℕ) → (nat_le 0 n && nat_le n 4) ≡ true → n < 5
 below_5 n h = grind (arith, nat_tests)
@@ -95,11 +84,13 @@ below_5 n h = grind (arith, nat_tests)
 -- an event's label does not inherit
 pub label_owned : (it : Body) (x : Label) → label_at it 4 0 ≡ Ok x → (label_kind x == 5) ≡ false
 unfolding label_at
-label_owned it x h = read_owned it (row it (codes "distribution") (number_within 0 4) (Ok 0)) x
-    (row_keeps (λ n. n < 5) it (codes "distribution") (number_within 0 4) (Ok 0) (λ d n is. below_5 n (number_ok 0 4 d n is)) absent) h
+label_owned it x h =
+    bind_keeps Owned (row it (codes "distribution") (number_within 0 4) (Ok 0)) (numbered_at it) (λ n is y given. numbered_owned it n y (below n is) given) x h
   where
-    absent : (n : ℕ) → ◌≡◌ {A = Result ℕ Need} (Ok 0) (Ok n) → n < 5
-    absent n h = let e : 0 ≡ n = cc in subst (λ (m : ℕ). m < 5) e (lit< tt)
+    below : (n : ℕ) → row it (codes "distribution") (number_within 0 4) (Ok 0) ≡ Ok n → n < 5
+    below n is =
+        row_keeps (λ m. m < 5) it (codes "distribution") (number_within 0 4) (Ok 0) (λ d m fits. below_5 m (number_ok 0 4 d m fits))
+        (ok_keeps (λ m. m < 5) 0 (lit< tt)) n is
 
 pub not_inherited : (x : Label) → (label_kind x == 5) ≡ false → list_any (λ kind. kind == label_kind x) (5 ∷ []) ≡ false
 not_inherited Label.Inherit h = absurd cc

@@ -2,6 +2,7 @@ mod Ascending
 mod Back
 mod Categories
 mod Depths
+mod Edits
 mod EventBack
 mod Fitting
 mod GroupBack

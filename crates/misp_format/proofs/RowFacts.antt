@@ -7,56 +7,25 @@ use Rattle.misp_elem.specs.Prelude.{IsAttributeBody, IsContentOf, IsKey, IsPlace
 use Rattle.misp_elem.specs.Contents.{IsContent, IsEventBody, IsObjectBody, IsReferenceBody}
 use Rattle.misp_elem.specs.Visible.{place_in}
 use Rattle.misp_format.specs.Prelude.{AttributeBody, Content, ElemId, EventBody, EventId, KeyForm, ObjectBody, Place, RowFields, label_kind, tags_size, text_size}
-use Rattle.misp_format.proofs.TagsBack.{tags_room}
+use Rattle.misp_elem.proofs.Sizes.{size_within}
 
 -- ---- texts
-
-upto : (n m : ℕ) → nat_le n m ≡ true → n ≤ m
-upto n m h = grind (arith, nat_tests)
-
-pub most_of : (least most : ℕ) (text : List ℕ) → IsText least most text → length text ≤ most
-most_of least most text h =
-    let lengths : (nat_le least (length text) && nat_le (length text) most) ≡ true = (and_parts _ _ h).0 in
-    upto (length text) most (and_parts _ _ lengths).1
-
-pub least_of : (least most : ℕ) (text : List ℕ) → IsText least most text → least ≤ length text
-least_of least most text h =
-    let lengths : (nat_le least (length text) && nat_le (length text) most) ≡ true = (and_parts _ _ h).0 in
-    upto least (length text) (and_parts _ _ lengths).0
 
 pub not_longer : (n : ℕ) → n ≤ text_limit → nat_lt text_limit n ≡ false
 not_longer n h = grind (arith, nat_tests)
 
 pub attribute_size : (b : AttributeBody) → IsAttributeBody b → nat_lt text_limit (text_size (Content.Attribute b)) ≡ false
-unfolding text_size
-attribute_size b h =
-    let kind = most_of 1 100 b.kind h.0 in
-    let comment = most_of 0 (text_limit - length b.kind) b.comment h.1.1.1.0 in
-    let value = most_of 0 (text_limit - length b.kind - length b.comment) b.value (and_parts _ _ h.1.1.1.1.1.0).0 in
-    let tags = tags_room (text_limit - length b.kind - length b.comment - length b.value) [] b.tags h.1.1.1.1.1.1.1 in
-    not_longer (length b.kind + length b.comment + length b.value + tags_size b.tags) (omega arith)
+attribute_size b h = not_longer (text_size (Content.Attribute b)) (size_within true (Content.Attribute b) h)
 
 pub reference_size : (b : ReferenceBody) → IsReferenceBody b → nat_lt text_limit (text_size (Content.Reference b)) ≡ false
-unfolding text_size
-reference_size b h =
-    let relationship = most_of 0 text_limit b.relationship_type h.0 in
-    let comment = most_of 0 (text_limit - length b.relationship_type) b.comment h.1.0 in
-    not_longer (length b.relationship_type + length b.comment) (omega arith)
+reference_size b h = not_longer (text_size (Content.Reference b)) (size_within true (Content.Reference b) h)
 
 pub object_size : (b : ObjectBody) → IsObjectBody b → nat_lt text_limit (text_size (Content.Object b)) ≡ false
-unfolding text_size
-object_size b h =
-    let name = most_of 1 text_limit b.name h.0 in
-    let meta_category = most_of 0 (text_limit - length b.name) b.meta_category h.1.0 in
-    let description = most_of 0 (text_limit - length b.name - length b.meta_category) b.description h.1.1.0 in
-    let comment = most_of 0 (text_limit - length b.name - length b.meta_category - length b.description) b.comment h.1.1.1.0 in
-    not_longer (length b.name + length b.meta_category + length b.description + length b.comment) (omega arith)
+object_size b h = not_longer (text_size (Content.Object b)) (size_within true (Content.Object b) h)
 
 pub event_size : (b : EventBody) → IsEventBody b → nat_lt text_limit (length b.info + tags_size b.tags) ≡ false
-event_size b h =
-    let info = most_of 1 text_limit b.info h.0 in
-    let tags = tags_room (text_limit - length b.info) [] b.tags h.1.1.1.1.1.1.1.1.1 in
-    not_longer (length b.info + tags_size b.tags) (omega arith)
+unfolding text_size
+event_size b h = not_longer (text_size (Content.Event b)) (size_within true (Content.Event b) h)
 
 -- ---- contents
 

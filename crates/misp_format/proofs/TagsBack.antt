@@ -46,14 +46,6 @@ unfolding IsStrictlySortedBy
 ascending room before [] h = tt
 ascending room before (t ∷ ts) h = (all_above (room - length t.name) t.name ts h.1, ascending (room - length t.name) t.name ts h.1)
 
-pub tags_room : (room : ℕ) (before : List ℕ) (ts : List Tag) → AreTagsAfter room before ts → tags_size ts ≤ room
-unfolding tags_size
-tags_room room before [] h = omega arith
-tags_room room before (t ∷ ts) h =
-    let here = (is_read room before t h.0).fits in
-    let others : tags_size ts ≤ room - length t.name = tags_room (room - length t.name) t.name ts h.1 in
-    omega (arith, sum_by-cons (λ (t : Tag). length t.name) t ts)
-
 -- ---- reading them
 
 named : Tag → List ℕ × (List ℕ × Bool)

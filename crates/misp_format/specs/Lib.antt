@@ -1,5 +1,6 @@
 pub mod Body
 pub mod Brought
+pub mod Edits
 pub mod Elements
 pub mod Entries
 pub mod Fields

@@ -3,6 +3,7 @@ use Rattle.std.specs.Prelude.{◌≡◌, ℕ, ◌+◌, List, Result, Ok, Err, if
 use Rattle.std.specs.Option.{option_map_or}
 use Rattle.serde_json.specs.Data.{Data, Items, no_items, item}
 use Rattle.serde_json.specs.Find.{as_object}
+pub use Rattle.misp_lists.specs.Reading.{◌>>=◌}
 use Rattle.misp_fields.specs.declared.need.Need.{Need}
 use Rattle.misp_fields.specs.Fields.{member_of}
 use Rattle.misp_format.specs.declared.fault.FormatFault.{FormatFault}
@@ -12,12 +13,6 @@ use Rattle.misp_format.specs.Path.{member_path}
 -- a value, or the first fault
 abbrev pub Reading : Type 0 → Type 0
 Reading A = Result A FormatFault
-
-infixl 10 ◌>>=◌
--- and then, unless there was a fault
-abbrev pub ◌>>=◌ : {A B : Type 0} → Reading A → (A → Reading B) → Reading B
-(Ok x) >>= f = f x
-(Err fault) >>= f = Err fault
 
 -- the fault is the one that reading gives, unless memory ran out
 abbrev pub Fails : {A : Type 0} → FormatFault → Reading A → Type 0

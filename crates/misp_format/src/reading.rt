@@ -1,21 +1,28 @@
 //! Reading texts and bodies, up to the first fault.
 
 mod attribute;
+mod attribute_edit;
+mod edit;
 mod elements;
 mod event;
+mod event_edit;
 mod group;
 mod group_text;
 mod json_text;
 mod label;
 mod members;
 mod object;
+mod object_edit;
 mod parts;
 mod path;
 mod readers;
 mod reference;
 mod tag;
 
+pub use attribute_edit::read_attribute_edit;
 pub use event::read_event;
+pub use event_edit::read_event_edit;
 pub use group_text::{a_group_is_read_from_its_text, read_group_text};
 pub use json_text::read_json;
+pub use object_edit::read_object_edit;
 pub use parts::{PartForm, read_parts, read_tag};

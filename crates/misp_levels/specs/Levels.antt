@@ -1,4 +1,4 @@
--- What becomes of a label on the way, and the number of its level.
+-- What becomes of a label on the way.
 use Rattle.std.specs.Prelude.{Option, Some, None, ℕ, zero, suc}
 use Rattle.misp_ids.specs.declared.label.Label.{Label}
 use Rattle.misp_ids.specs.declared.label.Way.{Way}

@@ -18,7 +18,7 @@ pub use Rattle.misp_lists.proofs.Bytes.{IsBytes}
 pub use Rattle.misp_lists.proofs.Lists.{all_implies}
 pub use Rattle.misp_lists.proofs.Ordering.{all_in_order}
 pub use Rattle.misp_lists.proofs.Orders.{less_of, numbers_equal}
-pub use Rattle.misp_lists.proofs.Readings.{ok_keeps}
+pub use Rattle.misp_lists.proofs.Readings.{bind_keeps, bind_ok, ok_keeps}
 pub use Rattle.misp_lists.proofs.Searching.{searched}
 unfoldable pub use Rattle.misp_lists.specs.Order.{ascend}
 unfoldable pub use Rattle.misp_lists.specs.Prelude.{IsDistinct, IsStrictlySortedBy, put}

@@ -2,10 +2,8 @@
 use Rattle.std.proofs.Common.{◌≡◌, List, [], ◌∷◌, Bool, true, false, refl, ap, sym, ◌∙◌, arith, ◌&&◌, not, Option, Some, None, is_some, find}
 use Rattle.misp_rules.specs.Prelude.{first_rule, granted_somewhere, has_home}
 use Rattle.misp_history.proofs.Prelude.{EventId, Publish, Row, Rule, Scene, bars, change_rules, event_key, false≢true, has_copy, is_at_limit, is_row_of, is_tombstone, list_any}
-use Rattle.misp_copies.specs.Copies.{AreOf, is_event_row}
 use Rattle.misp_copies.specs.Barring.{rule_of, Refuses, barring, or_else}
 use Rattle.misp_copies.specs.declared.change_fault.ChangeFault.{ChangeFault}
-use Rattle.misp_copies.proofs.CopyLemmas.{finds_are}
 use Rattle.misp_copies.proofs.Barred.{first_of, bars_are, refuses_first}
 use Rattle.misp_rules.specs.Scene as rule
 
@@ -22,12 +20,12 @@ found_some p q [] h = absurd (false≢true h)
 found_some p q (row ∷ rows) h = grind (arith, found_some p q rows)
 
 -- an event that may be changed has its caller's row
-pub own_there : (s : Scene) (e : EventId) → AreOf e s.rows → None ≡ barring (has_home s.rows s.by e) (has_copy s.rows s.by e) (granted_somewhere s.rows s.groups s.at s.by (event_key e)) true
-    → is_some (find (is_event_row s.by) s.rows) ≡ true
+pub own_there : (s : Scene) (e : EventId) → None ≡ barring (has_home s.rows s.by e) (has_copy s.rows s.by e) (granted_somewhere s.rows s.groups s.at s.by (event_key e)) true
+    → find (is_row_of s.by (event_key e)) s.rows ≡ None → ⊥
 unfolding has_home
-own_there s e are h =
-    ap is_some (sym (finds_are s.by e s.rows are))
-    ∙ found_some (is_row_of s.by (event_key e)) (λ row. not (is_tombstone row) && not row.carried) s.rows (home_of (has_home s.rows s.by e) (has_copy s.rows s.by e) (granted_somewhere s.rows s.groups s.at s.by (event_key e)) true h).0
+own_there s e h none =
+    false≢true (sym (ap is_some none)
+    ∙ found_some (is_row_of s.by (event_key e)) (λ row. not (is_tombstone row) && not row.carried) s.rows (home_of (has_home s.rows s.by e) (has_copy s.rows s.by e) (granted_somewhere s.rows s.groups s.at s.by (event_key e)) true h).0)
 
 module _ (s : Scene) (e : EventId) where
   abbrev may : Option Rule

@@ -4,31 +4,19 @@ use Rattle.std.proofs.Common.{filter, find, append-nil}
 use Rattle.std.proofs.lemmas.List.Elements.{filter_more}
 use Rattle.misp_rules.proofs.Prelude.{Content, Element, EventId, IsContent, IsRow, IsStamp, Key, OrgId, Place, Proposal, Reference, Row, Scene, Sighting, Verdict, and_parts, change_writes, changed, changed_row, content_kind, event_key}
 use Rattle.misp_rules.proofs.Prelude.{event_of, find_passes, fits, is_gone, is_published, is_row_of, is_statement, label_kind, last_stamp, list_all, map-append, may_remove, own_row, same_event, same_key, same_org, same_org-sound, written}
+use Rattle.misp_lists.proofs.Elements.{all_has, found_among}
+use Rattle.misp_rules.proofs.Prelude.{same_event-sound}
 use Rattle.misp_rules.specs.Prelude.{at_publishing, is_held_in, let_out}
 use Rattle.misp_history.proofs.Prelude.{Publish, as_published, fresh_row, is_at_limit, let_out_row, next_stamp, own_row_is}
 use Rattle.misp_copies.specs.Copies.{AreOf, is_event_row}
-use Rattle.misp_copies.proofs.CopyLemmas.{row_is, finds_are}
+use Rattle.misp_copies.proofs.CopyLemmas.{finds_are}
 use Rattle.misp_publish.specs.Release.{at_stamp, cleared_row, is_released, Publishes}
 
 free_of : (b : Bool) → not (b || true) ≡ false
 free_of true = refl
 free_of false = refl
 
--- the owner's held rows but the event's
-same_test : (a b h k : Bool) → b ≡ true → (a && (h && not (a && k))) ≡ (a && (b && (h && not k)))
-same_test true b h k e = ap (λ x. x && (h && not k)) (sym e)
-same_test false b h k e = refl
-
 module _ (s : Scene) (e : EventId) where
-  held_is : (row : Row) → same_event (event_of row.key) e ≡ true → is_released s.by row ≡ is_held_in s e row
-  unfolding is_released is_held_in is_event_row is_row_of
-  held_is row h =
-      (λ i. same_org row.owner s.by && (row.held && not (sym (row_is s.by e row h) i)))
-      ∙ by_key
-    where
-      by_key : (same_org row.owner s.by && (row.held && not (is_row_of s.by (event_key e) row))) ≡ (same_org row.owner s.by && (same_event (event_of row.key) e && (row.held && not (same_key row.key (event_key e)))))
-      by_key = same_test (same_org row.owner s.by) (same_event (event_of row.key) e) row.held (same_key row.key (event_key e)) h
-
   let_fresh : (row : Row) → is_held_in s e row ≡ true → fresh_row (let_out_row s row) ≡ cleared_row row
   unfolding is_held_in fresh_row let_out_row is_published cleared_row
   let_fresh row h = λ i. record {
@@ -41,26 +29,21 @@ module _ (s : Scene) (e : EventId) where
     content = row.content;
   }
 
-  lets_are : (rows : List Row) → AreOf e rows → map fresh_row (map (let_out_row s) (filter (is_held_in s e) rows)) ≡ map cleared_row (filter (is_released s.by) rows)
-  lets_are [] h = refl
-  lets_are (row ∷ rows) h =
-      one (is_held_in s e row) refl (held_is row (and_parts (same_event (event_of row.key) e) (list_all (λ r. same_event (event_of r.key) e) rows) h).0)
-      (lets_are rows (and_parts (same_event (event_of row.key) e) (list_all (λ r. same_event (event_of r.key) e) rows) h).1)
+  lets_are : (rows : List Row) → map fresh_row (map (let_out_row s) (filter (is_held_in s e) rows)) ≡ map cleared_row (filter (is_released s.by e) rows)
+  unfolding is_held_in is_released
+  lets_are [] = refl
+  lets_are (row ∷ rows) = one (is_held_in s e row) refl (lets_are rows)
     where
-      one : (t : Bool) → is_held_in s e row ≡ t → is_released s.by row ≡ is_held_in s e row → map fresh_row (map (let_out_row s) (filter (is_held_in s e) rows)) ≡ map cleared_row (filter (is_released s.by) rows) →
+      one : (t : Bool) → is_held_in s e row ≡ t → map fresh_row (map (let_out_row s) (filter (is_held_in s e) rows)) ≡ map cleared_row (filter (is_held_in s e) rows) →
           map fresh_row (map (let_out_row s) (cond t (row ∷ filter (is_held_in s e) rows) (filter (is_held_in s e) rows)))
-          ≡ map cleared_row (cond (is_released s.by row) (row ∷ filter (is_released s.by) rows) (filter (is_released s.by) rows))
-      one true g k ih = (λ i. let_fresh row g i ∷ ih i) ∙ sym (ap (λ t. map cleared_row (cond t (row ∷ filter (is_released s.by) rows) (filter (is_released s.by) rows))) (k ∙ g))
-      one false g k ih = ih ∙ sym (ap (λ t. map cleared_row (cond t (row ∷ filter (is_released s.by) rows) (filter (is_released s.by) rows))) (k ∙ g))
+          ≡ map cleared_row (cond t (row ∷ filter (is_held_in s e) rows) (filter (is_held_in s e) rows))
+      one true g ih = λ i. let_fresh row g i ∷ ih i
+      one false g ih = ih
 
-  module _ (are : AreOf e s.rows) (own : Row) (found : find (is_event_row s.by) s.rows ≡ Some own) where
-    own_is : own_row s (event_key e) ≡ Some own
-    unfolding own_row
-    own_is = finds_are s.by e s.rows are ∙ found
-
+  module _ (own : Row) (own_is : own_row s (event_key e) ≡ Some own) where
     owned : own.owner ≡ s.by
-    unfolding is_event_row
-    owned = same_org-sound own.owner s.by (and_parts _ _ (find_passes (is_event_row s.by) s.rows own found)).0
+    unfolding own_row is_row_of
+    owned = same_org-sound own.owner s.by (and_parts _ _ (find_passes (is_row_of s.by (event_key e)) s.rows own own_is)).0
 
     pub limit_is : is_at_limit s (event_key e) ≡ eqb own.stamp last_stamp
     unfolding is_at_limit own_row_is
@@ -78,29 +61,29 @@ module _ (s : Scene) (e : EventId) where
       content = at_publishing s.now own.content;
     }
 
-    writes_are : map fresh_row (change_writes s (Publish e)) ≡ at_stamp (max s.now (own.stamp + 1)) s.now own ∷ map cleared_row (filter (is_released s.by) s.rows)
+    writes_are : map fresh_row (change_writes s (Publish e)) ≡ at_stamp (max s.now (own.stamp + 1)) s.now own ∷ map cleared_row (filter (is_released s.by e) s.rows)
     unfolding change_writes changed_row let_out
     writes_are =
         ap (λ o. map fresh_row (map as_published (map (λ row. changed s row row.label (at_publishing s.now row.content)) (option_to_list o)) ++ map (let_out_row s) (filter (is_held_in s e) s.rows))) own_is
-        ∙ (λ i. own_fresh i ∷ lets_are s.rows are i)
+        ∙ (λ i. own_fresh i ∷ lets_are s.rows i)
 
-    published_at : eqb own.stamp last_stamp ≡ false → Publishes s e (at_stamp (max s.now (own.stamp + 1)) s.now own ∷ map cleared_row (filter (is_released s.by) s.rows))
+    published_at : eqb own.stamp last_stamp ≡ false → Publishes s e (at_stamp (max s.now (own.stamp + 1)) s.now own ∷ map cleared_row (filter (is_released s.by e) s.rows))
     published_at h = (limit_is ∙ h, sym writes_are)
 
-module _ (s : Scene) (e : EventId) (rows : List Row) (o : OrgId) (of_event : AreOf e rows) (same_rows : s.rows ≡ rows) (same_by : s.by ≡ o) (own : Row) (found : find (is_event_row o) rows ≡ Some own) where
-  are : AreOf e s.rows
-  are = subst (AreOf e) (sym same_rows) of_event
+module _ (s : Scene) (e : EventId) (rows : List Row) (o : OrgId) (same_rows : s.rows ≡ rows) (same_by : s.by ≡ o) (own : Row) where
+  pub publishes : (now : ℕ) → s.now ≡ now → own_row s (event_key e) ≡ Some own → eqb own.stamp last_stamp ≡ false →
+      Publishes s e (at_stamp (max now (own.stamp + 1)) now own ∷ map cleared_row (filter (is_released o e) rows))
+  publishes now same_now is h =
+      subst (λ (x : (ℕ × OrgId) × List Row). Publishes s e (at_stamp (max x.0.0 (own.stamp + 1)) x.0.0 own ∷ map cleared_row (filter (is_released x.0.1 e) x.1)))
+      (λ i. ((same_now i, same_by i), same_rows i)) (published_at s e own is h)
 
-  found_there : find (is_event_row s.by) s.rows ≡ Some own
-  found_there = (λ i. find (is_event_row (same_by i)) (same_rows i)) ∙ found
+  -- the owner's row of an event itself is that of the event whose rows these are
+  pub event_is : AreOf e rows → find (is_event_row o) rows ≡ Some own → event_of own.key ≡ e
+  event_is are found = same_event-sound _ _ (all_has (λ (row : Row). same_event (event_of row.key) e) rows own are (found_among (is_event_row o) rows own found))
 
-  pub publishes : (now : ℕ) → s.now ≡ now → eqb own.stamp last_stamp ≡ false → Publishes s e (at_stamp (max now (own.stamp + 1)) now own ∷ map cleared_row (filter (is_released o) rows))
-  publishes now same_now h =
-      subst (λ (x : (ℕ × OrgId) × List Row). Publishes s e (at_stamp (max x.0.0 (own.stamp + 1)) x.0.0 own ∷ map cleared_row (filter (is_released x.0.1) x.1)))
-      (λ i. ((same_now i, same_by i), same_rows i)) (published_at s e are own found_there h)
-
-  pub at_limit : eqb own.stamp last_stamp ≡ true → is_at_limit s (event_key e) ≡ true
-  at_limit h = limit_is s e are own found_there ∙ h
+  pub own_found : AreOf e rows → find (is_event_row o) rows ≡ Some own → own_row s (event_key e) ≡ Some own
+  unfolding own_row
+  own_found are found = (λ i. find (is_row_of (same_by i) (event_key e)) (same_rows i)) ∙ finds_are o e rows are ∙ found
 
 -- ---- one row more
 

@@ -1,21 +1,21 @@
 //! What a publishing writes.
 
-ghost use Rattle.std.specs.Prelude.{◌≡◌, ◌++◌, true, map, is_some, IfOk, IfErr};
+ghost use Rattle.std.specs.Prelude.{◌≡◌, ◌++◌, true, Some, map, is_some, IfOk, IfErr};
 ghost use Rattle.std.specs.List.{filter, find};
-ghost use Rattle.misp_ids.specs.declared.uid.EventId.{EventId};
+ghost use Rattle.misp_ids.specs.declared.uid.EventId.{EventId as SomeEvent};
 ghost use Rattle.misp_elem.specs.Row.{IsRow, AreRows};
-ghost use Rattle.misp_elem.specs.Parents.{event_key};
+ghost use Rattle.misp_elem.specs.Parents.{event_key, event_of};
 ghost use Rattle.misp_history.specs.History.{fresh_row};
 ghost use Rattle.misp_rules.specs.Edits as asking;
-ghost use Rattle.misp_rules.specs.Scene.{Scene, is_at_limit};
+ghost use Rattle.misp_rules.specs.Scene.{Scene, is_at_limit, own_row};
 ghost use Rattle.misp_copies.specs.Copies.{AreOf, is_event_row};
 ghost use Rattle.misp_publish.specs.Release.{Publishes, at_stamp, cleared_row, is_released};
 ghost use Rattle.misp_publish.specs.declared.fault.PublishFault.TheVariants as faults;
 
 use crate::fault::PublishFault;
-use misp_copies::{event_row, is_event_row};
+use misp_copies::{event_row, is_itself, is_owned};
 use misp_elem::{Content, KeyForm, Row, RowFields};
-use misp_ids::{Label, NoMemory, OrgId, Stamp};
+use misp_ids::{EventId, Label, NoMemory, OrgId, Stamp};
 use std::alloc::Global;
 
 // The content, published at this moment.
@@ -91,27 +91,65 @@ fn cleared(row: &Row) -> Result<Row, NoMemory>
     }))
 }
 
-// Whether it is a held row of the owner's, and not that of an event itself.
-#[tactic(auto, unfolding(crate::specs::Release::is_released, misp_copies::specs::Copies::is_event_row, misp_ids::specs::Same::same_org))]
-fn is_released(row: &Row, owner: &OrgId) -> bool
-    ensures { result ≡ is_released owner.now row.now }
+// Whether it is a held row of the owner's copy of the event, and not that of the event itself.
+#[tactic(auto, unfolding(crate::specs::Release::is_released, misp_ids::specs::Same::same_event))]
+fn is_released(row: &Row, owner: &OrgId, event: &EventId) -> bool
+    ensures { result ≡ is_released owner.now event.now row.now }
 {
-    row.owner.0.0 == owner.0.0 && (row.held && !is_event_row(row, owner))
+    is_owned(row, owner)
+        && (row.key.event().0.0 == event.0.0 && (row.held && !is_itself(row, event)))
 }
 
-// The rows, and after them the held ones of the owner's with no hold.
-fn with_cleared(mut made: Vec<Row>, rows: &[Row], owner: &OrgId) -> Result<Vec<Row>, NoMemory>
+// The rows, and after them the held ones of the copy with no hold.
+fn with_cleared(
+    mut made: Vec<Row>,
+    rows: &[Row],
+    owner: &OrgId,
+    event: &EventId,
+) -> Result<Vec<Row>, NoMemory>
     requires { AreRows made.items }
     ensures all { IfOk result (λ all. all.items
-        ≡ made.items ++ map cleared_row (filter (is_released owner.now) rows.now)) }
+        ≡ made.items ++ map cleared_row (filter (is_released owner.now event.now) rows.now)) }
     ensures are_rows { IfOk result (λ all. AreRows all.items) }
 {
     for row in rows {
-        if is_released(row, owner) {
+        if is_released(row, owner, event) {
             made.push(cleared(row)?)?;
         }
     }
     Ok(made)
+}
+
+// What a publishing of the event writes, where this is the owner's row of it.
+pub(crate) fn release_event(
+    alloc: Global,
+    event: &EventId,
+    own: &Row,
+    rows: &[Row],
+    owner: &OrgId,
+    now: Stamp,
+) -> Result<Vec<Row>, PublishFault>
+    ensures ok { (s : Scene) → s.rows ≡ rows.now → s.by ≡ owner.now → s.now ≡ now →
+        own_row s (event_key event.now) ≡ Some own.now →
+        IfOk result (λ made. Publishes s event.now made.items) }
+    ensures limit { (s : Scene) → own_row s (event_key event.now) ≡ Some own.now →
+        IfErr result (λ fault.
+        fault ≡ faults.TimeLimit → is_at_limit s (event_key event.now) ≡ true) }
+    ensures are_rows { IfOk result (λ made. AreRows made.items) }
+{
+    let stamp = match Stamp::next(own.stamp, now) {
+        Some(stamp) => stamp,
+        None => return Err(PublishFault::TimeLimit),
+    };
+    let mut made = Vec::with_capacity(alloc, 1)?;
+    made.push(published_row(own, stamp, now)?)?;
+    Ok(with_cleared(made, rows, owner, event)?)
+}
+
+fn event_of(row: &Row) -> EventId
+    ensures { result ≡ event_of row.now.key }
+{
+    row.key.event()
 }
 
 /// The rows that a publishing of the owner's copy writes, where the rows are those of one event and
@@ -124,23 +162,16 @@ pub fn release(
     now: Stamp,
 ) -> Result<Vec<Row>, PublishFault>
     requires there { is_some (find (is_event_row owner.now) rows.now) ≡ true }
-    ensures ok { (s : Scene) (e : EventId) →
+    ensures ok { (s : Scene) (e : SomeEvent) →
         AreOf e rows.now → s.rows ≡ rows.now → s.by ≡ owner.now → s.now ≡ now →
         IfOk result (λ made. Publishes s e made.items) }
-    ensures limit { (s : Scene) (e : EventId) →
+    ensures limit { (s : Scene) (e : SomeEvent) →
         AreOf e rows.now → s.rows ≡ rows.now → s.by ≡ owner.now →
         IfErr result (λ fault. fault ≡ faults.TimeLimit → is_at_limit s (event_key e) ≡ true) }
     ensures are_rows { IfOk result (λ made. AreRows made.items) }
 {
-    let own = match event_row(rows, owner) {
-        Some(own) => own,
+    match event_row(rows, owner) {
+        Some(own) => release_event(alloc, &event_of(own), own, rows, owner, now),
         None => unreachable!(),
-    };
-    let stamp = match Stamp::next(own.stamp, now) {
-        Some(stamp) => stamp,
-        None => return Err(PublishFault::TimeLimit),
-    };
-    let mut made = Vec::with_capacity(alloc, 1)?;
-    made.push(published_row(own, stamp, now)?)?;
-    Ok(with_cleared(made, rows, owner)?)
+    }
 }

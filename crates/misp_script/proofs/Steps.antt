@@ -2,16 +2,11 @@
 use Rattle.std.proofs.Common.{◌≡◌, ℕ, ◌+◌, Bool, true, false, List, [], ◌∷◌, ◌++◌, Option, Some, None, Ok, Err, refl, ap}
 use Rattle.std.specs.Prelude.{⊤}
 use Rattle.toml.specs.Data.{Data, get, as_str}
+pub use Rattle.misp_lists.proofs.Prelude.{bind_keeps}
 use Rattle.misp_lists.proofs.Prelude.{ok_keeps, option_map_or}
 use Rattle.misp_script.specs.declared.fault.DescNeed.{DescNeed}
 use Rattle.misp_script.specs.Faults.{Reading, ◌>>=◌, bad, or_bad, bad_if}
 use Rattle.misp_script.specs.Entries.{Body, text_of, text_at, text_in, member_path, each}
-
--- what holds of all that follows holds of what is read in the end
-pub bind_keeps : {A B : Type 0} (P : B → Type 0) (read : Reading A) (f : A → Reading B)
-    → ((x : A) → read ≡ Ok x → (y : B) → f x ≡ Ok y → P y) → (y : B) → read >>= f ≡ Ok y → P y
-bind_keeps P (Ok x) f each y h = each x refl y h
-bind_keeps P (Err fault) f each y h = absurd cc
 
 pub not_bad : (test : Bool) (path : List ℕ) (need : DescNeed) (x : ⊤) → bad_if test path need ≡ Ok x → test ≡ false
 not_bad true path need x h = absurd cc

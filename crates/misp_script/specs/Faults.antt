@@ -1,5 +1,6 @@
 -- The first fault of a description.
 use Rattle.std.specs.Prelude.{◌≡◌, ℕ, Bool, List, codes, Option, Some, None, Result, Ok, Err, ⊤, if◌then◌else◌}
+pub use Rattle.misp_lists.specs.Reading.{◌>>=◌}
 use Rattle.misp_script.specs.declared.fault.DescNeed.{DescNeed}
 use Rattle.misp_script.specs.declared.fault.DescFault.{DescFault}
 
@@ -21,11 +22,6 @@ need_name DescNeed.Distinct = codes "distinct"
 -- a value, or the first fault
 abbrev pub Reading : Type 0 → Type 0
 Reading A = Result A DescFault
-
-infixl 10 ◌>>=◌
-abbrev pub ◌>>=◌ : {A B : Type 0} → Reading A → (A → Reading B) → Reading B
-(Ok x) >>= f = f x
-(Err fault) >>= f = Err fault
 
 -- the fault is the one that reading gives, unless memory ran out
 abbrev pub Fails : {A : Type 0} → DescFault → Reading A → Type 0

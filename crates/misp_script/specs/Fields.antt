@@ -1,16 +1,12 @@
 -- The fields of a line, and the place of the first that is missing or not of its form.
 use Rattle.std.specs.Prelude.{◌≡◌, ℕ, ◌+◌, ◌-◌, ◌==◌, Bool, List, length, take, drop, position, Option, Some, None, option_map, Result, Ok, Err, ⊤}
 use Rattle.std.specs.Option.{option_map_or}
+pub use Rattle.misp_lists.specs.Reading.{◌>>=◌}
 use Rattle.misp_script.specs.declared.field.BadLine.{BadLine}
 
 -- a value, or the place of the first field that is missing or not so
 abbrev pub Reading : Type 0 → Type 0
 Reading A = Result A BadLine
-
-infixl 10 ◌>>=◌
-abbrev pub ◌>>=◌ : {A B : Type 0} → Reading A → (A → Reading B) → Reading B
-(Ok x) >>= f = f x
-(Err bad) >>= f = Err bad
 
 -- what a function returned, seen by view, is what reading gives
 abbrev pub Shows : {X A : Type 0} → (X → A) → Reading X → Reading A → Type 0

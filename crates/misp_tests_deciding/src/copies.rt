@@ -1,7 +1,7 @@
 //! The state of no rows.
 
-use crate::rows::ALPHA;
 use misp_copies::{CopyState, state};
+use misp_samples::ALPHA;
 use std::test::*;
 
 #[test]

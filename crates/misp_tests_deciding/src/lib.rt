@@ -4,14 +4,8 @@
 #[cfg(test)]
 mod copies;
 #[cfg(test)]
-mod edit;
-#[cfg(test)]
 mod levels;
 #[cfg(test)]
 mod package;
-#[cfg(test)]
-mod publish;
-#[cfg(test)]
-mod rows;
 #[cfg(test)]
 mod view;

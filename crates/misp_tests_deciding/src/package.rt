@@ -3,11 +3,10 @@
 ghost use Rattle.std.specs.Prelude.{◌≡◌};
 ghost use Rattle.std.specs.List.{list_all};
 
-use crate::rows::{ALPHA, BETA, CARRIED, COMMUNITY, INHERIT, Item, rows_of};
 use misp_elem::Row;
 use misp_groups::Groups;
 use misp_package::incoming;
-use misp_samples::here;
+use misp_samples::{ALPHA, BETA, CARRIED, COMMUNITY, INHERIT, Item, here, rows_of};
 use std::alloc::Global;
 use std::test::Fail;
 

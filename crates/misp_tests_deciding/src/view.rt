@@ -1,14 +1,14 @@
 //! What each organisation knows and sees of a table of rows, and which groups are named and concern
 //! it.
 
-use crate::rows::{
-    ALL, ALPHA, BETA, CARRIED, COMMUNITY, EVENT, GROUP, INHERIT, Item, NONE, OWN, UNKNOWN, rows_of,
-};
 use misp_copies::known;
 use misp_elem::{Row, VisibleEvent};
 use misp_groups::{Group, GroupFields, GroupOrg, GroupServer, Groups};
 use misp_ids::{GroupId, Items, OrgId, Stamp, Uid};
-use misp_samples::{here, text};
+use misp_samples::{
+    ALL, ALPHA, BETA, CARRIED, COMMUNITY, EVENT, GROUP, INHERIT, Item, NONE, OWN, UNKNOWN, here,
+    rows_of, text,
+};
 use misp_view::{concerning, group_names, shown};
 use std::alloc::{AllocError, Global};
 use std::test::*;

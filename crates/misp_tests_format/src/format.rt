@@ -2,6 +2,7 @@
 
 mod brought;
 mod categories;
+mod edits;
 mod faults;
 mod groups;
 mod limits;

@@ -30,7 +30,7 @@ use serde_json::Value;
 use std::alloc::Global;
 
 /// The type, which is none of files.
-fn kind(it: &Members<'_>) -> Result<Text, FormatFault>
+pub(crate) fn kind(it: &Members<'_>) -> Result<Text, FormatFault>
     ensures gives { Gives result (kind_at (body_of it.now)) }
     ensures long { IfOk result (λ t. is_long 1 100 t ≡ true) }
 {
@@ -41,7 +41,8 @@ fn kind(it: &Members<'_>) -> Result<Text, FormatFault>
     Ok(kind)
 }
 
-fn category_or_other(it: &Members<'_>) -> Result<u8, FormatFault>
+/// The number of the category, that of `Other` where it is absent.
+pub(crate) fn category_or_other(it: &Members<'_>) -> Result<u8, FormatFault>
     ensures { Gives result
         (row (body_of it.now) (codes "category") category_of (Ok other_category)) }
 {
@@ -74,7 +75,7 @@ fn refused<T>(it: &Members<'_>, fault: ValueFault) -> Result<T, FormatFault>
 }
 
 /// The value, in the form in which its type keeps it.
-fn value(it: &Members<'_>, kind: &str) -> Result<Text, FormatFault>
+pub(crate) fn value(it: &Members<'_>, kind: &str) -> Result<Text, FormatFault>
     ensures gives { Gives result (value_at kind.now (body_of it.now)) }
     ensures kept { IfOk result (IsKept kind.now) }
 {

@@ -33,7 +33,8 @@ pub(crate) fn unwrapped<'a>(name: &str, value: &'a Value) -> &'a Value
     }
 }
 
-fn date(it: &Members<'_>) -> Result<Option<Text>, FormatFault>
+/// The date, where it is there.
+pub(crate) fn date(it: &Members<'_>) -> Result<Option<Text>, FormatFault>
     ensures { Gives result (row (body_of it.now) (codes "date") some_date_of (Ok None)) }
 {
     match member(it.value, "date") {

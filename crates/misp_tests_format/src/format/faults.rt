@@ -26,7 +26,7 @@ fn fault_shown(alloc: Global, fault: &FormatFault) -> Result<String, Fail> {
 }
 
 /// What a function returned as a test shows it.
-fn shown<T: Drop>(alloc: Global, read: Result<T, FormatFault>) -> Result<String, Fail> {
+pub(super) fn shown<T: Drop>(alloc: Global, read: Result<T, FormatFault>) -> Result<String, Fail> {
     match read {
         Ok(_) => Ok(String::from_str(alloc, "read")?),
         Err(fault) => fault_shown(alloc, &fault),

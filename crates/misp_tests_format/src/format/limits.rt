@@ -38,7 +38,7 @@ const LIMITS: [(&str, usize, &str); 6] = [
 ];
 
 /// A text of so many bytes.
-fn text_of(alloc: Global, bytes: usize) -> Result<String, Fail> {
+pub(super) fn text_of(alloc: Global, bytes: usize) -> Result<String, Fail> {
     let mut text = String::new(alloc);
     for _ in 0..bytes {
         text.push_str("x")?;

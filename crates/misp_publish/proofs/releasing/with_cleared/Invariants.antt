@@ -5,6 +5,6 @@ use Rattle.misp_publish.proofs.releasing.with_cleared.Given as goal
 
 abbrev pub invariant-loop-row : goal.invariant-loop-row
 invariant-loop-row l = record {
-  so_far : l.made.items ≡ l.fn.made.items ++ map cleared_row (filter (is_released l.owner) (take l.row-index l.rows));
+  so_far : l.made.items ≡ l.fn.made.items ++ map cleared_row (filter (is_released l.owner l.event) (take l.row-index l.rows));
   are_rows : AreRows l.made.items;
 }

@@ -1,0 +1,214 @@
+//! What a request asks, by its route and body.
+
+ghost use Rattle.std.specs.Prelude.{◌≡◌, true, IfOk};
+ghost use Rattle.misp_elem.specs.declared.key.Place.TheVariants as places;
+ghost use Rattle.misp_format.specs.Rows as rows;
+ghost use Rattle.misp_format.specs.Tables.{is_form_for};
+ghost use Rattle.misp_rules.specs.declared.ask.Ask.TheVariants as asks;
+ghost use Rattle.misp_rules.specs.declared.change.Change.{Change as SomeChange};
+ghost use Rattle.misp_rules.specs.declared.change.Change.TheVariants as changes;
+ghost use Rattle.misp_core.specs.Answers.{IsBuilt};
+ghost use Rattle.misp_api.specs.Request.{Gives, changed, event_in, event_edit_in, attribute_edit_in, object_edit_in, parts_in, tag_in, untag_in, ask_of};
+
+use crate::request::{AskFault, fault};
+use crate::route::Route;
+use misp_elem::Place;
+use misp_format::{
+    FormatFault, PartForm, read_attribute_edit, read_event, read_event_edit, read_json,
+    read_object_edit, read_parts, read_tag,
+};
+use misp_ids::{ElemId, EventId};
+use misp_rules::{Ask, AttributePlace, Change, ElementPlace, NewTag, Parts, TaggedPlace};
+use std::alloc::Global;
+
+// The addition of the event that a body is.
+fn event_in(alloc: Global, body: &[u8], word: u128) -> Result<Change, FormatFault>
+    ensures reads { rows.Gives result (event_in body.now word) }
+    ensures built { IfOk result (λ change. IsBuilt (asks.Change change)) }
+{
+    let value = read_json(alloc, body)?;
+    Ok(Change::AddEvent(read_event(alloc, &value, word)?))
+}
+
+fn event_edit_in(alloc: Global, event: EventId, body: &[u8]) -> Result<Change, FormatFault>
+    ensures reads { rows.Gives result (event_edit_in event body.now) }
+    ensures built { IfOk result (λ change. IsBuilt (asks.Change change)) }
+{
+    let value = read_json(alloc, body)?;
+    let edit = read_event_edit(alloc, &value)?;
+    Ok(Change::EditEvent { event, edit })
+}
+
+fn attribute_edit_in(
+    alloc: Global,
+    event: EventId,
+    place: AttributePlace,
+    body: &[u8],
+) -> Result<Change, FormatFault>
+    ensures reads { rows.Gives result (attribute_edit_in event place body.now) }
+    ensures built { IfOk result (λ change. IsBuilt (asks.Change change)) }
+{
+    let value = read_json(alloc, body)?;
+    let edit = read_attribute_edit(alloc, &value)?;
+    Ok(Change::EditAttribute { event, place, edit })
+}
+
+fn object_edit_in(
+    alloc: Global,
+    event: EventId,
+    object: ElemId,
+    body: &[u8],
+) -> Result<Change, FormatFault>
+    ensures reads { rows.Gives result (object_edit_in event object body.now) }
+    ensures built { IfOk result (λ change. IsBuilt (asks.Change change)) }
+{
+    let value = read_json(alloc, body)?;
+    let edit = read_object_edit(alloc, &value)?;
+    Ok(Change::EditObject {
+        event,
+        object,
+        edit,
+    })
+}
+
+// The addition of the elements that a body brings to an event that is there.
+fn parts_in(
+    alloc: Global,
+    event: EventId,
+    object: Option<ElemId>,
+    form: PartForm,
+    body: &[u8],
+    word: u128,
+) -> Result<Change, FormatFault>
+    requires { is_form_for object form ≡ true }
+    ensures reads { rows.Gives result (parts_in event object form body.now word) }
+    ensures built { IfOk result (λ change. IsBuilt (asks.Change change)) }
+{
+    let _number = event.0.0;
+    let value = read_json(alloc, body)?;
+    let parts = Parts::of(read_parts(alloc, &value, event, object, form, word)?);
+    Ok(Change::AddParts { event, parts })
+}
+
+fn tag_in(
+    alloc: Global,
+    event: EventId,
+    place: TaggedPlace,
+    body: &[u8],
+) -> Result<Change, FormatFault>
+    ensures reads { rows.Gives result (tag_in event place body.now) }
+    ensures built { IfOk result (λ change. IsBuilt (asks.Change change)) }
+{
+    let value = read_json(alloc, body)?;
+    let tag = NewTag::of(read_tag(alloc, &value)?);
+    Ok(Change::Tag { event, place, tag })
+}
+
+// The removal of the tag that has the name of the one that a body is.
+fn untag_in(
+    alloc: Global,
+    event: EventId,
+    place: TaggedPlace,
+    body: &[u8],
+) -> Result<Change, FormatFault>
+    ensures reads { rows.Gives result (untag_in event place body.now) }
+    ensures built { IfOk result (λ change. IsBuilt (asks.Change change)) }
+{
+    let value = read_json(alloc, body)?;
+    let name = read_tag(alloc, &value)?.name;
+    Ok(Change::Untag { event, place, name })
+}
+
+// The ask of a change that was read.
+fn changed(alloc: Global, read: Result<Change, FormatFault>) -> Result<Ask, AskFault>
+    requires { IfOk read (λ change. IsBuilt (asks.Change change)) }
+    ensures ask { (meant : rows.Reading SomeChange) → rows.Gives read meant →
+        Gives result (changed meant) }
+    ensures built { IfOk result IsBuilt }
+{
+    match read {
+        Ok(change) => Ok(Ask::Change(change)),
+        Err(stopped) => Err(fault(alloc, stopped)),
+    }
+}
+
+// The place of an attribute as that of an element.
+fn element_place(place: AttributePlace) -> ElementPlace
+    ensures { result ≡ place }
+{
+    match ElementPlace::of(place.get()) {
+        Some(place) => place,
+        None => unreachable!(),
+    }
+}
+
+fn object_place(object: ElemId) -> ElementPlace
+    ensures { result ≡ places.Object object }
+{
+    match ElementPlace::of(Place::Object(object)) {
+        Some(place) => place,
+        None => unreachable!(),
+    }
+}
+
+fn delete(event: EventId, place: ElementPlace) -> Ask
+    ensures { result ≡ asks.Change (changes.Delete event place) }
+{
+    Ask::Change(Change::Delete { event, place })
+}
+
+fn delete_reference(event: EventId, object: ElemId, reference: ElemId) -> Ask
+    ensures { result ≡ asks.Change (changes.DeleteReference event object reference) }
+{
+    Ask::Change(Change::DeleteReference {
+        event,
+        object,
+        reference,
+    })
+}
+
+/// What a request asks. Elements without an identifier get those that are made of `word`.
+#[tactic(auto, unfolding(crate::specs::Request::ask_of))]
+pub fn read_ask(alloc: Global, route: Route, body: &[u8], word: u128) -> Result<Ask, AskFault>
+    ensures ask { Gives result (ask_of route body.now word) }
+    ensures built { IfOk result IsBuilt }
+{
+    match route {
+        Route::AddEvent => changed(alloc, event_in(alloc, body, word)),
+        Route::ViewEvent(event, owner) => Ok(Ask::View { event, owner }),
+        Route::EditEvent(event) => changed(alloc, event_edit_in(alloc, event, body)),
+        Route::DeleteEvent(event) => Ok(Ask::Change(Change::DeleteEvent { event })),
+        Route::Publish(event) => Ok(Ask::Change(Change::Publish { event })),
+        Route::AddAttributes(event, object) => {
+            let form = PartForm::Attributes;
+            changed(alloc, parts_in(alloc, event, object, form, body, word))
+        }
+        Route::EditAttribute(event, place) => {
+            changed(alloc, attribute_edit_in(alloc, event, place, body))
+        }
+        Route::DeleteAttribute(event, place) => Ok(delete(event, element_place(place))),
+        Route::AddObject(event) => {
+            changed(
+                alloc,
+                parts_in(alloc, event, None, PartForm::Object, body, word),
+            )
+        }
+        Route::EditObject(event, object) => {
+            changed(alloc, object_edit_in(alloc, event, object, body))
+        }
+        Route::DeleteObject(event, object) => Ok(delete(event, object_place(object))),
+        Route::AddReference(event, object) => {
+            let form = PartForm::Reference;
+            changed(
+                alloc,
+                parts_in(alloc, event, Some(object), form, body, word),
+            )
+        }
+        Route::DeleteReference(event, object, reference) => {
+            Ok(delete_reference(event, object, reference))
+        }
+        Route::Tag(event, place) => changed(alloc, tag_in(alloc, event, place, body)),
+        Route::Untag(event, place) => changed(alloc, untag_in(alloc, event, place, body)),
+        Route::Groups => Ok(Ask::Groups),
+    }
+}

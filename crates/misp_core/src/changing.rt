@@ -1,0 +1,265 @@
+//! What a change comes to over the rows that its caller knows of the event.
+
+ghost use Rattle.std.specs.Prelude.{◌≡◌, None, Err, IfOk, IfErr, Option, length, map, option_map};
+ghost use Rattle.misp_dates.specs.Dates.{date_of};
+ghost use Rattle.misp_ids.specs.declared.label.Label as labels;
+ghost use Rattle.misp_elem.specs.Row.{AreRows};
+ghost use Rattle.misp_orgs.specs.Admin.{AdminFields};
+ghost use Rattle.misp_rules.specs.Scene.{Scene};
+ghost use Rattle.misp_rules.specs.Changing.{change_rules};
+ghost use Rattle.misp_rules.specs.Machine.{event_changed};
+ghost use Rattle.misp_rules.specs.declared.ask.Ask.TheVariants as asks;
+ghost use Rattle.misp_rules.specs.declared.change.Change.{Change as SomeChange};
+ghost use Rattle.misp_rules.specs.declared.change.Change.TheVariants.{AddEvent};
+ghost use Rattle.misp_copies.specs.Barring.{Refuses, Names, rule_of};
+ghost use Rattle.misp_edit.specs.Changing.{Changes};
+ghost use Rattle.misp_edit.specs.Refusals as adding;
+ghost use Rattle.misp_core.specs.declared.reply.Answer.TheVariants as answers;
+ghost use Rattle.misp_core.specs.Answers.{IsAdded, IsBuilt, greatest};
+ghost use Rattle.misp_core.specs.Changing.{IsMark, NamesGroupOf, place_named, rule_named};
+ghost use Rattle.misp_core.specs.Handing.{scene_in, knowing};
+ghost use Rattle.misp_core.specs.Effects.{asked, row_batches};
+ghost use Rattle.misp_core.specs.Planning.{Plans, batches_of, rows_put};
+
+use crate::naming::name_text;
+use crate::planning::{Batch, NoPlan, Plan};
+use crate::reply::Answer;
+use crate::site::{Site, viewer};
+use misp_copies::ChangeFault;
+use misp_edit::{
+    AddFault, add_event, add_parts, delete, delete_event, delete_reference, edit_attribute,
+    edit_event, edit_object, tag, untag,
+};
+use misp_elem::{NoMemory, Row, Submission};
+use misp_ids::{EventId, Items, Refusal, RuleName, Stamp, Text};
+use misp_publish::publish;
+use misp_rules::{Change, Parts};
+use std::alloc::Global;
+
+// Rows are put in one batch, and no rows in none.
+fn rows_put(alloc: Global, rows: Vec<Row>) -> Option<Batch>
+    ensures batches { batches_of result ≡ row_batches rows.items }
+    ensures rows { rows_put result ≡ rows.items }
+{
+    let [_, ..] = rows.as_slice() else {
+        return None;
+    };
+    Some(Batch {
+        rows: Items::of(rows),
+        groups: Items::of(Vec::new(alloc)),
+    })
+}
+
+// The greatest of the rows' stamps.
+#[tactic(auto, unfolding(crate::specs::Answers::greatest))]
+fn greatest(rows: &[Row]) -> Stamp
+    ensures { result ≡ greatest (map (λ row. row.stamp) rows.now) }
+{
+    let mut newest = Stamp::first();
+    for row in rows {
+        newest = newest.max(row.stamp);
+    }
+    newest
+}
+
+// What is answered to a change, and the rows that it writes.
+fn saved(alloc: Global, event: EventId, rows: Vec<Row>) -> Plan
+    ensures answer { result.answer ≡ answers.Saved (length rows.items) event
+        (greatest (map (λ row. row.stamp) rows.items)) }
+    ensures batches { batches_of result.batch ≡ row_batches rows.items }
+    ensures rows { rows_put result.batch ≡ rows.items }
+{
+    let answer = Answer::Saved {
+        elements: rows.len() as u64,
+        event,
+        stamp: greatest(&rows),
+    };
+    Plan {
+        answer,
+        batch: rows_put(alloc, rows),
+    }
+}
+
+// The rule of a fault, where it is not that memory ran out.
+#[tactic(auto, unfolding(misp_copies::specs::Barring::rule_of))]
+fn rule_named(fault: ChangeFault) -> Option<RuleName>
+    ensures { result ≡ rule_named fault }
+{
+    match fault {
+        ChangeFault::NotGranted => Some(RuleName::NotGranted),
+        ChangeFault::NotOwner => Some(RuleName::NotOwner),
+        ChangeFault::LockedCopy => Some(RuleName::LockedCopy),
+        ChangeFault::GroupNotUsable(_) => Some(RuleName::GroupNotUsable),
+        ChangeFault::OlderTime => Some(RuleName::OlderTime),
+        ChangeFault::TimeLimit => Some(RuleName::TimeLimit),
+        ChangeFault::ElementFull => Some(RuleName::ElementFull),
+        ChangeFault::NoMemory => None,
+    }
+}
+
+// The group that a fault names.
+fn place_named(alloc: Global, fault: ChangeFault) -> Result<Text, NoMemory>
+    ensures { IfOk result (λ place. place ≡ place_named fault) }
+{
+    match fault {
+        ChangeFault::GroupNotUsable(group) => Ok(group.uuid.to_text(alloc)?),
+        _ => Ok(Text::of(String::new(alloc))),
+    }
+}
+
+// Why a change is not planned that this fault refuses.
+fn change_refused(alloc: Global, fault: ChangeFault) -> NoPlan
+    ensures { (admin : AdminFields) (s : Scene) (c : SomeChange) (l : Option labels.Label) →
+        NamesGroupOf s c l → Refuses (change_rules s c) fault → Names l fault →
+        Plans (Err result) (asked admin s (asks.Change c)) }
+{
+    let Some(name) = rule_named(fault) else {
+        return NoPlan::NoMemory;
+    };
+    match place_named(alloc, fault) {
+        Ok(place) => NoPlan::Refused(Refusal { name, place }),
+        Err(NoMemory) => NoPlan::NoMemory,
+    }
+}
+
+// What is planned for a change of this event whose rows are made, or which a fault refuses.
+fn changed(
+    alloc: Global,
+    event: EventId,
+    made: Result<Vec<Row>, ChangeFault>,
+) -> Result<Plan, NoPlan>
+    ensures { (admin : AdminFields) (s : Scene) (c : SomeChange) (l : Option labels.Label) →
+        event_changed c ≡ event → NamesGroupOf s c l →
+        IfOk made (λ rows. Changes s c rows.items) → IfOk made (λ rows. AreRows rows.items) →
+        IfErr made (Refuses (change_rules s c)) → IfErr made (Names l) →
+        Plans result (asked admin s (asks.Change c)) }
+{
+    match made {
+        Ok(rows) => Ok(saved(alloc, event, rows)),
+        Err(fault) => Err(change_refused(alloc, fault)),
+    }
+}
+
+// What is planned for an addition to this event whose rows are made, or which is refused.
+fn added(alloc: Global, event: EventId, made: Result<Vec<Row>, AddFault>) -> Result<Plan, NoPlan>
+    ensures { (admin : AdminFields) (s : Scene) (c : SomeChange) → event_changed c ≡ event →
+        IfOk made (λ rows. Changes s c rows.items) → IfOk made (λ rows. AreRows rows.items) →
+        IfErr made (adding.Refuses s c) → Plans result (asked admin s (asks.Change c)) }
+{
+    match made {
+        Ok(rows) => Ok(saved(alloc, event, rows)),
+        Err(fault) => match fault {
+            AddFault::Refused(refusal) => Err(NoPlan::Refused(refusal)),
+            AddFault::NoMemory => Err(NoPlan::NoMemory),
+        },
+    }
+}
+
+fn event_in(submission: &Submission) -> EventId
+    ensures { result ≡ submission.now.event }
+{
+    submission.event
+}
+
+// Adds an event, over the rows that the caller knows of it.
+fn add(alloc: Global, site: &Site<'_>, submission: Submission, rows: &[Row]) -> Result<Plan, NoPlan>
+    requires { IsAdded submission }
+    ensures { Plans result (asked site.now.admin.now
+        (knowing (scene_in site.now) rows.now) (asks.Change (AddEvent submission))) }
+{
+    let who = viewer(site);
+    let name = name_text(alloc, site.admin, &who.org)?;
+    let event = event_in(&submission);
+    let made = add_event(alloc, submission, &who, &name, site.moment, rows);
+    added(alloc, event, made)
+}
+
+fn event_of(parts: &Parts) -> EventId
+    ensures { result ≡ parts.now.event }
+{
+    parts.submission.event
+}
+
+// What is planned for a deletion, for a tag or for a publishing, over the rows that its caller
+// knows of the event.
+fn plan_mark(alloc: Global, site: &Site<'_>, change: Change, rows: &[Row]) -> Result<Plan, NoPlan>
+    requires { IsMark change }
+    ensures { Plans result (asked site.now.admin.now
+        (knowing (scene_in site.now) rows.now) (asks.Change change)) }
+{
+    let who = viewer(site);
+    let now = site.moment;
+    match change {
+        Change::Delete { event, place } => {
+            let place = place.get();
+            changed(alloc, event, delete(alloc, &event, &place, &who, now, rows))
+        }
+        Change::DeleteReference {
+            event,
+            object,
+            reference: uuid,
+        } => {
+            let made = delete_reference(alloc, &event, &object, &uuid, &who, now, rows);
+            changed(alloc, event, made)
+        }
+        Change::Tag {
+            event,
+            place,
+            tag: new,
+        } => {
+            let made = tag(alloc, &event, &place, &new, &who, now, rows);
+            changed(alloc, event, made)
+        }
+        Change::Untag { event, place, name } => {
+            let made = untag(alloc, &event, &place, &name, &who, now, rows);
+            changed(alloc, event, made)
+        }
+        Change::DeleteEvent { event } => {
+            changed(alloc, event, delete_event(alloc, &event, &who, now, rows))
+        }
+        Change::Publish { event } => {
+            changed(alloc, event, publish(alloc, &event, &who, now, rows))
+        }
+        _ => unreachable!(),
+    }
+}
+
+/// What is planned for a change, over the rows that its caller knows of the event.
+pub(crate) fn plan_change(
+    alloc: Global,
+    site: &Site<'_>,
+    change: Change,
+    rows: &[Row],
+) -> Result<Plan, NoPlan>
+    requires { IsBuilt (asks.Change change) }
+    ensures { Plans result (asked site.now.admin.now
+        (knowing (scene_in site.now) rows.now) (asks.Change change)) }
+{
+    let who = viewer(site);
+    let now = site.moment;
+    match change {
+        Change::AddEvent(submission) => add(alloc, site, submission, rows),
+        Change::AddParts { event, parts } => {
+            let of = event_of(&parts);
+            let made = add_parts(alloc, &event, parts, &who, now, rows);
+            added(alloc, of, made)
+        }
+        Change::EditEvent { event, edit } => {
+            let made = edit_event(alloc, &event, &edit, &who, now, rows);
+            changed(alloc, event, made)
+        }
+        Change::EditAttribute { event, place, edit } => {
+            let made = edit_attribute(alloc, &event, &place, &edit, &who, now, rows);
+            changed(alloc, event, made)
+        }
+        Change::EditObject {
+            event,
+            object,
+            edit,
+        } => {
+            let made = edit_object(alloc, &event, &object, &edit, &who, now, rows);
+            changed(alloc, event, made)
+        }
+        mark => plan_mark(alloc, site, mark, rows),
+    }
+}

@@ -1,0 +1,58 @@
+//! What the edits of events, attributes and objects have alike. What is absent stays as it is.
+
+ghost use Rattle.std.specs.Prelude.{◌≡◌, true, IfOk, IfSome, codes};
+ghost use Rattle.std.specs.Str.{is_utf8};
+ghost use Rattle.misp_elem.specs.Row.{IsLabel};
+ghost use Rattle.misp_fields.specs.Fields.{text_of, stamp_of};
+ghost use Rattle.misp_rules.specs.Edit.{IsGiven, given_size};
+ghost use Rattle.misp_format.specs.Edits.{given_row, given_label_at};
+ghost use Rattle.misp_format.specs.Members.{body_of};
+ghost use Rattle.misp_format.specs.Rows.{Gives};
+
+use crate::fault::FormatFault;
+use crate::reading::label::label;
+use crate::reading::members::Members;
+use misp_fields::{self as fields, member};
+use misp_ids::{Label, Stamp, Text};
+
+pub(crate) fn given_text(it: &Members<'_>, name: &str) -> Result<Option<Text>, FormatFault>
+    ensures gives { Gives result (given_row (body_of it.now) name.now text_of) }
+    ensures utf8 { IfOk result (λ given. IfSome given (λ text. is_utf8 text ≡ true)) }
+{
+    match member(it.value, name) {
+        Some(_) => Ok(Some(it.text(name)?)),
+        None => Ok(None),
+    }
+}
+
+/// The label by its number, which is at most `most`.
+#[tactic(auto, unfolding(crate::specs::Edits::given_label_at))]
+pub(crate) fn given_label(it: &Members<'_>, most: u8) -> Result<Option<Label>, FormatFault>
+    ensures gives { Gives result (given_label_at (body_of it.now) most) }
+    ensures fits { IfOk result (IsGiven IsLabel) }
+{
+    match member(it.value, "distribution") {
+        Some(_) => Ok(Some(label(it, most, 0)?)),
+        None => Ok(None),
+    }
+}
+
+/// The moment of the edit.
+pub(crate) fn given_stamp(it: &Members<'_>) -> Result<Option<Stamp>, FormatFault>
+    ensures { Gives result (given_row (body_of it.now) (codes "timestamp") stamp_of) }
+{
+    match member(it.value, "timestamp") {
+        Some(value) => Ok(Some(it.kept("timestamp", fields::stamp(value))?)),
+        None => Ok(None),
+    }
+}
+
+/// The bytes of a text that is given.
+pub(crate) fn given_size(text: &Option<Text>) -> usize
+    ensures { result ≡ given_size text.now }
+{
+    match text {
+        Some(text) => text.as_str().len(),
+        None => 0,
+    }
+}
