@@ -1,5 +1,5 @@
 -- What a body brings is built.
-use Rattle.std.proofs.Common.{◌≡◌, ℕ, List, codes, Option, Some, None, Ok, Err, refl}
+use Rattle.std.proofs.Common.{◌≡◌, ℕ, List, codes, Option, Some, None, Ok, refl}
 use Rattle.misp_lists.proofs.Readings.{bind_keeps, ok_keeps}
 use Rattle.misp_elem.specs.Draft.{SubmissionFields}
 use Rattle.misp_elem.specs.Prelude.{ElemId, IsUid}
@@ -7,6 +7,7 @@ use Rattle.misp_format.specs.Prelude.{◌>>=◌, Data, Reading, attributes_at, e
 use Rattle.misp_format.specs.Rows.{row, body_at}
 use Rattle.misp_format.specs.Tables.{event_itself_at, unwrapped, parts_at, elements_at, tag_body_at}
 use Rattle.misp_format.specs.Edits.{event_edit_at, attribute_edit_at, object_edit_at}
+use Rattle.misp_format.specs.Statements.{proposal_at, judgement_at, sighting_at}
 use Rattle.misp_elem.specs.declared.key.Place.{Place}
 use Rattle.misp_format.specs.declared.reading.parts.PartForm.{PartForm}
 use Rattle.misp_rules.specs.Parts.{IsParts}
@@ -14,7 +15,7 @@ use Rattle.misp_rules.specs.declared.change.Change.{Change}
 use Rattle.misp_core.specs.Answers.{IsAdded, IsBuilt}
 use Rattle.misp_core.specs.Prelude.{Ask, EventId, View}
 use Rattle.misp_api.specs.declared.route.Route.{Route}
-use Rattle.misp_api.specs.Request.{ask_of, changed, event_in, event_edit_in, attribute_edit_in, object_edit_in, parts_in, tag_in, untag_in}
+use Rattle.misp_api.specs.Request.{ask_of, formed, event_in, event_edit_in, attribute_edit_in, object_edit_in, parts_in, tag_in, untag_in, proposal_in, judgement_in, sighting_in}
 use Rattle.misp_api.specs.Request as request
 
 pub event_is_added : (word : ℕ) (d : Data) (s : SubmissionFields) → event_at word d ≡ Ok s → IsAdded s
@@ -34,35 +35,35 @@ are_parts e object form word d fits = bind_keeps IsParts (elements_at object for
 
 -- ---- what is asked
 
-abbrev Built : Change → Type 0
-Built c = IsBuilt (Ask.Change c)
+-- an ask that is made of what is read in a body is built, where each of them is
+made_built : {A : Type 0} (ask : A → Ask) (at : Data → Reading A) → ((d : Data) (x : A) → at d ≡ Ok x → IsBuilt (ask x)) → (body : List ℕ) (a : Ask)
+    → json_in body >>= (λ d. request.ask_from ask (at d)) ≡ Ok a → IsBuilt a
+made_built ask at each body = bind_keeps IsBuilt (json_in body) _ (λ d is. bind_keeps IsBuilt (at d) _ (λ x found. ok_keeps IsBuilt _ (each d x found)))
 
--- a change that is made of what is read in a body is built, where each of them is
-made_built : {A : Type 0} (change : A → Change) (at : Data → Reading A) → ((d : Data) (x : A) → at d ≡ Ok x → Built (change x)) → (body : List ℕ) (c : Change)
-    → json_in body >>= (λ d. request.change_of change (at d)) ≡ Ok c → Built c
-made_built change at each body = bind_keeps Built (json_in body) _ (λ d is. bind_keeps Built (at d) _ (λ x found. ok_keeps Built _ (each d x found)))
-
--- what holds of each ask that is built, and of each change that is read where those that are read are built, holds of
--- every request
+-- what holds of each ask that is built, and of each that is read where those that are read are built, holds of every
+-- request
 pub ask_is : (P : request.Reading Ask → Type 0) → ((ask : Ask) → IsBuilt ask → P (Ok ask))
-    → ((read : Reading Change) → ((c : Change) → read ≡ Ok c → Built c) → P (changed read)) → (route : Route) (body : List ℕ) (word : ℕ) → P (ask_of route body word)
+    → ((read : Reading Ask) → ((ask : Ask) → read ≡ Ok ask → IsBuilt ask) → P (formed read)) → (route : Route) (body : List ℕ) (word : ℕ) → P (ask_of route body word)
 unfolding ask_of
-ask_is P said read Route.AddEvent body word = read (event_in body word) (made_built Change.AddEvent (event_at word) (event_is_added word) body)
+ask_is P said read Route.AddEvent body word = read (event_in body word) (made_built (λ b. Ask.Change (Change.AddEvent b)) (event_at word) (event_is_added word) body)
 ask_is P said read (Route.ViewEvent event owner) body word = said (View event owner) tt
-ask_is P said read (Route.EditEvent event) body word = read (event_edit_in event body) (made_built (Change.EditEvent event) event_edit_at (λ d x h. tt) body)
+ask_is P said read (Route.EditEvent event) body word = read (event_edit_in event body) (made_built (λ edit. Ask.Change (Change.EditEvent event edit)) event_edit_at (λ d x h. tt) body)
 ask_is P said read (Route.DeleteEvent event) body word = said (Ask.Change (Change.DeleteEvent event)) tt
 ask_is P said read (Route.Publish event) body word = said (Ask.Change (Change.Publish event)) tt
 ask_is P said read (Route.AddAttributes event object) body word =
-    read (parts_in event object PartForm.Attributes body word) (made_built (Change.AddParts event) (parts_at event object PartForm.Attributes word) (λ d x h. tt) body)
-ask_is P said read (Route.EditAttribute event place) body word = read (attribute_edit_in event place body) (made_built (Change.EditAttribute event place) attribute_edit_at (λ d x h. tt) body)
+    read (parts_in event object PartForm.Attributes body word) (made_built (λ b. Ask.Change (Change.AddParts event b)) (parts_at event object PartForm.Attributes word) (λ d x h. tt) body)
+ask_is P said read (Route.EditAttribute event place) body word = read (attribute_edit_in event place body) (made_built (λ edit. Ask.Change (Change.EditAttribute event place edit)) attribute_edit_at (λ d x h. tt) body)
 ask_is P said read (Route.DeleteAttribute event place) body word = said (Ask.Change (Change.Delete event place)) tt
 ask_is P said read (Route.AddObject event) body word =
-    read (parts_in event None PartForm.Object body word) (made_built (Change.AddParts event) (parts_at event None PartForm.Object word) (λ d x h. tt) body)
-ask_is P said read (Route.EditObject event object) body word = read (object_edit_in event object body) (made_built (Change.EditObject event object) object_edit_at (λ d x h. tt) body)
+    read (parts_in event None PartForm.Object body word) (made_built (λ b. Ask.Change (Change.AddParts event b)) (parts_at event None PartForm.Object word) (λ d x h. tt) body)
+ask_is P said read (Route.EditObject event object) body word = read (object_edit_in event object body) (made_built (λ edit. Ask.Change (Change.EditObject event object edit)) object_edit_at (λ d x h. tt) body)
 ask_is P said read (Route.DeleteObject event object) body word = said (Ask.Change (Change.Delete event (Place.Object object))) tt
 ask_is P said read (Route.AddReference event object) body word =
-    read (parts_in event (Some object) PartForm.Reference body word) (made_built (Change.AddParts event) (parts_at event (Some object) PartForm.Reference word) (λ d x h. tt) body)
+    read (parts_in event (Some object) PartForm.Reference body word) (made_built (λ b. Ask.Change (Change.AddParts event b)) (parts_at event (Some object) PartForm.Reference word) (λ d x h. tt) body)
 ask_is P said read (Route.DeleteReference event object reference) body word = said (Ask.Change (Change.DeleteReference event object reference)) tt
-ask_is P said read (Route.Tag event place) body word = read (tag_in event place body) (made_built (Change.Tag event place) tag_body_at (λ d x h. tt) body)
-ask_is P said read (Route.Untag event place) body word = read (untag_in event place body) (made_built (λ tag. Change.Untag event place tag.name) tag_body_at (λ d x h. tt) body)
+ask_is P said read (Route.Tag event place) body word = read (tag_in event place body) (made_built (λ tag. Ask.Change (Change.Tag event place tag)) tag_body_at (λ d x h. tt) body)
+ask_is P said read (Route.Untag event place) body word = read (untag_in event place body) (made_built (λ tag. Ask.Change (Change.Untag event place tag.name)) tag_body_at (λ d x h. tt) body)
+ask_is P said read (Route.Propose event target) body word = read (proposal_in event target body word) (made_built Ask.Propose (proposal_at event target word) (λ d x h. tt) body)
+ask_is P said read (Route.Judge event accept) body word = read (judgement_in event accept body) (made_built (λ name. Ask.Judge event name accept) judgement_at (λ d x h. tt) body)
+ask_is P said read (Route.Sight event target) body word = read (sighting_in event target body word) (made_built (Ask.Sight event target) (sighting_at word) (λ d x h. tt) body)
 ask_is P said read Route.Groups body word = said Ask.Groups tt

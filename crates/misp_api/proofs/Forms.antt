@@ -2,8 +2,7 @@
 use Rattle.std.proofs.Common.{◌≡◌, ℕ, Bool, true, false, List, refl, Option, Some, None, Result, Ok, Err, if◌then◌else◌}
 use Rattle.misp_rules.specs.Permission.{permission_of, no_permission}
 use Rattle.misp_core.specs.Answers.{IsBuilt}
-use Rattle.misp_rules.specs.declared.change.Change.{Change}
-use Rattle.misp_api.specs.Prelude.{Admin, Ask, Asked, Caller, FormatFault, Reading, RequestData, Route, RuleName, ask_of, caller_in, changed, form_of, is_permitted, read_of}
+use Rattle.misp_api.specs.Prelude.{Admin, Ask, Asked, Caller, FormatFault, Reading, RequestData, Route, RuleName, ask_of, caller_in, form_of, formed, is_permitted, read_of}
 use Rattle.misp_api.specs.Prelude.{route_of}
 use Rattle.misp_api.specs.Answering.{by_body, by_route, permitted}
 use Rattle.misp_api.proofs.Built.{ask_is}
@@ -18,8 +17,8 @@ abbrev pub BuiltForm : Reading Asked → Type 0
 BuiltForm (Ok asked) = IsBuilt asked.1
 BuiltForm (Err refusal) = Unit {0}
 
-asked_built : (read : Result Change FormatFault) → ((c : Change) → read ≡ Ok c → IsBuilt (Ask.Change c)) → BuiltAsk (changed read)
-asked_built (Ok c) built = built c refl
+asked_built : (read : Result Ask FormatFault) → ((ask : Ask) → read ≡ Ok ask → IsBuilt ask) → BuiltAsk (formed read)
+asked_built (Ok ask) built = built ask refl
 asked_built (Err FormatFault.NoJson) built = tt
 asked_built (Err (FormatFault.BadField path need)) built = tt
 asked_built (Err (FormatFault.BinaryType path)) built = tt

@@ -1,15 +1,16 @@
 -- The reply to a request refuses by the first rule that refuses it.
 use Rattle.std.proofs.Common.{◌≡◌, ℕ, Bool, true, false, List, [], ◌∷◌, refl, ap, sym, subst, ◌∙◌, map, option_map, Option, Some, None, Result, Ok, Err, ◌==◌, not, is_some, bytes_eq, if◌then◌else◌, IfSome}
 use Rattle.misp_effects.specs.Effect.{under, stop_of}
-use Rattle.misp_rules.proofs.Prelude.{IfSome_then, Rule, Version, VisibleEvent, answer, change_rules, change_writes, first_rule, ok_answer, shown}
-use Rattle.misp_rules.specs.declared.change.Change.{Change}
+use Rattle.misp_rules.proofs.Prelude.{IfSome_then, Rule, VisibleEvent, answer, first_rule, ok_answer, shown}
+use Rattle.misp_rules.specs.Machine.{event_changed}
 use Rattle.misp_edit.specs.Refusals.{named}
 use Rattle.misp_core.specs.Prelude.{Admin, Ask, Asked, Caller, Did, Effect, EventId, FormatFault, Group, Held, Host, IsBuilt, OrgId, Row, RuleName, Scene, Standing, View, ask_rules, asked_over, forbidden, groups_of, host_of, is_permitted}
 use Rattle.misp_core.specs.Prelude.{option_map_or, reach_of, refused, reply_in, requested, rule_number, scene_at, seeing, seen_in, stop_in}
-use Rattle.misp_core.specs.Answers.{reply_of, saved}
-use Rattle.misp_core.proofs.Decisions.{saved_of}
+use Rattle.misp_core.specs.Answers.{reply_of}
+use Rattle.misp_core.specs.Saving.{IsOfEvent}
+use Rattle.misp_core.proofs.Decisions.{of_event}
 use Rattle.misp_core.specs.Effects.{telling}
-use Rattle.misp_api.specs.Prelude.{AskFault, Gives, Reading, Reply, RequestData, Route, ask_of, caller_in, changed, fault_reply, read_of, route_of}
+use Rattle.misp_api.specs.Prelude.{AskFault, Gives, Reading, Reply, RequestData, Route, ask_of, caller_in, fault_reply, formed, read_of, route_of}
 use Rattle.misp_api.specs.Route.{method_of, by_method}
 use Rattle.misp_api.proofs.Built.{ask_is}
 use Rattle.misp_api.specs.Answering.{by_body, by_key, by_route}
@@ -35,21 +36,24 @@ unfolding first_ground first_rule
 by_seen admin s event owner None = refl
 by_seen admin s event owner (Some v) = refl
 
-saved_named : (by : OrgId) (c : Change) (vs : List Version) → rule_of (saved (reach_of by (Ask.Change c)) vs) ≡ None
-saved_named by c vs = ap rule_of (saved_of by c vs)
+by_rule : (admin : Admin) (s : Scene) (ask : Ask) (event : EventId) → IsOfEvent ask event → (rule : Option Rule)
+    → rule_of (reply_of admin s ask (elim rule [ None ↦ ok_answer s ask | Some r ↦ model.Refused r ])) ≡ option_map named rule
+by_rule admin s ask event of None = ap rule_of (of_event admin s ask event of)
+by_rule admin s ask event of (Some r) = refl
 
-by_rule : (admin : Admin) (s : Scene) (c : Change) (rule : Option Rule)
-    → rule_of (reply_of admin s (Ask.Change c) (elim rule [ None ↦ ok_answer s (Ask.Change c) | Some r ↦ model.Refused r ]))
-    ≡ option_map named rule
-unfolding ok_answer
-by_rule admin s c None = saved_named s.by c (change_writes s c)
-by_rule admin s c (Some r) = refl
+-- of an ask that writes rows of an event
+by_rules : (admin : Admin) (s : Scene) (ask : Ask) (event : EventId) → IsOfEvent ask event → rule_of (reply_in admin s ask) ≡ first_ground (map ground_of (ask_rules s ask))
+unfolding reply_in answer
+by_rules admin s ask event of = by_rule admin s ask event of (first_rule (ask_rules s ask)) ∙ sym (first_named (ask_rules s ask))
 
 -- of an ask in its scene
 in_scene : (admin : Admin) (s : Scene) (ask : Ask) → IsBuilt ask → rule_of (reply_in admin s ask) ≡ first_ground (map ground_of (ask_rules s ask))
 unfolding reply_in answer ask_rules ok_answer first_ground first_rule
 in_scene admin s (View event owner) built = by_seen admin s event owner (shown s event owner)
-in_scene admin s (Ask.Change c) built = by_rule admin s c (first_rule (change_rules s c)) ∙ sym (first_named (change_rules s c))
+in_scene admin s (Ask.Change c) built = by_rules admin s (Ask.Change c) (event_changed c) refl
+in_scene admin s (Ask.Propose d) built = by_rules admin s (Ask.Propose d) d.event refl
+in_scene admin s (Ask.Judge e n accept) built = by_rules admin s (Ask.Judge e n accept) e refl
+in_scene admin s (Ask.Sight e t d) built = by_rules admin s (Ask.Sight e t d) e refl
 in_scene admin s Ask.Groups built = refl
 in_scene admin s ask built = absurd built
 
@@ -86,9 +90,9 @@ abbrev IsNamed : {A : Type 0} → Reading A → Type 0
 IsNamed (Ok x) = Unit {0}
 IsNamed (Err refusal) = stop_in (Reply.Refused refusal) ≡ None → Some refusal.name ≡ first_ground (by_name refusal.name)
 
-asked_named : (read : Result Change FormatFault) → IsNamed (changed read)
+asked_named : (read : Result Ask FormatFault) → IsNamed (formed read)
 unfolding first_ground
-asked_named (Ok change) = tt
+asked_named (Ok ask) = tt
 asked_named (Err FormatFault.NoJson) = λ went. refl
 asked_named (Err (FormatFault.BadField path need)) = λ went. refl
 asked_named (Err (FormatFault.BinaryType path)) = λ went. refl

@@ -4,11 +4,9 @@ use Rattle.std.proofs.lemmas.Option.{IfSome_then}
 use Rattle.misp_effects.specs.declared.stop.Side.TheVariants.{Here}
 use Rattle.misp_effects.specs.Effect.{Stopped}
 use Rattle.misp_core.specs.Prelude.{Did, Refusal, asked_where, bare, host_of, refused, requested}
-use Rattle.misp_rules.specs.declared.change.Change.{Change}
 use Rattle.misp_api.specs.Prelude.{Admin, Ask, Asked, AskFault, Caller, Effect, FormatFault, Gives, Held, Host, Reading, Reply, RequestData, Route, RuleName, Standing, Stop, ask_of}
 use Rattle.misp_api.specs.Prelude.{by_keeper, caller_in, fault_reply, forbidden, form_of, formed, is_permitted, read_of, replied, route_of, seen_in, stop_in}
 use Rattle.misp_api.specs.Route.{path_of, path_route, method_of, by_method}
-use Rattle.misp_api.specs.Request.{asked}
 use Rattle.misp_api.proofs.Built.{ask_is}
 use Rattle.misp_api.proofs.Forms.{allowed}
 use Rattle.misp_api.specs.Answering.{by_body, by_route, permitted, IsReplied}
@@ -44,12 +42,8 @@ formed_by_form (Err (FormatFault.BadField path need)) = inl refl
 formed_by_form (Err (FormatFault.BinaryType path)) = inl refl
 formed_by_form (Err FormatFault.NoMemory) = inr refl
 
-asked_by_form : (read : Reading Change) → ByForm read → ByForm (asked read)
-asked_by_form (Ok change) formed = tt
-asked_by_form (Err refusal) formed = formed
-
 ask_by_form : (route : Route) (body : List ℕ) (word : ℕ) → ByForm (ask_of route body word)
-ask_by_form = ask_is ByForm (λ ask built. tt) (λ read built. asked_by_form (formed read) (formed_by_form read))
+ask_by_form = ask_is ByForm (λ ask built. tt) (λ read built. formed_by_form read)
 
 body_by_form : (caller : Caller) (read : Reading Ask) → ByForm read → ByForm (by_body caller read)
 body_by_form caller (Ok ask) formed = tt

@@ -25,6 +25,10 @@ start_of PathKind.AddReference = codes "/references/add/"
 start_of PathKind.DeleteReference = codes "/references/delete/"
 start_of PathKind.Tag = codes "/tags/attach/"
 start_of PathKind.Untag = codes "/tags/remove/"
+start_of PathKind.Propose = codes "/shadow_attributes/add/"
+start_of PathKind.Accept = codes "/shadow_attributes/accept/"
+start_of PathKind.Discard = codes "/shadow_attributes/discard/"
+start_of PathKind.Sight = codes "/sightings/add/"
 start_of PathKind.Groups = codes "/sharing_groups/index"
 
 unfoldable pub kinds : List PathKind
@@ -33,7 +37,7 @@ kinds =
     ∷ PathKind.Publish ∷ PathKind.AddAttributes ∷ PathKind.EditAttribute
     ∷ PathKind.DeleteAttribute ∷ PathKind.AddObject ∷ PathKind.EditObject ∷ PathKind.DeleteObject
     ∷ PathKind.AddReference ∷ PathKind.DeleteReference ∷ PathKind.Tag ∷ PathKind.Untag
-    ∷ PathKind.Groups ∷ []
+    ∷ PathKind.Propose ∷ PathKind.Accept ∷ PathKind.Discard ∷ PathKind.Sight ∷ PathKind.Groups ∷ []
 
 -- the path begins as those of the kind
 abbrev pub begins : List ℕ → PathKind → Bool

@@ -8,7 +8,7 @@ pub use Rattle.misp_api.specs.Administering.{grouped}
 unfoldable pub use Rattle.misp_api.specs.Answering.{read_of}
 pub use Rattle.misp_api.specs.Answering.{caller_in, form_of, replied}
 unfoldable pub use Rattle.misp_api.specs.Request.{ask_of}
-pub use Rattle.misp_api.specs.Request.{Gives, Reading, RequestData, changed, event_in, formed}
+pub use Rattle.misp_api.specs.Request.{Gives, Reading, RequestData, event_in, formed}
 unfoldable pub use Rattle.misp_api.specs.Route.{route_of}
 pub use Rattle.misp_api.specs.Unread.{fault_reply}
 pub use Rattle.misp_api.specs.declared.request.AskFault.{AskFault}

@@ -1,10 +1,11 @@
 -- What a request is and asks, or the rule that its form breaks.
-use Rattle.std.specs.Prelude.{◌≡◌, ℕ, List, ◌∷◌, ◌++◌, Option, Some, None, option_map, Result, Ok, Err}
+use Rattle.std.specs.Prelude.{◌≡◌, ℕ, Bool, List, ◌∷◌, ◌++◌, Option, Some, None, option_map, Result, Ok, Err}
 use Rattle.misp_fields.specs.Needs.{need_words}
 use Rattle.misp_elem.specs.Prelude.{ElemId}
 use Rattle.misp_elem.specs.declared.key.Place.{Place}
 use Rattle.misp_format.specs.Prelude.{◌>>=◌, Need, event_at, json_in}
 use Rattle.misp_format.specs.Edits.{event_edit_at, attribute_edit_at, object_edit_at}
+use Rattle.misp_format.specs.Statements.{proposal_at, judgement_at, sighting_at}
 use Rattle.misp_format.specs.Tables.{parts_at, tag_body_at}
 use Rattle.misp_format.specs.declared.reading.parts.PartForm.{PartForm}
 use Rattle.misp_rules.specs.declared.change.Change.{Change}
@@ -61,71 +62,83 @@ formed (Err fault) = Err (refusal_of fault)
 
 -- ---- bodies
 
--- the change that is made of what was read
-abbrev pub change_of : {A : Type 0} → (A → Change) → rows.Reading A → rows.Reading Change
-change_of change read = read >>= λ x. Ok (change x)
+-- the ask that is made of what was read
+abbrev pub ask_from : {A : Type 0} → (A → Ask) → rows.Reading A → rows.Reading Ask
+ask_from ask read = read >>= λ x. Ok (ask x)
+
+-- the same of a change
+abbrev pub change_of : {A : Type 0} → (A → Change) → rows.Reading A → rows.Reading Ask
+change_of change read = ask_from (λ x. Ask.Change (change x)) read
 
 -- the addition of the event that a body is
-abbrev pub event_in : List ℕ → ℕ → rows.Reading Change
+abbrev pub event_in : List ℕ → ℕ → rows.Reading Ask
 event_in body word = json_in body >>= λ d. change_of Change.AddEvent (event_at word d)
 
 -- the edit that a body is, of an event, of an attribute and of an object
-abbrev pub event_edit_in : EventId → List ℕ → rows.Reading Change
+abbrev pub event_edit_in : EventId → List ℕ → rows.Reading Ask
 event_edit_in event body =
     json_in body >>= λ d. change_of (Change.EditEvent event) (event_edit_at d)
 
-abbrev pub attribute_edit_in : EventId → Place → List ℕ → rows.Reading Change
+abbrev pub attribute_edit_in : EventId → Place → List ℕ → rows.Reading Ask
 attribute_edit_in event place body =
     json_in body >>= λ d. change_of (Change.EditAttribute event place) (attribute_edit_at d)
 
-abbrev pub object_edit_in : EventId → ElemId → List ℕ → rows.Reading Change
+abbrev pub object_edit_in : EventId → ElemId → List ℕ → rows.Reading Ask
 object_edit_in event object body =
     json_in body >>= λ d. change_of (Change.EditObject event object) (object_edit_at d)
 
 -- the addition of the elements that a body brings to an event that is there
-abbrev pub parts_in : EventId → Option ElemId → PartForm → List ℕ → ℕ → rows.Reading Change
+abbrev pub parts_in : EventId → Option ElemId → PartForm → List ℕ → ℕ → rows.Reading Ask
 parts_in event object form body word =
     json_in body >>= λ d. change_of (Change.AddParts event) (parts_at event object form word d)
 
 -- the tag that a body is, attached and removed by its name
-abbrev pub tag_in : EventId → Place → List ℕ → rows.Reading Change
+abbrev pub tag_in : EventId → Place → List ℕ → rows.Reading Ask
 tag_in event place body =
     json_in body >>= λ d. change_of (Change.Tag event place) (tag_body_at d)
 
-abbrev pub untag_in : EventId → Place → List ℕ → rows.Reading Change
+abbrev pub untag_in : EventId → Place → List ℕ → rows.Reading Ask
 untag_in event place body =
     json_in body >>= λ d. change_of (λ tag. Change.Untag event place tag.name) (tag_body_at d)
 
+-- the proposal that a body is, for this target; the judgement of one; and the sighting
+abbrev pub proposal_in : EventId → Place → List ℕ → ℕ → rows.Reading Ask
+proposal_in event target body word =
+    json_in body >>= λ d. ask_from Ask.Propose (proposal_at event target word d)
+
+abbrev pub judgement_in : EventId → Bool → List ℕ → rows.Reading Ask
+judgement_in event accept body =
+    json_in body >>= λ d. ask_from (λ name. Ask.Judge event name accept) (judgement_at d)
+
+abbrev pub sighting_in : EventId → Place → List ℕ → ℕ → rows.Reading Ask
+sighting_in event target body word =
+    json_in body >>= λ d. ask_from (Ask.Sight event target) (sighting_at word d)
+
 -- ---- asks
-
--- the ask of a change that was read
-abbrev pub asked : Reading Change → Reading Ask
-asked (Ok change) = Ok (Ask.Change change)
-asked (Err refusal) = Err refusal
-
-abbrev pub changed : rows.Reading Change → Reading Ask
-changed read = asked (formed read)
 
 -- what a request of this route asks
 unfoldable pub ask_of : Route → List ℕ → ℕ → Reading Ask
-ask_of Route.AddEvent body word = changed (event_in body word)
+ask_of Route.AddEvent body word = formed (event_in body word)
 ask_of (Route.ViewEvent event owner) body word = Ok (View event owner)
-ask_of (Route.EditEvent event) body word = changed (event_edit_in event body)
+ask_of (Route.EditEvent event) body word = formed (event_edit_in event body)
 ask_of (Route.DeleteEvent event) body word = Ok (Ask.Change (Change.DeleteEvent event))
 ask_of (Route.Publish event) body word = Ok (Ask.Change (Change.Publish event))
 ask_of (Route.AddAttributes event object) body word =
-    changed (parts_in event object PartForm.Attributes body word)
-ask_of (Route.EditAttribute event place) body word = changed (attribute_edit_in event place body)
+    formed (parts_in event object PartForm.Attributes body word)
+ask_of (Route.EditAttribute event place) body word = formed (attribute_edit_in event place body)
 ask_of (Route.DeleteAttribute event place) body word = Ok (Ask.Change (Change.Delete event place))
 ask_of (Route.AddObject event) body word =
-    changed (parts_in event None PartForm.Object body word)
-ask_of (Route.EditObject event object) body word = changed (object_edit_in event object body)
+    formed (parts_in event None PartForm.Object body word)
+ask_of (Route.EditObject event object) body word = formed (object_edit_in event object body)
 ask_of (Route.DeleteObject event object) body word =
     Ok (Ask.Change (Change.Delete event (Place.Object object)))
 ask_of (Route.AddReference event object) body word =
-    changed (parts_in event (Some object) PartForm.Reference body word)
+    formed (parts_in event (Some object) PartForm.Reference body word)
 ask_of (Route.DeleteReference event object reference) body word =
     Ok (Ask.Change (Change.DeleteReference event object reference))
-ask_of (Route.Tag event place) body word = changed (tag_in event place body)
-ask_of (Route.Untag event place) body word = changed (untag_in event place body)
+ask_of (Route.Tag event place) body word = formed (tag_in event place body)
+ask_of (Route.Untag event place) body word = formed (untag_in event place body)
+ask_of (Route.Propose event target) body word = formed (proposal_in event target body word)
+ask_of (Route.Judge event accept) body word = formed (judgement_in event accept body)
+ask_of (Route.Sight event target) body word = formed (sighting_in event target body word)
 ask_of Route.Groups body word = Ok Ask.Groups

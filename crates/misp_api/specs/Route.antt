@@ -1,5 +1,5 @@
 -- Which request a method and a target are.
-use Rattle.std.specs.Prelude.{ℕ, ◌==◌, Bool, List, take, drop, length, position, codes, bytes_eq, find, Option, Some, None, option_map, Result, Ok, Err, if◌then◌else◌}
+use Rattle.std.specs.Prelude.{ℕ, ◌==◌, Bool, true, false, List, take, drop, length, position, codes, bytes_eq, find, Option, Some, None, option_map, Result, Ok, Err, if◌then◌else◌}
 use Rattle.std.specs.Option.{option_map_or}
 use Rattle.misp_ids.specs.declared.refusal.RuleName.TheVariants.{NoRoute, NoMethod}
 use Rattle.misp_groups.specs.Prelude.{OrgId, RuleName, Uid}
@@ -108,6 +108,10 @@ route_with PathKind.Publish ids = option_map Route.Publish (event_in ids)
 route_with PathKind.AddObject ids = option_map Route.AddObject (event_in ids)
 route_with PathKind.Tag ids = option_map (λ p. Route.Tag p.0 p.1) (tagged_in ids)
 route_with PathKind.Untag ids = option_map (λ p. Route.Untag p.0 p.1) (tagged_in ids)
+route_with PathKind.Propose ids = option_map (λ p. Route.Propose p.0 p.1) (tagged_in ids)
+route_with PathKind.Accept ids = option_map (λ e. Route.Judge e true) (event_in ids)
+route_with PathKind.Discard ids = option_map (λ e. Route.Judge e false) (event_in ids)
+route_with PathKind.Sight ids = option_map (λ p. Route.Sight p.0 p.1) (attribute_in ids)
 route_with kind ids = element_route kind ids
 
 abbrev pub route_by : PathKind → Option PathIds → Option Route

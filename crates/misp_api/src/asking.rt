@@ -4,39 +4,40 @@ ghost use Rattle.std.specs.Prelude.{◌≡◌, true, IfOk};
 ghost use Rattle.misp_elem.specs.declared.key.Place.TheVariants as places;
 ghost use Rattle.misp_format.specs.Rows as rows;
 ghost use Rattle.misp_format.specs.Tables.{is_form_for};
+ghost use Rattle.misp_rules.specs.declared.ask.Ask.{Ask as SomeAsk};
 ghost use Rattle.misp_rules.specs.declared.ask.Ask.TheVariants as asks;
-ghost use Rattle.misp_rules.specs.declared.change.Change.{Change as SomeChange};
 ghost use Rattle.misp_rules.specs.declared.change.Change.TheVariants as changes;
 ghost use Rattle.misp_core.specs.Answers.{IsBuilt};
-ghost use Rattle.misp_api.specs.Request.{Gives, changed, event_in, event_edit_in, attribute_edit_in, object_edit_in, parts_in, tag_in, untag_in, ask_of};
+ghost use Rattle.misp_api.specs.Request.{Gives, formed, event_in, event_edit_in, attribute_edit_in, object_edit_in, parts_in, tag_in, untag_in, proposal_in, judgement_in, sighting_in, ask_of};
 
 use crate::request::{AskFault, fault};
 use crate::route::Route;
 use misp_elem::Place;
 use misp_format::{
     FormatFault, PartForm, read_attribute_edit, read_event, read_event_edit, read_json,
-    read_object_edit, read_parts, read_tag,
+    read_judgement, read_object_edit, read_parts, read_proposal, read_sighting, read_tag,
 };
 use misp_ids::{ElemId, EventId};
 use misp_rules::{Ask, AttributePlace, Change, ElementPlace, NewTag, Parts, TaggedPlace};
 use std::alloc::Global;
 
 // The addition of the event that a body is.
-fn event_in(alloc: Global, body: &[u8], word: u128) -> Result<Change, FormatFault>
+fn event_in(alloc: Global, body: &[u8], word: u128) -> Result<Ask, FormatFault>
     ensures reads { rows.Gives result (event_in body.now word) }
-    ensures built { IfOk result (λ change. IsBuilt (asks.Change change)) }
+    ensures built { IfOk result IsBuilt }
 {
     let value = read_json(alloc, body)?;
-    Ok(Change::AddEvent(read_event(alloc, &value, word)?))
+    let submission = read_event(alloc, &value, word)?;
+    Ok(Ask::Change(Change::AddEvent(submission)))
 }
 
-fn event_edit_in(alloc: Global, event: EventId, body: &[u8]) -> Result<Change, FormatFault>
+fn event_edit_in(alloc: Global, event: EventId, body: &[u8]) -> Result<Ask, FormatFault>
     ensures reads { rows.Gives result (event_edit_in event body.now) }
-    ensures built { IfOk result (λ change. IsBuilt (asks.Change change)) }
+    ensures built { IfOk result IsBuilt }
 {
     let value = read_json(alloc, body)?;
     let edit = read_event_edit(alloc, &value)?;
-    Ok(Change::EditEvent { event, edit })
+    Ok(Ask::Change(Change::EditEvent { event, edit }))
 }
 
 fn attribute_edit_in(
@@ -44,13 +45,13 @@ fn attribute_edit_in(
     event: EventId,
     place: AttributePlace,
     body: &[u8],
-) -> Result<Change, FormatFault>
+) -> Result<Ask, FormatFault>
     ensures reads { rows.Gives result (attribute_edit_in event place body.now) }
-    ensures built { IfOk result (λ change. IsBuilt (asks.Change change)) }
+    ensures built { IfOk result IsBuilt }
 {
     let value = read_json(alloc, body)?;
     let edit = read_attribute_edit(alloc, &value)?;
-    Ok(Change::EditAttribute { event, place, edit })
+    Ok(Ask::Change(Change::EditAttribute { event, place, edit }))
 }
 
 fn object_edit_in(
@@ -58,17 +59,17 @@ fn object_edit_in(
     event: EventId,
     object: ElemId,
     body: &[u8],
-) -> Result<Change, FormatFault>
+) -> Result<Ask, FormatFault>
     ensures reads { rows.Gives result (object_edit_in event object body.now) }
-    ensures built { IfOk result (λ change. IsBuilt (asks.Change change)) }
+    ensures built { IfOk result IsBuilt }
 {
     let value = read_json(alloc, body)?;
     let edit = read_object_edit(alloc, &value)?;
-    Ok(Change::EditObject {
+    Ok(Ask::Change(Change::EditObject {
         event,
         object,
         edit,
-    })
+    }))
 }
 
 // The addition of the elements that a body brings to an event that is there.
@@ -79,15 +80,15 @@ fn parts_in(
     form: PartForm,
     body: &[u8],
     word: u128,
-) -> Result<Change, FormatFault>
+) -> Result<Ask, FormatFault>
     requires { is_form_for object form ≡ true }
     ensures reads { rows.Gives result (parts_in event object form body.now word) }
-    ensures built { IfOk result (λ change. IsBuilt (asks.Change change)) }
+    ensures built { IfOk result IsBuilt }
 {
     let _number = event.0.0;
     let value = read_json(alloc, body)?;
     let parts = Parts::of(read_parts(alloc, &value, event, object, form, word)?);
-    Ok(Change::AddParts { event, parts })
+    Ok(Ask::Change(Change::AddParts { event, parts }))
 }
 
 fn tag_in(
@@ -95,13 +96,13 @@ fn tag_in(
     event: EventId,
     place: TaggedPlace,
     body: &[u8],
-) -> Result<Change, FormatFault>
+) -> Result<Ask, FormatFault>
     ensures reads { rows.Gives result (tag_in event place body.now) }
-    ensures built { IfOk result (λ change. IsBuilt (asks.Change change)) }
+    ensures built { IfOk result IsBuilt }
 {
     let value = read_json(alloc, body)?;
     let tag = NewTag::of(read_tag(alloc, &value)?);
-    Ok(Change::Tag { event, place, tag })
+    Ok(Ask::Change(Change::Tag { event, place, tag }))
 }
 
 // The removal of the tag that has the name of the one that a body is.
@@ -110,24 +111,76 @@ fn untag_in(
     event: EventId,
     place: TaggedPlace,
     body: &[u8],
-) -> Result<Change, FormatFault>
+) -> Result<Ask, FormatFault>
     ensures reads { rows.Gives result (untag_in event place body.now) }
-    ensures built { IfOk result (λ change. IsBuilt (asks.Change change)) }
+    ensures built { IfOk result IsBuilt }
 {
     let value = read_json(alloc, body)?;
     let name = read_tag(alloc, &value)?.name;
-    Ok(Change::Untag { event, place, name })
+    Ok(Ask::Change(Change::Untag { event, place, name }))
 }
 
-// The ask of a change that was read.
-fn changed(alloc: Global, read: Result<Change, FormatFault>) -> Result<Ask, AskFault>
-    requires { IfOk read (λ change. IsBuilt (asks.Change change)) }
-    ensures ask { (meant : rows.Reading SomeChange) → rows.Gives read meant →
-        Gives result (changed meant) }
+fn proposal_in(
+    alloc: Global,
+    event: EventId,
+    target: TaggedPlace,
+    body: &[u8],
+    word: u128,
+) -> Result<Ask, FormatFault>
+    ensures reads { rows.Gives result (proposal_in event target body.now word) }
+    ensures built { IfOk result IsBuilt }
+{
+    let value = read_json(alloc, body)?;
+    let draft = read_proposal(alloc, &value, event, target, word)?;
+    Ok(Ask::Propose(draft))
+}
+
+fn judgement_in(
+    alloc: Global,
+    event: EventId,
+    accept: bool,
+    body: &[u8],
+) -> Result<Ask, FormatFault>
+    ensures reads { rows.Gives result (judgement_in event accept body.now) }
+    ensures built { IfOk result IsBuilt }
+{
+    let value = read_json(alloc, body)?;
+    let proposal = read_judgement(alloc, &value)?;
+    Ok(Ask::Judge {
+        event,
+        proposal,
+        accept,
+    })
+}
+
+fn sighting_in(
+    alloc: Global,
+    event: EventId,
+    target: AttributePlace,
+    body: &[u8],
+    word: u128,
+) -> Result<Ask, FormatFault>
+    ensures reads { rows.Gives result (sighting_in event target body.now word) }
+    ensures built { IfOk result IsBuilt }
+{
+    let value = read_json(alloc, body)?;
+    let draft = read_sighting(alloc, &value, word)?;
+    Ok(Ask::Sight {
+        event,
+        target,
+        draft,
+    })
+}
+
+// What was read, or why its form refuses it.
+fn formed(alloc: Global, read: Result<Ask, FormatFault>) -> Result<Ask, AskFault>
+    requires { IfOk read IsBuilt }
+    ensures ask { (meant : rows.Reading SomeAsk) → rows.Gives read meant →
+        Gives result (formed meant) }
     ensures built { IfOk result IsBuilt }
 {
     match read {
-        Ok(change) => Ok(Ask::Change(change)),
+        Ok(ask) => Ok(ask),
         Err(stopped) => Err(fault(alloc, stopped)),
     }
 }
@@ -174,32 +227,32 @@ pub fn read_ask(alloc: Global, route: Route, body: &[u8], word: u128) -> Result<
     ensures built { IfOk result IsBuilt }
 {
     match route {
-        Route::AddEvent => changed(alloc, event_in(alloc, body, word)),
+        Route::AddEvent => formed(alloc, event_in(alloc, body, word)),
         Route::ViewEvent(event, owner) => Ok(Ask::View { event, owner }),
-        Route::EditEvent(event) => changed(alloc, event_edit_in(alloc, event, body)),
+        Route::EditEvent(event) => formed(alloc, event_edit_in(alloc, event, body)),
         Route::DeleteEvent(event) => Ok(Ask::Change(Change::DeleteEvent { event })),
         Route::Publish(event) => Ok(Ask::Change(Change::Publish { event })),
         Route::AddAttributes(event, object) => {
             let form = PartForm::Attributes;
-            changed(alloc, parts_in(alloc, event, object, form, body, word))
+            formed(alloc, parts_in(alloc, event, object, form, body, word))
         }
         Route::EditAttribute(event, place) => {
-            changed(alloc, attribute_edit_in(alloc, event, place, body))
+            formed(alloc, attribute_edit_in(alloc, event, place, body))
         }
         Route::DeleteAttribute(event, place) => Ok(delete(event, element_place(place))),
         Route::AddObject(event) => {
-            changed(
+            formed(
                 alloc,
                 parts_in(alloc, event, None, PartForm::Object, body, word),
             )
         }
         Route::EditObject(event, object) => {
-            changed(alloc, object_edit_in(alloc, event, object, body))
+            formed(alloc, object_edit_in(alloc, event, object, body))
         }
         Route::DeleteObject(event, object) => Ok(delete(event, object_place(object))),
         Route::AddReference(event, object) => {
             let form = PartForm::Reference;
-            changed(
+            formed(
                 alloc,
                 parts_in(alloc, event, Some(object), form, body, word),
             )
@@ -207,8 +260,15 @@ pub fn read_ask(alloc: Global, route: Route, body: &[u8], word: u128) -> Result<
         Route::DeleteReference(event, object, reference) => {
             Ok(delete_reference(event, object, reference))
         }
-        Route::Tag(event, place) => changed(alloc, tag_in(alloc, event, place, body)),
-        Route::Untag(event, place) => changed(alloc, untag_in(alloc, event, place, body)),
+        Route::Tag(event, place) => formed(alloc, tag_in(alloc, event, place, body)),
+        Route::Untag(event, place) => formed(alloc, untag_in(alloc, event, place, body)),
+        Route::Propose(event, target) => {
+            formed(alloc, proposal_in(alloc, event, target, body, word))
+        }
+        Route::Judge(event, accept) => formed(alloc, judgement_in(alloc, event, accept, body)),
+        Route::Sight(event, target) => {
+            formed(alloc, sighting_in(alloc, event, target, body, word))
+        }
         Route::Groups => Ok(Ask::Groups),
     }
 }

@@ -21,10 +21,14 @@ pub enum PathKind {
     DeleteReference,
     Tag,
     Untag,
+    Propose,
+    Accept,
+    Discard,
+    Sight,
     Groups,
 }
 
-const KINDS: [PathKind; 16] = [
+const KINDS: [PathKind; 20] = [
     PathKind::ViewEvent,
     PathKind::AddEvent,
     PathKind::EditEvent,
@@ -40,6 +44,10 @@ const KINDS: [PathKind; 16] = [
     PathKind::DeleteReference,
     PathKind::Tag,
     PathKind::Untag,
+    PathKind::Propose,
+    PathKind::Accept,
+    PathKind::Discard,
+    PathKind::Sight,
     PathKind::Groups,
 ];
 
@@ -64,6 +72,10 @@ impl PathKind {
             PathKind::DeleteReference => "/references/delete/",
             PathKind::Tag => "/tags/attach/",
             PathKind::Untag => "/tags/remove/",
+            PathKind::Propose => "/shadow_attributes/add/",
+            PathKind::Accept => "/shadow_attributes/accept/",
+            PathKind::Discard => "/shadow_attributes/discard/",
+            PathKind::Sight => "/sightings/add/",
             PathKind::Groups => "/sharing_groups/index",
         }
     }

@@ -31,6 +31,11 @@ pub enum Route {
     DeleteReference(EventId, ElemId, ElemId),
     Tag(EventId, TaggedPlace),
     Untag(EventId, TaggedPlace),
+    /// For an attribute, or for a new one where the place is the event.
+    Propose(EventId, TaggedPlace),
+    /// Accepts a proposal, or discards it.
+    Judge(EventId, bool),
+    Sight(EventId, AttributePlace),
     /// The groups that concern who asks.
     Groups,
 }
@@ -194,6 +199,16 @@ fn route_with(kind: PathKind, ids: PathIds) -> Option<Route>
         PathKind::Untag => {
             let (event, place) = tagged_in(ids)?;
             Some(Route::Untag(event, place))
+        }
+        PathKind::Propose => {
+            let (event, target) = tagged_in(ids)?;
+            Some(Route::Propose(event, target))
+        }
+        PathKind::Accept => Some(Route::Judge(event_in(ids)?, true)),
+        PathKind::Discard => Some(Route::Judge(event_in(ids)?, false)),
+        PathKind::Sight => {
+            let (event, target) = attribute_in(ids)?;
+            Some(Route::Sight(event, target))
         }
         _ => element_route(kind, ids),
     }

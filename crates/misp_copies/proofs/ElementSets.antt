@@ -1,5 +1,5 @@
 -- A set of elements after one more.
-use Rattle.std.proofs.Common.{◌≡◌, ℕ, Bool, true, false, refl, ap, ◌∙◌, eqb, arith, cond, ◌&&◌, ◌||◌, is_eq, BTreeSet}
+use Rattle.std.proofs.Common.{◌≡◌, ℕ, true, false, refl, ap, ◌∙◌, eqb, arith, cond, ◌&&◌, ◌||◌, is_eq, BTreeSet}
 use Rattle.std.specs.BTreeSet.{IsEmpty}
 use Rattle.std.specs.BTreeMap.{is_at}
 use Rattle.misp_elem.specs.Key.{place_kind}

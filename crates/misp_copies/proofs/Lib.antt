@@ -11,3 +11,5 @@ pub mod Seeing
 pub mod CopyLemmas
 pub mod Stamps
 pub mod Barred
+pub mod RenewedRows
+pub mod FittingTexts

@@ -10,3 +10,5 @@ pub mod StatementsByTarget
 pub mod StatementsByKey
 pub mod Scenes
 pub mod Barring
+pub mod Renewing
+pub mod Uuids

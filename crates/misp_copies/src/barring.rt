@@ -2,9 +2,10 @@
 
 ghost use Rattle.std.specs.Prelude.{◌≡◌, true, is_some, IfErr, Option};
 ghost use Rattle.misp_ids.specs.declared.label.Label as label_of;
+ghost use Rattle.misp_ids.specs.declared.uid.ElemId.{ElemId};
 ghost use Rattle.misp_rules.specs.View.{has_copy, has_home, granted_somewhere};
 ghost use Rattle.misp_elem.specs.Parents.{event_key};
-ghost use Rattle.misp_copies.specs.Barring.{outcome, rule_of, barring, lacking, Names};
+ghost use Rattle.misp_copies.specs.Barring.{outcome, rule_of, barring, lacking, Names, NamesUuid};
 
 use crate::change_fault::ChangeFault;
 use crate::copies::{has_copy, has_home};
@@ -27,6 +28,7 @@ pub fn may_change(
         (granted_somewhere rows.now who.now.groups.now who.now.here who.now.org
         (event_key event.now)) fits }
     ensures names { (l : Option label_of.Label) → IfErr result (Names l) }
+    ensures uuid { (u : ElemId) → IfErr result (NamesUuid u) }
     ensures err { IfErr result (λ fault. is_some (rule_of fault) ≡ true) }
 {
     if has_home(rows, &who.org, event) {

@@ -63,6 +63,9 @@ unfolding event_asked
 own_alike admin rows s (View e owner) built = asked_alike admin s (event_rows e rows) rows (View e owner) (record { same = ask_of_event e rows s (View e owner) refl; refusals = λ rule. refl })
 own_alike admin rows s (Ask.Change (AddEvent b)) built = asked_alike admin s (named_rows s.by b.event rows) rows (Ask.Change (AddEvent b)) (add_named b rows s)
 own_alike admin rows s (Ask.Change c) built = asked_alike admin s (event_rows (event_changed c) rows) rows (Ask.Change c) (change_of_event rows s c)
+own_alike admin rows s (Ask.Propose d) built = asked_alike admin s (event_rows d.event rows) rows (Ask.Propose d) (record { same = ask_of_event d.event rows s (Ask.Propose d) refl; refusals = λ rule. refl })
+own_alike admin rows s (Ask.Judge e n accept) built = asked_alike admin s (event_rows e rows) rows (Ask.Judge e n accept) (record { same = ask_of_event e rows s (Ask.Judge e n accept) refl; refusals = λ rule. refl })
+own_alike admin rows s (Ask.Sight e t d) built = asked_alike admin s (event_rows e rows) rows (Ask.Sight e t d) (record { same = ask_of_event e rows s (Ask.Sight e t d) refl; refusals = λ rule. refl })
 own_alike admin rows s Ask.Groups built = groups_alike admin s [] rows
 own_alike admin rows s ask built = absurd built
 

@@ -1,22 +1,26 @@
 -- What an ask comes to: the refusal by the first rule that refuses it, or else its answer and what it writes.
-use Rattle.std.proofs.Common.{◌≡◌, ℕ, List, [], ◌∷◌, Bool, true, false, refl, ap, sym, subst, ◌∙◌, map, cond, length, Option, Some, None, option_map, Result, Ok, Err, filter}
+use Rattle.std.proofs.Common.{◌≡◌, ℕ, List, [], ◌∷◌, Bool, true, false, refl, ap, sym, subst, ◌∙◌, map, cond, length, Option, Some, None, option_map, IfSome, Result, Ok, Err, filter}
+use Rattle.misp_ids.specs.Uid.{text_of}
+use Rattle.misp_ids.specs.declared.uid.ElemId.{ElemId}
 use Rattle.misp_effects.specs.Effect.{effect}
-use Rattle.misp_rules.proofs.Prelude.{AreRows, Label, NotGranted, Other, Rule, Seen, Version, VisibleEvent, brings, change_rules, change_writes, first_rule, is_accepted, length-map, map-map, ok_answer, shown}
+use Rattle.misp_rules.proofs.Prelude.{AreRows, Label, NotGranted, Other, Rule, Seen, Version, VisibleEvent, brings, change_writes, first_rule, is_accepted, length-map, map-map, ok_answer, shown}
+use Rattle.misp_rules.specs.Prelude.{judge_writes, propose_writes, sight_writes}
 use Rattle.misp_rules.specs.declared.change.Change.TheVariants.{AddEvent}
 use Rattle.misp_rules.specs.Answers.{concerns, concerning}
 use Rattle.misp_rules.proofs.Steps.{accepted_where, refused_where, answer_where, refusal_where}
 use Rattle.misp_rules.specs.declared.change.Change.{Change}
 use Rattle.misp_rules.specs.Machine.{event_changed}
-use Rattle.misp_rules.specs.Scene.{NotOwner, LockedCopy, GroupNotUsable, OlderTime, TimeLimit, ElementFull}
+use Rattle.misp_rules.specs.Scene.{NotOwner, LockedCopy, EventGone, ElementExists, GroupNotUsable, OlderTime, TimeLimit, ProposalExists, ProposalClosed, ElementFull}
 use Rattle.misp_copies.specs.Barring.{rule_of}
 use Rattle.misp_copies.specs.declared.change_fault.ChangeFault.{ChangeFault}
-use Rattle.misp_edit.specs.Changing.{Changes}
-use Rattle.misp_edit.specs.Refusals.{named, refusal_of, label_place}
+use Rattle.misp_edit.specs.Refusals.{named, place_of, refusal_of, label_place, uuid_place}
 use Rattle.misp_edit.specs.declared.fault.AddFault.{AddFault}
 use Rattle.misp_core.specs.Prelude.{Admin, Answer, Ask, Asked, Effect, EventId, Group, Host, IsBuilt, IsRefused, OrgId, Plan, Refusal, Reply, Row, RuleName, Scene, View, ask_rules, asked_over, asked_where, bare, fresh_row, reach_of}
 use Rattle.misp_core.specs.Prelude.{refused, reply_in, scene_at, seeing, writes_in}
 use Rattle.misp_core.specs.Answers.{reply_of, greatest, event_saved, named_event, saved}
-use Rattle.misp_core.specs.Changing.{NamesGroupOf, rule_named, place_named}
+use Rattle.misp_core.specs.Changing.{NamesGroupOf}
+use Rattle.misp_core.specs.Saving.{IsOfEvent, NamesPlace, rule_named, place_named}
+use Rattle.misp_statements.specs.Saving.{Saves}
 use Rattle.misp_core.specs.Effects.{stop_by, row_batches, asked}
 use Rattle.misp_core.specs.Planning.{batches_of, rows_put, IsPlan, Refuses}
 use Rattle.misp_copies.specs.Barring as barring
@@ -90,7 +94,7 @@ unfolding ask_rules first_rule ok_answer brings concerning
 listed admin s groups is =
     planned admin s Ask.Groups (record { answer = Answer.Groups groups; batch = None }) refl (ap (λ (gs : List Group). Reply.Ok (Answer.Groups gs)) (sym is)) refl tt
 
--- ---- changes
+-- ---- what writes rows of an event
 
 -- as many rows as versions, of the same stamps
 rows_saved : (event : EventId) (vs : List Version) → Reply.Ok (Answer.Saved (length (map fresh_row vs)) event (greatest (map (λ (row : Row). row.stamp) (map fresh_row vs)))) ≡ event_saved event vs
@@ -98,73 +102,113 @@ unfolding fresh_row
 rows_saved event vs = λ i. Reply.Ok (Answer.Saved (length-map vs fresh_row i) event (greatest (map-map (λ (row : Row). row.stamp) fresh_row vs i)))
 
 -- what is saved of a change is of its event
-pub saved_of : (by : OrgId) (c : Change) (vs : List Version) → saved (reach_of by (Ask.Change c)) vs ≡ event_saved (event_changed c) vs
+saved_of : (by : OrgId) (c : Change) (vs : List Version) → saved (reach_of by (Ask.Change c)) vs ≡ event_saved (event_changed c) vs
 unfolding event_changed
 saved_of by (AddEvent b) vs = refl
 saved_of by c vs = refl
+
+-- what an ask of an event is answered, where nothing refuses it
+pub of_event : (admin : Admin) (s : Scene) (ask : Ask) (event : EventId) → IsOfEvent ask event → reply_of admin s ask (ok_answer s ask) ≡ event_saved event (brings s ask)
+unfolding ok_answer brings
+of_event admin s (Ask.Change c) event h = saved_of s.by c (change_writes s c) ∙ ap (λ x. event_saved x (change_writes s c)) h
+of_event admin s (Ask.Propose d) event h = ap (λ x. event_saved x (propose_writes s d)) h
+of_event admin s (Ask.Judge e n accept) event h = ap (λ x. event_saved x (judge_writes s e n accept)) h
+of_event admin s (Ask.Sight e t d) event h = ap (λ x. event_saved x (sight_writes s e t d)) h
+of_event admin s ask event h = absurd h
+
+-- the fault of the first rule
+first_is : (rules : List (Bool × Rule)) (fault : ChangeFault) (name : RuleName) → barring.Refuses rules fault → Some name ≡ rule_named fault → first_rule rules ≡ rule_of fault
+unfolding rule_of
+first_is rules ChangeFault.NoMemory name why is = absurd cc
+first_is rules _ name why is = why
+
+module _ (admin : Admin) (s : Scene) (ask : Ask) where
+  -- its rows are put
+  pub rows_planned : (event : EventId) (p : Plan) (rows : List Row) → IsOfEvent ask event → Saves s ask rows → AreRows rows
+      → p.answer ≡ Answer.Saved (length rows) event (greatest (map (λ (row : Row). row.stamp) rows)) → batches_of p.batch ≡ row_batches rows → rows_put p.batch ≡ rows → IsPlan p (asked admin s ask)
+  rows_planned event p rows of saves are answer batches put =
+      planned admin s ask p saves.0
+      (of_event admin s ask event of
+      ∙ sym (
+      ap Reply.Ok answer
+      ∙ ap (λ (rs : List Row). Reply.Ok (Answer.Saved (length rs) event (greatest (map (λ (row : Row). row.stamp) rs)))) saves.1
+      ∙ rows_saved event (brings s ask)
+      ))
+      (ap row_batches (sym saves.1) ∙ sym batches) (subst AreRows (sym put) are)
+
+  -- the refusal of a fault
+  pub by_fault : (fault : ChangeFault) (name : RuleName) (place : List ℕ) → barring.Refuses (ask_rules s ask) fault → NamesPlace s ask fault → Some name ≡ rule_named fault → place ≡ place_named fault
+      → Refuses (record { name = name; place = place }) (asked admin s ask)
+  by_fault fault name place why places is at = one (rule_of fault) (first_is (ask_rules s ask) fault name why is) places is
+    where
+      one : (r : Option Rule) → first_rule (ask_rules s ask) ≡ r → IfSome r (λ rule. place_of s ask rule ≡ place_named fault) → Some name ≡ option_map named r
+          → Refuses (record { name = name; place = place }) (asked admin s ask)
+      one None first places is = absurd cc
+      one (Some rule) first places is =
+          let same : named rule ≡ name = cc in
+          not_planned admin s ask (record { name = name; place = place }) (ap (option_map (refusal_of s ask)) first ∙ (λ i. Some (record { name = same i; place = (places ∙ sym at) i })))
+
+  -- what refuses it writes nothing
+  refused_of_event : (event : EventId) → IsOfEvent ask event → (rule : Option Rule) → first_rule (ask_rules s ask) ≡ rule → IsRefused (asked admin s ask).reply → (asked admin s ask).batches ≡ []
+  refused_of_event event of None free is = absurd (subst (λ (e : Effect Reply). IsRefused e.reply) (answered admin s ask free ∙ ap (λ r. effect r (row_batches (map fresh_row (brings s ask)))) (of_event admin s ask event of)) is)
+  refused_of_event event of (Some rule) by is = ap (λ (e : Effect Reply). e.batches) (refused_so admin s ask rule by)
+
+-- ---- changes
 
 -- a refusal without a label names no group
 pub none_named : (rule : Rule) → [] ≡ label_place None rule
 none_named GroupNotUsable = refl
 none_named rule = refl
 
-module _ (admin : Admin) (s : Scene) (c : Change) where
-  abbrev ask : Ask
-  ask = Ask.Change c
+module _ (s : Scene) (c : Change) (given : Option Label) (names : NamesGroupOf s c given) where
+  -- the group that a fault of a change names is that of its refusal
+  pub group_placed : (fault : ChangeFault) → barring.Names given fault → NamesPlace s (Ask.Change c) fault
+  unfolding rule_of
+  group_placed (ChangeFault.GroupNotUsable g) group = names GroupNotUsable ∙ ap (λ l. label_place l GroupNotUsable) group
+  group_placed (ChangeFault.ElementExists u) group = absurd group
+  group_placed ChangeFault.NotGranted group = names NotGranted
+  group_placed ChangeFault.NotOwner group = names NotOwner
+  group_placed ChangeFault.LockedCopy group = names LockedCopy
+  group_placed ChangeFault.EventGone group = names EventGone
+  group_placed ChangeFault.OlderTime group = names OlderTime
+  group_placed ChangeFault.TimeLimit group = names TimeLimit
+  group_placed ChangeFault.ProposalExists group = names ProposalExists
+  group_placed ChangeFault.ProposalClosed group = names ProposalClosed
+  group_placed ChangeFault.ElementFull group = names ElementFull
+  group_placed ChangeFault.NoMemory group = tt
 
-  -- its rows are put
-  pub changed : (p : Plan) (rows : List Row) → Changes s c rows → AreRows rows → p.answer ≡ Answer.Saved (length rows) (event_changed c) (greatest (map (λ (row : Row). row.stamp) rows))
-      → batches_of p.batch ≡ row_batches rows → rows_put p.batch ≡ rows → IsPlan p (asked admin s ask)
-  unfolding ask_rules ok_answer brings
-  changed p rows changes are answer batches put =
-      planned admin s ask p changes.0
-      (saved_of s.by c (change_writes s c)
-      ∙ sym (
-      ap Reply.Ok answer
-      ∙ ap (λ (rs : List Row). Reply.Ok (Answer.Saved (length rs) (event_changed c) (greatest (map (λ (row : Row). row.stamp) rs)))) changes.1
-      ∙ rows_saved (event_changed c) (change_writes s c)
-      ))
-      (ap row_batches (sym changes.1) ∙ sym batches) (subst AreRows (sym put) are)
+-- a rule refuses it
+pub not_changed : (admin : Admin) (s : Scene) (c : Change) (refusal : Refusal) → edit.Refuses s c (AddFault.Refused refusal) → Refuses refusal (asked admin s (Ask.Change c))
+unfolding ask_rules
+not_changed admin s c refusal why = not_planned admin s (Ask.Change c) refusal why
 
-  -- a rule refuses it
-  pub not_changed : (refusal : Refusal) → edit.Refuses s c (AddFault.Refused refusal) → Refuses refusal (asked admin s ask)
-  unfolding ask_rules
-  not_changed refusal why = not_planned admin s ask refusal why
+-- ---- statements
 
-  -- what refuses it writes nothing
-  refused_change : (rule : Option Rule) → first_rule (change_rules s c) ≡ rule → IsRefused (asked admin s ask).reply → (asked admin s ask).batches ≡ []
-  unfolding ask_rules ok_answer
-  refused_change None free is = absurd (subst (λ (e : Effect Reply). IsRefused e.reply) (answered admin s ask free ∙ ap (λ r. effect r (row_batches (map fresh_row (brings s ask)))) (saved_of s.by c (change_writes s c))) is)
-  refused_change (Some rule) by is = ap (λ (e : Effect Reply). e.batches) (refused_so admin s ask rule by)
-
-  -- ---- by a fault
-  module _ (given : Option Label) (names : NamesGroupOf s c given) where
-    -- a rule with its place
-    by_rule : (rule : Rule) (place : List ℕ) (name : RuleName) → first_rule (change_rules s c) ≡ Some rule → label_place given rule ≡ place → Some name ≡ Some (named rule)
-        → Refuses (record { name = name; place = place }) (asked admin s ask)
-    by_rule rule place name why where_ is =
-        let same : named rule ≡ name = cc in
-        not_changed (record { name = name; place = place }) (ap (option_map (refusal_of s ask)) why ∙ (λ i. Some (record { name = same i; place = (names rule ∙ where_) i })))
-
-    -- the refusal of a fault
-    pub by_fault : (fault : ChangeFault) (name : RuleName) (place : List ℕ) → barring.Refuses (change_rules s c) fault → barring.Names given fault → Some name ≡ rule_named fault → place ≡ place_named fault
-        → Refuses (record { name = name; place = place }) (asked admin s ask)
-    unfolding rule_of
-    by_fault (ChangeFault.GroupNotUsable g) name place why group is at = by_rule GroupNotUsable place name why (ap (λ l. label_place l GroupNotUsable) group ∙ sym at) is
-    by_fault ChangeFault.NotGranted name place why group is at = by_rule NotGranted place name why (sym at) is
-    by_fault ChangeFault.NotOwner name place why group is at = by_rule NotOwner place name why (sym at) is
-    by_fault ChangeFault.LockedCopy name place why group is at = by_rule LockedCopy place name why (sym at) is
-    by_fault ChangeFault.OlderTime name place why group is at = by_rule OlderTime place name why (sym at) is
-    by_fault ChangeFault.TimeLimit name place why group is at = by_rule TimeLimit place name why (sym at) is
-    by_fault ChangeFault.ElementFull name place why group is at = by_rule ElementFull place name why (sym at) is
-    by_fault ChangeFault.NoMemory name place why group is at = absurd cc
+-- the uuid that a fault of a statement names is that of its refusal
+pub uuid_placed : (s : Scene) (ask : Ask) (uuid : ElemId) → ((rule : Rule) → place_of s ask rule ≡ uuid_place uuid rule) → (fault : ChangeFault) → barring.NamesUuid uuid fault → NamesPlace s ask fault
+unfolding rule_of
+uuid_placed s ask uuid names (ChangeFault.ElementExists u) is = names ElementExists ∙ ap (λ (x : ElemId). text_of x.0) is
+uuid_placed s ask uuid names (ChangeFault.GroupNotUsable g) is = absurd is
+uuid_placed s ask uuid names ChangeFault.NotGranted is = names NotGranted
+uuid_placed s ask uuid names ChangeFault.NotOwner is = names NotOwner
+uuid_placed s ask uuid names ChangeFault.LockedCopy is = names LockedCopy
+uuid_placed s ask uuid names ChangeFault.EventGone is = names EventGone
+uuid_placed s ask uuid names ChangeFault.OlderTime is = names OlderTime
+uuid_placed s ask uuid names ChangeFault.TimeLimit is = names TimeLimit
+uuid_placed s ask uuid names ChangeFault.ProposalExists is = names ProposalExists
+uuid_placed s ask uuid names ChangeFault.ProposalClosed is = names ProposalClosed
+uuid_placed s ask uuid names ChangeFault.ElementFull is = names ElementFull
+uuid_placed s ask uuid names ChangeFault.NoMemory is = tt
 
 -- ---- what is refused has no batch
 
 refused_alone : (admin : Admin) (s : Scene) (ask : Ask) → IsBuilt ask → IsRefused (asked admin s ask).reply → (asked admin s ask).batches ≡ []
 unfolding brings
 refused_alone admin s (View event owner) built is = ap row_batches (writes_none admin s (View event owner) refl)
-refused_alone admin s (Ask.Change c) built is = refused_change admin s c (first_rule (change_rules s c)) refl is
+refused_alone admin s (Ask.Change c) built is = refused_of_event admin s (Ask.Change c) (event_changed c) refl (first_rule (ask_rules s (Ask.Change c))) refl is
+refused_alone admin s (Ask.Propose d) built is = refused_of_event admin s (Ask.Propose d) d.event refl (first_rule (ask_rules s (Ask.Propose d))) refl is
+refused_alone admin s (Ask.Judge e n accept) built is = refused_of_event admin s (Ask.Judge e n accept) e refl (first_rule (ask_rules s (Ask.Judge e n accept))) refl is
+refused_alone admin s (Ask.Sight e t d) built is = refused_of_event admin s (Ask.Sight e t d) e refl (first_rule (ask_rules s (Ask.Sight e t d))) refl is
 refused_alone admin s Ask.Groups built is = ap row_batches (writes_none admin s Ask.Groups refl)
 refused_alone admin s ask built is = absurd built
 

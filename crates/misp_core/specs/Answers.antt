@@ -6,7 +6,6 @@ use Rattle.misp_orgs.specs.Keys.{CallerFields as Caller}
 use Rattle.misp_orgs.specs.Org.{name_of}
 use Rattle.misp_rules.specs.Prelude.{EventId, Group, OrgId, Row, Scene, Submission, Version, VisibleEvent, answer, brings, date_of, is_accepted}
 use Rattle.misp_rules.specs.declared.ask.Ask.{Ask}
-use Rattle.misp_rules.specs.declared.ask.Ask.TheVariants.{View}
 use Rattle.misp_rules.specs.declared.change.Change.TheVariants.{AddEvent}
 use Rattle.misp_history.specs.History.{fresh_row}
 use Rattle.misp_copies.specs.Scenes.{scene_of}
@@ -25,13 +24,12 @@ use Rattle.misp_rules.specs.Answers as model
 abbrev pub IsAdded : Submission → Type 0
 IsAdded b = is_some b.body ≡ true
 
--- the asks that are built: showing an event, changing one, and telling the groups
+-- the asks that are built: all but the index and packages
 abbrev pub IsBuilt : Ask → Type 0
-IsBuilt (View event owner) = Unit {0}
-IsBuilt Ask.Groups = Unit {0}
+IsBuilt Ask.Index = ⊥
+IsBuilt (Ask.TakePart part) = ⊥
 IsBuilt (Ask.Change (AddEvent b)) = IsAdded b
-IsBuilt (Ask.Change change) = Unit {0}
-IsBuilt ask = ⊥
+IsBuilt ask = Unit {0}
 
 -- an ask, and whose it is
 abbrev pub Asked : Type 0

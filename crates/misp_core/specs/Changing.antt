@@ -1,22 +1,9 @@
 -- The refusal of a change by a fault.
-use Rattle.std.specs.Prelude.{◌≡◌, ℕ, List, [], Option, option_map}
-use Rattle.misp_ids.specs.Uid.{text_of}
+use Rattle.std.specs.Prelude.{◌≡◌, Option}
 use Rattle.misp_rules.specs.Prelude.{Label, Rule}
 use Rattle.misp_rules.specs.declared.change.Change.{Change}
-use Rattle.misp_copies.specs.Barring.{rule_of}
-use Rattle.misp_copies.specs.declared.change_fault.ChangeFault.{ChangeFault}
-use Rattle.misp_copies.specs.declared.change_fault.ChangeFault.TheVariants.{GroupNotUsable}
-use Rattle.misp_edit.specs.Refusals.{named, place_of, label_place}
-use Rattle.misp_core.specs.Prelude.{Ask, RuleName, Scene}
-
--- the rule that it names
-abbrev pub rule_named : ChangeFault → Option RuleName
-rule_named fault = option_map named (rule_of fault)
-
--- the uuid of the group that it names
-abbrev pub place_named : ChangeFault → List ℕ
-place_named (GroupNotUsable g) = text_of g.uuid
-place_named fault = []
+use Rattle.misp_edit.specs.Refusals.{label_place, place_of}
+use Rattle.misp_core.specs.Prelude.{Ask, Scene}
 
 -- a refusal of the change names the group of this label, and nothing else
 abbrev pub NamesGroupOf : Scene → Change → Option Label → Type 0

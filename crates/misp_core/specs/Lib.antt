@@ -6,4 +6,5 @@ pub mod Handing
 pub mod Keeping
 pub mod Planning
 pub mod Prelude
+pub mod Saving
 pub mod Standing

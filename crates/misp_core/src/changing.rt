@@ -1,6 +1,6 @@
 //! What a change comes to over the rows that its caller knows of the event.
 
-ghost use Rattle.std.specs.Prelude.{◌≡◌, None, Err, IfOk, IfErr, Option, length, map, option_map};
+ghost use Rattle.std.specs.Prelude.{◌≡◌, None, IfOk, IfErr, Option};
 ghost use Rattle.misp_dates.specs.Dates.{date_of};
 ghost use Rattle.misp_ids.specs.declared.label.Label as labels;
 ghost use Rattle.misp_elem.specs.Row.{AreRows};
@@ -11,116 +11,29 @@ ghost use Rattle.misp_rules.specs.Machine.{event_changed};
 ghost use Rattle.misp_rules.specs.declared.ask.Ask.TheVariants as asks;
 ghost use Rattle.misp_rules.specs.declared.change.Change.{Change as SomeChange};
 ghost use Rattle.misp_rules.specs.declared.change.Change.TheVariants.{AddEvent};
-ghost use Rattle.misp_copies.specs.Barring.{Refuses, Names, rule_of};
+ghost use Rattle.misp_copies.specs.Barring.{Refuses, Names};
 ghost use Rattle.misp_edit.specs.Changing.{Changes};
 ghost use Rattle.misp_edit.specs.Refusals as adding;
-ghost use Rattle.misp_core.specs.declared.reply.Answer.TheVariants as answers;
-ghost use Rattle.misp_core.specs.Answers.{IsAdded, IsBuilt, greatest};
-ghost use Rattle.misp_core.specs.Changing.{IsMark, NamesGroupOf, place_named, rule_named};
+ghost use Rattle.misp_core.specs.Answers.{IsAdded, IsBuilt};
+ghost use Rattle.misp_core.specs.Changing.{IsMark, NamesGroupOf};
 ghost use Rattle.misp_core.specs.Handing.{scene_in, knowing};
-ghost use Rattle.misp_core.specs.Effects.{asked, row_batches};
-ghost use Rattle.misp_core.specs.Planning.{Plans, batches_of, rows_put};
+ghost use Rattle.misp_core.specs.Effects.{asked};
+ghost use Rattle.misp_core.specs.Planning.{Plans};
 
 use crate::naming::name_text;
-use crate::planning::{Batch, NoPlan, Plan};
-use crate::reply::Answer;
+use crate::planning::{NoPlan, Plan};
+use crate::saving::{saved, saved_or_refused};
 use crate::site::{Site, viewer};
 use misp_copies::ChangeFault;
 use misp_edit::{
     AddFault, add_event, add_parts, delete, delete_event, delete_reference, edit_attribute,
     edit_event, edit_object, tag, untag,
 };
-use misp_elem::{NoMemory, Row, Submission};
-use misp_ids::{EventId, Items, Refusal, RuleName, Stamp, Text};
+use misp_elem::{Row, Submission};
+use misp_ids::EventId;
 use misp_publish::publish;
 use misp_rules::{Change, Parts};
 use std::alloc::Global;
-
-// Rows are put in one batch, and no rows in none.
-fn rows_put(alloc: Global, rows: Vec<Row>) -> Option<Batch>
-    ensures batches { batches_of result ≡ row_batches rows.items }
-    ensures rows { rows_put result ≡ rows.items }
-{
-    let [_, ..] = rows.as_slice() else {
-        return None;
-    };
-    Some(Batch {
-        rows: Items::of(rows),
-        groups: Items::of(Vec::new(alloc)),
-    })
-}
-
-// The greatest of the rows' stamps.
-#[tactic(auto, unfolding(crate::specs::Answers::greatest))]
-fn greatest(rows: &[Row]) -> Stamp
-    ensures { result ≡ greatest (map (λ row. row.stamp) rows.now) }
-{
-    let mut newest = Stamp::first();
-    for row in rows {
-        newest = newest.max(row.stamp);
-    }
-    newest
-}
-
-// What is answered to a change, and the rows that it writes.
-fn saved(alloc: Global, event: EventId, rows: Vec<Row>) -> Plan
-    ensures answer { result.answer ≡ answers.Saved (length rows.items) event
-        (greatest (map (λ row. row.stamp) rows.items)) }
-    ensures batches { batches_of result.batch ≡ row_batches rows.items }
-    ensures rows { rows_put result.batch ≡ rows.items }
-{
-    let answer = Answer::Saved {
-        elements: rows.len() as u64,
-        event,
-        stamp: greatest(&rows),
-    };
-    Plan {
-        answer,
-        batch: rows_put(alloc, rows),
-    }
-}
-
-// The rule of a fault, where it is not that memory ran out.
-#[tactic(auto, unfolding(misp_copies::specs::Barring::rule_of))]
-fn rule_named(fault: ChangeFault) -> Option<RuleName>
-    ensures { result ≡ rule_named fault }
-{
-    match fault {
-        ChangeFault::NotGranted => Some(RuleName::NotGranted),
-        ChangeFault::NotOwner => Some(RuleName::NotOwner),
-        ChangeFault::LockedCopy => Some(RuleName::LockedCopy),
-        ChangeFault::GroupNotUsable(_) => Some(RuleName::GroupNotUsable),
-        ChangeFault::OlderTime => Some(RuleName::OlderTime),
-        ChangeFault::TimeLimit => Some(RuleName::TimeLimit),
-        ChangeFault::ElementFull => Some(RuleName::ElementFull),
-        ChangeFault::NoMemory => None,
-    }
-}
-
-// The group that a fault names.
-fn place_named(alloc: Global, fault: ChangeFault) -> Result<Text, NoMemory>
-    ensures { IfOk result (λ place. place ≡ place_named fault) }
-{
-    match fault {
-        ChangeFault::GroupNotUsable(group) => Ok(group.uuid.to_text(alloc)?),
-        _ => Ok(Text::of(String::new(alloc))),
-    }
-}
-
-// Why a change is not planned that this fault refuses.
-fn change_refused(alloc: Global, fault: ChangeFault) -> NoPlan
-    ensures { (admin : AdminFields) (s : Scene) (c : SomeChange) (l : Option labels.Label) →
-        NamesGroupOf s c l → Refuses (change_rules s c) fault → Names l fault →
-        Plans (Err result) (asked admin s (asks.Change c)) }
-{
-    let Some(name) = rule_named(fault) else {
-        return NoPlan::NoMemory;
-    };
-    match place_named(alloc, fault) {
-        Ok(place) => NoPlan::Refused(Refusal { name, place }),
-        Err(NoMemory) => NoPlan::NoMemory,
-    }
-}
 
 // What is planned for a change of this event whose rows are made, or which a fault refuses.
 fn changed(
@@ -134,10 +47,7 @@ fn changed(
         IfErr made (Refuses (change_rules s c)) → IfErr made (Names l) →
         Plans result (asked admin s (asks.Change c)) }
 {
-    match made {
-        Ok(rows) => Ok(saved(alloc, event, rows)),
-        Err(fault) => Err(change_refused(alloc, fault)),
-    }
+    saved_or_refused(alloc, event, made)
 }
 
 // What is planned for an addition to this event whose rows are made, or which is refused.

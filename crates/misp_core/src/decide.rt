@@ -15,8 +15,8 @@ use crate::changing::plan_change;
 use crate::naming::name_text;
 use crate::planning::{NoPlan, Plan};
 use crate::reply::Answer;
-use crate::site::{Site, asker};
-use misp_copies::known;
+use crate::site::{Site, asker, known_at};
+use crate::stating::{plan_judgement, plan_proposal, plan_sighting};
 use misp_elem::{NoMemory, Row, VisibleEvent};
 use misp_groups::Groups;
 use misp_ids::{EventId, Items, OrgId, Refusal, RuleName};
@@ -69,8 +69,7 @@ fn change_known(
     ensures { Plans result (asked site.now.admin.now
         (seeing (scene_in site.now) rows.items) (asks.Change change)) }
 {
-    let org = asker(site.caller);
-    let rows = known(alloc, rows, site.groups, site.here, &org)?;
+    let rows = known_at(alloc, site, rows)?;
     plan_change(alloc, site, change, &rows)
 }
 
@@ -127,6 +126,17 @@ pub(crate) fn plan_request(
         Ask::View { event, owner } => view(alloc, site, &event, owner, &rows),
         Ask::Groups => list(alloc, site),
         Ask::Change(change) => change_known(alloc, site, change, rows),
+        Ask::Propose(draft) => plan_proposal(alloc, site, &draft, rows),
+        Ask::Judge {
+            event,
+            proposal,
+            accept,
+        } => plan_judgement(alloc, site, &event, &proposal, accept, rows),
+        Ask::Sight {
+            event,
+            target,
+            draft,
+        } => plan_sighting(alloc, site, &event, &target, &draft, rows),
         _ => unreachable!(),
     }
 }

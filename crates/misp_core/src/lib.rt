@@ -11,8 +11,10 @@ mod laws;
 mod naming;
 mod planning;
 mod reply;
+mod saving;
 mod settling;
 mod site;
+mod stating;
 
 pub use instance::Instance;
 pub use laws::{

@@ -1,11 +1,14 @@
 //! Where and when a request is answered.
 
-ghost use Rattle.std.specs.Prelude.{◌≡◌};
+ghost use Rattle.std.specs.Prelude.{◌≡◌, IfOk};
+ghost use Rattle.misp_rules.specs.View.{known};
 
-use misp_copies::Viewer;
+use misp_copies::{Viewer, known};
+use misp_elem::{NoMemory, Row};
 use misp_groups::Groups;
 use misp_ids::{InstId, OrgId, Stamp};
 use misp_orgs::{Admin, Caller};
+use std::alloc::Global;
 
 /// Where and when a request is answered, and whose it is.
 #[derive(Clone, Copy)]
@@ -35,4 +38,13 @@ pub(crate) fn viewer<'a>(site: &Site<'a>) -> Viewer<'a>
         here: *site.here,
         org: asker(site.caller),
     }
+}
+
+/// Of the rows that are read, those that who asks knows.
+pub(crate) fn known_at(alloc: Global, site: &Site<'_>, rows: Vec<Row>) -> Result<Vec<Row>, NoMemory>
+    ensures { IfOk result (λ left. left.items
+        ≡ known rows.items site.now.groups.now site.now.here.now site.now.caller.now.org) }
+{
+    let org = asker(site.caller);
+    known(alloc, rows, site.groups, site.here, &org)
 }

@@ -1,82 +1,18 @@
 -- What an edit makes of the row of an attribute or an object is a row, where its texts are not too long.
-use Rattle.std.proofs.Common.{◌≡◌, ℕ, ◌+◌, ◌-◌, ◌≤◌, List, [], ◌∷◌, length, Bool, true, false, refl, ap, sym, subst, ◌∙◌, arith, eqb, min, ◌&&◌, ◌||◌, not, nat_le, ◌==◌, sum_by, Option, Some, None, ltb-false}
-use Rattle.std.proofs.lemmas.List.Sums.{sum_by-cons}
-use Rattle.misp_elem.specs.Prelude.{AreTags, AreTagsAfter, IsAttributeBody, IsBetween, IsLabel, IsLabelBut, IsTagName, IsText, IsValue, barred_labels, is_after, is_kept, is_text, is_utf8, text_limit, text_size}
+use Rattle.std.proofs.Common.{◌≡◌, ℕ, ◌+◌, ◌-◌, ◌≤◌, List, [], ◌∷◌, length, Bool, true, false, refl, ap, sym, subst, ◌∙◌, arith, eqb, ◌||◌, not, ◌==◌, Option, Some, None, ltb-false}
+use Rattle.misp_elem.specs.Prelude.{IsAttributeBody, IsBetween, IsLabel, IsLabelBut, IsText, barred_labels, text_limit, text_size}
 use Rattle.misp_elem.specs.declared.content.AttributeBody.{AttributeBody}
 use Rattle.misp_elem.specs.declared.content.ObjectBody.{ObjectBody}
 use Rattle.misp_elem.specs.Contents.{IsObjectBody}
-use Rattle.misp_elem.specs.Fields.{tags_size}
-use Rattle.misp_rules.proofs.Prelude.{Content, Element, IsContent, IsRow, IsStamp, Key, Label, Place, Proposal, Reference, Row, Sighting, Tag, Verdict, and_from, and_parts, at_attribute, content_kind, edited, false≢true, fits}
-use Rattle.misp_rules.proofs.Prelude.{given, is_gone, is_statement, is_too_long, label_kind, last_stamp, may_remove, nat_tests}
+use Rattle.misp_rules.proofs.Prelude.{Content, Element, IsContent, IsRow, IsStamp, Key, Label, Place, Proposal, Reference, Row, Sighting, Verdict, at_attribute, content_kind, edited, fits}
+use Rattle.misp_rules.proofs.Prelude.{given, is_gone, is_statement, is_too_long, label_kind, last_stamp, may_remove}
 use Rattle.misp_rules.specs.declared.edit.AttributeEditFields.{AttributeEditFields as AttributeEdit}
 use Rattle.misp_rules.specs.declared.edit.ObjectEditFields.{ObjectEditFields as ObjectEdit}
 use Rattle.misp_rules.specs.Edits.{at_object, edited_object}
 use Rattle.misp_rules.specs.Edit.{IsGiven, IsKindValue, IsAttributeEdit, IsObjectEdit}
-use Rattle.misp_edit.specs.Changing.{renewed}
-use Rattle.misp_edit.proofs.RenewedRows.{later_stamp}
-
--- a text fits where it has the room
-room_for : (most room n : ℕ) (least utf8 : Bool) → (least && nat_le n most && utf8) ≡ true → n ≤ room → (least && nat_le n room && utf8) ≡ true
-room_for most room n true true h k = grind (arith, nat_tests)
-room_for most room n true false h k = absurd (false≢true (sym (never (nat_le n most)) ∙ h))
-  where
-    never : (b : Bool) → (true && b && false) ≡ false
-    never true = refl
-    never false = refl
-room_for most room n false utf8 h k = absurd (false≢true h)
-
-pub fit_text : (least most room : ℕ) (text : List ℕ) → IsText least most text → length text ≤ room → IsText least room text
-fit_text least most room text h k = room_for most room (length text) (nat_le least (length text)) (is_utf8 text) h k
-
-pub fit_value : (most room : ℕ) (kind value : List ℕ) → IsValue most kind value → length value ≤ room → IsValue room kind value
-fit_value most room kind value h k = and_from (is_text 0 room value) (is_kept kind value) (fit_text 0 most room value (and_parts (is_text 0 most value) (is_kept kind value) h).0 k) (and_parts (is_text 0 most value) (is_kept kind value) h).1
-
--- a name of at most 255 bytes has room where there is room
-pub fit_name : (old room : ℕ) (before name : List ℕ) → IsTagName old before name → length name ≤ room → IsTagName room before name
-fit_name old room before name h k =
-    let a : (is_text 1 (min 255 old) name ≡ true) × (is_after before name ≡ true) = and_parts (is_text 1 (min 255 old) name) (is_after before name) h in
-    and_from (is_text 1 (min 255 room) name) (is_after before name) (fit_text 1 (min 255 old) (min 255 room) name a.0 (short_enough (length name) old room (most_of a.0) k)) a.1
-  where
-    most_of : is_text 1 (min 255 old) name ≡ true → nat_le (length name) (min 255 old) ≡ true
-    most_of g = (and_parts (nat_le 1 (length name)) (nat_le (length name) (min 255 old)) (and_parts (nat_le 1 (length name) && nat_le (length name) (min 255 old)) (is_utf8 name) g).0).1
-
-    short_enough : (n old room : ℕ) → nat_le n (min 255 old) ≡ true → n ≤ room → n ≤ min 255 room
-    short_enough n old room g l = grind (arith, nat_tests)
-
-fit_after : (old room : ℕ) (before : List ℕ) (ts : List Tag) → AreTagsAfter old before ts → sum_by (λ (t : Tag). length t.name) ts ≤ room → AreTagsAfter room before ts
-fit_after old room before [] a k = tt
-fit_after old room before (t ∷ ts) a k =
-    let e : sum_by (λ (u : Tag). length u.name) (t ∷ ts) ≡ length t.name + sum_by (λ (u : Tag). length u.name) ts = sum_by-cons (λ (u : Tag). length u.name) t ts in
-    ((fit_name old room before t.name a.0.0 (omega arith), a.0.1), fit_after (old - length t.name) (room - length t.name) t.name ts a.1 (omega arith))
-
-pub fit_tags : (old room : ℕ) (ts : List Tag) → AreTags old ts → tags_size ts ≤ room → AreTags room ts
-unfolding tags_size
-fit_tags old room ts a k = (a.0, fit_after old room [] ts a.1 k)
-
--- the parts of an attribute, where together they are not too long
-pub attribute_fits : (b : AttributeBody) (m n old : ℕ) → IsText 1 100 b.kind → IsBetween 0 15 b.category → IsText 0 m b.comment → IsValue n b.kind b.value → AreTags old b.tags →
-    is_too_long (Content.Attribute b) ≡ false → IsAttributeBody b
-unfolding is_too_long text_size
-attribute_fits b m n old kind category comment value tags h =
-    let size : length b.kind + length b.comment + length b.value + tags_size b.tags ≤ 16384 = ltb-false 16384 (length b.kind + length b.comment + length b.value + tags_size b.tags) h in (
-      kind,
-      (
-        category,
-        (
-          tt,
-          (
-            fit_text 0 m (text_limit - length b.kind) b.comment comment (omega arith),
-            (
-              tt,
-              (
-                fit_value n (text_limit - length b.kind - length b.comment) b.kind b.value value (omega arith),
-                fit_tags old (text_limit - length b.kind - length b.comment - length b.value) b.tags tags (omega arith),
-              ),
-            ),
-          ),
-        ),
-      ),
-    )
+use Rattle.misp_copies.specs.Renewing.{renewed}
+use Rattle.misp_copies.proofs.FittingTexts.{attribute_fits, fit_text}
+use Rattle.misp_copies.proofs.RenewedRows.{later_stamp}
 
 -- what holds of what is given and of what was there
 pub given_holds : {A : Type 0} (P : A → Type 0) (o : Option A) (x : A) → IsGiven P o → P x → P (given o x)
@@ -113,24 +49,12 @@ module _ (e : AttributeEdit) (b : AttributeBody) (ok : IsAttributeEdit e) (is : 
 edited_content : (e : AttributeEdit) (may : Bool) (c : Content) → IsAttributeEdit e → IsContent may c → is_too_long (at_attribute (edited e) c) ≡ false → IsContent may (at_attribute (edited e) c)
 unfolding at_attribute
 edited_content e may (Content.Attribute b) ok is h = edited_fits e b ok is h
-edited_content e may (Content.Event b) ok is h = is
-edited_content e may (Content.Object b) ok is h = is
-edited_content e may (Content.Reference b) ok is h = is
-edited_content e may (Content.Proposal b) ok is h = is
-edited_content e may (Content.Verdict b) ok is h = is
-edited_content e may (Content.Sighting b) ok is h = is
-edited_content e may Content.Gone ok is h = is
+edited_content e may _ ok is h = is
 
 edited_kind : (e : AttributeEdit) (c : Content) → content_kind (at_attribute (edited e) c) ≡ content_kind c
 unfolding at_attribute
 edited_kind e (Content.Attribute b) = refl
-edited_kind e (Content.Event b) = refl
-edited_kind e (Content.Object b) = refl
-edited_kind e (Content.Reference b) = refl
-edited_kind e (Content.Proposal b) = refl
-edited_kind e (Content.Verdict b) = refl
-edited_kind e (Content.Sighting b) = refl
-edited_kind e Content.Gone = refl
+edited_kind e _ = refl
 
 -- a text that is given or was there fits where it has the room
 given_text : (most room : ℕ) (o : Option (List ℕ)) (x : List ℕ) → IsGiven (IsText 0 text_limit) o → IsText 0 most x → length (given o x) ≤ room → IsText 0 room (given o x)
@@ -144,41 +68,19 @@ object_fits e b ok is h =
     let description : List ℕ = given e.description b.description in
     let comment : List ℕ = given e.comment b.comment in
     let size : length b.name + length b.meta_category + length description + length comment ≤ 16384 = ltb-false 16384 (length b.name + length b.meta_category + length description + length comment) h in
-    let room : ℕ = text_limit - length b.name - length b.meta_category in (
-      is.0,
-      (
-        is.1.0,
-        (
-          given_text room room e.description b.description ok.1.1.0 is.1.1.0 (omega arith),
-          (
-            given_text (room - length b.description) (room - length description) e.comment b.comment ok.1.0 is.1.1.1.0 (omega arith),
-            is.1.1.1.1,
-          ),
-        ),
-      ),
-    )
+    let room : ℕ = text_limit - length b.name - length b.meta_category in
+    let one : IsText 0 room description = given_text room room e.description b.description ok.1.1.0 is.1.1.0 (omega arith) in
+    (is.0, (is.1.0, (one, (given_text (room - length b.description) (room - length description) e.comment b.comment ok.1.0 is.1.1.1.0 (omega arith), is.1.1.1.1))))
 
 object_content : (e : ObjectEdit) (may : Bool) (c : Content) → IsObjectEdit e → IsContent may c → is_too_long (at_object (edited_object e) c) ≡ false → IsContent may (at_object (edited_object e) c)
 unfolding at_object
 object_content e may (Content.Object b) ok is h = object_fits e b ok is h
-object_content e may (Content.Attribute b) ok is h = is
-object_content e may (Content.Event b) ok is h = is
-object_content e may (Content.Reference b) ok is h = is
-object_content e may (Content.Proposal b) ok is h = is
-object_content e may (Content.Verdict b) ok is h = is
-object_content e may (Content.Sighting b) ok is h = is
-object_content e may Content.Gone ok is h = is
+object_content e may _ ok is h = is
 
 object_kind : (e : ObjectEdit) (c : Content) → content_kind (at_object (edited_object e) c) ≡ content_kind c
 unfolding at_object
 object_kind e (Content.Object b) = refl
-object_kind e (Content.Attribute b) = refl
-object_kind e (Content.Event b) = refl
-object_kind e (Content.Reference b) = refl
-object_kind e (Content.Proposal b) = refl
-object_kind e (Content.Verdict b) = refl
-object_kind e (Content.Sighting b) = refl
-object_kind e Content.Gone = refl
+object_kind e _ = refl
 
 -- ---- rows that may have any label
 
@@ -188,19 +90,8 @@ some_barred n ns h = let e : length (n ∷ ns) ≡ 0 = ap length h in omega arit
 module _ (now : ℕ) (row : Row) (free : barred_labels row.key ≡ []) (s : IsStamp now) (is : IsRow row) (t : eqb row.stamp last_stamp ≡ false) where
   free_row : (l : Label) (c : Content) → IsLabel l → content_kind c ≡ content_kind row.content → IsContent (may_remove row.key) c → IsRow (renewed now row l c)
   unfolding renewed
-  free_row l c label kind content = (
-    is.0,
-    (
-      is.1.0,
-      (
-        later_stamp now row.stamp s is.1.1.0 t,
-        (
-          subst (λ barred. IsLabelBut barred l) (sym free) (refl, label),
-          (tt, (any_fits row.key free is.1.1.1.1.1.0, content)),
-        ),
-      ),
-    ),
-  )
+  free_row l c label kind content =
+      (is.0, (is.1.0, (later_stamp now row.stamp s is.1.1.0 t, (subst (λ barred. IsLabelBut barred l) (sym free) (refl, label), (tt, (any_fits row.key free is.1.1.1.1.1.0, content))))))
     where
       any_fits : (k : Key) → barred_labels k ≡ [] → fits k (label_kind row.label) (row.held, row.carried) (content_kind row.content) ≡ true →
           fits k (label_kind l) (not (is_statement row.key || is_gone c), false) (content_kind c) ≡ true

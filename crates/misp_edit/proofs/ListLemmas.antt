@@ -1,7 +1,7 @@
 -- Lists of rows, and searches in lists.
 use Rattle.std.proofs.Common.{◌≡◌, ◌∙◌, ℕ, ◌+◌, ◌<◌, Bool, ◌||◌, Option, Some, None, List, [], ◌∷◌, ◌++◌, map, take, length, get_or, ap, sym, refl, arith, append_assoc, append-nil, filter_map}
 use Rattle.std.specs.List.{list_any, cons_option}
-use Rattle.std.proofs.lemmas.List.{map-append, map_more, take_more}
+use Rattle.std.proofs.lemmas.List.{map-append, map-id, map_more, take_more}
 use Rattle.std.proofs.lemmas.List.Elements.{filter_map-append}
 
 module _ {A B : Type 0} where
@@ -16,21 +16,15 @@ module _ {A B : Type 0} where
   map_next f after xs i x y l e g h =
       (λ j. h j ++ (g ∙ ap f e) j ∷ []) ∙ sym (map_more f xs i x l)
 
-module _ {X : Type 0} where
-  -- a list that is mapped to itself
-  pub map_same : (xs : List X) → map (λ x. x) xs ≡ xs
-  map_same [] = refl
-  map_same (x ∷ xs) = ap (λ ys. x ∷ ys) (map_same xs)
-
-  -- something passes one of two tests where something passes the one or the other
-  pub any_or : (p q : X → Bool) (xs : List X) → list_any (λ x. p x || q x) xs ≡ (list_any p xs || list_any q xs)
-  any_or p q [] = refl
-  any_or p q (x ∷ xs) = grind (arith, any_or p q xs)
+-- something passes one of two tests where something passes the one or the other
+pub any_or : {X : Type 0} (p q : X → Bool) (xs : List X) → list_any (λ x. p x || q x) xs ≡ (list_any p xs || list_any q xs)
+any_or p q [] = refl
+any_or p q (x ∷ xs) = grind (arith, any_or p q xs)
 
 -- the same as map_push where the whole list is known
 pub map_all : {A B : Type 0} (f : A → B) (before after : List B) (xs ys : List A) →
     map (λ x. x) xs ≡ ys → after ≡ before ++ map f xs → after ≡ before ++ map f ys
-map_all f before after xs ys e h = h ∙ ap (λ zs. before ++ map f zs) (sym (map_same xs) ∙ e)
+map_all f before after xs ys e h = h ∙ ap (λ zs. before ++ map f zs) (sym (map-id xs) ∙ e)
 
 -- one of a list that is filtered, after those before it
 module _ {X Y : Type 0} (f : X → Option Y) where

@@ -63,10 +63,8 @@ module _ (s : Scene) (b : Submission) (target : ElemId → Option Place) (is : (
 
   part_is : (p : Place) → part_belongs brought live p ≡ part_fits s b p
   unfolding part_belongs part_fits object_is_there brings_object is_brought own_live is_live_object has_live
-  part_is Place.Event = refl
-  part_is (Place.Object x) = refl
-  part_is (Place.Attribute a) = refl
   part_is (Place.ObjectAttribute x a) = refl
+  part_is _ = refl
 
   has_one : (u : ElemId) → is_some (target u) ≡ (elim (target_of s b.event b.parts u) as (λ o. Bool) [ Some t ↦ true | None ↦ false ])
   has_one u = ap is_some (is u) ∙ one (target_of s b.event b.parts u)

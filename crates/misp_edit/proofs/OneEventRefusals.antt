@@ -1,5 +1,5 @@
 -- A change is refused, answered, written and named the same from the event's own rows as from all.
-use Rattle.std.proofs.Common.{◌≡◌, ℕ, List, [], ◌++◌, ◌||◌, ap, sym, ◌∙◌, refl, map, eqb, option_map, filter, find}
+use Rattle.std.proofs.Common.{◌≡◌, List, [], ◌++◌, ◌||◌, ap, sym, ◌∙◌, refl, map, eqb, option_map, filter, find}
 use Rattle.misp_rules.proofs.Prelude.{Row, Rule, Scene, Submission, cut_scene, event_rows, in_order, list_any, of_event, seeing, uuid_at}
 use Rattle.misp_rules.specs.declared.change.Change.{Change}
 use Rattle.misp_rules.specs.declared.change.Change.TheVariants.{AddEvent, AddParts}
@@ -10,7 +10,7 @@ use Rattle.misp_rules.proofs.OneEventChanges.{ask_of_event}
 use Rattle.misp_history.proofs.Prelude.{Ask}
 use Rattle.misp_edit.specs.Adding.{numbered_uuids, is_read_before, read_uuids, with_those_before, is_clash, first_clash, labels_of, first_unusable}
 use Rattle.misp_edit.specs.Refusals.{named, added_place, refusal_of}
-use Rattle.misp_edit.proofs.RuleLemmas.{usable}
+use Rattle.misp_edit.proofs.LateRules.{usable_is}
 use Rattle.misp_edit.proofs.OwnCopy.{IsAlike}
 
 module _ (b : Submission) (s : Scene) where
@@ -26,7 +26,7 @@ module _ (b : Submission) (s : Scene) where
   -- and so is the first unusable label
   unusable_near : first_unusable near b ≡ first_unusable s b
   unfolding first_unusable cut_scene
-  unusable_near = λ i. find (λ l. (usable near b l ∙ sym (usable s b l)) i) (labels_of b)
+  unusable_near = λ i. find (λ l. (sym (usable_is near l) ∙ usable_is s l) i) (labels_of b)
 
 refusal_near : (s : Scene) (c : Change) (rule : Rule) → refusal_of (cut_scene (of_event (event_changed c)) s) (Ask.Change c) rule ≡ refusal_of s (Ask.Change c) rule
 unfolding event_changed

@@ -15,7 +15,8 @@ use Rattle.misp_rules.proofs.OneEvent.{IsSame, from_rules, accepted_from}
 use Rattle.misp_history.proofs.Prelude.{AddEvent, Ask}
 use Rattle.misp_edit.specs.Adding.{numbered_uuids, is_read_before, read_uuids, with_those_before, is_clash, first_clash, labels_of, first_unusable}
 use Rattle.misp_edit.specs.Refusals.{named, added_place, refusal_of}
-use Rattle.misp_edit.proofs.RuleLemmas.{clash_known, unusable_known, usable}
+use Rattle.misp_edit.proofs.LateRules.{usable_is}
+use Rattle.misp_edit.proofs.RuleLemmas.{clash_known, unusable_known}
 
 -- ---- a copy among other rows
 
@@ -105,7 +106,7 @@ module _ (b : Submission) (s : Scene) where
   -- and so is the first unusable label
   unusable_mine : first_unusable mine b ≡ first_unusable s b
   unfolding first_unusable
-  unusable_mine = λ i. find (λ l. (usable mine b l ∙ sym (usable s b l)) i) (labels_of b)
+  unusable_mine = λ i. find (λ l. (sym (usable_is mine l) ∙ usable_is s l) i) (labels_of b)
 
   rules_mine : change_rules mine (AddEvent b) ≡ change_rules s (AddEvent b)
   unfolding change_rules holds_copy holds_tombstone

@@ -2,15 +2,11 @@
 use Rattle.std.proofs.Common.{◌≡◌, ℕ, List, [], ◌∷◌, ◌++◌, map, Option, Some, None, option_map, option_to_list, refl, sym, ◌∙◌, append_assoc, filter_map}
 use Rattle.misp_rules.proofs.Prelude.{Content, Draft, Element, ElemId, EventId, Group, Inst, Label, OrgId, Place, Reference, ReferenceDraft, Row, Scene, Submission, cons_option, event_key, event_written, is_gone, is_published}
 use Rattle.misp_rules.proofs.Prelude.{is_statement, map-append, new_event, part_version, parts_written, reference_key, reference_version, target_of, written}
+use Rattle.misp_lists.proofs.Lists.{map_twice}
 use Rattle.misp_rules.specs.Prelude.{EventDraft, Stamp}
 use Rattle.misp_history.specs.History.{fresh_row}
 use Rattle.misp_copies.specs.Scenes.{scene_of}
 use Rattle.misp_edit.specs.Rows.{new_row, part_row, reference_row, row_with_target, event_row, body_of, added_rows, parts_rows}
-
--- one list after two others
-map_both : {A B C : Type 0} (f : B → C) (g : A → B) (h : A → C) (xs : List A) → ((x : A) → h x ≡ f (g x)) → map h xs ≡ map f (map g xs)
-map_both f g h [] k = refl
-map_both f g h (x ∷ xs) k = rw (k x, map_both f g h xs k) refl
 
 module _ (act : ℕ) (at : Inst) (w : OrgId) (name : List ℕ) (now : Stamp) (today : List ℕ) (groups : List Group) (rows : List Row) where
   -- a written version's row
@@ -61,7 +57,7 @@ module _ (act : ℕ) (at : Inst) (w : OrgId) (name : List ℕ) (now : Stamp) (to
     unfolding parts_rows parts_written
     parts_rows_are =
         let s : Scene = scene_of act at w name now today groups rows in
-        (λ i. map_both fresh_row (part_version s b.event) (part_row w b.event now) b.parts (part_row_is b.event) i ++ references_are b.references i)
+        (λ i. sym (map_twice (part_version s b.event) fresh_row (part_row w b.event now) (λ d. sym (part_row_is b.event d)) b.parts) i ++ references_are b.references i)
         ∙ sym (map-append fresh_row (map (part_version s b.event) b.parts) (filter_map (reference_version s b.event b.parts) b.references))
 
     -- and all rows of it
@@ -70,6 +66,6 @@ module _ (act : ℕ) (at : Inst) (w : OrgId) (name : List ℕ) (now : Stamp) (to
     added_rows_are =
         let s : Scene = scene_of act at w name now today groups rows in
         append_assoc (map (event_row w name today b.event now b.label) (option_to_list b.body)) (map (part_row w b.event now) b.parts) (filter_map (row_with_target target w b.event now) b.references)
-        ∙ (λ i. map_both fresh_row (λ d. written s (event_key b.event) now b.label (Content.Event (new_event s d))) (event_row w name today b.event now b.label) (option_to_list b.body) (event_row_is b.event b.label) i
+        ∙ (λ i. sym (map_twice (λ d. written s (event_key b.event) now b.label (Content.Event (new_event s d))) fresh_row (event_row w name today b.event now b.label) (λ d. sym (event_row_is b.event b.label d)) (option_to_list b.body)) i
         ++ parts_rows_are i)
         ∙ sym (map-append fresh_row (map (λ d. written s (event_key b.event) now b.label (Content.Event (new_event s d))) (option_to_list b.body)) (parts_written s b))

@@ -14,8 +14,10 @@ use Rattle.misp_edit.specs.declared.fault.AddFault.TheVariants.{Refused, NoMemor
 use Rattle.misp_edit.specs.Adding.{refusing, numbered_uuids, is_read_before, read_uuids, is_clash, first_clash, labels_of, first_unusable}
 use Rattle.misp_edit.specs.Refusals.{named, added_place, refusal_of, uuid_text, group_text, Refuses, Tells, brought_rules, brought_refusal}
 use Rattle.misp_edit.specs.Labels.{is_unusable}
-use Rattle.misp_edit.specs.Uuids.{has_uuid, is_used, numbered_in, clash_in}
+use Rattle.misp_copies.specs.Uuids.{has_uuid, is_used}
+use Rattle.misp_edit.specs.Uuids.{numbered_in, clash_in}
 use Rattle.misp_edit.specs.Targets.{target_places, target_in, AreTargets}
+use Rattle.misp_edit.proofs.LateRules.{usable_is}
 use Rattle.misp_edit.proofs.UuidLemmas.{is_clash_in, first_clash_is, any_in_order, distinct_in_order, unnumbered, numbered_is}
 use Rattle.misp_edit.proofs.TargetLemmas.{target_is}
 
@@ -56,14 +58,9 @@ module _ (s : Scene) (b : Submission) where
   abbrev bars : Label → Bool
   bars = is_unusable s.groups s.at s.by
 
-  pub usable : (l : Label) → not (is_usable s l) ≡ bars l
-  unfolding is_usable is_unusable
-  usable (Label.Group g) = refl
-  usable l = refl
-
   unusable_by : (found : Option Label) → find bars (b.label ∷ map (λ d. d.label) b.parts) ≡ found → first_unusable s b ≡ found
   unfolding first_unusable labels_of
-  unusable_by found h = find_by (λ l. not (is_usable s l)) bars usable (b.label ∷ map (λ d. d.label) b.parts) ∙ h
+  unusable_by found h = find_by (λ l. not (is_usable s l)) bars (λ l. sym (usable_is s l)) (b.label ∷ map (λ d. d.label) b.parts) ∙ h
 
   -- the refusal by the first rule that refuses
   by_rule : (rule : Rule) → first_rule (brought_rules s b) ≡ Some rule → brought_refusal s b ≡ Some (record { name = named rule; place = added_place (first_clash s b) (first_unusable s b) rule })

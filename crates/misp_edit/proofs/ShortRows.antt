@@ -1,10 +1,10 @@
 -- The texts of a row are within the limit, and so are those of a row with a tag less, or deleted.
-use Rattle.std.proofs.Common.{◌≡◌, ℕ, ◌+◌, ◌-◌, ◌≤◌, min, Bool, true, false, ◌&&◌, List, [], ◌∷◌, length, cond, filter, not, arith, nat_le, ltb, ltb-false, bytes_eq}
+use Rattle.std.proofs.Common.{◌≡◌, ℕ, ◌+◌, ◌≤◌, Bool, true, false, List, [], ◌∷◌, length, cond, filter, not, arith, ltb, ltb-false, bytes_eq}
 use Rattle.std.proofs.lemmas.List.Sums.{sum_by-cons}
-use Rattle.misp_elem.specs.Prelude.{IsText, text_limit, text_size}
-use Rattle.misp_elem.specs.Fields.{AreTagsAfter, is_text, is_after, tags_size}
+use Rattle.misp_elem.specs.Prelude.{text_size}
+use Rattle.misp_elem.specs.Fields.{tags_size}
 use Rattle.misp_elem.proofs.Sizes.{size_within}
-use Rattle.misp_rules.proofs.Prelude.{Content, IsContent, Tag, and_parts, as_deleted, at_tags, is_too_long, nat_tests, untagged}
+use Rattle.misp_rules.proofs.Prelude.{Content, IsContent, IsRow, Row, Tag, as_deleted, at_tags, is_too_long, may_remove, nat_tests, untagged}
 
 not_longer : (n : ℕ) → n ≤ 16384 → ltb 16384 n ≡ false
 not_longer n h = grind (arith, nat_tests)
@@ -14,16 +14,15 @@ pub short : (may : Bool) (c : Content) → IsContent may c → is_too_long c ≡
 unfolding is_too_long
 short may c h = not_longer (text_size c) (size_within may c h)
 
-pub short_deleted : (may : Bool) (c : Content) → IsContent may c → is_too_long (as_deleted c) ≡ false
+short_deleted : (may : Bool) (c : Content) → IsContent may c → is_too_long (as_deleted c) ≡ false
 unfolding as_deleted
-short_deleted may (Content.Event b) h = short may (Content.Event b) h
 short_deleted may (Content.Object b) h = short may (Content.Object (record b { deleted = true })) h
 short_deleted may (Content.Attribute b) h = short may (Content.Attribute (record b { deleted = true })) h
 short_deleted may (Content.Reference b) h = short may (Content.Reference (record b { deleted = true })) h
-short_deleted may (Content.Proposal b) h = short may (Content.Proposal b) h
-short_deleted may (Content.Verdict b) h = short may (Content.Verdict b) h
-short_deleted may (Content.Sighting b) h = short may (Content.Sighting b) h
-short_deleted may Content.Gone h = short may Content.Gone h
+short_deleted may c h = short may c h
+
+pub deleted_short : (row : Row) → IsRow row → is_too_long (as_deleted row.content) ≡ false
+deleted_short row is = short_deleted (may_remove row.key) row.content is.1.1.1.1.1.1
 
 -- tags that are left are no longer than all
 left_size : (q : Tag → Bool) (ts : List Tag) → tags_size (filter q ts) ≤ tags_size ts
@@ -38,15 +37,13 @@ left_size q (t ∷ ts) = one (q t) (left_size q ts)
 less_long : (old new rest : ℕ) → ltb 16384 (rest + old) ≡ false → new ≤ old → ltb 16384 (rest + new) ≡ false
 less_long old new rest h k = not_longer (rest + new) (let l : rest + old ≤ 16384 = ltb-false 16384 (rest + old) h in omega arith)
 
-pub short_untagged : (name : List ℕ) (may : Bool) (c : Content) → IsContent may c → is_too_long (at_tags (untagged name) c) ≡ false
+short_untagged : (name : List ℕ) (may : Bool) (c : Content) → IsContent may c → is_too_long (at_tags (untagged name) c) ≡ false
 unfolding at_tags untagged is_too_long text_size
 short_untagged name may (Content.Event b) h =
     less_long (tags_size b.tags) (tags_size (untagged name b.tags)) (length b.info) (short may (Content.Event b) h) (left_size (λ t. not (bytes_eq t.name name)) b.tags)
 short_untagged name may (Content.Attribute b) h =
     less_long (tags_size b.tags) (tags_size (untagged name b.tags)) (length b.kind + length b.comment + length b.value) (short may (Content.Attribute b) h) (left_size (λ t. not (bytes_eq t.name name)) b.tags)
-short_untagged name may (Content.Object b) h = short may (Content.Object b) h
-short_untagged name may (Content.Reference b) h = short may (Content.Reference b) h
-short_untagged name may (Content.Proposal b) h = short may (Content.Proposal b) h
-short_untagged name may (Content.Verdict b) h = short may (Content.Verdict b) h
-short_untagged name may (Content.Sighting b) h = short may (Content.Sighting b) h
-short_untagged name may Content.Gone h = short may Content.Gone h
+short_untagged name may c h = short may c h
+
+pub untagged_short : (name : List ℕ) (row : Row) → IsRow row → is_too_long (at_tags (untagged name) row.content) ≡ false
+untagged_short name row is = short_untagged name (may_remove row.key) row.content is.1.1.1.1.1.1

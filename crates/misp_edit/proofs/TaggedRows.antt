@@ -1,14 +1,14 @@
 -- What a tag more or less makes of a row is a row.
-use Rattle.std.proofs.Common.{◌≡◌, ℕ, ◌+◌, ◌-◌, ◌≤◌, List, [], ◌∷◌, length, Bool, true, false, refl, sym, ◌∙◌, arith, eqb, min, cond, inl, inr, ◌&&◌, not, nat_le, sum_by, bytes_eq, filter, ltb-false}
-use Rattle.misp_lists.proofs.Prelude.{is_utf8, sum_by-cons}
+use Rattle.std.proofs.Common.{◌≡◌, ℕ, ◌+◌, ◌-◌, ◌≤◌, List, [], ◌∷◌, length, Bool, true, false, refl, sym, ◌∙◌, arith, eqb, min, cond, inl, inr, not, nat_le, sum_by, bytes_eq, filter, ltb-false}
+use Rattle.misp_lists.proofs.Prelude.{sum_by-cons}
 use Rattle.misp_lists.proofs.Orders.{bytes_on}
 use Rattle.misp_elem.specs.Fields.{is_text, is_after, IsTagName, IsTag, AreTags, AreTagsAfter, tags_size, text_limit}
 use Rattle.misp_elem.specs.Contents.{text_size}
 use Rattle.misp_rules.proofs.Prelude.{Content, IsContent, IsRow, IsStamp, Row, Tag, and_from, and_parts, at_tags, bytes_eq-Decides, content_kind, false≢true, is_less, is_too_long, last_stamp, less_is, less_or, list_all, may_remove}
 use Rattle.misp_rules.proofs.Prelude.{nat_tests, not-true, put, tagged, untagged}
-use Rattle.misp_edit.proofs.EditedRows.{fit_name}
-use Rattle.misp_edit.proofs.RenewedRows.{renewed_row}
-use Rattle.misp_edit.specs.Changing.{renewed}
+use Rattle.misp_copies.proofs.FittingTexts.{fit_name, name_size}
+use Rattle.misp_copies.proofs.RenewedRows.{renewed_row}
+use Rattle.misp_copies.specs.Renewing.{renewed}
 
 -- names in order, each of at most 255 bytes, whatever the room
 abbrev pub Named : List ℕ → List Tag → Type 0
@@ -61,10 +61,7 @@ named_put tag before (t ∷ ts) g n d = one (is_less tag.name t.name) refl (λ h
 -- ---- with the room
 
 short_name : (old : ℕ) (before name : List ℕ) → IsTagName old before name → length name ≤ 255
-short_name old before name h =
-    let a : is_text 1 (min 255 old) name ≡ true = (and_parts (is_text 1 (min 255 old) name) (is_after before name) h).0 in
-    let b : (nat_le 1 (length name) && nat_le (length name) (min 255 old)) ≡ true = (and_parts (nat_le 1 (length name) && nat_le (length name) (min 255 old)) (is_utf8 name) a).0 in
-    at_most (length name) old (and_parts (nat_le 1 (length name)) (nat_le (length name) (min 255 old)) b).1
+short_name old before name h = at_most (length name) old (name_size old before name h).1
   where
     at_most : (n old : ℕ) → nat_le n (min 255 old) ≡ true → n ≤ 255
     at_most n old h = grind (arith, nat_tests)
@@ -81,10 +78,7 @@ with_room room before (t ∷ ts) n k =
 
 -- no more names than bytes
 name_here : (before : List ℕ) (t : Tag) → IsTag 255 before t → 1 ≤ length t.name
-name_here before t h =
-    let a : is_text 1 (min 255 255) t.name ≡ true = (and_parts (is_text 1 (min 255 255) t.name) (is_after before t.name) h.0).0 in
-    let b : (nat_le 1 (length t.name) && nat_le (length t.name) (min 255 255)) ≡ true = (and_parts (nat_le 1 (length t.name) && nat_le (length t.name) (min 255 255)) (is_utf8 t.name) a).0 in
-    at_least (length t.name) (and_parts (nat_le 1 (length t.name)) (nat_le (length t.name) (min 255 255)) b).0
+name_here before t h = at_least (length t.name) (name_size 255 before t.name h.0).0
   where
     at_least : (n : ℕ) → nat_le 1 n ≡ true → 1 ≤ n
     at_least n h = grind (arith, nat_tests)
@@ -125,69 +119,21 @@ module _ (f : List Tag → List Tag) (keeps : (ts : List Tag) → Named [] ts �
   tags_content : (may : Bool) (c : Content) → IsContent may c → is_too_long (at_tags f c) ≡ false → IsContent may (at_tags f c)
   unfolding at_tags is_too_long text_size
   tags_content may (Content.Event b) h s =
-      let size : length b.info + tags_size (f b.tags) ≤ 16384 = ltb-false 16384 (length b.info + tags_size (f b.tags)) s in (
-        h.0,
-        (
-          h.1.0,
-          (
-            h.1.1.0,
-            (
-              h.1.1.1.0,
-              (
-                h.1.1.1.1.0,
-                (
-                  h.1.1.1.1.1.0,
-                  (
-                    h.1.1.1.1.1.1.0,
-                    (
-                      h.1.1.1.1.1.1.1.0,
-                      are_tags (text_limit - length b.info) (f b.tags) (keeps b.tags (named (text_limit - length b.info) [] b.tags h.1.1.1.1.1.1.1.1.1)) (omega arith) (omega arith),
-                    ),
-                  ),
-                ),
-              ),
-            ),
-          ),
-        ),
-      )
+      let size : length b.info + tags_size (f b.tags) ≤ 16384 = ltb-false 16384 (length b.info + tags_size (f b.tags)) s in
+      let room : ℕ = text_limit - length b.info in
+      let tags = are_tags room (f b.tags) (keeps b.tags (named room [] b.tags h.1.1.1.1.1.1.1.1.1)) (omega arith) (omega arith) in
+      (h.0, (h.1.0, (h.1.1.0, (h.1.1.1.0, (h.1.1.1.1.0, (h.1.1.1.1.1.0, (h.1.1.1.1.1.1.0, (h.1.1.1.1.1.1.1.0, tags))))))))
   tags_content may (Content.Attribute b) h s =
       let size : length b.kind + length b.comment + length b.value + tags_size (f b.tags) ≤ 16384 = ltb-false 16384 (length b.kind + length b.comment + length b.value + tags_size (f b.tags)) s in
-      let room : ℕ = text_limit - length b.kind - length b.comment - length b.value in (
-        h.0,
-        (
-          h.1.0,
-          (
-            h.1.1.0,
-            (
-              h.1.1.1.0,
-              (
-                h.1.1.1.1.0,
-                (
-                  h.1.1.1.1.1.0,
-                  are_tags room (f b.tags) (keeps b.tags (named room [] b.tags h.1.1.1.1.1.1.1)) (omega arith) (omega arith),
-                ),
-              ),
-            ),
-          ),
-        ),
-      )
-  tags_content may (Content.Object b) h s = h
-  tags_content may (Content.Reference b) h s = h
-  tags_content may (Content.Proposal b) h s = h
-  tags_content may (Content.Verdict b) h s = h
-  tags_content may (Content.Sighting b) h s = h
-  tags_content may Content.Gone h s = h
+      let room : ℕ = text_limit - length b.kind - length b.comment - length b.value in
+      let tags = are_tags room (f b.tags) (keeps b.tags (named room [] b.tags h.1.1.1.1.1.1.1)) (omega arith) (omega arith) in
+      (h.0, (h.1.0, (h.1.1.0, (h.1.1.1.0, (h.1.1.1.1.0, (h.1.1.1.1.1.0, tags))))))
+  tags_content may _ h s = h
 
   tags_kind : (c : Content) → content_kind (at_tags f c) ≡ content_kind c
   unfolding at_tags
   tags_kind (Content.Event b) = refl
-  tags_kind (Content.Attribute b) = refl
-  tags_kind (Content.Object b) = refl
-  tags_kind (Content.Reference b) = refl
-  tags_kind (Content.Proposal b) = refl
-  tags_kind (Content.Verdict b) = refl
-  tags_kind (Content.Sighting b) = refl
-  tags_kind Content.Gone = refl
+  tags_kind _ = refl
 
   tags_row : (now : ℕ) (row : Row) → IsStamp now → IsRow row → eqb row.stamp last_stamp ≡ false → is_too_long (at_tags f row.content) ≡ false → IsRow (renewed now row row.label (at_tags f row.content))
   tags_row now row s is t h = renewed_row now row (at_tags f row.content) s is t (tags_kind row.content) (tags_content (may_remove row.key) row.content is.1.1.1.1.1.1 h)

@@ -1,7 +1,7 @@
 -- What references name.
 use Rattle.std.proofs.Common.{◌≡◌, ◌∙◌, ℕ, Bool, true, false, not, ◌&&◌, ◌==◌, cond, List, [], ◌∷◌, ◌++◌, map, append-nil, Option, Some, None, option_map, ap, sym, subst, refl, arith, BTreeMap, find, filter_map, IfSome}
 use Rattle.misp_elem.specs.Key.{place_kind, of_reference}
-use Rattle.misp_rules.proofs.Prelude.{AreRows, Content, Draft, Element, ElemId, EventId, IsRow, Key, OrgId, Place, Proposal, Reference, Row, Scene, Sighting, Verdict, above, and_parts, cons_option, content_kind, event_of, false≢true}
+use Rattle.misp_rules.proofs.Prelude.{AreRows, Content, Draft, Element, ElemId, EventId, IsRow, Key, OrgId, Place, Row, Scene, above, and_parts, cons_option, content_kind, event_of, false≢true}
 use Rattle.misp_rules.proofs.Prelude.{find_passes, fits, has_gone, is_deleted, is_live, is_place_of, is_row_of, is_target_key, label_kind, list_all, list_any, parents, place_in, same_event, same_event-sound, same_key-sound, same_org}
 use Rattle.misp_rules.proofs.Prelude.{same_org-sound, target_in_copy, target_of}
 use Rattle.misp_edit.specs.Objects.{has_object_row, is_object_row}
@@ -15,12 +15,7 @@ event_stays e row is k = by row.content refl (subst (λ (key : Key). fits key (l
     by : (c : Content) → row.content ≡ c → fits (Element e Place.Event) (label_kind row.label) (row.held, row.carried) (content_kind c) ≡ true → is_deleted row ≡ false
     by (Content.Event b) h f = ap (λ (c : Content). is_deleted (record row { content = c })) h
     by Content.Gone h f = ap (λ (c : Content). is_deleted (record row { content = c })) h
-    by (Content.Object b) h f = absurd (false≢true f)
-    by (Content.Attribute b) h f = absurd (false≢true f)
-    by (Content.Reference b) h f = absurd (false≢true f)
-    by (Content.Proposal b) h f = absurd (false≢true f)
-    by (Content.Verdict b) h f = absurd (false≢true f)
-    by (Content.Sighting b) h f = absurd (false≢true f)
+    by _ h f = absurd (false≢true f)
 
 module _ (w : OrgId) (e : EventId) where
   -- so none of an owner is
@@ -83,10 +78,7 @@ module _ (rows : List Row) (w : OrgId) (e : EventId) (are : AreRows rows) (no_to
           cond (same_org row.owner w && (same_event (event_of k) e && (not (is_deleted row) && not (is_under deleted (place_in k))))) (element_place k) None
           ≡ cond (same_org row.owner w && (same_event (event_of k) e && is_live rows row)) (element_place k) None
       by_key (Element f p) k = ap (λ b. cond b (Some p) None) (at p f k (same_org row.owner w) (same_event f e) refl refl)
-      by_key (Reference f x t u) k = none _ _
-      by_key (Proposal f n) k = none _ _
-      by_key (Verdict f n i o) k = none _ _
-      by_key (Sighting f t i o u) k = none _ _
+      by_key _ k = none _ _
 
   pub all_kept : (rs : List Row) → filter_map (kept_place deleted w e) rs ≡ filter_map (live_place rows w e) rs
   all_kept [] = refl
@@ -143,14 +135,8 @@ module _ (s : Scene) (e : EventId) (u : ElemId) where
   one_key k true false l x ps h = h
   one_key (Element f p) true true true x ps h = grind (arith, h)
   one_key (Element f p) true true false x ps h = grind (arith, h)
-  one_key (Reference f y t v) true true true x ps h = h
-  one_key (Reference f y t v) true true false x ps h = h
-  one_key (Proposal f n) true true true x ps h = h
-  one_key (Proposal f n) true true false x ps h = h
-  one_key (Verdict f n i o) true true true x ps h = h
-  one_key (Verdict f n i o) true true false x ps h = h
-  one_key (Sighting f t i o v) true true true x ps h = h
-  one_key (Sighting f t i o v) true true false x ps h = h
+  one_key _ true true true x ps h = h
+  one_key _ true true false x ps h = h
 
   place_of : (t : Bool) (row : Row) (o : Option Row) → option_map (λ (r : Row). place_in r.key) (cond t (Some row) o) ≡ cond t (Some (place_in row.key)) (option_map (λ (r : Row). place_in r.key) o)
   place_of true row o = refl
@@ -181,9 +167,7 @@ module _ (s : Scene) (e : EventId) (u : ElemId) where
 pub not_the_event : (u : ElemId) (p : Place) → is_place_of u p ≡ true → list_any (λ kind. kind == place_kind p) of_reference ≡ false
 unfolding is_place_of
 not_the_event u Place.Event h = absurd (false≢true h)
-not_the_event u (Place.Object x) h = refl
-not_the_event u (Place.Attribute a) h = refl
-not_the_event u (Place.ObjectAttribute x a) h = refl
+not_the_event u _ h = refl
 
 -- what is found is of the uuid
 pub found_is : (u : ElemId) (ps : List Place) → IfSome (find (is_place_of u) ps) (λ p. is_place_of u p ≡ true)

@@ -1,12 +1,10 @@
 -- Changing what is there: which rule refuses, and what is written.
-use Rattle.std.specs.Prelude.{◌≡◌, Bool, true, false, not, eqb, ◌||◌, max, ◌+◌, List, [], ◌∷◌, map, Option, None, is_some, option_to_list, find}
-use Rattle.misp_rules.specs.Prelude.{Content, Element, EventId, Group, Inst, Label, OrgId, Place, Row, Rule, Scene, Stamp, change_rules, change_writes, event_key, first_rule, granted_somewhere, has_copy, has_home, is_gone, is_newer_than}
-use Rattle.misp_rules.specs.Prelude.{is_row_of, is_statement, is_too_long, last_stamp, row_passes}
+use Rattle.std.specs.Prelude.{◌≡◌, Bool, eqb, List, [], ◌∷◌, map, Option, None, is_some, option_to_list, find}
+use Rattle.misp_rules.specs.Prelude.{Element, EventId, Group, Inst, Label, OrgId, Place, Row, Rule, Scene, Stamp, change_rules, change_writes, event_key, first_rule, granted_somewhere, has_copy, has_home, is_newer_than}
+use Rattle.misp_rules.specs.Prelude.{is_row_of, last_stamp, row_passes}
 use Rattle.misp_rules.specs.declared.change.Change.{Change}
 use Rattle.misp_history.specs.History.{fresh_row}
 use Rattle.misp_copies.specs.Barring.{barring, lacking, or_else}
-use Rattle.misp_copies.specs.declared.change_fault.ChangeFault.{ChangeFault}
-use Rattle.misp_copies.specs.declared.change_fault.ChangeFault.TheVariants.{ElementFull, NoMemory}
 use Rattle.misp_edit.specs.Labels.{is_unusable}
 use Rattle.misp_rules.specs.Scene as rule
 
@@ -29,13 +27,13 @@ late_rules groups here o own l t =
     ∷ (row_passes (is_newer_than t) own, rule.OlderTime)
     ∷ (row_passes (λ row. eqb row.stamp last_stamp) own, rule.TimeLimit) ∷ []
 
--- which rule refuses an edit of the element at a place, before its texts are looked at
-unfoldable pub ruling : List Row → List Group → Inst → OrgId → EventId → Place → Bool
+-- which rule refuses to change the event or this row of it, before new texts are looked at
+unfoldable pub ruling : List Row → List Group → Inst → OrgId → EventId → Bool → Option Row
     → Option Label → Option Stamp → Option Rule
-ruling rows groups here o e p fits l t =
+ruling rows groups here o e fits own l t =
     or_else (barring (has_home rows o e) (has_copy rows o e)
     (granted_somewhere rows groups here o (event_key e)) fits)
-    (first_rule (late_rules groups here o (find (is_row_of o (Element e p)) rows) l t))
+    (first_rule (late_rules groups here o own l t))
 
 -- which rule refuses to delete the event
 unfoldable pub event_deleting : List Row → List Group → Inst → OrgId → EventId → Option Rule
@@ -43,22 +41,3 @@ event_deleting rows groups here o e =
     or_else (lacking (has_copy rows o e) (granted_somewhere rows groups here o (event_key e)))
     (first_rule
     (late_rules groups here o (find (is_row_of o (Element e Place.Event)) rows) None None))
-
--- ---- what is written
-
--- the row as a change at this moment makes it
-unfoldable pub renewed : Stamp → Row → Label → Content → Row
-renewed now row l c =
-    record row {
-      stamp = max now (row.stamp + 1);
-      label = l;
-      held = not (is_statement row.key || is_gone c);
-      carried = false;
-      content = c;
-    }
-
--- the content is too long for an element, or memory ran out
-abbrev pub IsFull : Content → ChangeFault → Type 0
-IsFull c ElementFull = is_too_long c ≡ true
-IsFull c NoMemory = Unit {0}
-IsFull c fault = ⊥

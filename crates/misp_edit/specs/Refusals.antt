@@ -3,8 +3,9 @@ use Rattle.std.specs.Prelude.{◌≡◌, ℕ, Bool, List, [], ◌∷◌, Option,
 use Rattle.misp_ids.specs.Uid.{text_of}
 use Rattle.misp_ids.specs.declared.refusal.Refusal.{Refusal}
 use Rattle.misp_ids.specs.declared.refusal.RuleName.{RuleName}
-use Rattle.misp_rules.specs.Prelude.{Label, Rule, Scene, Submission, change_rules, clashes, first_rule, has_unusable}
+use Rattle.misp_rules.specs.Prelude.{ElemId, Label, Rule, Scene, Submission, change_rules, clashes, first_rule, has_unusable}
 use Rattle.misp_rules.specs.declared.ask.Ask.{Ask}
+use Rattle.misp_rules.specs.declared.ask.Ask.TheVariants.{Judge, Propose, Sight}
 use Rattle.misp_rules.specs.declared.change.Change.{Change}
 use Rattle.misp_rules.specs.declared.change.Change.TheVariants.{AddEvent, AddParts, EditEvent, EditAttribute, EditObject}
 use Rattle.misp_edit.specs.Adding.{first_clash, first_unusable}
@@ -47,6 +48,11 @@ abbrev pub label_place : Option Label → Rule → List ℕ
 label_place given asking.GroupNotUsable = group_text given
 label_place given rule = []
 
+-- the uuid that a refusal by rule 14 names
+abbrev pub uuid_place : ElemId → Rule → List ℕ
+uuid_place uuid asking.ElementExists = text_of uuid.0
+uuid_place uuid rule = []
+
 -- the place that a refusal of an ask shows
 abbrev pub place_of : Scene → Ask → Rule → List ℕ
 place_of s (Ask.Change (AddEvent b)) rule =
@@ -56,6 +62,9 @@ place_of s (Ask.Change (AddParts e b)) rule =
 place_of s (Ask.Change (EditEvent e edit)) rule = label_place edit.label rule
 place_of s (Ask.Change (EditAttribute e p edit)) rule = label_place edit.label rule
 place_of s (Ask.Change (EditObject e x edit)) rule = label_place edit.label rule
+place_of s (Propose d) rule = uuid_place d.uuid rule
+place_of s (Judge e proposal accept) rule = uuid_place proposal.uuid rule
+place_of s (Sight e target d) rule = uuid_place d.uuid rule
 place_of s ask rule = []
 
 -- the refusal of an ask by a rule

@@ -10,12 +10,12 @@ ghost use Rattle.misp_rules.specs.Scene.{is_too_long};
 ghost use Rattle.misp_ids.specs.Moments.{last_stamp};
 ghost use Rattle.misp_copies.specs.Scenes.{scene_for};
 ghost use Rattle.misp_copies.specs.Barring.{Refuses, Names};
-ghost use Rattle.misp_edit.specs.Changing.{Changes, IsFull, renewed};
+ghost use Rattle.misp_copies.specs.Renewing.{IsFull, renewed};
+ghost use Rattle.misp_edit.specs.Changing.{Changes};
 
 use crate::barring::admitted_row;
 use crate::contents::{edited_attribute, label_after};
-use crate::renewing::{finished, label_of};
-use misp_copies::{ChangeFault, Viewer, has_live};
+use misp_copies::{ChangeFault, Viewer, finished, has_live, label_of, own_row};
 use misp_elem::{Content, Row};
 use misp_ids::{EventId, NoMemory, Stamp};
 use misp_rules::{AttributeEdit, AttributeEditFields, AttributePlace};
@@ -75,7 +75,8 @@ pub fn edit_attribute(
     let place = place.get();
     let edit = edit.get();
     let fits = has_live(rows, &who.org, event, &place);
-    match admitted_row(rows, who, event, &place, fits, edit.label, edit.stamp) {
+    let own = own_row(rows, &who.org, event, &place);
+    match admitted_row(rows, who, event, fits, own, edit.label, edit.stamp) {
         Err(fault) => Err(fault),
         Ok(None) => Ok(Vec::new(alloc)),
         Ok(Some(row)) => edited_row(alloc, row, edit, now),

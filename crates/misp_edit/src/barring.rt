@@ -1,19 +1,18 @@
 //! Which edits of a row are refused.
 
-ghost use Rattle.std.specs.Prelude.{◌≡◌, IfErr, IfOk};
+ghost use Rattle.std.specs.Prelude.{◌≡◌, eqb, IfErr, IfOk};
 ghost use Rattle.std.specs.List.{find};
 ghost use Rattle.std.specs.Option.{option_copied, option_map, option_to_list};
 ghost use Rattle.misp_ids.specs.declared.label.Label.TheVariants as labels;
-ghost use Rattle.misp_elem.specs.declared.key.KeyForm.TheVariants.{Element};
+ghost use Rattle.misp_ids.specs.Moments.{last_stamp};
 ghost use Rattle.misp_rules.specs.Scene.{first_rule, is_newer_than};
-ghost use Rattle.misp_rules.specs.View.{is_row_of};
 ghost use Rattle.misp_edit.specs.Labels.{is_unusable};
 ghost use Rattle.misp_copies.specs.Barring.{outcome, Names};
 ghost use Rattle.misp_edit.specs.Changing.{late_rules, ruling};
 
 use crate::labels::unusable_group;
-use misp_copies::{ChangeFault, Viewer, may_change, own_row};
-use misp_elem::{Place, Row};
+use misp_copies::{ChangeFault, Viewer, may_change};
+use misp_elem::Row;
 use misp_ids::{EventId, GroupId, LAST_SECOND, Label, Stamp};
 
 // The group that a given label names, if the caller may not use it.
@@ -37,6 +36,13 @@ fn is_newer_than(row: &Row, stamp: Option<Stamp>) -> bool
     }
 }
 
+#[tactic(auto, unfolding(misp_ids::specs::Moments::last_stamp))]
+fn has_last_stamp(row: &Row) -> bool
+    ensures { result ≡ eqb row.now.stamp last_stamp }
+{
+    row.stamp.get() == LAST_SECOND
+}
+
 /// Whether the label that an edit gives, the stamp that it gives, or that of the row refuses it.
 pub(crate) fn late_fault(
     own: Option<&Row>,
@@ -58,37 +64,32 @@ pub(crate) fn late_fault(
     if is_newer_than(row, stamp) {
         return Err(ChangeFault::OlderTime);
     }
-    if row.stamp.get() == LAST_SECOND {
+    if has_last_stamp(row) {
         return Err(ChangeFault::TimeLimit);
     }
     Ok(())
 }
 
-/// The caller's row of the element at this place, where nothing that stands before its texts
-/// refuses an edit of it.
+/// The row, where nothing that stands before its texts refuses a change of it.
 pub(crate) fn admitted_row<'a>(
-    rows: &'a [Row],
+    rows: &[Row],
     who: &Viewer,
     event: &EventId,
-    place: &Place,
     fits: bool,
+    own: Option<&'a Row>,
     label: Option<Label>,
     stamp: Option<Stamp>,
 ) -> Result<Option<&'a Row>, ChangeFault>
     ensures rule { outcome result ≡ ruling rows.now who.now.groups.now who.now.here who.now.org
-        event.now place.now fits label stamp }
-    ensures own { IfOk result (λ own. option_copied own
-        ≡ find (is_row_of who.now.org (Element event.now place.now)) rows.now) }
+        event.now fits (option_copied own.entry) label stamp }
+    ensures own { IfOk result (λ row. option_copied row ≡ option_copied own.entry) }
     ensures names { IfErr result (Names label) }
 {
     match may_change(rows, who, event, fits) {
         Err(fault) => Err(fault),
-        Ok(()) => {
-            let own = own_row(rows, &who.org, event, place);
-            match late_fault(own, label, stamp, who) {
-                Err(fault) => Err(fault),
-                Ok(()) => Ok(own),
-            }
-        }
+        Ok(()) => match late_fault(own, label, stamp, who) {
+            Err(fault) => Err(fault),
+            Ok(()) => Ok(own),
+        },
     }
 }

@@ -4,41 +4,18 @@ ghost use Rattle.std.specs.Prelude.{◌≡◌, ℕ, ◌++◌, map, IfOk, OnOk, �
 ghost use Rattle.std.specs.List.{filter_map};
 ghost use Rattle.std.specs.Ordering.{nat_cmp};
 ghost use Rattle.std.specs.BTreeSet.{contains};
-ghost use Rattle.misp_rules.specs.Adding.{takes_uuid};
 ghost use Rattle.misp_lists.specs.Order.{in_order};
 ghost use Rattle.misp_edit.specs.Adding.{is_read_before};
 ghost use Rattle.misp_edit.specs.Targets.{target_in};
-ghost use Rattle.misp_edit.specs.Uuids.{is_at, has_uuid, is_used, part_uuid, reference_uuid, numbered_in, clash_in};
+ghost use Rattle.misp_copies.specs.Uuids.{has_uuid, is_used};
+ghost use Rattle.misp_edit.specs.Uuids.{part_uuid, reference_uuid, numbered_in, clash_in};
 
 use crate::targets::Targets;
-use misp_elem::{Draft, KeyForm, ReferenceDraft, Row, Submission, uuid_at};
+use misp_copies::own_uuid;
+use misp_elem::{Draft, ReferenceDraft, Row, Submission, uuid_at};
 use misp_ids::{EventId, NoMemory, OrgId};
 use std::alloc::Global;
 use std::collections::BTreeSet;
-
-// The uuid of an element or a reference.
-#[tactic(auto, unfolding(misp_rules::specs::Adding::takes_uuid))]
-fn uuid_in(form: KeyForm) -> Option<u128>
-    ensures { (u : ℕ) → is_at result u ≡ takes_uuid u form }
-{
-    match form {
-        KeyForm::Element { event, place } => Some(uuid_at(event, place)),
-        KeyForm::Reference { uuid, .. } => Some(uuid.0.0),
-        _ => None,
-    }
-}
-
-// The uuid in a row, if the row is one of the owner's copy of the event.
-#[tactic(auto, unfolding(crate::specs::Uuids::has_uuid, misp_ids::specs::Same::same_event, misp_ids::specs::Same::same_org))]
-fn own_uuid(row: &Row, owner: OrgId, event: EventId) -> Option<u128>
-    ensures { (u : ℕ) → is_at result u ≡ has_uuid owner event u row.now }
-{
-    if row.owner.0.0 == owner.0.0 && row.key.event().0.0 == event.0.0 {
-        uuid_in(row.key.form)
-    } else {
-        None
-    }
-}
 
 // With the uuid in the row, if there is one.
 fn note(used: &mut BTreeSet<u128>, row: &Row, owner: OrgId, event: EventId) -> Result<(), NoMemory>
@@ -52,7 +29,7 @@ fn note(used: &mut BTreeSet<u128>, row: &Row, owner: OrgId, event: EventId) -> R
 }
 
 // The event's own uuid, and those that the owner's copy has.
-#[tactic(auto, unfolding(crate::specs::Uuids::is_used))]
+#[tactic(auto, unfolding(misp_copies::specs::Uuids::is_used))]
 fn used_uuids(
     alloc: Global,
     rows: &[Row],

@@ -8,13 +8,14 @@ ghost use Rattle.misp_rules.specs.Edits.{as_deleted};
 ghost use Rattle.misp_rules.specs.Scene.{is_too_long};
 ghost use Rattle.misp_ids.specs.Moments.{last_stamp};
 ghost use Rattle.misp_copies.specs.Scenes.{scene_for};
+ghost use Rattle.misp_copies.specs.declared.change_fault.ChangeFault.TheVariants as faults;
 ghost use Rattle.misp_copies.specs.Barring.{Refuses, Names};
-ghost use Rattle.misp_edit.specs.Changing.{Changes, IsFull, renewed};
+ghost use Rattle.misp_copies.specs.Renewing.{renewed};
+ghost use Rattle.misp_edit.specs.Changing.{Changes};
 
 use crate::barring::admitted_row;
 use crate::contents::deleted;
-use crate::renewing::{finished, label_of};
-use misp_copies::{ChangeFault, Viewer, has_live};
+use misp_copies::{ChangeFault, Viewer, finished, has_live, label_of, own_row};
 use misp_elem::{Content, Place, Row};
 use misp_ids::{EventId, NoMemory, Stamp};
 use std::alloc::Global;
@@ -25,10 +26,10 @@ fn deleted_of(row: &Row) -> Result<Content, NoMemory>
     deleted(&row.content)
 }
 
-// The row deleted, where it has not the last stamp.
-fn deleted_row(alloc: Global, row: &Row, now: Stamp) -> Result<Vec<Row>, ChangeFault>
+/// The row deleted, where it has not the last stamp. It is never too long.
+pub(crate) fn deleted_row(alloc: Global, row: &Row, now: Stamp) -> Result<Vec<Row>, ChangeFault>
     requires { eqb row.now.stamp last_stamp ≡ false }
-    ensures err { IfErr result (IsFull (as_deleted row.now.content)) }
+    ensures err { IfErr result (λ fault. fault ≡ faults.NoMemory) }
     ensures ok { IfOk result (λ made.
         (made.items ≡ renewed now row.now row.now.label (as_deleted row.now.content) ∷ [])
         × (is_too_long (as_deleted row.now.content) ≡ false)) }
@@ -61,7 +62,8 @@ pub fn delete(
     ensures names { IfErr result (Names None) }
 {
     let fits = has_live(rows, &who.org, event, place);
-    match admitted_row(rows, who, event, place, fits, None, None) {
+    let own = own_row(rows, &who.org, event, place);
+    match admitted_row(rows, who, event, fits, own, None, None) {
         Err(fault) => Err(fault),
         Ok(None) => Ok(Vec::new(alloc)),
         Ok(Some(row)) => deleted_row(alloc, row, now),

@@ -12,14 +12,14 @@ ghost use Rattle.misp_rules.specs.declared.change.Change.TheVariants.{DeleteEven
 ghost use Rattle.misp_rules.specs.View.{is_row_of};
 ghost use Rattle.misp_rules.specs.Changing.{change_rules};
 ghost use Rattle.misp_ids.specs.Moments.{last_stamp};
-ghost use Rattle.misp_edit.specs.Changing.{Changes, IsFull, event_deleting, renewed};
+ghost use Rattle.misp_copies.specs.Renewing.{IsFull, renewed};
+ghost use Rattle.misp_edit.specs.Changing.{Changes, event_deleting};
 ghost use Rattle.misp_copies.specs.Copies.{is_event_key};
 ghost use Rattle.misp_copies.specs.Scenes.{scene_for};
 ghost use Rattle.misp_copies.specs.Barring.{Refuses, Names, outcome};
 
 use crate::barring::late_fault;
-use crate::renewing::finished;
-use misp_copies::{ChangeFault, Viewer, may_delete, own_row};
+use misp_copies::{ChangeFault, Viewer, finished, may_delete, own_row};
 use misp_elem::{Content, Place, Row};
 use misp_ids::{EventId, Label, Stamp};
 use std::alloc::Global;

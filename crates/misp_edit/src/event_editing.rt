@@ -11,12 +11,12 @@ ghost use Rattle.misp_ids.specs.Moments.{last_stamp};
 ghost use Rattle.misp_copies.specs.Copies.{is_event_key};
 ghost use Rattle.misp_copies.specs.Scenes.{scene_for};
 ghost use Rattle.misp_copies.specs.Barring.{Refuses, Names};
-ghost use Rattle.misp_edit.specs.Changing.{Changes, IsFull, renewed};
+ghost use Rattle.misp_copies.specs.Renewing.{IsFull, renewed};
+ghost use Rattle.misp_edit.specs.Changing.{Changes};
 
 use crate::barring::admitted_row;
 use crate::contents::{edited_event, label_after};
-use crate::renewing::{finished, label_of};
-use misp_copies::{ChangeFault, Viewer};
+use misp_copies::{ChangeFault, Viewer, finished, label_of, own_row};
 use misp_elem::{Content, Place, Row};
 use misp_ids::{EventId, NoMemory, Stamp};
 use misp_rules::{EventEdit, EventEditFields};
@@ -77,9 +77,9 @@ pub fn edit_event(
     ensures are_rows { IfOk result (λ made. AreRows made.items) }
     ensures names { IfErr result (Names edit.now.label) }
 {
-    let place = Place::Event;
     let edit = edit.get();
-    match admitted_row(rows, who, event, &place, true, edit.label, edit.stamp) {
+    let own = own_row(rows, &who.org, event, &Place::Event);
+    match admitted_row(rows, who, event, true, own, edit.label, edit.stamp) {
         Err(fault) => Err(fault),
         Ok(None) => Ok(Vec::new(alloc)),
         Ok(Some(row)) => edited_row(alloc, row, edit, now),

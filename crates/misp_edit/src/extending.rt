@@ -33,9 +33,13 @@ fn bare_fault(alloc: Global, fault: ChangeFault) -> AddFault
         ChangeFault::NotGranted => RuleName::NotGranted,
         ChangeFault::NotOwner => RuleName::NotOwner,
         ChangeFault::LockedCopy => RuleName::LockedCopy,
+        ChangeFault::EventGone => RuleName::EventGone,
+        ChangeFault::ElementExists(_) => RuleName::ElementExists,
         ChangeFault::GroupNotUsable(_) => RuleName::GroupNotUsable,
         ChangeFault::OlderTime => RuleName::OlderTime,
         ChangeFault::TimeLimit => RuleName::TimeLimit,
+        ChangeFault::ProposalExists => RuleName::ProposalExists,
+        ChangeFault::ProposalClosed => RuleName::ProposalClosed,
         ChangeFault::ElementFull => RuleName::ElementFull,
         ChangeFault::NoMemory => return AddFault::NoMemory,
     };

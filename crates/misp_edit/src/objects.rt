@@ -7,7 +7,7 @@ ghost use Rattle.misp_ids.specs.declared.uid.ElemId.{ElemId};
 ghost use Rattle.misp_elem.specs.declared.key.Place.TheVariants as places;
 ghost use Rattle.misp_elem.specs.Row.{AreRows, IsRow};
 ghost use Rattle.misp_elem.specs.SameKey.{same_place};
-ghost use Rattle.misp_edit.specs.Uuids.{is_at};
+ghost use Rattle.misp_copies.specs.Uuids.{is_at};
 ghost use Rattle.misp_edit.specs.Objects.{AreObjects, is_object_row, has_object_row, is_live_object, is_brought};
 
 use misp_copies::has_gone;

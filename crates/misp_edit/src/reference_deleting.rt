@@ -1,24 +1,20 @@
 //! Deleting a reference.
 
-ghost use Rattle.std.specs.Prelude.{◌≡◌, ℕ, List, [], ◌∷◌, eqb, false, None, is_some, IfOk, IfErr};
+ghost use Rattle.std.specs.Prelude.{◌≡◌, ℕ, List, None, is_some, IfOk, IfErr};
 ghost use Rattle.std.specs.Option.{option_copied};
 ghost use Rattle.misp_elem.specs.Row.{AreRows};
 ghost use Rattle.misp_rules.specs.declared.change.Change.TheVariants.{DeleteReference};
 ghost use Rattle.misp_rules.specs.Changing.{change_rules, is_reference_named};
-ghost use Rattle.misp_rules.specs.Edits.{as_deleted};
-ghost use Rattle.misp_ids.specs.Moments.{last_stamp};
 ghost use Rattle.misp_copies.specs.Scenes.{scene_for};
-ghost use Rattle.misp_copies.specs.declared.change_fault.ChangeFault.TheVariants as faults;
 ghost use Rattle.misp_copies.specs.Barring.{Refuses, Names};
-ghost use Rattle.misp_edit.specs.Changing.{Changes, renewed};
+ghost use Rattle.misp_edit.specs.Changing.{Changes};
 ghost use Rattle.misp_edit.specs.Limits.{is_live_reference, live_reference};
 
-use crate::contents::deleted;
-use crate::limiting::within_limit;
-use crate::renewing::{finished, label_of};
+use crate::barring::admitted_row;
+use crate::deleting::deleted_row;
 use misp_copies::{ChangeFault, Viewer, is_owned, live};
-use misp_elem::{Content, KeyForm, Row};
-use misp_ids::{ElemId, EventId, NoMemory, OrgId, Stamp};
+use misp_elem::{KeyForm, Row};
+use misp_ids::{ElemId, EventId, OrgId, Stamp};
 use std::alloc::Global;
 
 // Whether it is a reference of this object and uuid.
@@ -79,27 +75,6 @@ fn is_there(row: Option<&Row>) -> bool
     row.is_some()
 }
 
-fn deleted_of(row: &Row) -> Result<Content, NoMemory>
-    ensures { IfOk result (λ made. made ≡ as_deleted row.now.content) }
-{
-    deleted(&row.content)
-}
-
-// The row deleted, where it has not the last stamp.
-fn deleted_row(alloc: Global, row: &Row, now: Stamp) -> Result<Vec<Row>, ChangeFault>
-    requires { eqb row.now.stamp last_stamp ≡ false }
-    ensures err { IfErr result (λ fault. fault ≡ faults.NoMemory) }
-    ensures ok { IfOk result (λ made.
-        made.items ≡ renewed now row.now row.now.label (as_deleted row.now.content) ∷ []) }
-    ensures are_rows { IfOk result (λ made. AreRows made.items) }
-{
-    let (_now, _held) = (now.get(), row.held);
-    match deleted_of(row) {
-        Ok(content) => finished(alloc, row, label_of(row), content, now),
-        Err(NoMemory) => Err(ChangeFault::NoMemory),
-    }
-}
-
 /// The row that deleting the reference of this object and uuid writes. The rows are those that the
 /// caller knows of the event.
 pub fn delete_reference(
@@ -121,7 +96,7 @@ pub fn delete_reference(
     ensures names { IfErr result (Names None) }
 {
     let own = live_reference(rows, &who.org, event, object, reference);
-    match within_limit(rows, who, event, is_there(own), own) {
+    match admitted_row(rows, who, event, is_there(own), own, None, None) {
         Err(fault) => Err(fault),
         Ok(None) => Ok(Vec::new(alloc)),
         Ok(Some(row)) => deleted_row(alloc, row, now),

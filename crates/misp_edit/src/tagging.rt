@@ -14,14 +14,13 @@ ghost use Rattle.misp_ids.specs.Moments.{last_stamp};
 ghost use Rattle.misp_copies.specs.Scenes.{scene_for};
 ghost use Rattle.misp_copies.specs.declared.change_fault.ChangeFault.TheVariants as faults;
 ghost use Rattle.misp_copies.specs.Barring.{Refuses, Names};
-ghost use Rattle.misp_edit.specs.Changing.{Changes, IsFull, renewed};
+ghost use Rattle.misp_copies.specs.Renewing.{IsFull, renewed};
+ghost use Rattle.misp_edit.specs.Changing.{Changes};
 ghost use Rattle.misp_edit.specs.Limits.{with_tag};
 
 use crate::barring::admitted_row;
-use crate::limiting::within_limit;
-use crate::renewing::{finished, label_of};
 use crate::tags::{has_tag, with_tag, without_tag};
-use misp_copies::{ChangeFault, Viewer, has_live, own_row};
+use misp_copies::{ChangeFault, Viewer, finished, has_live, label_of, own_row};
 use misp_elem::{Content, Place, Row};
 use misp_ids::{EventId, NoMemory, OrgId, Stamp, Text};
 use misp_rules::{NewTag, TaggedPlace};
@@ -110,7 +109,8 @@ pub fn tag(
 {
     let place = place.get();
     let fits = has_live(rows, &who.org, event, &place);
-    match admitted_row(rows, who, event, &place, fits, None, None) {
+    let own = own_row(rows, &who.org, event, &place);
+    match admitted_row(rows, who, event, fits, own, None, None) {
         Err(fault) => Err(fault),
         Ok(None) => Ok(Vec::new(alloc)),
         Ok(Some(row)) => tagged_row(alloc, row, tag, now),
@@ -140,7 +140,7 @@ pub fn untag(
     let place = place.get();
     let fits = has_live(rows, &who.org, event, &place);
     let own = row_with_tag(rows, &who.org, event, &place, name);
-    match within_limit(rows, who, event, fits, own) {
+    match admitted_row(rows, who, event, fits, own, None, None) {
         Err(fault) => Err(fault),
         Ok(None) => Ok(Vec::new(alloc)),
         Ok(Some(row)) => untagged_row(alloc, row, name, now),

@@ -7,7 +7,7 @@ ghost use Rattle.std.specs.BTreeSet.{contains};
 ghost use Rattle.misp_ids.specs.declared.uid.ElemId.{ElemId};
 ghost use Rattle.misp_elem.specs.declared.key.Place.{Place as SomePlace};
 ghost use Rattle.misp_rules.specs.Adding.{is_place_of};
-ghost use Rattle.misp_edit.specs.Uuids.{is_at};
+ghost use Rattle.misp_copies.specs.Uuids.{is_at};
 ghost use Rattle.misp_edit.specs.Targets.{kept_place, target_places, or_place, target_in, AreTargets, is_under};
 
 use crate::objects::{Objects, own_objects};

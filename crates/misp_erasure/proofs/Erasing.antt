@@ -1,33 +1,32 @@
 -- Leaving out of a run what an organisation was never granted leaves out of each state just that, and changes no reply.
 use Rattle.std.proofs.Common.{◌≡◌, ℕ, refl, List, [], ◌∷◌, ◌++◌, Bool, true, false, ap, sym, ◌∙◌, map, cond, suc, ◌||◌, not, Option, Some, None, append-nil}
+use Rattle.misp_history.proofs.Prelude.{Act, AddEvent, AddParts, Ask, Asks, Caller, Change, Command, Delete, DeleteEvent, EditAttribute, EditEvent, Group, Inst, IsClosed, Judge, Key, Misfits, Net, Nothing, OrgId, Other, Propose, Publish}
+use Rattle.misp_history.proofs.Prelude.{Route, Scene, Sight, Syncs, TakePart, Version, World, all_both_give, and_parts, answer, asked, brings, cond_both, counted, cut, cut_rows, event_key, filter-map, filter_all, is_accepted, known}
+use Rattle.misp_history.proofs.Prelude.{known_at, known_cut, list_all, list_all-append, moved, passing, run, same_org, same_org-sound, scene, step, synced, synced_groups, tables, tables_cut}
 use Rattle.std.proofs.lemmas.List.Elements.{filter-append}
-use Rattle.misp_lists.proofs.Lists.{filter_all, all_both_give}
-use Rattle.misp_rules.specs.Prelude.{Way, counted, date_of}
-use Rattle.misp_rules.specs.declared.change.Change.TheVariants.{EditObject, DeleteReference}
-use Rattle.misp_rules.proofs.Prelude.{Other, cut_scene}
-use Rattle.misp_rules.specs.Closed.{cut_body, HasPair, erased_ask}
+use Rattle.misp_rules.specs.declared.change.Change.TheVariants.{DeleteReference, EditObject}
+use Rattle.misp_rules.proofs.Prelude.{cut_scene}
+use Rattle.misp_rules.specs.Closed.{HasPair, cut_body, erased_ask}
 use Rattle.misp_rules.proofs.Moving.{counted_cut}
-use Rattle.misp_rules.proofs.Plain_requests.{Follows, edit_event_follows, edit_object_follows, delete_element_follows, delete_reference_follows, tag_follows, untag_follows, sight_follows, edit_follows, delete_follows, publish_follows}
-use Rattle.misp_rules.proofs.Plain_requests.{propose_follows, take_follows}
+use Rattle.misp_rules.proofs.Plain_requests.{Follows, delete_element_follows, delete_follows, delete_reference_follows, edit_event_follows, edit_follows, edit_object_follows, propose_follows, publish_follows, sight_follows, tag_follows}
+use Rattle.misp_rules.proofs.Plain_requests.{take_follows, untag_follows}
 use Rattle.misp_rules.proofs.Judging.{judge_follows}
-use Rattle.misp_history.proofs.Prelude.{Act, AddEvent, AddParts, Administers, Ask, Asks, Caller, Change, Command, Delete, DeleteEvent, EditAttribute, EditEvent, Group, Groups, Index, Inst, IsClosed, Judge, Key, Misfits, Net, Nothing}
-use Rattle.misp_history.proofs.Prelude.{OrgId, Propose, Publish, Route, Scene, Sight, Syncs, TakePart, Takes_groups, Version, View, World, and_parts, answer, brings, cut, cut_rows, event_key, filter-map, is_accepted, known, known_at}
-use Rattle.misp_history.proofs.Prelude.{known_cut, list_all, list_all-append, moved, passing, same_org, same_org-sound, step, synced, synced_groups, tables, tables_cut}
-use Rattle.misp_history.specs.Acts.{scene, asked, run, reply_to, replies_to}
+use Rattle.misp_history.specs.Acts.{replies_to, reply_to}
 use Rattle.misp_erasure.specs.Erasure.{cut_world, HasKnown, HasPairs, IsKept, erased_request, erased_command, erased_act, erase}
 use Rattle.misp_erasure.proofs.Moving.{passing_cut}
 use Rattle.misp_erasure.proofs.Submitting.{add_event_follows, add_parts_follows}
 use Rattle.misp_erasure.proofs.Owners.{brings_own}
 
-nothing_step : (net : Net) (n : ℕ) (w : World) (act : Act) → step net n w (record act { command = Nothing }) ≡ w
-unfolding step
-nothing_step net n w act = refl
+-- what is kept at the beginning
+pub kept_first : (keep : Key → Bool) (o : OrgId) (net : Net) (n : ℕ) (w : World) (acts : List Act) → IsKept o keep net n w acts → HasKnown o keep w
+unfolding IsKept
+kept_first keep o net n w [] h = h
+kept_first keep o net n w (act ∷ acts) h = h.0
 
 module _ (keep : Key → Bool) (c : IsClosed keep) where
   -- what is left of an accepted request is accepted over the kept rows and brings there what is kept; where nothing is left, nothing that it brings is kept
   pub follows : (s : Scene) (a : Ask) → HasPair keep s a → is_accepted s a ≡ true → Follows keep s a (erased_ask keep s a)
   unfolding erased_ask brings cut cut_body
-  follows s (View e owner) pair h = refl
   follows s (Ask.Change (AddEvent b)) pair h = add_event_follows keep c s b (keep (event_key b.event)) refl h
   follows s (Ask.Change (AddParts e b)) pair h = add_parts_follows keep c s b e _ refl h
   follows s (Ask.Change (EditAttribute e p edit)) pair h = edit_follows keep c s e p edit _ refl h
@@ -38,13 +37,12 @@ module _ (keep : Key → Bool) (c : IsClosed keep) where
   follows s (Ask.Change (Change.Tag e p tag)) pair h = tag_follows keep c s e p tag _ refl h
   follows s (Ask.Change (Change.Untag e p name)) pair h = untag_follows keep c s e p name _ refl h
   follows s (Sight e t d) pair h = sight_follows keep c s e t d _ refl h
-  follows s Index pair h = refl
-  follows s Groups pair h = refl
   follows s (Ask.Change (DeleteEvent e)) pair h = delete_follows keep c s e _ refl h
   follows s (Ask.Change (Publish e)) pair h = publish_follows keep c s e _ refl h
   follows s (Propose d) pair h = propose_follows keep c s d _ refl h
   follows s (Judge e n accept) pair h = judge_follows keep c s e n accept _ refl pair h
   follows s (TakePart p) pair h = take_follows keep c s p _ refl h
+  follows s _ pair h = refl
 
   known_at_cut : (w : World) (i : Inst) (o : OrgId) → known_at (cut_world keep w) i o ≡ cut_rows keep (known_at w i o)
   unfolding known_at cut_world
@@ -52,16 +50,7 @@ module _ (keep : Key → Bool) (c : IsClosed keep) where
 
   scene_cut : (n : ℕ) (w : World) (act : Act) (caller : Caller) → scene n (cut_world keep w) act caller ≡ cut_scene keep (scene n w act caller)
   unfolding scene cut_scene cut_world
-  scene_cut n w act caller = λ i. record {
-    act = n;
-    at = act.at;
-    by = caller.org;
-    by_name = caller.name;
-    now = act.now;
-    today = date_of act.now;
-    rows = known_at_cut w act.at caller.org i;
-    groups = w.groups act.at;
-  }
+  scene_cut n w act caller = rw (known_at_cut w act.at caller.org) refl
 
   -- a synchronisation
   moved_cut : (n : ℕ) (r : Route) (vs : List Version) → map (moved n r) (cut keep vs) ≡ cut keep (map (moved n r) vs)
@@ -91,10 +80,6 @@ module _ (keep : Key → Bool) (c : IsClosed keep) where
   unfolding cut_world
   world_is w xs ys h = λ i. record { log = (ap (λ vs. cut keep w.log ++ vs) h ∙ sym (append_cut w.log ys)) i; groups = w.groups }
 
-  nothing_brought : (w : World) → cut_world keep w ≡ cut_world keep (record w { log = w.log ++ [] })
-  unfolding cut_world
-  nothing_brought w = λ i. record { log = cut keep ((sym (append-nil w.log)) i); groups = w.groups }
-
   nothing_kept : (w : World) (ys : List Version) → cut keep ys ≡ [] → cut_world keep w ≡ cut_world keep (record w { log = w.log ++ ys })
   unfolding cut_world
   nothing_kept w ys h = λ i. record { log = (sym (append_cut w.log ys ∙ ap (λ vs. cut keep w.log ++ vs) h ∙ append-nil (cut keep w.log))) i; groups = w.groups }
@@ -120,23 +105,14 @@ module _ (keep : Key → Bool) (c : IsClosed keep) where
       (is_accepted (scene n w act caller) a ≡ true → Follows keep (scene n w act caller) a (erased_ask keep (scene n w act caller) a)) →
       step net n (cut_world keep w) (record act { command = cond b (elim (erased_ask keep (scene n w act caller) a) [ None ↦ Nothing | Some b ↦ Asks caller b ]) Nothing })
       ≡ cut_world keep (asked w (scene n w act caller) a)
-  unfolding asked
+  unfolding asked step cut
   other_step net n w act caller a true e f = left_step net n w act caller a _ (f e) ∙ ap (λ t. cut_world keep (record w { log = w.log ++ cond t (brings (scene n w act caller) a) [] })) (sym e)
-  other_step net n w act caller a false e f = nothing_step net n (cut_world keep w) act ∙ nothing_brought w ∙ ap (λ t. cut_world keep (record w { log = w.log ++ cond t (brings (scene n w act caller) a) [] })) (sym e)
+  other_step net n w act caller a false e f = nothing_kept w [] refl ∙ ap (λ t. cut_world keep (record w { log = w.log ++ cond t (brings (scene n w act caller) a) [] })) (sym e)
 
   -- where all that the caller knows is kept, the kept rows are all
   own_scene : (s : Scene) → list_all (λ row. keep row.key) s.rows ≡ true → cut_scene keep s ≡ s
   unfolding cut_scene cut_rows
-  own_scene s h = λ i. record {
-    act = s.act;
-    at = s.at;
-    by = s.by;
-    by_name = s.by_name;
-    now = s.now;
-    today = s.today;
-    rows = filter_all (λ row. keep row.key) s.rows h i;
-    groups = s.groups;
-  }
+  own_scene s h = rw (filter_all (λ row. keep row.key) s.rows h) refl
 
   -- the organisation's own request
   own_step : (net : Net) (n : ℕ) (w : World) (act : Act) (caller : Caller) (a : Ask) → list_all (λ row. keep row.key) (known_at w act.at caller.org) ≡ true →
@@ -150,7 +126,8 @@ module _ (keep : Key → Bool) (c : IsClosed keep) where
   brought_kept : (o : OrgId) (w : World) (s : Scene) (a : Ask) → same_org s.by o ≡ true → HasKnown o keep (asked w s a) →
       list_all (λ v. keep v.key) (cond (is_accepted s a) (brings s a) []) ≡ true
   unfolding asked
-  brought_kept o w s a h has = all_both_give (λ v. same_org v.owner s.by) (λ v. not (same_org v.owner o) || keep v.key) (λ v. keep v.key) each came (own (is_accepted s a)) later
+  brought_kept o w s a h has = all_both_give (λ v. same_org v.owner s.by) (λ v. not (same_org v.owner o) || keep v.key) (λ v. keep v.key) each came
+      (cond_both (is_accepted s a) (brings s a) [] (λ vs. list_all (λ v. same_org v.owner s.by) vs ≡ true) (λ e. brings_own s a) (λ e. refl)) later
     where
       came : List Version
       came = cond (is_accepted s a) (brings s a) []
@@ -160,23 +137,15 @@ module _ (keep : Key → Bool) (c : IsClosed keep) where
           (and_parts (list_all (λ (v : Version). not (same_org v.owner o) || keep v.key) w.log) (list_all (λ (v : Version). not (same_org v.owner o) || keep v.key) came)
           (sym (list_all-append (λ (v : Version). not (same_org v.owner o) || keep v.key) w.log came) ∙ has.own)).1
 
-      own : (b : Bool) → list_all (λ v. same_org v.owner s.by) (cond b (brings s a) []) ≡ true
-      own true = brings_own s a
-      own false = refl
-
       each : (v : Version) → same_org v.owner s.by ≡ true → (not (same_org v.owner o) || keep v.key) ≡ true → keep v.key ≡ true
       each v e g =
           let his : same_org v.owner o ≡ true = ap (same_org v.owner) (sym (same_org-sound s.by o h)) ∙ e in
           sym (ap (λ b. not b || keep v.key) his) ∙ g
 
-  own_caller : (n : ℕ) (w : World) (act : Act) (caller : Caller) (o : OrgId) → same_org caller.org o ≡ true → same_org (scene n w act caller).by o ≡ true
-  unfolding scene
-  own_caller n w act caller o e = e
-
   -- a request, of the organisation or of another
   request_step : (o : OrgId) (net : Net) (n : ℕ) (w : World) (act : Act) (caller : Caller) (a : Ask) → HasKnown o keep w → HasKnown o keep (asked w (scene n w act caller) a) → HasPair keep (scene n w act caller) a →
       step net n (cut_world keep w) (record act { command = erased_request o keep (scene n w act caller) caller a }) ≡ cut_world keep (asked w (scene n w act caller) a)
-  unfolding erased_request
+  unfolding erased_request scene
   request_step o net n w act caller a now later pair = by_org (same_org caller.org o) refl
     where
       s : Scene
@@ -187,7 +156,7 @@ module _ (keep : Key → Bool) (c : IsClosed keep) where
       by_org false e = other_step net n w act caller a (is_accepted s a) refl (λ h. follows s a pair h)
       by_org true e = own_step net n w act caller a
           (ap (λ x. list_all (λ row. keep row.key) (known_at w act.at x)) (same_org-sound caller.org o e) ∙ now.granted act.at)
-          (brought_kept o w s a (own_caller n w act caller o e) later)
+          (brought_kept o w s a e later)
 
   -- a request that its form refuses, a synchronisation
   misfit_step : (net : Net) (n : ℕ) (w : World) (act : Act) (caller : Caller) (b : Bool) →
@@ -201,41 +170,18 @@ module _ (keep : Key → Bool) (c : IsClosed keep) where
   route_step n w None = refl
   route_step n w (Some r) = synced_cut n w r
 
-  sync_step : (net : Net) (n : ℕ) (w : World) (act : Act) (way : Way) (link : Inst) →
-      step net n (cut_world keep w) (record act { command = Syncs way link }) ≡ cut_world keep (step net n w (record act { command = Syncs way link }))
-  unfolding step cut_world
-  sync_step net n w act way link = route_step n w (net way act.at link w.groups)
-
-  groups_step : (net : Net) (n : ℕ) (w : World) (act : Act) (caller : Caller) (gs : List Group) →
-      step net n (cut_world keep w) (record act { command = Takes_groups caller gs }) ≡ cut_world keep (step net n w (record act { command = Takes_groups caller gs }))
-  unfolding step cut_world
-  groups_step net n w act caller gs = refl
-
-  admin_step : (net : Net) (n : ℕ) (w : World) (act : Act) (by : OrgId) (add : Bool) (g : Group) →
-      step net n (cut_world keep w) (record act { command = Administers by add g }) ≡ cut_world keep (step net n w (record act { command = Administers by add g }))
-  unfolding step cut_world
-  admin_step net n w act by add g = refl
-
   -- for one act: the state after what is left of the act is what is kept of the state after it
   pub step_cut : (o : OrgId) (net : Net) (n : ℕ) (w : World) (act : Act) → HasKnown o keep w → HasKnown o keep (step net n w act) → HasPairs keep n w act →
       step net n (cut_world keep w) (erased_act o keep n w act) ≡ cut_world keep (step net n w act)
-  unfolding erased_act erased_command step scene HasPairs
+  unfolding erased_act erased_command step scene HasPairs cut_world
   step_cut o net n w act now later pairs = by_command act.command later pairs
     where
       by_command : (d : Command) → HasKnown o keep (step net n w (record act { command = d })) → HasPairs keep n w (record act { command = d }) →
           step net n (cut_world keep w) (record act { command = erased_command o keep n w (record act { command = d }) }) ≡ cut_world keep (step net n w (record act { command = d }))
       by_command (Asks caller a) l p = request_step o net n w act caller a now l p
       by_command (Misfits caller) l p = misfit_step net n w act caller (same_org caller.org o)
-      by_command (Syncs way link) l p = sync_step net n w act way link
-      by_command (Takes_groups caller gs) l p = groups_step net n w act caller gs
-      by_command (Administers by add g) l p = admin_step net n w act by add g
-      by_command Nothing l p = refl
-
-  -- what is kept at the beginning of the rest
-  kept_first : (o : OrgId) (net : Net) (n : ℕ) (w : World) (acts : List Act) → IsKept o keep net n w acts → HasKnown o keep w
-  unfolding IsKept
-  kept_first o net n w [] h = h
-  kept_first o net n w (act ∷ acts) h = h.0
+      by_command (Syncs way link) l p = route_step n w (net way act.at link w.groups)
+      by_command _ l p = refl
 
   -- after the erased acts the state is what is kept of the state after the acts
   pub run_cut : (o : OrgId) (net : Net) (n : ℕ) (w : World) (acts : List Act) → IsKept o keep net n w acts →
@@ -243,7 +189,7 @@ module _ (keep : Key → Bool) (c : IsClosed keep) where
   unfolding run erase IsKept
   run_cut o net n w [] h = refl
   run_cut o net n w (act ∷ acts) h =
-      ap (λ v. run net (suc n) v (erase o keep net (suc n) (step net n w act) acts)) (step_cut o net n w act h.0 (kept_first o net (suc n) (step net n w act) acts h.2) h.1)
+      ap (λ v. run net (suc n) v (erase o keep net (suc n) (step net n w act) acts)) (step_cut o net n w act h.0 (kept_first keep o net (suc n) (step net n w act) acts h.2) h.1)
       ∙ run_cut o net (suc n) (step net n w act) acts h.2
 
   -- what is left of another's request has no reply to the organisation
@@ -278,10 +224,7 @@ module _ (keep : Key → Bool) (c : IsClosed keep) where
       by_command : (d : Command) → reply_to o n (cut_world keep w) (record act { command = erased_command o keep n w (record act { command = d }) }) ≡ reply_to o n w (record act { command = d })
       by_command (Asks caller a) = ask_reply o n w act caller a now (same_org caller.org o) refl
       by_command (Misfits caller) = misfit_reply o n w act caller (same_org caller.org o) refl
-      by_command (Syncs way link) = refl
-      by_command (Takes_groups caller gs) = refl
-      by_command (Administers by add g) = refl
-      by_command Nothing = refl
+      by_command _ = refl
 
   -- the replies to the organisation are the same
   pub replies_cut : (o : OrgId) (net : Net) (n : ℕ) (w : World) (acts : List Act) → IsKept o keep net n w acts →
@@ -289,5 +232,5 @@ module _ (keep : Key → Bool) (c : IsClosed keep) where
   unfolding replies_to erase IsKept
   replies_cut o net n w [] h = refl
   replies_cut o net n w (act ∷ acts) h =
-      (λ i. reply_cut o n w act h.0 i ∷ replies_to o net (suc n) (step_cut o net n w act h.0 (kept_first o net (suc n) (step net n w act) acts h.2) h.1 i) (erase o keep net (suc n) (step net n w act) acts))
+      (λ i. reply_cut o n w act h.0 i ∷ replies_to o net (suc n) (step_cut o net n w act h.0 (kept_first keep o net (suc n) (step net n w act) acts h.2) h.1 i) (erase o keep net (suc n) (step net n w act) acts))
       ∙ ap (λ rs. reply_to o n w act ∷ rs) (replies_cut o net (suc n) (step net n w act) acts h.2)

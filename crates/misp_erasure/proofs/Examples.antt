@@ -1,14 +1,13 @@
 -- Worked examples, computed. Of the organisations Alpha is the first, Beta the second and Gamma the third.
 use Rattle.std.proofs.Common.{ℕ, [], ◌∷◌, false, Some, None, List, length, map, true, ◌≡◌, refl, Option, cond, ◌*◌, ◌+◌, Bool}
+use Rattle.misp_history.proofs.Prelude.{Act, AddEvent, Administers, Ask, Asks, Content, DeleteEvent, Draft, EditAttribute, EditEvent, ElemId, EventId, Group, Inst, Key, Label, Listed, Net, OrgId, Other, Place, Proposal, Publish, Refused}
+use Rattle.misp_history.proofs.Prelude.{Reply, Route, Rule, Saved, Seen, Submission, Syncs, Taken, is_less, label_kind, same_inst, tables}
 use Rattle.misp_ids.specs.declared.label.Way.TheVariants.{Pull, Push}
-use Rattle.misp_ids.specs.Labels.{label_kind}
-use Rattle.misp_rules.specs.Prelude.{Content, Draft, ElementExists, ElementFull, ElemId, EventExists, EventGone, EventId, Group, GroupNotUsable, Inst, Key, Label, NotGranted, NotOwner, OrgId, Place, Proposal, ProposalExists, Refused}
-use Rattle.misp_rules.specs.Prelude.{Reply, Rule, Saved, Submission, TimeLimit, VisibleAttribute, VisibleObject, Way, is_less, same_inst}
-use Rattle.misp_rules.specs.Answers.{Seen, Other, Taken, Listed, Shares}
+use Rattle.misp_rules.specs.Prelude.{ElementExists, ElementFull, EventExists, EventGone, GroupNotUsable, NotGranted, NotOwner, ProposalExists, TimeLimit, VisibleAttribute, VisibleObject, Way}
+use Rattle.misp_rules.specs.Answers.{Shares}
 use Rattle.misp_rules.specs.Scene.{LockedCopy, OlderTime, ProposalClosed}
 use Rattle.misp_rules.specs.Shown.{order_of}
-use Rattle.misp_history.proofs.Prelude.{Act, AddEvent, Administers, Ask, Asks, DeleteEvent, EditAttribute, EditEvent, Net, Publish, Route, Syncs, tables}
-use Rattle.misp_history.specs.Outcomes.{Whole, Stopped, run_partly}
+use Rattle.misp_history.specs.Outcomes.{Stopped, Whole, run_partly}
 use Rattle.misp_erasure.specs.Kept.{replies, erased, start}
 use Rattle.misp_elem.specs.KeyFacts
 use Rattle.misp_elem.specs.Parents
@@ -58,15 +57,18 @@ attribute number n l =
       content = Content.Attribute (record { kind = 116 ∷ []; category = 15; to_ids = false; comment = []; deleted = false; value = n ∷ []; tags = [] });
     }
 
-event_of_two : ℕ → Label → Submission
-event_of_two n l =
+event_with : ℕ → Label → List Draft → Submission
+event_with n l parts =
     record {
       event = event n;
       body = Some (record { info = 105 ∷ []; date = None; threat_level_id = 4; analysis = 0; extends_uuid = None; tags = [] });
       label = l;
-      parts = attribute 1 21 Label.Inherit ∷ attribute 2 22 Label.Own ∷ [];
+      parts = parts;
       references = [];
     }
+
+event_of_two : ℕ → Label → Submission
+event_of_two n l = event_with n l (attribute 1 21 Label.Inherit ∷ attribute 2 22 Label.Own ∷ [])
 
 no_links : Net
 no_links way i link groups = None
@@ -89,10 +91,7 @@ count None = 300
 count (Some (Seen v)) = length v.attributes
 count (Some (Refused r)) = 100
 count (Some (Saved vs)) = length vs
-count (Some (Listed vs)) = 200
-count (Some (Shares gs)) = 200
-count (Some (Taken n)) = 200
-count (Some Other) = 200
+count (Some _) = 200
 
 -- the instances a, b and c, and the links between them
 a : Inst
@@ -150,14 +149,7 @@ tell (Some (Taken n)) = 5000 + n
 tell (Some Other) = 6000
 
 add_one : ℕ → Label → Ask
-add_one n l =
-    Ask.Change (AddEvent (record {
-      event = event n;
-      body = Some (record { info = 105 ∷ []; date = None; threat_level_id = 4; analysis = 0; extends_uuid = None; tags = [] });
-      label = l;
-      parts = attribute 1 21 Label.Inherit ∷ [];
-      references = [];
-    }))
+add_one n l = Ask.Change (AddEvent (event_with n l (attribute 1 21 Label.Inherit ∷ [])))
 
 view : ℕ → Ask
 view n = Ask.View (event n) None
@@ -167,14 +159,8 @@ publish n = Ask.Change (Publish (event n))
 
 -- the stamps of the attributes that are shown, and the owner of the copy
 stamps : Option Reply → List ℕ
-stamps None = []
 stamps (Some (Seen v)) = v.row.owner.0.0 ∷ map (λ x. x.row.stamp) v.attributes
-stamps (Some (Refused r)) = []
-stamps (Some (Saved vs)) = []
-stamps (Some (Listed vs)) = []
-stamps (Some (Shares gs)) = []
-stamps (Some (Taken n)) = []
-stamps (Some Other) = []
+stamps _ = []
 
 -- an edit of the comment of an attribute
 comment : ℕ → ℕ → Ask
@@ -241,14 +227,7 @@ in_group : Label
 in_group = Label.Group (record { creator = org 1; uuid = record { 0 = 77 } })
 
 add_levels : ℕ → Label → List Draft → Ask
-add_levels n l drafts =
-    Ask.Change (AddEvent (record {
-      event = event n;
-      body = Some (record { info = 105 ∷ []; date = None; threat_level_id = 4; analysis = 0; extends_uuid = None; tags = [] });
-      label = l;
-      parts = drafts;
-      references = [];
-    }))
+add_levels n l drafts = Ask.Change (AddEvent (event_with n l drafts))
 
 -- all that a run computes with
 everything : Unit {0}
@@ -280,7 +259,7 @@ unfolding Outcomes.coming Outcomes.arriving Outcomes.takes Outcomes.first_brough
     Shown.is_proposal_on Shown.is_sighting_on Shown.is_verdict_on Shown.is_closed Shown.proposals_on Shown.sightings_on Shown.shown_attribute Shown.object_of Shown.shown_object Shown.creator
     Shown.form_of Shown.event_row Shown.shown Shown.is_chosen Shown.index View.is_row_of RowFacts.is_tombstone RowFacts.is_deleted View.has_copy View.has_home View.has_gone View.row_is_open
     View.has_open View.element_granted View.granted_somewhere View.granted_by View.granted View.is_known View.known View.is_live View.is_before View.first_of_all View.chosen View.is_least
-    count script asks no_links event_of_two elem_id event org attribute add_one a b c route links syncs asks_at rule_number tell view publish stamps comment relabel propose accept
+    count script asks no_links event_with event_of_two elem_id event org attribute add_one a b c route links syncs asks_at rule_number tell view publish stamps comment relabel propose accept
     first_references first_sightings inside group administers in_group add_levels
 everything = tt
 
@@ -380,22 +359,19 @@ a_roaming_group_lets_out : (map tell (replies (org 2) links carried) ≡ 0 ∷ 0
 unfolding everything carried
 a_roaming_group_lets_out = (refl, refl)
 
+object : Draft
+object =
+    record {
+      number = 3;
+      place = Place.Object (elem_id 31);
+      label = Label.Community;
+      content = Content.Object (record { name = 120 ∷ []; meta_category = []; description = []; comment = []; template_uuid = None; template_version = 0; deleted = false });
+    }
+
 -- a reference is shown where both its ends are; a sighting is shown to its reporter and to holders
 ends : List Act
 ends =
-    asks_at a 1 100 (Ask.Change (AddEvent (record {
-      event = event 11;
-      body = Some (record { info = 105 ∷ []; date = None; threat_level_id = 4; analysis = 0; extends_uuid = None; tags = [] });
-      label = Label.Community;
-      parts =
-          attribute 1 20 Label.Inherit ∷ attribute 2 21 Label.Own
-          ∷ record {
-            number = 3;
-            place = Place.Object (elem_id 31);
-            label = Label.Community;
-            content = Content.Object (record { name = 120 ∷ []; meta_category = []; description = []; comment = []; template_uuid = None; template_version = 0; deleted = false });
-          }
-          ∷ [];
+    asks_at a 1 100 (Ask.Change (AddEvent (record (event_with 11 Label.Community (attribute 1 20 Label.Inherit ∷ attribute 2 21 Label.Own ∷ object ∷ [])) {
       references = record { number = 4; object = elem_id 31; uuid = elem_id 41; referenced = elem_id 21; body = record { relationship_type = []; comment = []; deleted = false } } ∷ [];
     })))
     ∷ asks_at a 2 105 (Ask.Sight (event 11) (Place.Attribute (elem_id 20)) (record { uuid = elem_id 51; kind = 0; date = None; source = [] }))
@@ -404,7 +380,7 @@ ends =
 both_ends_of_a_reference : (map inside (replies (org 1) links ends) ≡ 2 ∷ 0 ∷ 1011 ∷ 0 ∷ 0 ∷ [])
     × (map inside (replies (org 2) links ends) ≡ 0 ∷ 2 ∷ 0 ∷ 1001 ∷ 0 ∷ [])
     × (map inside (replies (org 3) links ends) ≡ 0 ∷ 0 ∷ 0 ∷ 0 ∷ 1000 ∷ [])
-unfolding everything ends
+unfolding everything ends object
 both_ends_of_a_reference = (refl, refl, refl)
 
 -- of two statements of one uuid the one made at `a` stands before the one made at `ab`

@@ -1,11 +1,11 @@
 -- The kept keys are closed, and have what they are to have.
-use Rattle.std.proofs.Common.{List, [], ◌∷◌, subst, inl, inr, ◌≡◌, refl, true, ◌++◌, map, Bool, false, ap, sym, ◌∙◌, cond, ℕ, suc, ◌⊎◌, ◌&&◌, ◌||◌, not, filter}
-use Rattle.misp_rules.proofs.Prelude.{Element, ElemId, EventId, Inst, IsClosed, Key, OrgId, Place, Proposal, ProposalName, Reference, Row, Scene, Sighting, Verdict, Version, above, alike, and_from, false≢true, in_order, is_accepted}
-use Rattle.misp_rules.proofs.Prelude.{judged_place, known, list_all, list_any, or_cases, or_left, or_parts, parents, same_inst, same_inst-sound, same_org, up_to}
+use Rattle.std.proofs.Common.{List, [], ◌∷◌, subst, inl, inr, ◌≡◌, refl, true, map, Bool, false, ap, sym, ◌∙◌, ℕ, suc, ◌⊎◌, ◌||◌, not, filter}
+use Rattle.misp_history.proofs.Prelude.{Act, Ask, Asks, Command, ElemId, Element, EventId, Inst, IsClosed, Judge, Key, Net, OrgId, Place, Proposal, ProposalName, Reference, Row, Scene, Sighting, Verdict, Version, World, above, alike}
+use Rattle.misp_history.proofs.Prelude.{and_from, cases_Bool, false≢true, in_order, is_accepted, judged_place, known, known_at, list_all, list_any, newest, newest_from, or_cases, or_left, or_parts, parents, same_inst, same_inst-sound}
+use Rattle.misp_history.proofs.Prelude.{same_org, scene, step, tables}
+use Rattle.misp_rules.proofs.Prelude.{up_to}
 use Rattle.misp_rules.specs.Statements.{judged_at}
-use Rattle.misp_rules.specs.Closed.{is_proposal_of, HasPair}
-use Rattle.misp_history.proofs.Prelude.{Act, Administers, Ask, Asks, Command, Groups, Index, Judge, Misfits, Net, Nothing, Propose, Sight, Syncs, TakePart, Takes_groups, View, World, known_at, newest, newest_from, step, tables}
-use Rattle.misp_history.specs.Acts.{scene}
+use Rattle.misp_rules.specs.Closed.{HasPair, is_proposal_of}
 use Rattle.misp_erasure.proofs.Members.{Member, member, member_right, member_of, member_joined, of_joined, member_left, of_filter, is_member, member_filter, all_members}
 use Rattle.misp_erasure.specs.Kept.{judged_by, is_one_of, proposal_of, joined, with_parents, with_made, with_acceptances, with_proposals, keys_known, acceptance_in, acceptance_of, keys_ever_known, acceptances}
 use Rattle.misp_erasure.specs.Erasure.{HasKnown, HasPairs, IsKept}
@@ -25,38 +25,9 @@ one_within : (x : Key) (ys : List Key) → Member x ys → Within (x ∷ []) ys
 one_within x ys m j (inl p) = let P : Key → Type 0 = λ k. Member k ys in subst P p m
 one_within x ys m j (inr n) = absurd n
 
-two_within : (x y : Key) (ys : List Key) → Member x ys → Member y ys → Within (x ∷ y ∷ []) ys
-two_within x y ys m n j (inl p) = let P : Key → Type 0 = λ k. Member k ys in subst P p m
-two_within x y ys m n j (inr q) = one_within y ys n j q
-
 -- a key that is equal to one whose parents are here
 at_key : (j k : Key) (ys : List Key) → j ≡ k → Within (parents j) ys → Within (parents k) ys
 at_key j k ys p h = let P : Key → Type 0 = λ x. Within (parents x) ys in subst P p h
-
--- the parents of a key in a chain are in the chain
-up_to_within : (e : EventId) (t : Place) (k : Key) → Member k (up_to e t) → Within (parents k) (up_to e t)
-unfolding up_to above parents
-up_to_within e Place.Event k (inl p) = at_key (Element e Place.Event) k (up_to e Place.Event) p (none_within (up_to e Place.Event))
-up_to_within e Place.Event k (inr m) = absurd m
-up_to_within e (Place.Object x) k (inl p) = at_key (Element e Place.Event) k (up_to e (Place.Object x)) p (none_within (up_to e (Place.Object x)))
-up_to_within e (Place.Object x) k (inr (inl p)) = at_key (Element e (Place.Object x)) k (up_to e (Place.Object x)) p (one_within (Element e Place.Event) (up_to e (Place.Object x)) (inl refl))
-up_to_within e (Place.Object x) k (inr (inr m)) = absurd m
-up_to_within e (Place.Attribute x) k (inl p) = at_key (Element e Place.Event) k (up_to e (Place.Attribute x)) p (none_within (up_to e (Place.Attribute x)))
-up_to_within e (Place.Attribute x) k (inr (inl p)) = at_key (Element e (Place.Attribute x)) k (up_to e (Place.Attribute x)) p (one_within (Element e Place.Event) (up_to e (Place.Attribute x)) (inl refl))
-up_to_within e (Place.Attribute x) k (inr (inr m)) = absurd m
-up_to_within e (Place.ObjectAttribute x a) k (inl p) = at_key (Element e Place.Event) k (up_to e (Place.ObjectAttribute x a)) p (none_within (up_to e (Place.ObjectAttribute x a)))
-up_to_within e (Place.ObjectAttribute x a) k (inr (inl p)) = at_key (Element e (Place.Object x)) k (up_to e (Place.ObjectAttribute x a)) p (one_within (Element e Place.Event) (up_to e (Place.ObjectAttribute x a)) (inl refl))
-up_to_within e (Place.ObjectAttribute x a) k (inr (inr (inl p))) =
-    at_key (Element e (Place.ObjectAttribute x a)) k (up_to e (Place.ObjectAttribute x a)) p (two_within (Element e Place.Event) (Element e (Place.Object x)) (up_to e (Place.ObjectAttribute x a)) (inl refl) (inr (inl refl)))
-up_to_within e (Place.ObjectAttribute x a) k (inr (inr (inr m))) = absurd m
-
--- the event stands first in each chain
-event_first : (e : EventId) (t : Place) → Member (Element e Place.Event) (up_to e t)
-unfolding up_to above
-event_first e Place.Event = inl refl
-event_first e (Place.Object x) = inl refl
-event_first e (Place.Attribute x) = inl refl
-event_first e (Place.ObjectAttribute x a) = inl refl
 
 above_within : (e : EventId) (p : Place) (k : Key) → Member k (above e p) → Within (parents k) (above e p)
 unfolding above parents
@@ -68,6 +39,20 @@ above_within e (Place.Attribute x) k (inr m) = absurd m
 above_within e (Place.ObjectAttribute x a) k (inl p) = at_key (Element e Place.Event) k (above e (Place.ObjectAttribute x a)) p (none_within (above e (Place.ObjectAttribute x a)))
 above_within e (Place.ObjectAttribute x a) k (inr (inl p)) = at_key (Element e (Place.Object x)) k (above e (Place.ObjectAttribute x a)) p (one_within (Element e Place.Event) (above e (Place.ObjectAttribute x a)) (inl refl))
 above_within e (Place.ObjectAttribute x a) k (inr (inr m)) = absurd m
+
+-- the parents of a key in a chain are in the chain
+up_to_within : (e : EventId) (t : Place) (k : Key) → Member k (up_to e t) → Within (parents k) (up_to e t)
+unfolding up_to parents
+up_to_within e t k m = elim (member_of (above e t) (Element e t ∷ []) k m) [
+  | inl a ↦ λ j n. member_left (above e t) _ j (above_within e t k a j n)
+  | inr b ↦ elim b [ inl p ↦ at_key (Element e t) k (up_to e t) p (λ j n. member_left (above e t) _ j n) | inr x ↦ absurd x ]
+]
+
+-- the event stands first in each chain
+event_first : (e : EventId) (t : Place) → Member (Element e Place.Event) (up_to e t)
+unfolding up_to above
+event_first e Place.Event = inl refl
+event_first e t = inl refl
 
 object_parents : (e : EventId) (x : ElemId) → Within (parents (Element e (Place.Object x))) (Element e Place.Event ∷ [])
 unfolding parents above
@@ -88,101 +73,64 @@ parents_within (Sighting e t i o u) k m = up_to_within e t k m
 judged_above : (e : EventId) (t : Place) (u : ElemId) → Within (above e (judged_at t u)) (up_to e t)
 unfolding judged_at above up_to
 judged_above e Place.Event u j m = m
-judged_above e (Place.Object x) u j (inl p) = inl p
-judged_above e (Place.Object x) u j (inr m) = absurd m
-judged_above e (Place.Attribute x) u j (inl p) = inl p
-judged_above e (Place.Attribute x) u j (inr m) = absurd m
-judged_above e (Place.ObjectAttribute x a) u j (inl p) = inl p
-judged_above e (Place.ObjectAttribute x a) u j (inr (inl p)) = inr (inl p)
-judged_above e (Place.ObjectAttribute x a) u j (inr (inr m)) = absurd m
+judged_above e t u j m = member_left (above e t) (Element e t ∷ []) j m
 
 -- and the target and its parents are that or stand above it
 judged_below : (e : EventId) (t : Place) (u : ElemId) (j : Key) → Member j (up_to e t) → (Element e (judged_at t u) ≡ j) ⊎ Member j (above e (judged_at t u))
 unfolding judged_at above up_to
 judged_below e Place.Event u j m = inr m
-judged_below e (Place.Object x) u j (inl p) = inr (inl p)
-judged_below e (Place.Object x) u j (inr (inl p)) = inl p
-judged_below e (Place.Object x) u j (inr (inr m)) = absurd m
-judged_below e (Place.Attribute x) u j (inl p) = inr (inl p)
-judged_below e (Place.Attribute x) u j (inr (inl p)) = inl p
-judged_below e (Place.Attribute x) u j (inr (inr m)) = absurd m
-judged_below e (Place.ObjectAttribute x a) u j (inl p) = inr (inl p)
-judged_below e (Place.ObjectAttribute x a) u j (inr (inl p)) = inr (inr (inl p))
-judged_below e (Place.ObjectAttribute x a) u j (inr (inr (inl p))) = inl p
-judged_below e (Place.ObjectAttribute x a) u j (inr (inr (inr m))) = absurd m
+judged_below e t u j m = elim (member_of (above e t) (Element e t ∷ []) j m) [ inl a ↦ inr a | inr b ↦ elim b [ inl p ↦ inl p | inr x ↦ absurd x ] ]
 
 judged_within : (j k : Key) → Member k (judged_by j) → Within (parents k) (parents j)
 unfolding judged_by parents judged_place
-judged_within (Element e p) k m = absurd m
-judged_within (Reference e x t u) k m = absurd m
-judged_within (Proposal e n) k m = absurd m
 judged_within (Verdict e n i o) k (inl p) = at_key (Element e (judged_place n)) k (up_to e n.target) p (judged_above e n.target n.uuid)
 judged_within (Verdict e n i o) k (inr m) = absurd m
-judged_within (Sighting e t i o u) k m = absurd m
+judged_within _ k m = absurd m
 
 -- the parents of a verdict that accepts, over what it changed or made
 verdict_within : (v : Key) (ks : List Key) → IsUpward ks → list_any (is_one_of ks) (judged_by v) ≡ true → Within (parents v) ks
 unfolding judged_by parents judged_place
-verdict_within (Element e p) ks up h = absurd (false≢true h)
-verdict_within (Reference e x t u) ks up h = absurd (false≢true h)
-verdict_within (Proposal e n) ks up h = absurd (false≢true h)
-verdict_within (Sighting e t i o u) ks up h = absurd (false≢true h)
-verdict_within (Verdict e n i o) ks up h = λ j m. one j (judged_below e n.target n.uuid j m)
+verdict_within (Verdict e n i o) ks up h = λ j m. elim (judged_below e n.target n.uuid j m) [ inl p ↦ (let P : Key → Type 0 = λ x. Member x ks in subst P p judged) | inr a ↦ up (Element e (judged_place n)) judged j a ]
   where
     judged : Member (Element e (judged_place n)) ks
     judged = member ks (Element e (judged_place n)) (elim (or_cases _ _ h) [ inl e ↦ e | inr e ↦ absurd (false≢true e) ])
-
-    one : (j : Key) → (Element e (judged_at n.target n.uuid) ≡ j) ⊎ Member j (above e (judged_at n.target n.uuid)) → Member j ks
-    one j (inl p) = let P : Key → Type 0 = λ x. Member x ks in subst P p judged
-    one j (inr a) = up (Element e (judged_place n)) judged j a
+verdict_within _ ks up h = absurd (false≢true h)
 
 proposal_within : (j k : Key) → Member k (proposal_of j) → Within (parents k) (parents j)
 unfolding proposal_of parents
-proposal_within (Element e p) k m = absurd m
-proposal_within (Reference e x t u) k m = absurd m
-proposal_within (Proposal e n) k m = absurd m
-proposal_within (Sighting e t i o u) k m = absurd m
 proposal_within (Verdict e n i o) k (inl p) = at_key (Proposal e n) k (up_to e n.target) p (λ i m. m)
 proposal_within (Verdict e n i o) k (inr m) = absurd m
+proposal_within _ k m = absurd m
 
 -- each step keeps the set upward
 parents_upward : (ks : List Key) → IsUpward (with_parents ks)
 unfolding with_parents
-parents_upward ks k m = one (member_of ks (joined (map parents ks)) k m)
-  where
-    one : Member k ks ⊎ Member k (joined (map parents ks)) → Within (parents k) (ks ++ joined (map parents ks))
-    one (inl a) j n = member_right ks _ j (member_joined parents ks k j a n)
-    one (inr b) j n =
-        let r : (i : Key) × Member i ks × Member k (parents i) = of_joined parents ks k b in
-        member_right ks _ j (member_joined parents ks r.0 j r.1 (parents_within r.0 k r.2 j n))
+parents_upward ks k m = elim (member_of ks (joined (map parents ks)) k m) [
+  | inl a ↦ λ j n. member_right ks _ j (member_joined parents ks k j a n)
+  | inr b ↦ (let r : (i : Key) × Member i ks × Member k (parents i) = of_joined parents ks k b in λ j n. member_right ks _ j (member_joined parents ks r.0 j r.1 (parents_within r.0 k r.2 j n)))
+]
 
 made_upward : (acc ks : List Key) → IsUpward ks → IsUpward (with_made acc ks)
 unfolding with_made
-made_upward acc ks up k m = one (member_of ks _ k m)
-  where
-    one : Member k ks ⊎ Member k (joined (map judged_by (filter (is_one_of ks) acc))) → Within (parents k) (ks ++ joined (map judged_by (filter (is_one_of ks) acc)))
-    one (inl a) j n = member_left ks _ j (up k a j n)
-    one (inr b) j n =
-        let r : (i : Key) × Member i (filter (is_one_of ks) acc) × Member k (judged_by i) = of_joined judged_by (filter (is_one_of ks) acc) k b in
-        member_left ks _ j (up r.0 (member ks r.0 (of_filter (is_one_of ks) acc r.0 r.1).1) j (judged_within r.0 k r.2 j n))
+made_upward acc ks up k m = elim (member_of ks (joined (map judged_by (filter (is_one_of ks) acc))) k m) [
+  | inl a ↦ λ j n. member_left ks _ j (up k a j n)
+  | inr b ↦ (let r : (i : Key) × Member i (filter (is_one_of ks) acc) × Member k (judged_by i) = of_joined judged_by (filter (is_one_of ks) acc) k b in
+      λ j n. member_left ks _ j (up r.0 (member ks r.0 (of_filter (is_one_of ks) acc r.0 r.1).1) j (judged_within r.0 k r.2 j n)))
+]
 
 acceptances_upward : (acc ks : List Key) → IsUpward ks → IsUpward (with_acceptances acc ks)
 unfolding with_acceptances
-acceptances_upward acc ks up k m = one (member_of ks _ k m)
-  where
-    one : Member k ks ⊎ Member k (filter (λ v. list_any (is_one_of ks) (judged_by v)) acc) → Within (parents k) (ks ++ filter (λ v. list_any (is_one_of ks) (judged_by v)) acc)
-    one (inl a) j n = member_left ks _ j (up k a j n)
-    one (inr b) j n = member_left ks _ j (verdict_within k ks up (of_filter (λ v. list_any (is_one_of ks) (judged_by v)) acc k b).1 j n)
+acceptances_upward acc ks up k m = elim (member_of ks (filter (λ v. list_any (is_one_of ks) (judged_by v)) acc) k m) [
+  | inl a ↦ λ j n. member_left ks _ j (up k a j n)
+  | inr b ↦ λ j n. member_left ks _ j (verdict_within k ks up (of_filter (λ v. list_any (is_one_of ks) (judged_by v)) acc k b).1 j n)
+]
 
 proposals_upward : (ks : List Key) → IsUpward ks → IsUpward (with_proposals ks)
 unfolding with_proposals
-proposals_upward ks up k m = one (member_of ks _ k m)
-  where
-    one : Member k ks ⊎ Member k (joined (map proposal_of ks)) → Within (parents k) (ks ++ joined (map proposal_of ks))
-    one (inl a) j n = member_left ks _ j (up k a j n)
-    one (inr b) j n =
-        let r : (i : Key) × Member i ks × Member k (proposal_of i) = of_joined proposal_of ks k b in
-        member_left ks _ j (up r.0 r.1 j (proposal_within r.0 k r.2 j n))
+proposals_upward ks up k m = elim (member_of ks (joined (map proposal_of ks)) k m) [
+  | inl a ↦ λ j n. member_left ks _ j (up k a j n)
+  | inr b ↦ (let r : (i : Key) × Member i ks × Member k (proposal_of i) = of_joined proposal_of ks k b in λ j n. member_left ks _ j (up r.0 r.1 j (proposal_within r.0 k r.2 j n)))
+]
 
 -- the keys that are kept, of what is known and of the acceptances
 unfoldable pub all_kept : List Key → List Key → List Key
@@ -190,44 +138,29 @@ all_kept seen acc = with_proposals (with_acceptances acc (with_made acc (with_pa
 
 is_verdict : Key → Bool
 is_verdict (Verdict e n i o) = true
-is_verdict (Element e p) = false
-is_verdict (Reference e x t u) = false
-is_verdict (Proposal e n) = false
-is_verdict (Sighting e t i o u) = false
+is_verdict _ = false
 
 is_element : Key → Bool
 is_element (Element e p) = true
-is_element (Verdict e n i o) = false
-is_element (Reference e x t u) = false
-is_element (Proposal e n) = false
-is_element (Sighting e t i o u) = false
+is_element _ = false
 
 -- a proposal is no verdict and no element, and what a verdict changed or made is no verdict
 no_proposal : (j k : Key) → Member k (proposal_of j) → (is_verdict k ≡ false) × (is_element k ≡ false)
 unfolding proposal_of is_verdict is_element
-no_proposal (Element e p) k m = absurd m
-no_proposal (Reference e x t u) k m = absurd m
-no_proposal (Proposal e n) k m = absurd m
-no_proposal (Sighting e t i o u) k m = absurd m
 no_proposal (Verdict e n i o) k (inl p) = (ap is_verdict (sym p), ap is_element (sym p))
 no_proposal (Verdict e n i o) k (inr m) = absurd m
+no_proposal _ k m = absurd m
 
 no_verdict : (j k : Key) → Member k (judged_by j) → is_verdict k ≡ false
 unfolding judged_by is_verdict
-no_verdict (Element e p) k m = absurd m
-no_verdict (Reference e x t u) k m = absurd m
-no_verdict (Proposal e n) k m = absurd m
-no_verdict (Sighting e t i o u) k m = absurd m
 no_verdict (Verdict e n i o) k (inl p) = ap is_verdict (sym p)
 no_verdict (Verdict e n i o) k (inr m) = absurd m
+no_verdict _ k m = absurd m
 
 of_verdict : (k p : Key) → is_proposal_of k p → Member p (proposal_of k) × (is_verdict k ≡ true)
 unfolding is_proposal_of proposal_of is_verdict
 of_verdict (Verdict e n i o) p q = (inl (sym q), refl)
-of_verdict (Element e x) p q = absurd q
-of_verdict (Reference e x t u) p q = absurd q
-of_verdict (Proposal e n) p q = absurd q
-of_verdict (Sighting e t i o u) p q = absurd q
+of_verdict _ p q = absurd q
 
 module _ (seen acc : List Key) where
   -- the set after each selection
@@ -277,23 +210,20 @@ module _ (seen acc : List Key) where
 
     from_verdict : Member verdict third → Member judged second
     unfolding with_acceptances with_made judged_by is_verdict
-    from_verdict a = one (member_of second (filter (λ v. list_any (is_one_of second) (judged_by v)) acc) verdict a)
-      where
-        two : Member verdict first ⊎ Member verdict (joined (map judged_by (filter (is_one_of first) acc))) → Member judged second
-        two (inl b) = member_right first _ judged (member_joined judged_by (filter (is_one_of first) acc) verdict judged (member_filter (is_one_of first) acc verdict m (is_member first verdict b)) (inl refl))
-        two (inr b) = absurd (let r : (j : Key) × Member j (filter (is_one_of first) acc) × Member verdict (judged_by j) = of_joined judged_by (filter (is_one_of first) acc) verdict b in false≢true (sym (no_verdict r.0 verdict r.2)))
-
-        one : Member verdict second ⊎ Member verdict (filter (λ v. list_any (is_one_of second) (judged_by v)) acc) → Member judged second
-        one (inl b) = two (member_of first _ verdict b)
-        one (inr b) = member second judged (elim (or_cases _ _ (of_filter (λ v. list_any (is_one_of second) (judged_by v)) acc verdict b).1) [ inl x ↦ x | inr x ↦ absurd (false≢true x) ])
+    from_verdict a = elim (member_of second (filter (λ v. list_any (is_one_of second) (judged_by v)) acc) verdict a) [
+      | inl b ↦ elim (member_of first _ verdict b) [
+        | inl f ↦ member_right first _ judged (member_joined judged_by (filter (is_one_of first) acc) verdict judged (member_filter (is_one_of first) acc verdict m (is_member first verdict f)) (inl refl))
+        | inr g ↦ absurd (let r : (j : Key) × Member j (filter (is_one_of first) acc) × Member verdict (judged_by j) = of_joined judged_by (filter (is_one_of first) acc) verdict g in false≢true (sym (no_verdict r.0 verdict r.2)))
+      ]
+      | inr b ↦ member second judged (elim (or_cases _ _ (of_filter (λ v. list_any (is_one_of second) (judged_by v)) acc verdict b).1) [ inl x ↦ x | inr x ↦ absurd (false≢true x) ])
+    ]
 
     from_judged : Member judged third → Member verdict third
     unfolding with_acceptances judged_by
-    from_judged a = one (member_of second (filter (λ v. list_any (is_one_of second) (judged_by v)) acc) judged a)
-      where
-        one : Member judged second ⊎ Member judged (filter (λ v. list_any (is_one_of second) (judged_by v)) acc) → Member verdict third
-        one (inl b) = member_right second _ verdict (member_filter (λ v. list_any (is_one_of second) (judged_by v)) acc verdict m (or_left _ _ (is_member second judged b)))
-        one (inr b) = absurd (false≢true (of_filter (λ v. list_any (is_one_of second) (judged_by v)) acc judged b).1)
+    from_judged a = elim (member_of second (filter (λ v. list_any (is_one_of second) (judged_by v)) acc) judged a) [
+      | inl b ↦ member_right second _ verdict (member_filter (λ v. list_any (is_one_of second) (judged_by v)) acc verdict m (or_left _ _ (is_member second judged b)))
+      | inr b ↦ absurd (false≢true (of_filter (λ v. list_any (is_one_of second) (judged_by v)) acc judged b).1)
+    ]
 
     pub has_pair : is_one_of (all_kept seen acc) verdict ≡ is_one_of (all_kept seen acc) judged
     unfolding is_verdict is_element
@@ -337,13 +267,10 @@ module _ (o : OrgId) (w : World) where
   own_keys : (keep : Key → Bool) (ks : List Key) → ((k : Key) → Member k ks → keep k ≡ true) → (log : List Version) → Within (map (λ v. v.key) (filter (λ v. same_org v.owner o) log)) ks →
       list_all (λ v. not (same_org v.owner o) || keep v.key) log ≡ true
   own_keys keep ks h [] m = refl
-  own_keys keep ks h (v ∷ log) m = one (same_org v.owner o) refl (own_keys keep ks h log) m
-    where
-      one : (b : Bool) → same_org v.owner o ≡ b → (Within (map (λ v. v.key) (filter (λ v. same_org v.owner o) log)) ks → list_all (λ v. not (same_org v.owner o) || keep v.key) log ≡ true) →
-          Within (map (λ (v : Version). v.key) (cond b (v ∷ filter (λ v. same_org v.owner o) log) (filter (λ v. same_org v.owner o) log))) ks →
-          ((not b || keep v.key) && list_all (λ v. not (same_org v.owner o) || keep v.key) log) ≡ true
-      one true e ih m = and_from _ _ (h v.key (m v.key (inl refl))) (ih (λ k n. m k (inr n)))
-      one false e ih m = ih m
+  own_keys keep ks h (v ∷ log) m = elim (cases_Bool (same_org v.owner o)) [
+    | inl e ↦ (let n : Within (v.key ∷ map (λ v. v.key) (filter (λ v. same_org v.owner o) log)) ks = rw e at m in rw e (and_from _ _ (h v.key (n v.key (inl refl))) (own_keys keep ks h log (λ k x. n k (inr x)))))
+    | inr e ↦ rw e (own_keys keep ks h log (rw e at m))
+  ]
 
   nothing_known : (i : Inst) → list_any (λ v. same_inst v.at i) w.log ≡ false → known_at w i o ≡ []
   unfolding known_at known tables newest in_order
@@ -353,13 +280,12 @@ module _ (o : OrgId) (w : World) where
   unfolding keys_known
   has_known seen acc m =
       record {
-        granted = λ i. at i (list_any (λ v. same_inst v.at i) w.log) refl;
+        granted = λ i. elim (cases_Bool (list_any (λ v. same_inst v.at i) w.log)) [
+          | inl e ↦ all_rows (is_one_of (all_kept seen acc)) seen (seen_kept seen acc) (known_at w i o) (at_version i seen w.log e (λ k n. m k (member_left _ _ k n)))
+          | inr e ↦ rw (nothing_known i e) refl
+        ];
         own = own_keys (is_one_of (all_kept seen acc)) seen (seen_kept seen acc) w.log (λ k n. m k (member_right (joined (map (λ v. map (λ row. row.key) (known_at w v.at o)) w.log)) _ k n));
       }
-    where
-      at : (i : Inst) (b : Bool) → list_any (λ v. same_inst v.at i) w.log ≡ b → list_all (λ row. is_one_of (all_kept seen acc) row.key) (known_at w i o) ≡ true
-      at i true e = all_rows (is_one_of (all_kept seen acc)) seen (seen_kept seen acc) (known_at w i o) (at_version i seen w.log e (λ k n. m k (member_left _ _ k n)))
-      at i false e = ap (λ rows. list_all (λ (row : Row). is_one_of (all_kept seen acc) row.key) rows) (nothing_known i e)
 
 -- an accepted acceptance is one of the acceptances
 acceptance_there : (s : Scene) (e : EventId) (n : ProposalName) → is_accepted s (Judge e n true) ≡ true → Member (Verdict e n s.at s.by) (acceptance_in s (Judge e n true))
@@ -370,13 +296,7 @@ pair_in : (seen acc : List Key) (s : Scene) (a : Ask) → Within (acceptance_in 
 unfolding HasPair
 pair_in seen acc s (Judge e n true) m = λ h. has_pair seen acc e n s.at s.by (m (Verdict e n s.at s.by) (acceptance_there s e n h))
 pair_in seen acc s (Judge e n false) m = tt
-pair_in seen acc s (View e owner) m = tt
-pair_in seen acc s (Ask.Change c) m = tt
-pair_in seen acc s (Propose d) m = tt
-pair_in seen acc s (Sight e t d) m = tt
-pair_in seen acc s Index m = tt
-pair_in seen acc s Groups m = tt
-pair_in seen acc s (TakePart p) m = tt
+pair_in seen acc s _ m = tt
 
 pairs_in : (seen acc : List Key) (n : ℕ) (w : World) (act : Act) → Within (acceptance_of n w act) acc → HasPairs (is_one_of (all_kept seen acc)) n w act
 unfolding HasPairs acceptance_of scene
@@ -384,11 +304,7 @@ pairs_in seen acc n w act m = by_command act.command m
   where
     by_command : (d : Command) → Within (acceptance_of n w (record act { command = d })) acc → HasPairs (is_one_of (all_kept seen acc)) n w (record act { command = d })
     by_command (Asks c a) m = pair_in seen acc (scene n w act c) a m
-    by_command (Misfits c) m = tt
-    by_command (Syncs way link) m = tt
-    by_command (Takes_groups c gs) m = tt
-    by_command (Administers by add g) m = tt
-    by_command Nothing m = tt
+    by_command _ m = tt
 
 -- the set has what it is to have, all along the acts
 pub is_kept : (seen acc : List Key) (o : OrgId) (net : Net) (n : ℕ) (w : World) (acts : List Act) →

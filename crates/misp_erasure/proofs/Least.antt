@@ -1,10 +1,9 @@
 -- The kept keys are the least set that is closed and has what it is to have.
 use Rattle.std.proofs.Common.{◌≡◌, List, Bool, true, ℕ, [], ◌∷◌, false, refl, ap, sym, ◌∙◌, map, subst, inl, inr, cond, suc, ◌||◌, ◌⊎◌, not, filter}
-use Rattle.std.proofs.lemmas.Bool.{or_cases}
-use Rattle.misp_rules.specs.Prelude.{Element, EventId, IsClosed, Key, OrgId, Proposal, ProposalName, Reference, Row, Scene, Sighting, Verdict, Version, is_accepted, is_proposal_of, judged_place, list_all, list_any, parents, same_org}
+use Rattle.misp_history.proofs.Prelude.{Act, Ask, Asks, Command, Element, EventId, IsClosed, Judge, Key, Net, OrgId, ProposalName, Row, Scene, Verdict, Version, World, and_parts, cases_Bool, false≢true, is_accepted, judged_place, known_at}
+use Rattle.misp_history.proofs.Prelude.{list_all, list_any, or_cases, parents, same_org, scene, step}
+use Rattle.misp_rules.specs.Prelude.{is_proposal_of}
 use Rattle.misp_rules.specs.Closed.{HasPair}
-use Rattle.misp_history.proofs.Prelude.{Act, Administers, Ask, Asks, Command, Groups, Index, Judge, Misfits, Net, Nothing, Propose, Sight, Syncs, TakePart, Takes_groups, View, World, and_parts, false≢true, known_at, step}
-use Rattle.misp_history.specs.Acts.{scene}
 use Rattle.misp_erasure.proofs.Members.{Member, member, member_of, of_joined, of_filter}
 use Rattle.misp_erasure.specs.Erasure.{HasKnown, HasPairs, IsKept}
 use Rattle.misp_erasure.specs.Kept.{is_one_of, joined, keys_known, keys_ever_known, acceptance_in, acceptance_of, acceptances, judged_by, proposal_of, with_parents, with_made, with_acceptances, with_proposals}
@@ -23,24 +22,17 @@ module _ (keep : Key → Bool) where
   there_kept : (o : OrgId) (w : World) → HasKnown o keep w → (log : List Version) → AllKept keep (joined (map (λ v. map (λ row. row.key) (known_at w v.at o)) log))
   unfolding joined
   there_kept o w h [] k m = absurd m
-  there_kept o w h (v ∷ log) k m = one (there_kept o w h log k) (member_of (map (λ row. row.key) (known_at w v.at o)) _ k m)
-    where
-      one : (Member k (joined (map (λ v. map (λ row. row.key) (known_at w v.at o)) log)) → keep k ≡ true) →
-          Member k (map (λ row. row.key) (known_at w v.at o)) ⊎ Member k (joined (map (λ v. map (λ row. row.key) (known_at w v.at o)) log)) → keep k ≡ true
-      one ih (inl a) = rows_kept (known_at w v.at o) (h.granted v.at) k a
-      one ih (inr b) = ih b
+  there_kept o w h (v ∷ log) k m = elim (member_of (map (λ row. row.key) (known_at w v.at o)) _ k m) [ inl a ↦ rows_kept (known_at w v.at o) (h.granted v.at) k a | inr b ↦ there_kept o w h log k b ]
 
   own_kept : (o : OrgId) (log : List Version) → list_all (λ v. not (same_org v.owner o) || keep v.key) log ≡ true → AllKept keep (map (λ v. v.key) (filter (λ v. same_org v.owner o) log))
   own_kept o [] h k m = absurd m
   own_kept o (v ∷ log) h k m =
-      one (same_org v.owner o) (and_parts (not (same_org v.owner o) || keep v.key) (list_all (λ v. not (same_org v.owner o) || keep v.key) log) h).0
-      (own_kept o log (and_parts (not (same_org v.owner o) || keep v.key) (list_all (λ v. not (same_org v.owner o) || keep v.key) log) h).1 k) m
-    where
-      one : (b : Bool) → (not b || keep v.key) ≡ true → (Member k (map (λ v. v.key) (filter (λ v. same_org v.owner o) log)) → keep k ≡ true) →
-          Member k (map (λ (v : Version). v.key) (cond b (v ∷ filter (λ v. same_org v.owner o) log) (filter (λ v. same_org v.owner o) log))) → keep k ≡ true
-      one true g ih (inl p) = ap keep (sym p) ∙ g
-      one true g ih (inr n) = ih n
-      one false g ih n = ih n
+      let two = and_parts (not (same_org v.owner o) || keep v.key) (list_all (λ v. not (same_org v.owner o) || keep v.key) log) h in
+      elim (cases_Bool (same_org v.owner o)) [
+        | inl e ↦ (let n : (v.key ≡ k) ⊎ Member k (map (λ v. v.key) (filter (λ v. same_org v.owner o) log)) = rw e at m in
+            elim n [ inl p ↦ ap keep (sym p) ∙ sym (ap (λ b. not b || keep v.key) e) ∙ two.0 | inr l ↦ own_kept o log two.1 k l ])
+        | inr e ↦ own_kept o log two.1 k (rw e at m)
+      ]
 
   known_kept : (o : OrgId) (w : World) → HasKnown o keep w → AllKept keep (keys_known o w)
   unfolding keys_known
@@ -49,11 +41,7 @@ module _ (keep : Key → Bool) where
   pub ever_kept : (o : OrgId) (net : Net) (n : ℕ) (w : World) (acts : List Act) → IsKept o keep net n w acts → AllKept keep (keys_ever_known o net n w acts)
   unfolding keys_ever_known IsKept
   ever_kept o net n w [] h k m = known_kept o w h k m
-  ever_kept o net n w (act ∷ acts) h k m = one (ever_kept o net (suc n) (step net n w act) acts h.2 k) (member_of (keys_known o w) _ k m)
-    where
-      one : (Member k (keys_ever_known o net (suc n) (step net n w act) acts) → keep k ≡ true) → Member k (keys_known o w) ⊎ Member k (keys_ever_known o net (suc n) (step net n w act) acts) → keep k ≡ true
-      one ih (inl a) = known_kept o w h.0 k a
-      one ih (inr b) = ih b
+  ever_kept o net n w (act ∷ acts) h k m = elim (member_of (keys_known o w) _ k m) [ inl a ↦ known_kept o w h.0 k a | inr b ↦ ever_kept o net (suc n) (step net n w act) acts h.2 k b ]
 
   -- what a verdict and what it changed or made have in common
   abbrev pub IsPaired : List Key → Type 0
@@ -76,13 +64,7 @@ module _ (keep : Key → Bool) where
       one true e1 v (inr x) j m = absurd x
       one false e1 v m j x = absurd m
   pair_in_ask s (Judge e n false) h = λ v m. absurd m
-  pair_in_ask s (View e owner) h = λ v m. absurd m
-  pair_in_ask s (Ask.Change c) h = λ v m. absurd m
-  pair_in_ask s (Propose d) h = λ v m. absurd m
-  pair_in_ask s (Sight e t d) h = λ v m. absurd m
-  pair_in_ask s Index h = λ v m. absurd m
-  pair_in_ask s Groups h = λ v m. absurd m
-  pair_in_ask s (TakePart p) h = λ v m. absurd m
+  pair_in_ask s _ h = λ v m. absurd m
 
   pair_in_act : (n : ℕ) (w : World) (act : Act) → HasPairs keep n w act → IsPaired (acceptance_of n w act)
   unfolding acceptance_of HasPairs scene
@@ -90,21 +72,12 @@ module _ (keep : Key → Bool) where
     where
       by_command : (d : Command) → HasPairs keep n w (record act { command = d }) → IsPaired (acceptance_of n w (record act { command = d }))
       by_command (Asks c a) h = pair_in_ask (scene n w act c) a h
-      by_command (Misfits c) h = λ v m. absurd m
-      by_command (Syncs way link) h = λ v m. absurd m
-      by_command (Takes_groups c gs) h = λ v m. absurd m
-      by_command (Administers by add g) h = λ v m. absurd m
-      by_command Nothing h = λ v m. absurd m
+      by_command _ h = λ v m. absurd m
 
   pub pairs_in_acts : (o : OrgId) (net : Net) (n : ℕ) (w : World) (acts : List Act) → IsKept o keep net n w acts → IsPaired (acceptances net n w acts)
   unfolding acceptances IsKept
   pairs_in_acts o net n w [] h = λ v m. absurd m
-  pairs_in_acts o net n w (act ∷ acts) h = λ v m j x. one v j x (pairs_in_acts o net (suc n) (step net n w act) acts h.2 v) (member_of (acceptance_of n w act) _ v m)
-    where
-      one : (v j : Key) → Member j (judged_by v) → (Member v (acceptances net (suc n) (step net n w act) acts) → (j : Key) → Member j (judged_by v) → keep v ≡ keep j) →
-          Member v (acceptance_of n w act) ⊎ Member v (acceptances net (suc n) (step net n w act) acts) → keep v ≡ keep j
-      one v j x ih (inl a) = pair_in_act n w act h.1 v a j x
-      one v j x ih (inr b) = ih b j x
+  pairs_in_acts o net n w (act ∷ acts) h = λ v m j x. elim (member_of (acceptance_of n w act) _ v m) [ inl a ↦ pair_in_act n w act h.1 v a j x | inr b ↦ pairs_in_acts o net (suc n) (step net n w act) acts h.2 v b j x ]
 
   all_of : (ks : List Key) (k : Key) → list_all keep ks ≡ true → Member k ks → keep k ≡ true
   all_of [] k h m = absurd m
@@ -115,19 +88,13 @@ module _ (keep : Key → Bool) where
   judged_in : (ks : List Key) (v : Key) → list_any (is_one_of ks) (judged_by v) ≡ true → (j : Key) × Member j (judged_by v) × Member j ks
   unfolding judged_by
   judged_in ks (Verdict e n i o) h = (Element e (judged_place n), inl refl, member ks _ (elim (or_cases _ _ h) [ inl x ↦ x | inr x ↦ absurd (false≢true x) ]))
-  judged_in ks (Element e p) h = absurd (false≢true h)
-  judged_in ks (Reference e x t u) h = absurd (false≢true h)
-  judged_in ks (Proposal e n) h = absurd (false≢true h)
-  judged_in ks (Sighting e t i o u) h = absurd (false≢true h)
+  judged_in ks _ h = absurd (false≢true h)
 
   of_proposal : (j k : Key) → Member k (proposal_of j) → is_proposal_of j k
   unfolding proposal_of is_proposal_of
   of_proposal (Verdict e n i o) k (inl p) = sym p
   of_proposal (Verdict e n i o) k (inr m) = absurd m
-  of_proposal (Element e p) k m = absurd m
-  of_proposal (Reference e x t u) k m = absurd m
-  of_proposal (Proposal e n) k m = absurd m
-  of_proposal (Sighting e t i o u) k m = absurd m
+  of_proposal _ k m = absurd m
 
   module _ (c : IsClosed keep) (seen acc : List Key) (had : AllKept keep seen) (pairs : IsPaired acc) where
     parents_kept : AllKept keep (with_parents seen)

@@ -1,6 +1,6 @@
 -- Members of lists of keys.
-use Rattle.std.proofs.Common.{◌≡◌, List, [], ◌∷◌, true, inl, inr, ap, sym, ◌∙◌, ◌++◌, map, subst, refl, Bool, false, ◌⊎◌, cond, filter}
-use Rattle.misp_rules.proofs.Prelude.{Key, and_from, false≢true, list_all, or_cases, or_left, or_right, same_key, same_key-refl, same_key-sound}
+use Rattle.std.proofs.Common.{◌≡◌, List, [], ◌∷◌, true, inl, inr, ap, sym, ◌∙◌, ◌++◌, map, subst, refl, Bool, ◌⊎◌, filter}
+use Rattle.misp_history.proofs.Prelude.{Key, and_from, cases_Bool, false≢true, list_all, or_cases, or_left, or_right, same_key, same_key-refl, same_key-sound}
 use Rattle.misp_erasure.specs.Kept.{is_one_of, joined}
 
 -- the key is in the list
@@ -42,30 +42,21 @@ member_joined f (x ∷ ks) j k (inr m) h = member_right (f x) (joined (map f ks)
 pub of_joined : (f : Key → List Key) (ks : List Key) (k : Key) → Member k (joined (map f ks)) → (j : Key) × Member j ks × Member k (f j)
 unfolding joined
 of_joined f [] k m = absurd m
-of_joined f (x ∷ ks) k m = one (of_joined f ks k) (member_of (f x) (joined (map f ks)) k m)
-  where
-    one : (Member k (joined (map f ks)) → (j : Key) × Member j ks × Member k (f j)) → Member k (f x) ⊎ Member k (joined (map f ks)) → (j : Key) × Member j (x ∷ ks) × Member k (f j)
-    one ih (inl a) = (x, inl refl, a)
-    one ih (inr b) = let r : (j : Key) × Member j ks × Member k (f j) = ih b in (r.0, inr r.1, r.2)
+of_joined f (x ∷ ks) k m = elim (member_of (f x) (joined (map f ks)) k m) [ inl a ↦ (x, inl refl, a) | inr b ↦ (let r : (j : Key) × Member j ks × Member k (f j) = of_joined f ks k b in (r.0, inr r.1, r.2)) ]
 
 pub member_filter : (q : Key → Bool) (ks : List Key) (k : Key) → Member k ks → q k ≡ true → Member k (filter q ks)
 member_filter q [] k m h = absurd m
-member_filter q (x ∷ ks) k m h = one (q x) refl (member_filter q ks k) m
-  where
-    one : (b : Bool) → q x ≡ b → (Member k ks → q k ≡ true → Member k (filter q ks)) → Member k (x ∷ ks) → Member k (cond b (x ∷ filter q ks) (filter q ks))
-    one true e ih (inl p) = inl p
-    one true e ih (inr n) = inr (ih n h)
-    one false e ih (inl p) = absurd (false≢true (sym e ∙ ap q p ∙ h))
-    one false e ih (inr n) = ih n h
+member_filter q (x ∷ ks) k m h = elim (cases_Bool (q x)) [
+  | inl e ↦ rw e (elim m [ inl p ↦ inl p | inr n ↦ inr (member_filter q ks k n h) ])
+  | inr e ↦ rw e (elim m [ inl p ↦ absurd (false≢true (sym e ∙ ap q p ∙ h)) | inr n ↦ member_filter q ks k n h ])
+]
 
 pub of_filter : (q : Key → Bool) (ks : List Key) (k : Key) → Member k (filter q ks) → Member k ks × (q k ≡ true)
 of_filter q [] k m = absurd m
-of_filter q (x ∷ ks) k m = one (q x) refl (of_filter q ks k) m
-  where
-    one : (b : Bool) → q x ≡ b → (Member k (filter q ks) → Member k ks × (q k ≡ true)) → Member k (cond b (x ∷ filter q ks) (filter q ks)) → Member k (x ∷ ks) × (q k ≡ true)
-    one true e ih (inl p) = (inl p, ap q (sym p) ∙ e)
-    one true e ih (inr n) = (inr (ih n).0, (ih n).1)
-    one false e ih n = (inr (ih n).0, (ih n).1)
+of_filter q (x ∷ ks) k m = elim (cases_Bool (q x)) [
+  | inl e ↦ (let n : (x ≡ k) ⊎ Member k (filter q ks) = rw e at m in elim n [ inl p ↦ (inl p, ap q (sym p) ∙ e) | inr l ↦ (let r = of_filter q ks k l in (inr r.0, r.1)) ])
+  | inr e ↦ (let r = of_filter q ks k (rw e at m) in (inr r.0, r.1))
+]
 
 -- all of one list are in another
 pub all_members : (xs ys : List Key) → ((k : Key) → Member k xs → Member k ys) → list_all (is_one_of ys) xs ≡ true

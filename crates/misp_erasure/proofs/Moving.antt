@@ -1,9 +1,7 @@
 -- What passes of a history that was cut is what is kept of what passes, and so for what counts.
 use Rattle.std.proofs.Common.{◌≡◌, List, Bool, ap, ◌∙◌, filter}
-use Rattle.misp_lists.proofs.Lists.{filter_cut}
-use Rattle.misp_history.proofs.Prelude.{Group, IsClosed, Key, Route, Version, cut, cut_rows, known, known_cut, newest, passes, passing, row_of, tables, tables_cut}
-use Rattle.misp_history.specs.Passing.{known_there}
-use Rattle.misp_history.proofs.Tables.{row_of_cut, newest_cut}
+use Rattle.misp_history.proofs.Prelude.{Group, IsClosed, Key, Route, Version, cut, cut_rows, filter_cut, known, known_cut, known_there, newest, passes, passing, row_of, tables, tables_cut}
+use Rattle.misp_history.proofs.Tables.{newest_cut, row_of_cut}
 use Rattle.misp_history.proofs.Moving.{passes_cut}
 
 known_there_cut : (keep : Key → Bool) → IsClosed keep → (log : List Version) (groups : List Group) (route : Route) → known_there (cut keep log) groups route ≡ cut_rows keep (known_there log groups route)

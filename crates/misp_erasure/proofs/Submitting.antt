@@ -1,29 +1,24 @@
 -- What is left of adding an event or parts is accepted over the kept rows, and brings there what is kept.
 use Rattle.std.proofs.Common.{◌≡◌, Bool, true, false, refl, sym, arith, ap, ℕ, List, [], ◌∷◌, ◌++◌, map, eqb, ◌∙◌, ◌&&◌, ◌||◌, not, Option, Some, None, option_map, option_to_list, eq-eqb, filter, find, filter_map}
+use Rattle.misp_history.proofs.Prelude.{AddEvent, AddParts, Ask, Content, Draft, ElemId, Element, EventId, IsClosed, Key, Label, Place, Reference, ReferenceDraft, Row, Rule, Scene, Submission, Version, above, and_from, and_parts, any_cut}
+use Rattle.misp_history.proofs.Prelude.{any_weaker, are_distinct, ask_rules, bars, brings, change_rules, change_writes, clashes, cut, cut_rows, event_key, event_of, event_written, false≢true, filter-map, filter_cut, filter_never}
+use Rattle.misp_history.proofs.Prelude.{find_passes, has_target, has_unusable, holds_copy, holds_home, holds_tombstone, is_accepted, is_live, is_taken, list_all, list_any, new_event, none_refuses, not-false, or_from, or_parts, parents}
+use Rattle.misp_history.proofs.Prelude.{part_version, parts_written, reference_key, reference_version, refuses, same_event, same_event-sound, same_org, target_in_copy, target_of, uuid_at, uuids_of, written}
 use Rattle.std.proofs.lemmas.List.Elements.{filter-append}
-use Rattle.misp_lists.proofs.Lists.{find_first, find_none, none_not_some, some_same, any_none_cut, filter_never, all_cut}
+use Rattle.misp_lists.proofs.Lists.{all_cut, any_none_cut, find_first, find_none, none_not_some, some_same}
 use Rattle.misp_elem.specs.Draft.{EventDraftFields as EventDraft}
-use Rattle.misp_elem.proofs.Same.{target_kept, same_place-sound}
-use Rattle.misp_rules.proofs.Prelude.{Content, Draft, Element, ElementExists, ElemId, EventExists, EventGone, EventId, GroupNotUsable, IsClosed, Key, Label, NotGranted, Place, Proposal, Reference, ReferenceDraft, Row, Rule, Scene}
-use Rattle.misp_rules.proofs.Prelude.{Sighting, Submission, Verdict, Version, above, and_from, and_parts, any_cut, any_weaker, are_distinct, ask_rules, bars, brings, change_rules, change_writes, cut_rows, cut_scene, event_key, event_of}
-use Rattle.misp_rules.proofs.Prelude.{event_written, false≢true, filter-map, filter_cut, find_passes, has_target, holds_copy, is_accepted, is_live, is_live_cut, is_place_of, is_taken, is_target_key, list_all, list_any, new_event}
-use Rattle.misp_rules.proofs.Prelude.{not-false, or_from, or_parts, parents, part_version, parts_written, place_in, reference_key, reference_version, same_event, same_event-sound, same_org, same_place, sees, target_in_copy, target_of}
-use Rattle.misp_rules.proofs.Prelude.{uuid_at, uuids_of, written}
-use Rattle.misp_rules.specs.Adding.{has_unusable, brings_object, object_is_there, part_fits, reference_fits, fits_parts}
-use Rattle.misp_rules.specs.Scene.{own_live, NotOwner, LockedCopy, is_usable, holds_home, holds_tombstone}
-use Rattle.misp_rules.specs.Closed.{keeps_reference, cut_body, is_empty, where_kept}
-use Rattle.misp_rules.proofs.Scenes.{own_live_cut, holds_copy_cut, holds_home_cut, holds_tombstone_cut, sees_cut, is_taken_cut, is_usable_cut}
-use Rattle.misp_rules.proofs.Plain_requests.{Follows, not_kept, empty_is}
-use Rattle.misp_rules.proofs.Judging.{refuses_less, is_accepted_where}
-use Rattle.misp_history.proofs.Prelude.{AddEvent, AddParts, Ask, clashes, cut, none_refuses, refuses}
+use Rattle.misp_elem.proofs.Same.{same_place-sound, target_kept}
+use Rattle.misp_rules.proofs.Prelude.{ElementExists, EventExists, EventGone, GroupNotUsable, NotGranted, cut_scene, is_live_cut, is_place_of, is_target_key, place_in, same_place, sees}
+use Rattle.misp_rules.specs.Adding.{brings_object, fits_parts, object_is_there, part_fits, reference_fits}
+use Rattle.misp_rules.specs.Scene.{LockedCopy, NotOwner, is_usable, own_live}
+use Rattle.misp_rules.specs.Closed.{cut_body, is_empty, keeps_reference, where_kept}
+use Rattle.misp_rules.proofs.Scenes.{holds_copy_cut, holds_home_cut, holds_tombstone_cut, is_taken_cut, is_usable_cut, own_live_cut, sees_cut}
+use Rattle.misp_rules.proofs.Plain_requests.{Follows, empty_is, not_kept}
+use Rattle.misp_rules.proofs.Judging.{is_accepted_where, refuses_less}
 
 -- a bar that refuses less where more fits
 bar_less : (a h f g : Bool) → (f ≡ true → g ≡ true) → (a || h && not f) ≡ false → (a || h && not g) ≡ false
-bar_less a h true true k e = e
-bar_less a h true false k e = absurd (false≢true (k refl))
-bar_less a false false g k e = e
-bar_less true true false g k e = absurd (false≢true (sym e))
-bar_less false true false g k e = absurd (false≢true (sym e))
+bar_less a h f g k e = grind arith
 
 -- where the last test holds anyway
 fits_by : (a b t x y u : Bool) → (x || y) ≡ (a || b) → u ≡ true → (a || b && t) ≡ true → (x || y && u) ≡ true
@@ -33,10 +28,7 @@ fits_by a b t x y u h k g = grind (arith, h, k, g)
 target_key_is : (u : ElemId) (e : EventId) (k : Key) → is_target_key u k ≡ true → same_event (event_of k) e ≡ true → k ≡ Element e (place_in k)
 unfolding is_target_key event_of place_in
 target_key_is u e (Element f p) h g = ap (λ x. Element x p) (same_event-sound f e g)
-target_key_is u e (Reference f x t v) h g = absurd (false≢true h)
-target_key_is u e (Proposal f n) h g = absurd (false≢true h)
-target_key_is u e (Verdict f n i o) h g = absurd (false≢true h)
-target_key_is u e (Sighting f t i o v) h g = absurd (false≢true h)
+target_key_is u e _ h g = absurd (false≢true h)
 
 module _ {X Y : Type 0} where
   -- no number of two lists, and so none of their parts
@@ -53,6 +45,10 @@ module _ {X Y : Type 0} where
   distinct_parts f q g r [] (y ∷ ys) h = grind (arith, distinct_parts f q g r [] ys, any_parts (eqb (g y)) f q g r [] ys)
   distinct_parts f q g r (x ∷ xs) ys h = grind (arith, distinct_parts f q g r xs ys, any_parts (eqb (f x)) f q g r xs ys)
 
+some_from : {A B : Type 0} (f : A → B) (o : Option A) (t : B) → option_map f o ≡ Some t → (x : A) × (o ≡ Some x) × (f x ≡ t)
+some_from f None t h = absurd (none_not_some h)
+some_from f (Some x) t h = (x, refl, some_same (f x) t h)
+
 module _ (keep : Key → Bool) (c : IsClosed keep) (s : Scene) (e : EventId) (parts : List Draft) where
   -- the parts that are kept
   abbrev kept_part : Draft → Bool
@@ -60,22 +56,18 @@ module _ (keep : Key → Bool) (c : IsClosed keep) (s : Scene) (e : EventId) (pa
 
   target_in_copy_cut : (u : ElemId) (t : Place) → target_in_copy s e u ≡ Some t → keep (Element e t) ≡ true → target_in_copy (cut_scene keep s) e u ≡ Some t
   unfolding target_in_copy cut_scene cut_rows
-  target_in_copy_cut u t h k = one (find (is_it s.rows) s.rows) refl h
+  target_in_copy_cut u t h k =
+      let f = some_from (λ (row : Row). place_in row.key) (find (is_it s.rows) s.rows) t h in
+      let passed : (same_event (event_of f.0.key) e && (is_target_key u f.0.key && is_live s.rows f.0)) ≡ true = (and_parts _ _ (find_passes (is_it s.rows) s.rows f.0 f.1)).1 in
+      let key_is : f.0.key ≡ Element e (place_in f.0.key) = target_key_is u e f.0.key (and_parts _ _ (and_parts _ _ passed).1).0 (and_parts _ _ passed).0 in
+      ap (option_map (λ row. place_in row.key))
+      (find_first (is_it (cut_rows keep s.rows)) (is_it s.rows) (λ row. keep row.key)
+      (λ row h. ap (λ b. same_org row.owner s.by && (same_event (event_of row.key) e && (is_target_key u row.key && b))) (is_live_cut keep c s.rows row h)) s.rows f.0 f.1
+      (ap keep key_is ∙ ap (λ p. keep (Element e p)) f.2 ∙ k))
+      ∙ ap Some f.2
     where
       is_it : List Row → Row → Bool
       is_it rows row = same_org row.owner s.by && (same_event (event_of row.key) e && (is_target_key u row.key && is_live rows row))
-
-      one : (o : Option Row) → find (is_it s.rows) s.rows ≡ o → option_map (λ row. place_in row.key) o ≡ Some t →
-          option_map (λ row. place_in row.key) (find (is_it (cut_rows keep s.rows)) (filter (λ row. keep row.key) s.rows)) ≡ Some t
-      one None f g = absurd (none_not_some g)
-      one (Some row) f g =
-          let passed : ((same_event (event_of row.key) e && (is_target_key u row.key && is_live s.rows row)) ≡ true) = (and_parts _ _ (find_passes (is_it s.rows) s.rows row f)).1 in
-          let key_is : row.key ≡ Element e (place_in row.key) = target_key_is u e row.key (and_parts _ _ (and_parts _ _ passed).1).0 (and_parts _ _ passed).0 in
-          let kept : keep row.key ≡ true = ap keep key_is ∙ ap (λ p. keep (Element e p)) (some_same (place_in row.key) t g) ∙ k in
-          ap (option_map (λ row. place_in row.key))
-          (find_first (is_it (cut_rows keep s.rows)) (is_it s.rows) (λ row. keep row.key)
-          (λ row h. ap (λ b. same_org row.owner s.by && (same_event (event_of row.key) e && (is_target_key u row.key && b))) (is_live_cut keep c s.rows row h)) s.rows row f kept)
-          ∙ g
 
   target_cut : (u : ElemId) (t : Place) → target_of s e parts u ≡ Some t → keep (Element e t) ≡ true → target_of (cut_scene keep s) e (filter kept_part parts) u ≡ Some t
   unfolding target_of
@@ -98,15 +90,9 @@ module _ (keep : Key → Bool) (c : IsClosed keep) (s : Scene) (e : EventId) (pa
 
   reference_key_cut : (r : ReferenceDraft) (k : Key) → reference_key s e parts r ≡ Some k → keep k ≡ true → reference_key (cut_scene keep s) e (filter kept_part parts) r ≡ Some k
   unfolding reference_key
-  reference_key_cut r k h g = one (target_of s e parts r.referenced) refl h
-    where
-      one : (o : Option Place) → target_of s e parts r.referenced ≡ o → option_map (λ t. Reference e r.object t r.uuid) o ≡ Some k →
-          option_map (λ t. Reference e r.object t r.uuid) (target_of (cut_scene keep s) e (filter kept_part parts) r.referenced) ≡ Some k
-      one None f h = absurd (none_not_some h)
-      one (Some t) f h =
-          ap (option_map (λ t. Reference e r.object t r.uuid))
-          (target_cut r.referenced t f (reference_target r t (ap keep (some_same (Reference e r.object t r.uuid) k h) ∙ g)))
-          ∙ h
+  reference_key_cut r k h g =
+      let f = some_from (λ t. Reference e r.object t r.uuid) (target_of s e parts r.referenced) k h in
+      ap (option_map (λ t. Reference e r.object t r.uuid)) (target_cut r.referenced f.0 f.1 (reference_target r f.0 (ap keep f.2 ∙ g))) ∙ ap Some f.2
 
   -- the reference's key is kept
   abbrev kept_key : Option Key → Bool
@@ -119,31 +105,13 @@ module _ (keep : Key → Bool) (c : IsClosed keep) (s : Scene) (e : EventId) (pa
   abbrev reference_at : ReferenceDraft → Key → Version
   reference_at r k = written s k s.now Label.Inherit (Content.Reference r.body)
 
-  version_is : (r : ReferenceDraft) (o : Option Key) → reference_key s e parts r ≡ o → reference_version s e parts r ≡ option_map (reference_at r) o
-  unfolding reference_version
-  version_is r o f = ap (option_map (reference_at r)) f
-
-  version_is_cut : (r : ReferenceDraft) (o : Option Key) → reference_key (cut_scene keep s) e (filter kept_part parts) r ≡ o → reference_version (cut_scene keep s) e (filter kept_part parts) r ≡ option_map (reference_at r) o
-  unfolding reference_version cut_scene written
-  version_is_cut r o f = ap (option_map (reference_at r)) f
-
   one_reference : (r : ReferenceDraft) (refs : List ReferenceDraft) (o : Option Key) → reference_key s e parts r ≡ o → (b : Bool) → kept_key o ≡ b →
       cut keep (filter_map (reference_version s e parts) refs) ≡ filter_map (reference_version (cut_scene keep s) e (filter kept_part parts)) (filter kept_reference refs) →
       cut keep (filter_map (reference_version s e parts) (r ∷ refs)) ≡ filter_map (reference_version (cut_scene keep s) e (filter kept_part parts)) (filter kept_reference (r ∷ refs))
-  unfolding cut written
-  one_reference r refs None f b h ih =
-      let key : kept_reference r ≡ false = ap kept_key f in
-      let is : reference_version s e parts r ≡ None = version_is r None f in
-      rw (is, key) ih
-  one_reference r refs (Some k) f false h ih =
-      let key : kept_reference r ≡ false = ap kept_key f ∙ h in
-      let is : reference_version s e parts r ≡ Some (reference_at r k) = version_is r (Some k) f in
-      rw (is, key, h) ih
-  one_reference r refs (Some k) f true h ih =
-      let key : kept_reference r ≡ true = ap kept_key f ∙ h in
-      let is : reference_version s e parts r ≡ Some (reference_at r k) = version_is r (Some k) f in
-      let is_cut : reference_version (cut_scene keep s) e (filter kept_part parts) r ≡ Some (reference_at r k) = version_is_cut r (Some k) (reference_key_cut r k f h) in
-      rw (is, key, is_cut, h) (ap (λ vs. reference_at r k ∷ vs) ih)
+  unfolding cut written reference_version cut_scene
+  one_reference r refs None f b h ih = rw f ih
+  one_reference r refs (Some k) f false h ih = rw (f, h) ih
+  one_reference r refs (Some k) f true h ih = rw (f, h, reference_key_cut r k f h) (ap (λ vs. reference_at r k ∷ vs) ih)
 
   references_cut : (refs : List ReferenceDraft) →
       cut keep (filter_map (reference_version s e parts) refs) ≡ filter_map (reference_version (cut_scene keep s) e (filter kept_part parts)) (filter kept_reference refs)
@@ -271,10 +239,8 @@ module _ (keep : Key → Bool) (c : IsClosed keep) (s : Scene) (b : Submission) 
 
   part_fits_less : (p : Place) → keep (Element b.event p) ≡ true → part_fits s b p ≡ true → part_fits (cut_scene keep s) (cut_body keep s b) p ≡ true
   unfolding part_fits parents above
-  part_fits_less Place.Event h g = refl
-  part_fits_less (Place.Object x) h g = refl
-  part_fits_less (Place.Attribute x) h g = refl
   part_fits_less (Place.ObjectAttribute x a) h g = object_is_there_cut x (and_parts _ _ (and_parts _ _ (c.above _ h)).1).0 ∙ g
+  part_fits_less _ h g = refl
 
   reference_object : (r : ReferenceDraft) → keeps_reference keep s b r ≡ true → keep (Element b.event (Place.Object r.object)) ≡ true
   unfolding keeps_reference reference_key parents

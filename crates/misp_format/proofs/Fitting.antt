@@ -1,5 +1,5 @@
 -- What the tables bring fits a row.
-use Rattle.std.proofs.Common.{◌≡◌, ℕ, ◌+◌, ◌-◌, ◌<◌, ◌≤◌, Bool, true, false, List, [], ◌∷◌, length, min, Option, Some, None, Result, Ok, Err, refl, subst, arith, lit<, le-leb, ap, ◌∙◌, ◌^◌, nat_lt, codes, IfSome, if◌then◌else◌}
+use Rattle.std.proofs.Common.{◌≡◌, ℕ, ◌+◌, ◌-◌, ◌<◌, ◌≤◌, Bool, true, false, List, [], ◌∷◌, length, min, Option, Some, None, Ok, Err, refl, arith, lit<, le-leb, ap, ◌∙◌, ◌^◌, nat_lt, codes, IfSome, if◌then◌else◌}
 use Rattle.std.specs.Prelude.{⊤}
 use Rattle.misp_lists.proofs.Prelude.{bytes_eq-Decides, nat_tests, ok_keeps}
 use Rattle.misp_types.specs.Values.{keeps, IsKept}
@@ -47,7 +47,7 @@ optional_fits (Some u) h = h
 
 -- ---- attributes
 
-category_fits : (it : Body) (category : ℕ) → row it (codes "category") category_of (Ok other_category) ≡ Ok category → IsBetween 0 15 category
+pub category_fits : (it : Body) (category : ℕ) → row it (codes "category") category_of (Ok other_category) ≡ Ok category → IsBetween 0 15 category
 category_fits it category h = row_keeps (IsBetween 0 15) it (codes "category") category_of (Ok other_category) category_ok (λ x is. cc) category h
 
 pub kept_is_kept : (kind value : List ℕ) → IsKept kind value → is_kept kind value ≡ true

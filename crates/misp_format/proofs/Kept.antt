@@ -5,7 +5,7 @@ use Rattle.misp_lists.proofs.Prelude.{bind_keeps, list_any, nat_tests, ok_keeps,
 use Rattle.misp_fields.specs.Fields.{or_need, date_text_of}
 use Rattle.misp_elem.specs.Draft.{IsOptionalDate}
 use Rattle.misp_elem.specs.Fields.{is_date, IsDate}
-use Rattle.misp_format.specs.Prelude.{Body, Data, GroupId, Label, Need, category_of, label_at, label_kind, member_of, number, number_of, number_within, some_date_of, string, text_of}
+use Rattle.misp_format.specs.Prelude.{Body, Data, Label, Need, category_of, label_at, label_kind, member_of, number_of, number_within, some_date_of, string, text_of}
 use Rattle.misp_format.specs.Kinds.{category_texts, category_in_text}
 use Rattle.misp_format.specs.Labels.{named_group_at, numbered_at}
 use Rattle.misp_format.specs.Readers.{within, some_in}

@@ -13,6 +13,7 @@ mod Kept
 mod ReadBack
 mod RowFacts
 mod StandardFacts
+mod Statements
 mod Tags
 mod TagsBack
 mod Texts

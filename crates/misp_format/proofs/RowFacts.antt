@@ -1,9 +1,9 @@
 -- What rows of a whole event are known to be.
-use Rattle.std.proofs.Common.{◌≡◌, ℕ, ◌+◌, ◌-◌, ◌≤◌, Bool, true, false, ◌&&◌, List, [], length, Option, Some, None, refl, subst, arith, nat_lt, nat_le, ◌==◌}
-use Rattle.misp_lists.proofs.Prelude.{and_parts, nat_tests}
+use Rattle.std.proofs.Common.{◌≡◌, ℕ, ◌+◌, ◌≤◌, Bool, true, false, length, Option, Some, None, refl, subst, arith, nat_lt, ◌==◌}
+use Rattle.misp_lists.proofs.Prelude.{nat_tests}
 use Rattle.misp_elem.specs.declared.key.KeyForm.TheVariants.{Element, Reference}
 use Rattle.misp_elem.specs.declared.content.ReferenceBody.{ReferenceBody}
-use Rattle.misp_elem.specs.Prelude.{IsAttributeBody, IsContentOf, IsKey, IsPlace, IsRow, IsText, IsUid, content_kind, text_limit}
+use Rattle.misp_elem.specs.Prelude.{IsAttributeBody, IsContentOf, IsKey, IsPlace, IsRow, IsUid, content_kind, text_limit}
 use Rattle.misp_elem.specs.Contents.{IsContent, IsEventBody, IsObjectBody, IsReferenceBody}
 use Rattle.misp_elem.specs.Visible.{place_in}
 use Rattle.misp_format.specs.Prelude.{AttributeBody, Content, ElemId, EventBody, EventId, KeyForm, ObjectBody, Place, RowFields, label_kind, tags_size, text_size}

@@ -1,8 +1,8 @@
 -- Tags that are written are read back.
 use Rattle.std.proofs.Common.{◌≡◌, ℕ, ◌+◌, ◌-◌, ◌≤◌, Bool, true, ◌&&◌, List, [], ◌∷◌, ◌++◌, length, map, min, Some, Ok, refl, sym, ap, ◌∙◌, append_assoc, subst, arith, codes, nat_le, nat_cmp, is_lt, Less, Greater, append-nil}
-use Rattle.misp_lists.proofs.Prelude.{and_parts, less_of, nat_list_cmp_total, nat_tests, ordering_reverse, sum_by-cons}
+use Rattle.misp_lists.proofs.Prelude.{and_parts, less_of, nat_list_cmp_total, nat_tests, ordering_reverse}
 use Rattle.misp_elem.specs.Fields.{IsTag, AreTagsAfter, is_text}
-use Rattle.misp_format.specs.Prelude.{◌>>=◌, AllByRecursion, Body, Data, IsStrictlySortedBy, Reading, Tag, each, items_of, list_data, list_of, member_of, member_path, slice_cmp, tag_data, tags_at, tags_size}
+use Rattle.misp_format.specs.Prelude.{◌>>=◌, AllByRecursion, Body, Data, IsStrictlySortedBy, Reading, Tag, each, items_of, list_data, list_of, member_of, member_path, slice_cmp, tag_data, tags_at}
 use Rattle.misp_format.specs.Elements.{Named, tag_of, with_tag, next_tag, tag_at}
 use Rattle.misp_format.proofs.Tags.{name_of}
 use Rattle.misp_format.proofs.Back.{row_back, colour_back}

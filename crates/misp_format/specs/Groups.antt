@@ -1,19 +1,17 @@
 -- THE TABLE of a whole sharing group.
 --     MEMBER ← row it NAME READER WHERE-ABSENT
-use Rattle.std.specs.Prelude.{ℕ, Bool, true, false, List, [], map, codes, Result, Ok}
+use Rattle.std.specs.Prelude.{ℕ, Bool, true, false, List, [], map, codes, Ok}
 use Rattle.std.specs.BTreeMap.{insert_entry}
 use Rattle.serde_json.specs.Data.{Data, no_items}
 use Rattle.misp_lists.specs.Prelude.{nat_cmp, slice_cmp}
 use Rattle.misp_ids.specs.declared.uid.Uid.{Uid}
-use Rattle.misp_ids.specs.Names.{is_inst_name}
 use Rattle.misp_groups.specs.declared.group.GroupFields.{GroupFields as Group}
 use Rattle.misp_groups.specs.declared.group.GroupOrg.{GroupOrg}
 use Rattle.misp_groups.specs.declared.group.GroupServer.{GroupServer}
-use Rattle.misp_fields.specs.declared.need.Need.{Need}
 use Rattle.misp_fields.specs.Fields.{text_of, flag_of, stamp_of, uuid_of, list_of}
 use Rattle.misp_format.specs.Body.{Body}
 use Rattle.misp_format.specs.Path.{member_path, item_path}
-use Rattle.misp_format.specs.Readers.{any_of, fitting, some_text_of}
+use Rattle.misp_format.specs.Readers.{any_of, inst_name_of, some_text_of}
 use Rattle.misp_format.specs.Rows.{Reading, ◌>>=◌, row, must_be, body_at, each}
 use Rattle.misp_format.specs.Tables.{unwrapped}
 
@@ -67,10 +65,6 @@ orgs_at it = do
 -- whether all organisations of an instance belong to a group, by its name, in the order of these
 abbrev pub ServerEntries : Type 0
 ServerEntries = List (List ℕ × (List ℕ × Bool))
-
--- READER: the name of an instance
-abbrev pub inst_name_of : Data → Result (List ℕ) Need
-inst_name_of d = fitting is_inst_name Need.Range (text_of d)
 
 -- an instance: its name
 unfoldable pub server_name_at : List ℕ → Data → Reading (List ℕ)

@@ -17,6 +17,7 @@ pub mod Prelude
 pub mod Readers
 pub mod Replies
 pub mod Rows
+pub mod Statements
 pub mod Tables
 pub mod Tokens
 pub mod WholeGroup

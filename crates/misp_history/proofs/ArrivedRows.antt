@@ -1,12 +1,10 @@
 -- What arrives of rows are rows.
-use Rattle.std.proofs.Common.{◌≡◌, ℕ, ◌≤◌, ◌-◌, arith, List, true, min, nat_le, length, [], ◌∷◌, Bool, false, cond, suc, refl, sym, ap, ◌∙◌, subst, ◌&&◌, leb-true, le-leb, Contains, filter}
+use Rattle.std.proofs.Common.{◌≡◌, ℕ, ◌≤◌, ◌-◌, arith, List, true, min, nat_le, length, [], ◌∷◌, Bool, false, suc, refl, sym, ap, ◌∙◌, subst, ◌&&◌, leb-true, le-leb, Contains, filter}
+use Rattle.misp_history.proofs.Prelude.{AreRows, Content, Element, Group, IsContent, IsRow, IsTable, IsUid, Key, Label, Place, Route, Row, Tag, and_from, and_parts, arrived, arriving_rows, cond_both, content_kind, exportable, false≢true}
+use Rattle.misp_history.proofs.Prelude.{fits, here, is_gone, is_known, is_tombstone, known, label_kind, map_from, may_remove, of_part, passes, passing_rows, there, without_local_tags}
 use Rattle.misp_lists.proofs.Orders.{bytes_on}
 use Rattle.misp_levels.specs.Levels.{down}
-use Rattle.misp_elem.specs.Prelude.{AreTags, AreTagsAfter, IsLabelBut, IsTag, barred_labels, is_after, is_text, is_utf8, text_limit}
-use Rattle.misp_rules.proofs.Prelude.{AreRows, Content, Element, Group, IsContent, IsRow, IsTable, IsUid, Key, Label, Place, Proposal, Reference, Row, Sighting, Tag, Verdict, and_from, and_parts, content_kind, false≢true, fits, here}
-use Rattle.misp_rules.proofs.Prelude.{is_gone, is_known, is_tombstone, known, label_kind, map_from, may_remove, of_part, there}
-use Rattle.misp_history.specs.History.{exportable}
-use Rattle.misp_history.proofs.Prelude.{Route, arrived, arriving_rows, passes, passing_rows, without_local_tags}
+use Rattle.misp_elem.specs.Prelude.{AreTags, AreTagsAfter, IsLabelBut, barred_labels, is_after, is_text, is_utf8, text_limit}
 use Rattle.misp_history.proofs.Passed.{is_row, no_tombstone_passes}
 
 -- ---- tags
@@ -25,29 +23,15 @@ tags_part : (room more : ℕ) (before earlier : List ℕ) (tags : List Tag) → 
 unfolding exportable
 tags_part room more before earlier [] le after a = tt
 tags_part room more before earlier (t ∷ tags) le after a =
-    one t.exportable
-    (tags_part (room - length t.name) (more - length t.name) t.name t.name tags (omega arith) (λ name h. h) a.1)
-    (tags_part (room - length t.name) more t.name earlier tags (omega arith) (λ name h. after name (bytes_on before t.name name (and_parts (is_text 1 (min 255 room) t.name) (is_after before t.name) a.0.0).1 h)) a.1)
-  where
-    first : IsTag more earlier t
-    first = (
-      and_from (is_text 1 (min 255 more) t.name) (is_after earlier t.name)
-          (more_room 1 room more t.name le (and_parts (is_text 1 (min 255 room) t.name) (is_after before t.name) a.0.0).0) (after t.name (and_parts (is_text 1 (min 255 room) t.name) (is_after before t.name) a.0.0).1),
-      a.0.1,
-    )
-
-    one : (b : Bool) → AreTagsAfter (more - length t.name) t.name (exportable tags) → AreTagsAfter more earlier (exportable tags) → AreTagsAfter more earlier (cond b (t ∷ exportable tags) (exportable tags))
-    one true kept left = (first, kept)
-    one false kept left = left
+    let two = and_parts (is_text 1 (min 255 room) t.name) (is_after before t.name) a.0.0 in
+    let kept = tags_part (room - length t.name) (more - length t.name) t.name t.name tags (omega arith) (λ name h. h) a.1 in
+    let left = tags_part (room - length t.name) more t.name earlier tags (omega arith) (λ name h. after name (bytes_on before t.name name two.1 h)) a.1 in
+    cond_both t.exportable _ _ (λ ts. AreTagsAfter more earlier ts) (λ e. ((and_from (is_text 1 (min 255 more) t.name) (is_after earlier t.name) (more_room 1 room more t.name le two.0) (after t.name two.1), a.0.1), kept)) (λ e. left)
 
 fewer : (tags : List Tag) → length (exportable tags) ≤ length tags
 unfolding exportable
 fewer [] = omega arith
-fewer (t ∷ tags) = one t.exportable (fewer tags)
-  where
-    one : (b : Bool) → length (exportable tags) ≤ length tags → length (cond b (t ∷ exportable tags) (exportable tags)) ≤ suc (length tags)
-    one true le = omega arith
-    one false le = omega arith
+fewer (t ∷ tags) = let le = fewer tags in cond_both t.exportable (t ∷ exportable tags) (exportable tags) (λ ts. length ts ≤ suc (length tags)) (λ e. omega arith) (λ e. omega arith)
 
 tags_stay : (room : ℕ) (tags : List Tag) → AreTags room tags → AreTags room (exportable tags)
 tags_stay room tags a = let le = fewer tags in let lt = a.0 in (omega arith, tags_part room room [] [] tags (omega arith) (λ name h. h) a.1)
@@ -57,103 +41,44 @@ content_stays : (may : Bool) (c : Content) → IsContent may c → IsContent may
 unfolding without_local_tags
 content_stays may (Content.Event b) i = (i.0, (i.1.0, (i.1.1.0, (i.1.1.1.0, (i.1.1.1.1.0, (i.1.1.1.1.1.0, (i.1.1.1.1.1.1.0, (i.1.1.1.1.1.1.1.0, tags_stay (text_limit - length b.info) b.tags i.1.1.1.1.1.1.1.1))))))))
 content_stays may (Content.Attribute b) i = (i.0, (i.1.0, (tt, (i.1.1.1.0, (tt, (i.1.1.1.1.1.0, tags_stay (text_limit - length b.kind - length b.comment - length b.value) b.tags i.1.1.1.1.1.1))))))
-content_stays may (Content.Object b) i = i
-content_stays may (Content.Reference b) i = i
-content_stays may (Content.Proposal b) i = i
-content_stays may (Content.Verdict b) i = i
-content_stays may (Content.Sighting b) i = i
-content_stays may Content.Gone i = i
+content_stays may _ i = i
 
 kind_stays : (c : Content) → content_kind (without_local_tags c) ≡ content_kind c
 unfolding without_local_tags
-kind_stays (Content.Event b) = refl
-kind_stays (Content.Attribute b) = refl
-kind_stays (Content.Object b) = refl
-kind_stays (Content.Reference b) = refl
-kind_stays (Content.Proposal b) = refl
-kind_stays (Content.Verdict b) = refl
-kind_stays (Content.Sighting b) = refl
 kind_stays Content.Gone = refl
+kind_stays c = refl
 
 -- a content that is no tombstone fits whatever the label and the flags
 fits_on : (k : Key) (l m : ℕ) (f g : Bool × Bool) (c : Content) → (content_kind c ≡ 7 → ⊥) → fits k l f (content_kind c) ≡ true → fits k m g (content_kind c) ≡ true
 fits_on (Element e Place.Event) l m f g (Content.Event b) n h = refl
-fits_on (Element e Place.Event) l m f g (Content.Attribute b) n h = absurd (false≢true h)
-fits_on (Element e Place.Event) l m f g (Content.Object b) n h = absurd (false≢true h)
-fits_on (Element e Place.Event) l m f g (Content.Reference b) n h = absurd (false≢true h)
-fits_on (Element e Place.Event) l m f g (Content.Proposal b) n h = absurd (false≢true h)
-fits_on (Element e Place.Event) l m f g (Content.Verdict b) n h = absurd (false≢true h)
-fits_on (Element e Place.Event) l m f g (Content.Sighting b) n h = absurd (false≢true h)
 fits_on (Element e Place.Event) l m f g Content.Gone n h = absurd (n refl)
-fits_on (Element e (Place.Object o)) l m f g c n h = h
-fits_on (Element e (Place.Attribute a)) l m f g c n h = h
-fits_on (Element e (Place.ObjectAttribute o a)) l m f g c n h = h
-fits_on (Reference e x t u) l m f g c n h = h
-fits_on (Proposal e p) l m f g c n h = h
-fits_on (Verdict e p i o) l m f g c n h = h
-fits_on (Sighting e t i o u) l m f g c n h = h
+fits_on (Element e Place.Event) l m f g _ n h = absurd (false≢true h)
+fits_on _ l m f g c n h = h
 
-not_seven : (row : Row) → is_tombstone row ≡ false → content_kind row.content ≡ 7 → ⊥
-unfolding is_tombstone is_gone
-not_seven row h = one row.content h
-  where
-    one : (c : Content) → is_tombstone (record row { content = c }) ≡ false → content_kind c ≡ 7 → ⊥
-    one Content.Gone h e = false≢true (sym h)
-    one (Content.Event b) h e = absurd (omega arith)
-    one (Content.Attribute b) h e = absurd (omega arith)
-    one (Content.Object b) h e = absurd (omega arith)
-    one (Content.Reference b) h e = absurd (omega arith)
-    one (Content.Proposal b) h e = absurd (omega arith)
-    one (Content.Verdict b) h e = absurd (omega arith)
-    one (Content.Sighting b) h e = absurd (omega arith)
+not_seven : (c : Content) → is_gone c ≡ false → content_kind c ≡ 7 → ⊥
+unfolding is_gone
+not_seven Content.Gone h e = false≢true (sym h)
+not_seven _ h e = absurd (omega arith)
 
 -- a label that a row of the key can have is one after a hop
 label_hops : (k : Key) (l : Label) → IsLabelBut (barred_labels k) l → IsLabelBut (barred_labels k) (down l 1)
 unfolding down
-label_hops k Label.Own h = h
-label_hops k Label.All h = h
-label_hops k (Label.Group g) h = h
-label_hops k Label.Inherit h = h
 label_hops (Element e Place.Event) Label.Community h = (refl, tt)
-label_hops (Element e (Place.Object o)) Label.Community h = (refl, tt)
-label_hops (Element e (Place.Attribute a)) Label.Community h = (refl, tt)
-label_hops (Element e (Place.ObjectAttribute o a)) Label.Community h = (refl, tt)
-label_hops (Reference e x t u) Label.Community h = absurd (false≢true (sym h.0))
-label_hops (Proposal e p) Label.Community h = absurd (false≢true (sym h.0))
-label_hops (Verdict e p i o) Label.Community h = absurd (false≢true (sym h.0))
-label_hops (Sighting e t i o u) Label.Community h = absurd (false≢true (sym h.0))
+label_hops (Element e p) Label.Community h = (refl, tt)
+label_hops _ Label.Community h = absurd (false≢true (sym h.0))
 label_hops (Element e Place.Event) Label.Connected h = (refl, tt)
-label_hops (Element e (Place.Object o)) Label.Connected h = (refl, tt)
-label_hops (Element e (Place.Attribute a)) Label.Connected h = (refl, tt)
-label_hops (Element e (Place.ObjectAttribute o a)) Label.Connected h = (refl, tt)
-label_hops (Reference e x t u) Label.Connected h = absurd (false≢true (sym h.0))
-label_hops (Proposal e p) Label.Connected h = absurd (false≢true (sym h.0))
-label_hops (Verdict e p i o) Label.Connected h = absurd (false≢true (sym h.0))
-label_hops (Sighting e t i o u) Label.Connected h = absurd (false≢true (sym h.0))
+label_hops (Element e p) Label.Connected h = (refl, tt)
+label_hops _ Label.Connected h = absurd (false≢true (sym h.0))
+label_hops k _ h = h
 
 -- ---- rows
 pub arrived_row : (route : Route) (row : Row) → IsUid route.holder.0 → IsRow row → is_tombstone row ≡ false → IsRow (arrived route row)
-unfolding arrived
-arrived_row route row u i n = (
-  u,
-  (
-    i.1.0,
-    (
-      i.1.1.0,
-      (
-        label_hops row.key row.label i.1.1.1.0,
-        (
-          tt,
-          (
-            ap (fits row.key (label_kind (down row.label 1)) (false, true)) (kind_stays row.content)
-                ∙ fits_on row.key (label_kind row.label) (label_kind (down row.label 1)) (row.held, row.carried) (false, true) row.content (not_seven row n) i.1.1.1.1.1.0,
-            content_stays (may_remove row.key) row.content i.1.1.1.1.1.1,
-          ),
-        ),
-      ),
-    ),
-  ),
-)
+unfolding arrived is_tombstone
+arrived_row route row u i n =
+    let fit : fits row.key (label_kind (down row.label 1)) (false, true) (content_kind (without_local_tags row.content)) ≡ true =
+    ap (fits row.key (label_kind (down row.label 1)) (false, true)) (kind_stays row.content)
+    ∙ fits_on row.key (label_kind row.label) (label_kind (down row.label 1)) (row.held, row.carried) (false, true) row.content (not_seven row.content n) i.1.1.1.1.1.0 in
+    (u, (i.1.0, (i.1.1.0, (label_hops row.key row.label i.1.1.1.0, (tt, (fit, content_stays (may_remove row.key) row.content i.1.1.1.1.1.1))))))
 
 all_rows : (xs : List Row) → ((x : Row) → Contains xs x → IsRow x) → AreRows xs
 all_rows [] h = tt

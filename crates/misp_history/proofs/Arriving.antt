@@ -1,12 +1,11 @@
 -- Versions that come from elsewhere are put in their places as rows, where they are newer, one after another.
-use Rattle.std.proofs.Common.{Bool, true, false, ◌≡◌, List, inl, inr, refl, ap, leb, [], ◌∷◌, ◌++◌, ◌∙◌, cond, sym, map, append_assoc, ◌||◌, not, ◌&&◌, filter, append-nil}
-use Rattle.misp_lists.proofs.Distinct.{apart_part}
-use Rattle.misp_rules.proofs.Prelude.{AllByRecursion, Group, Inst, IsDistinct, Row, Version, all-filter, and_left, and_parts, and_right, any_agree, any_map, counted, counts, event_key, event_of, false_from_ne_true, false≢true, filter-map}
-use Rattle.misp_rules.proofs.Prelude.{filter_agree, has_copy, has_event, has_gone, has_home, has_path, is_gone, is_handed_in, is_made_at, is_published, is_statement, is_welcome, label_is_known, label_now, list_all, list_any}
-use Rattle.misp_rules.proofs.Prelude.{list_any-append, or_cases, or_left, or_right, put, put_all, put_row, same_inst, same_inst-sound, same_key, same_org, stands_before}
-use Rattle.misp_rules.specs.Version.{Came, Written, Published, Handed_in}
-use Rattle.misp_history.proofs.Prelude.{cell_back, content_now, counts_row, has_event_row, is_newer_row, is_welcome_row, merged, published_after, released, row_of, rows_taken, same_cell, tables}
-use Rattle.misp_history.proofs.Putting.{tables_more_by}
+use Rattle.std.proofs.Common.{Bool, true, false, ◌≡◌, List, inl, inr, refl, ap, arith, [], ◌∷◌, ◌++◌, ◌∙◌, cond, sym, map, ◌||◌, not, ◌&&◌, filter}
+use Rattle.misp_history.proofs.Prelude.{Came, Group, Handed_in, Inst, IsDistinct, Row, Version, all-filter, all_among, all_has, all_implies, and_left, and_parts, and_right, any_agree, any_map, apart_part}
+use Rattle.misp_history.proofs.Prelude.{cell_back, content_now, counted, counts, counts_row, event_key, event_of, false_from_ne_true, false≢true, filter-map, filter_agree, has_copy, has_event, has_event_row, has_gone, has_home, has_path}
+use Rattle.misp_history.proofs.Prelude.{is_handed_in, is_made_at, is_newer_row, is_published, is_statement, is_welcome, is_welcome_row, label_is_known, label_now, list_all, merged, or_cases, put, put_all, put_row}
+use Rattle.misp_history.proofs.Prelude.{released, row_of, rows_taken, same_cell, same_inst, same_inst-sound, same_key, same_org, stands_before, tables}
+use Rattle.misp_history.proofs.Putting.{is_new_to, put_many, tables_more_by}
+use Rattle.misp_history.proofs.Elsewhere.{tables_elsewhere}
 use Rattle.misp_history.proofs.AsNew.{told_as_new}
 
 -- the version came from elsewhere: by a synchronisation, or handed in
@@ -15,38 +14,20 @@ is_foreign v = has_path v || is_handed_in v.came
 
 -- a version that came from elsewhere, as a row
 unfoldable pub settled : Version → Row
-settled v =
-    record {
-      owner = v.owner;
-      key = v.key;
-      stamp = v.stamp;
-      label = label_now v;
-      held = false;
-      carried = true;
-      content = content_now v;
-    }
+settled v = record { owner = v.owner; key = v.key; stamp = v.stamp; label = label_now v; held = false; carried = true; content = content_now v }
+
+or_swap : (a b : Bool) → (a || b) ≡ true → (b || a) ≡ true
+or_swap a b h = grind arith
 
 -- it is released, whatever the history
 pub settles : (log : List Version) (v : Version) → is_foreign v ≡ true → row_of log v ≡ settled v
 unfolding row_of settled released
-settles log v h = λ i. record {
-  owner = v.owner;
-  key = v.key;
-  stamp = v.stamp;
-  label = label_now v;
-  held = not (h i || is_statement v.key || is_gone v.content || is_published v.came || published_after log v);
-  carried = carries i;
-  content = content_now v;
-}
-  where
-    carries : (is_handed_in v.came || has_path v) ≡ true
-    carries = elim (or_cases (has_path v) (is_handed_in v.came) h) [ inl p ↦ or_right (is_handed_in v.came) (has_path v) p | inr q ↦ or_left (is_handed_in v.came) (has_path v) q ]
+settles log v h = rw (h, or_swap (has_path v) (is_handed_in v.came) h) refl
 
 handed_unpublished : (c : Came) → is_handed_in c ≡ true → is_published c ≡ false
 unfolding is_handed_in is_published
-handed_unpublished Written h = absurd (false≢true h)
-handed_unpublished Published h = absurd (false≢true h)
 handed_unpublished Handed_in h = refl
+handed_unpublished c h = absurd (false≢true h)
 
 -- it publishes nothing where it comes
 quiet : (v : Version) → is_foreign v ≡ true → (is_published v.came && not (has_path v)) ≡ false
@@ -56,10 +37,6 @@ quiet v h = elim (or_cases _ _ h) [ inl p ↦ and_right _ _ (ap not p) | inr q �
 abbrev pub comes : Inst → Version → Bool
 comes i v = same_inst v.at i && is_foreign v
 
--- no version of its cell is as new
-abbrev pub is_new_to : List Version → Version → Bool
-is_new_to log v = not (list_any (λ a. same_cell a v && leb v.stamp a.stamp) log)
-
 one_comes : (i : Inst) (log : List Version) (v : Version) → comes i v ≡ true → tables (log ++ v ∷ []) i ≡ cond (is_new_to log v) (put_row (settled v) (tables log i)) (tables log i)
 unfolding put_row settled
 one_comes i log v h =
@@ -67,45 +44,14 @@ one_comes i log v h =
     tables_more_by log v i (quiet v two.1)
     ∙ (λ j. cond (two.0 j && is_new_to log v) (put stands_before (settles log v two.1 j) (filter (λ r. not (same_org r.owner v.owner && same_key r.key v.key)) (tables log i))) (tables log i))
 
--- one of another cell bars none
-still_new : (v : Version) (log : List Version) (u : Version) → same_cell v u ≡ false → is_new_to (log ++ v ∷ []) u ≡ is_new_to log u
-still_new v log u h = ap not (list_any-append (λ a. same_cell a u && leb u.stamp a.stamp) log (v ∷ []) ∙ or_none (list_any (λ a. same_cell a u && leb u.stamp a.stamp) log) _ (and_left _ _ h))
-  where
-    or_none : (b t : Bool) → t ≡ false → (b || (t || false)) ≡ b
-    or_none true t e = refl
-    or_none false t e = ap (λ x. x || false) e
-
-new_agree : (v : Version) (log vs : List Version) → AllByRecursion (λ u. same_cell v u ≡ false) vs → filter (is_new_to (log ++ v ∷ [])) vs ≡ filter (is_new_to log) vs
-new_agree v log [] a = refl
-new_agree v log (u ∷ vs) a = λ j. cond (still_new v log u a.0 j) (u ∷ new_agree v log vs a.1 j) (new_agree v log vs a.1 j)
-
 -- those that are newer are put in their places
 pub many_come : (i : Inst) (vs log : List Version) → list_all (comes i) vs ≡ true → IsDistinct same_cell vs →
     tables (log ++ vs) i ≡ put_all (map settled (filter (is_new_to log) vs)) (tables log i)
-unfolding put_all IsDistinct
-many_come i [] log h d = ap (λ l. tables l i) (append-nil log)
-many_come i (v ∷ vs) log h d =
-    ap (λ l. tables l i) (sym (append_assoc log (v ∷ []) vs))
-    ∙ many_come i vs (log ++ v ∷ []) (and_parts (comes i v) (list_all (comes i) vs) h).1 d.1
-    ∙ (λ j. put_all (map settled (new_agree v log vs d.0 j)) (one_comes i log v (and_parts (comes i v) (list_all (comes i) vs) h).0 j))
-    ∙ choice (is_new_to log v)
-  where
-    choice : (b : Bool) → put_all (map settled (filter (is_new_to log) vs)) (cond b (put_row (settled v) (tables log i)) (tables log i))
-        ≡ put_all (map settled (cond b (v ∷ filter (is_new_to log) vs) (filter (is_new_to log) vs))) (tables log i)
-    choice true = refl
-    choice false = refl
+many_come i vs log h d = put_many i settled (λ l. Unit {0}) (λ v. comes i v ≡ true) (λ log v g k. (one_comes i log v k, tt)) vs log (all_among (λ v. comes i v ≡ true) vs (λ v m. all_has (comes i) vs v h m)) d tt
 
 -- elsewhere nothing changes
 pub none_come : (i j : Inst) (vs log : List Version) → same_inst i j ≡ false → list_all (comes i) vs ≡ true → tables (log ++ vs) j ≡ tables log j
-none_come i j [] log apart h = ap (λ l. tables l j) (append-nil log)
-none_come i j (v ∷ vs) log apart h =
-    let two : ((same_inst v.at i && is_foreign v) ≡ true) × (list_all (comes i) vs ≡ true) = and_parts _ _ h in
-    let one : (same_inst v.at i ≡ true) × (is_foreign v ≡ true) = and_parts _ _ two.0 in
-    ap (λ l. tables l j) (sym (append_assoc log (v ∷ []) vs))
-    ∙ none_come i j vs (log ++ v ∷ []) apart two.1
-    ∙ tables_more_by log v j (quiet v one.1)
-    ∙ ap (λ b. cond b (put stands_before (row_of log v) (filter (λ r. not (same_org r.owner v.owner && same_key r.key v.key)) (tables log j))) (tables log j))
-    (and_left _ _ (ap (λ a. same_inst a j) (same_inst-sound v.at i one.0) ∙ apart))
+none_come i j vs log apart h = tables_elsewhere i j vs log apart (all_implies (comes i) (λ v. same_inst v.at i) (λ v k. (and_parts _ _ k).0) vs h)
 
 -- ---- what counts, told by rows
 module _ (i : Inst) (rows : List Row) (groups : List Group) where
@@ -130,20 +76,21 @@ module _ (i : Inst) (rows : List Row) (groups : List Group) where
 pub apart_cells : (a b : Version) → same_cell a b ≡ false → same_cell b a ≡ false
 apart_cells a b e = false_from_ne_true _ (λ k. false≢true (sym e ∙ cell_back b a k))
 
+pub newer_told : (i : Inst) (log : List Version) (v : Version) → comes i v ≡ true → is_new_to log v ≡ is_newer_row (tables log i) (settled v)
+unfolding is_newer_row settled
+newer_told i log v k = ap not (told_as_new v i (and_parts (same_inst v.at i) (is_foreign v) k).0 log)
+
 -- what is newer of what counts, told by rows
 pub taken_told : (i : Inst) (log vs : List Version) (groups : List Group) → list_all (comes i) vs ≡ true →
     map settled (filter (is_new_to log) (filter (counts (tables log i) groups vs) vs)) ≡ rows_taken i (tables log i) groups (map settled vs)
-unfolding rows_taken is_newer_row settled
+unfolding rows_taken
 taken_told i log vs groups h =
     ap (map settled)
-    (filter_agree (is_new_to log) (λ v. is_newer_row (tables log i) (settled v)) (comes i) newer_told (filter (counts (tables log i) groups vs) vs) (all-filter (comes i) (counts (tables log i) groups vs) vs h)
+    (filter_agree (is_new_to log) (λ v. is_newer_row (tables log i) (settled v)) (comes i) (newer_told i log) (filter (counts (tables log i) groups vs) vs) (all-filter (comes i) (counts (tables log i) groups vs) vs h)
     ∙ ap (filter (λ v. is_newer_row (tables log i) (settled v)))
     (filter_agree (counts (tables log i) groups vs) (λ v. counts_row i (tables log i) groups (map settled vs) (settled v)) (comes i) (counts_told i (tables log i) groups vs h) vs h))
     ∙ sym (filter-map settled (is_newer_row (tables log i)) (filter (λ v. counts_row i (tables log i) groups (map settled vs) (settled v)) vs))
     ∙ ap (filter (is_newer_row (tables log i))) (sym (filter-map settled (counts_row i (tables log i) groups (map settled vs)) vs))
-  where
-    newer_told : (v : Version) → comes i v ≡ true → is_new_to log v ≡ is_newer_row (tables log i) (settled v)
-    newer_told v k = ap not (told_as_new v i (and_parts (same_inst v.at i) (is_foreign v) k).0 log)
 
 -- what comes and counts is merged
 pub come_merged : (i : Inst) (log vs : List Version) (groups : List Group) → list_all (comes i) vs ≡ true → IsDistinct same_cell vs →

@@ -1,31 +1,16 @@
 -- The state of a copy is that of the newest version of its event.
-use Rattle.std.proofs.Common.{◌≡◌, refl, ap, List, Bool, true, false, ◌∙◌, cond, map, ◌&&◌, ◌||◌, not}
-use Rattle.misp_rules.proofs.Prelude.{Content, EventId, Inst, OrgId, Row, Version, any_in_order, any_map, event_key, has_copy, has_gone, has_home, has_path, is_gone, is_handed_in, is_row_of, is_tombstone, list_any, stands_before}
-use Rattle.misp_rules.specs.Version.{is_event_of}
-use Rattle.misp_history.specs.History.{without_local_tags, content_now, row_of, newest, tables, has_come}
+use Rattle.std.proofs.Common.{◌≡◌, refl, List, Bool, ◌∙◌, map, ◌&&◌, ◌||◌, not}
+use Rattle.misp_history.proofs.Prelude.{Content, EventId, Inst, OrgId, Row, Version, any_in_order, any_map, cond_both, content_now, event_key, has_come, has_copy, has_gone, has_home, has_path, is_event_of, is_gone, is_handed_in, is_row_of}
+use Rattle.misp_history.proofs.Prelude.{is_tombstone, list_any, newest, row_of, stands_before, tables, without_local_tags}
 
-gone_kept : (c : Content) → is_gone (without_local_tags c) ≡ is_gone c
+pub gone_kept : (c : Content) → is_gone (without_local_tags c) ≡ is_gone c
 unfolding is_gone without_local_tags
-gone_kept (Content.Event b) = refl
-gone_kept (Content.Object b) = refl
-gone_kept (Content.Attribute b) = refl
-gone_kept (Content.Reference b) = refl
-gone_kept (Content.Proposal b) = refl
-gone_kept (Content.Verdict b) = refl
-gone_kept (Content.Sighting b) = refl
 gone_kept Content.Gone = refl
-
-tombstone_is : (row : Row) → (c : Content) → row.content ≡ c → is_tombstone row ≡ is_gone c
-unfolding is_tombstone
-tombstone_is row c h = ap is_gone h
+gone_kept c = refl
 
 tombstone_of : (log : List Version) (v : Version) → is_tombstone (row_of log v) ≡ is_gone v.content
-unfolding row_of content_now
-tombstone_of log v = tombstone_is (row_of log v) (cond (has_path v) (without_local_tags v.content) v.content) refl ∙ one (has_path v)
-  where
-    one : (b : Bool) → is_gone (cond b (without_local_tags v.content) v.content) ≡ is_gone v.content
-    one true = gone_kept v.content
-    one false = refl
+unfolding row_of content_now is_tombstone
+tombstone_of log v = cond_both (has_path v) (without_local_tags v.content) v.content (λ c. is_gone c ≡ is_gone v.content) (λ e. gone_kept v.content) (λ e. refl)
 
 module _ (log : List Version) (i : Inst) (w : OrgId) (e : EventId) where
   -- what is said of the owner's row of the event is said of its newest version

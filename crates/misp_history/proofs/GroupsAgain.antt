@@ -1,31 +1,21 @@
 -- Groups that were taken once change nothing when they come again.
-use Rattle.std.proofs.Common.{◌≡◌, true, refl, sym, ◌∙◌, ℕ, arith, Bool, false, leb, List, ap, cond, [], ◌∷◌, eq-eqb, eqb-true, le-leb, ◌||◌, not, ◌&&◌, ◌+◌, filter}
+use Rattle.std.proofs.Common.{◌≡◌, inl, inr, true, refl, sym, ◌∙◌, ℕ, arith, Bool, false, leb, List, ap, cond, [], ◌∷◌, le-leb, ◌||◌, not, ◌&&◌, ◌+◌, filter}
+use Rattle.misp_history.proofs.Prelude.{Group, GroupId, and_from, and_parts, any_cut, any_implies, any_put, cases_Bool, cond_both, false_from_ne_true, false≢true, list_all, list_any, nat_tests, not-false, not-true, or_left, or_right}
+use Rattle.misp_history.proofs.Prelude.{put_group, true_from_ne_false}
 use Rattle.misp_ids.specs.Same.{same_group, group_before}
-use Rattle.misp_lists.proofs.Ordering.{any_put}
+use Rattle.misp_groups.proofs.Ids.{same_group-refl, same_group-sound}
 use Rattle.misp_groups.proofs.GroupsAgain.{bars, takes_is}
 use Rattle.misp_groups.specs.Changes.{takes_group, take_group, take_groups, count_taken}
-use Rattle.misp_rules.proofs.Prelude.{Group, GroupId, and_from, and_parts, any_cut, any_implies, false_from_ne_true, false≢true, list_all, list_any, nat_tests, not-true, or_left, or_right, put_group, same_org, true_from_ne_false}
-
-same_group-refl : (a : GroupId) → same_group a a ≡ true
-unfolding same_group same_org
-same_group-refl a = and_from _ _ (eq-eqb a.creator.0.0 a.creator.0.0 refl) (eq-eqb a.uuid.0 a.uuid.0 refl)
 
 -- names that are the same as one name are the same
 same_group-of : (a b c : GroupId) → same_group a b ≡ true → same_group a c ≡ true → same_group b c ≡ true
-unfolding same_group same_org
-same_group-of a b c h k =
-    let p = and_parts _ _ h in
-    let q = and_parts _ _ k in
-    let creator : b.creator.0.0 ≡ c.creator.0.0 = sym (eqb-true a.creator.0.0 b.creator.0.0 p.0) ∙ eqb-true a.creator.0.0 c.creator.0.0 q.0 in
-    let uuid : b.uuid.0 ≡ c.uuid.0 = sym (eqb-true a.uuid.0 b.uuid.0 p.1) ∙ eqb-true a.uuid.0 c.uuid.0 q.1 in
-    and_from _ _ (eq-eqb b.creator.0.0 c.creator.0.0 creator) (eq-eqb b.uuid.0 c.uuid.0 uuid)
+same_group-of a b c h k = ap (λ x. same_group x c) (sym (same_group-sound a b h)) ∙ k
 
 same_group-back : (a b : GroupId) → same_group a b ≡ true → same_group b a ≡ true
 same_group-back a b h = same_group-of a b a h (same_group-refl a)
 
 older_too : (b : Bool) (m n k : ℕ) → leb m k ≡ false → (b || leb m n) ≡ true → (b || leb k n) ≡ true
-older_too true m n k f h = refl
-older_too false m n k f h = grind (arith, nat_tests)
+older_too b m n k f h = grind (arith, nat_tests)
 
 -- what bars a group bars what is older
 bars_older : (g t : Group) → same_group t.id g.id ≡ true → leb g.modified t.modified ≡ false → (h : Group) → bars g h ≡ true → bars t h ≡ true
@@ -37,47 +27,29 @@ bars_older g t e f h k =
 put_bars : (g t : Group) (groups : List Group) → takes_group groups t ≡ true → list_any (bars g) groups ≡ true → list_any (bars g) (put_group (record t { carried = true }) groups) ≡ true
 unfolding put_group
 put_bars g t groups free h =
-    any_put (λ a b. group_before a.id b.id) (bars g) (record t { carried = true }) (filter (λ h. not (same_group h.id t.id)) groups) ∙ one (same_group t.id g.id) refl
+    any_put (λ a b. group_before a.id b.id) (bars g) (record t { carried = true }) others
+    ∙ elim (cases_Bool (same_group t.id g.id)) [
+      | inl e ↦ or_left (same_group t.id g.id && leb g.modified t.modified) (list_any (bars g) others) (and_from (same_group t.id g.id) (leb g.modified t.modified) e
+          (true_from_ne_false (leb g.modified t.modified) (λ f. false≢true (sym (not-true (list_any (bars t) groups) (sym (takes_is groups t) ∙ free)) ∙ any_implies (bars g) (bars t) (bars_older g t e f) groups h))))
+      | inr e ↦ or_right (same_group t.id g.id && leb g.modified t.modified) (list_any (bars g) others) (any_cut (bars g) (λ h. not (same_group h.id t.id)) (λ h k. ap not (false_from_ne_true (same_group h.id t.id) (λ s.
+          false≢true (sym e ∙ same_group-of h.id t.id g.id s (and_parts (same_group h.id g.id) (not h.carried || leb g.modified h.modified) k).0)))) groups ∙ h)
+    ]
   where
-    none : list_any (bars t) groups ≡ false
-    none = not-true (list_any (bars t) groups) (sym (takes_is groups t) ∙ free)
-
-    newer : same_group t.id g.id ≡ true → leb g.modified t.modified ≡ true
-    newer e = true_from_ne_false (leb g.modified t.modified) (λ f. false≢true (sym none ∙ any_implies (bars g) (bars t) (bars_older g t e f) groups h))
-
-    one : (b : Bool) → same_group t.id g.id ≡ b → (same_group t.id g.id && leb g.modified t.modified || list_any (bars g) (filter (λ h. not (same_group h.id t.id)) groups)) ≡ true
-    one true e = or_left (same_group t.id g.id && leb g.modified t.modified) (list_any (bars g) (filter (λ h. not (same_group h.id t.id)) groups)) (and_from (same_group t.id g.id) (leb g.modified t.modified) e (newer e))
-    one false e = or_right (same_group t.id g.id && leb g.modified t.modified) (list_any (bars g) (filter (λ h. not (same_group h.id t.id)) groups)) (any_cut (bars g) (λ h. not (same_group h.id t.id)) apart groups ∙ h)
-      where
-        apart : (h : Group) → bars g h ≡ true → not (same_group h.id t.id) ≡ true
-        apart h k = ap not (false_from_ne_true (same_group h.id t.id) (λ s. false≢true (sym e ∙ same_group-of h.id t.id g.id s (and_parts (same_group h.id g.id) (not h.carried || leb g.modified h.modified) k).0)))
+    others : List Group
+    others = filter (λ h. not (same_group h.id t.id)) groups
 
 take_bars : (g t : Group) (groups : List Group) → list_any (bars g) groups ≡ true → list_any (bars g) (take_group groups t) ≡ true
 unfolding take_group
-take_bars g t groups h = one (takes_group groups t) refl
-  where
-    one : (b : Bool) → takes_group groups t ≡ b → list_any (bars g) (cond b (put_group (record t { carried = true }) groups) groups) ≡ true
-    one true e = put_bars g t groups e h
-    one false e = h
+take_bars g t groups h = cond_both (takes_group groups t) _ _ (λ gs. list_any (bars g) gs ≡ true) (λ e. put_bars g t groups e h) (λ e. h)
 
 -- a group that was taken, or not, bars itself
 taken_bars : (g : Group) (groups : List Group) → list_any (bars g) (take_group groups g) ≡ true
 unfolding take_group put_group
-taken_bars g groups = one (takes_group groups g) refl
-  where
-    not_not : (b : Bool) → not b ≡ false → b ≡ true
-    not_not true h = refl
-    not_not false h = absurd (false≢true (sym h))
-
-    leb_same : (n : ℕ) → leb n n ≡ true
-    leb_same n = le-leb n n (omega arith)
-
-    one : (b : Bool) → takes_group groups g ≡ b → list_any (bars g) (cond b (put_group (record g { carried = true }) groups) groups) ≡ true
-    one true e =
-        any_put (λ a b. group_before a.id b.id) (bars g) (record g { carried = true }) (filter (λ h. not (same_group h.id g.id)) groups)
-        ∙ or_left (same_group g.id g.id && leb g.modified g.modified) (list_any (bars g) (filter (λ h. not (same_group h.id g.id)) groups))
-        (and_from (same_group g.id g.id) (leb g.modified g.modified) (same_group-refl g.id) (leb_same g.modified))
-    one false e = not_not (list_any (bars g) groups) (sym (takes_is groups g) ∙ e)
+taken_bars g groups = cond_both (takes_group groups g) _ _ (λ gs. list_any (bars g) gs ≡ true)
+    (λ e. any_put (λ a b. group_before a.id b.id) (bars g) (record g { carried = true }) (filter (λ h. not (same_group h.id g.id)) groups)
+    ∙ or_left (same_group g.id g.id && leb g.modified g.modified) (list_any (bars g) (filter (λ h. not (same_group h.id g.id)) groups))
+    (and_from (same_group g.id g.id) (leb g.modified g.modified) (same_group-refl g.id) (le-leb g.modified g.modified (omega arith))))
+    (λ e. not-false (list_any (bars g) groups) (sym (takes_is groups g) ∙ e))
 
 still_bars : (g : Group) (gs groups : List Group) → list_any (bars g) groups ≡ true → list_any (bars g) (take_groups groups gs) ≡ true
 unfolding take_groups

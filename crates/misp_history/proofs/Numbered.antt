@@ -1,14 +1,10 @@
 -- The versions of a log have the numbers of acts that were: after the n-th act none is above n.
-use Rattle.std.proofs.Common.{ℕ, Bool, ltb, ◌≡◌, List, [], ◌∷◌, true, false, refl, cond, map, suc, ap, ◌∙◌, ◌&&◌, Option, Some, None}
-use Rattle.misp_lists.proofs.Lists.{all_both}
-use Rattle.misp_rules.proofs.Prelude.{Group, Inst, Version, all-filter, and_from, and_parts, brings, counted, counts, is_accepted, list_all, same_inst}
+use Rattle.std.proofs.Common.{ℕ, Bool, ltb, ◌≡◌, List, [], ◌∷◌, true, refl, map, suc, arith, ◌&&◌, Option, Some, None}
+use Rattle.misp_history.proofs.Prelude.{Act, Asks, Caller, Command, Group, Inst, Net, Route, Scene, Syncs, Version, World, all-filter, all_both, and_from, and_parts, as_published, asked, brings, cond_both, counted, counts, handed_in}
+use Rattle.misp_history.proofs.Prelude.{is_accepted, is_newest, known_there, let_out_row, list_all, moved, nat_tests, newest, newest_from, passes, passing, row_of, same_inst, scene, step, synced, synced_groups, tables, written}
 use Rattle.misp_rules.specs.declared.ask.Ask.{Ask}
-use Rattle.misp_history.specs.History.{is_newest, newest_from, newest, row_of, tables}
-use Rattle.misp_history.specs.Passing.{Route, moved, passing, passes, known_there}
-use Rattle.misp_history.specs.Acts.{World, synced_groups, synced, Act, Caller, scene, asked, Command, Asks, Misfits, Syncs, Takes_groups, Administers, Nothing, Net, step}
-use Rattle.misp_history.proofs.Owners.{brings_now}
+use Rattle.misp_rules.proofs.Owners.{brings_each}
 use Rattle.misp_history.proofs.Adding.{below_next}
-use Rattle.misp_history.proofs.Steps.{step_by}
 
 -- the version is of an act below the number
 abbrev is_below : ℕ → Version → Bool
@@ -17,11 +13,9 @@ is_below n v = ltb v.act n
 pub newest_within : (p : Version → Bool) (i : Inst) (before after : List Version) → list_all p after ≡ true → list_all p (newest_from i before after) ≡ true
 unfolding newest_from
 newest_within p i before [] h = refl
-newest_within p i before (v ∷ after) h = one (same_inst v.at i && is_newest before v after) (newest_within p i (v ∷ before) after (and_parts _ _ h).1)
-  where
-    one : (b : Bool) → list_all p (newest_from i (v ∷ before) after) ≡ true → list_all p (cond b (v ∷ newest_from i (v ∷ before) after) (newest_from i (v ∷ before) after)) ≡ true
-    one true ih = and_from (p v) (list_all p (newest_from i (v ∷ before) after)) (and_parts (p v) (list_all p after) h).0 ih
-    one false ih = ih
+newest_within p i before (v ∷ after) h =
+    let later = newest_within p i (v ∷ before) after (and_parts _ _ h).1 in
+    cond_both (same_inst v.at i && is_newest before v after) _ _ (λ us. list_all p us ≡ true) (λ e. and_from _ _ (and_parts _ _ h).0 later) (λ e. later)
 
 -- what moves keeps the number of its act
 moved_within : (m n : ℕ) (r : Route) (vs : List Version) → list_all (is_below m) vs ≡ true → list_all (is_below m) (map (moved n r) vs) ≡ true
@@ -41,26 +35,29 @@ synced_below n w r h =
     (map (moved n r) (passing w.log (w.groups r.from) r))
     (moved_within (suc n) n r (passing w.log (w.groups r.from) r) (passing_within (is_below (suc n)) w.log (w.groups r.from) r h)))
 
+-- what a request brings is of its act
+brings_now : (s : Scene) (a : Ask) → list_all (is_below (suc s.act)) (brings s a) ≡ true
+unfolding written as_published let_out_row handed_in
+brings_now s a = brings_each s (is_below (suc s.act)) (λ k t l c. below s.act) (λ v h. h) (λ row. below s.act) (λ row. below s.act) a
+  where
+    below : (n : ℕ) → ltb n (suc n) ≡ true
+    below n = grind (arith, nat_tests)
+
 asked_below : (n : ℕ) (w : World) (act : Act) (c : Caller) (a : Ask) → list_all (is_below (suc n)) w.log ≡ true → list_all (is_below (suc n)) (asked w (scene n w act c) a).log ≡ true
 unfolding asked scene
-asked_below n w act c a h = all_both (is_below (suc n)) w.log _ h (one (is_accepted (scene n w act c) a))
-  where
-    one : (b : Bool) → list_all (is_below (suc n)) (cond b (brings (scene n w act c) a) []) ≡ true
-    one true = brings_now (scene n w act c) a
-    one false = refl
+asked_below n w act c a h =
+    all_both (is_below (suc n)) w.log _ h (cond_both (is_accepted (scene n w act c) a) _ _ (λ vs. list_all (is_below (suc n)) vs ≡ true) (λ e. brings_now (scene n w act c) a) (λ e. refl))
 
 -- after the n-th act all acts of the log are below the next number
 pub step_below : (net : Net) (n : ℕ) (w : World) (act : Act) → list_all (λ v. ltb v.act n) w.log ≡ true → list_all (λ v. ltb v.act (suc n)) (step net n w act).log ≡ true
+unfolding step scene
 step_below net n w act older = by_command act.command refl (below_next n w.log older)
   where
     by_command : (d : Command) → act.command ≡ d → list_all (is_below (suc n)) w.log ≡ true → list_all (is_below (suc n)) (step net n w act).log ≡ true
-    by_command (Asks c a) e h = ap (λ (x : World). list_all (is_below (suc n)) x.log) (step_by net n w act (Asks c a) e) ∙ asked_below n w act c a h
-    by_command (Misfits c) e h = ap (λ (x : World). list_all (is_below (suc n)) x.log) (step_by net n w act (Misfits c) e) ∙ h
-    by_command (Syncs way link) e h = ap (λ (x : World). list_all (is_below (suc n)) x.log) (step_by net n w act (Syncs way link) e) ∙ routed (net way act.at link w.groups)
+    by_command (Asks c a) e h = rw e (asked_below n w act c a h)
+    by_command (Syncs way link) e h = rw e (routed (net way act.at link w.groups))
       where
         routed : (o : Option Route) → list_all (is_below (suc n)) (elim o as (λ x. World) [ None ↦ w | Some r ↦ synced n w r ]).log ≡ true
         routed None = h
         routed (Some r) = synced_below n w r h
-    by_command (Takes_groups c gs) e h = ap (λ (x : World). list_all (is_below (suc n)) x.log) (step_by net n w act (Takes_groups c gs) e) ∙ h
-    by_command (Administers o add g) e h = ap (λ (x : World). list_all (is_below (suc n)) x.log) (step_by net n w act (Administers o add g) e) ∙ h
-    by_command Nothing e h = ap (λ (x : World). list_all (is_below (suc n)) x.log) (step_by net n w act Nothing e) ∙ h
+    by_command _ e h = rw e h

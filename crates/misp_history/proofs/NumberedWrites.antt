@@ -1,34 +1,28 @@
 -- What a request writes and is answered bears the number of its act in the versions that it writes, and nowhere else.
 use Rattle.std.proofs.Common.{◌≡◌, List, Bool, true, false, refl, map, cond, [], ◌∷◌, ap, ◌++◌, ◌∙◌, sym, ℕ, length, Option, Some, None, option_map, ◌&&◌, ◌||◌, not, leb, option_to_list, filter_map, filter}
-use Rattle.misp_rules.proofs.Prelude.{Content, Draft, Element, ElemId, EventId, Group, Key, Label, Other, Place, ProposalBody, ProposalName, ReferenceDraft, Refused, Reply, Row, Rule, Saved, Scene, Seen, Submission, Verdict, Version}
-use Rattle.misp_rules.proofs.Prelude.{VisibleEvent, acceptance, accepted, answer, any_map, as_deleted, ask_rules, at_attribute, at_tags, brings, change_writes, changed, changed_row, cons_option, counted, counts, edited, event_key}
-use Rattle.misp_rules.proofs.Prelude.{event_of, event_written, filter-map, first_rule, given, handed_in, has_copy, has_event, is_for_new, is_row_of, is_statement, is_welcome, judged_place, label_now, length-map, list_any, made, map-append}
-use Rattle.misp_rules.proofs.Prelude.{map-map, new_event, ok_answer, own_reference, own_row, part_version, parts_written, reference_key, reference_version, same_key, shown, tagged, target_in_copy, target_of, untagged, written}
-use Rattle.misp_rules.specs.Prelude.{at_event, at_object, at_publishing, body_seen, edited_event, edited_object, has_tag, is_held_in, judge_writes, let_out, proposal_key, propose_writes, scene_as, sight_writes, sighting_key, taken_rows}
+use Rattle.misp_history.proofs.Prelude.{Act, AddEvent, AddParts, Ask, Caller, Change, Content, Draft, Element, EventId, Group, Index, Judge, Key, Label, Listed, Other, ProposalBody, ProposalName, Publish, ReferenceDraft}
+use Rattle.misp_history.proofs.Prelude.{Refused, Reply, Row, Rule, Saved, Scene, Seen, Submission, TakePart, Taken, Verdict, Version, View, VisibleEvent, World, acceptance, accepted, answer, any_map, as_deleted, as_published, ask_rules}
+use Rattle.misp_history.proofs.Prelude.{at_attribute, at_publishing, at_tags, body_seen, brings, change_writes, changed, changed_row, concerning, cons_option, counted, counts, event_key, event_of, event_written, filter-map, first_rule}
+use Rattle.misp_history.proofs.Prelude.{fresh_row, handed_in, has_copy, has_event, has_tag, is_for_new, is_held_in, is_row_of, is_statement, is_welcome, judge_writes, judged_place, label_now, length-map, let_out, let_out_row, list_any}
+use Rattle.misp_history.proofs.Prelude.{made, map-append, map-map, new_event, newer, ok_answer, own_reference, own_row, own_row_is, part_version, parts_written, proposal_key, propose_writes, reference_key, reference_version, same_key}
+use Rattle.misp_history.proofs.Prelude.{scene, scene_as, shown, sight_writes, sighting_key, taken_rows, target_in_copy, target_of, untagged, written}
 use Rattle.misp_rules.specs.Numbers.{version_as, versions_as, reply_as}
-use Rattle.misp_rules.specs.declared.statement.ProposalDraftFields.{ProposalDraftFields as ProposalDraft}
-use Rattle.misp_rules.specs.declared.statement.SightingDraftFields.{SightingDraftFields as SightingDraft}
-use Rattle.misp_rules.specs.declared.change.Change.TheVariants.{EditObject, DeleteReference}
+use Rattle.misp_rules.specs.declared.change.Change.TheVariants.{DeleteReference}
 use Rattle.misp_rules.specs.Statements.{proposal_row}
-use Rattle.misp_rules.specs.Answers.{Listed, Taken, concerning, newer}
 use Rattle.misp_rules.proofs.Numbers.{index_as, rules_as, shown_as}
-use Rattle.misp_history.proofs.Prelude.{Act, AddEvent, AddParts, Ask, Caller, Change, Delete, DeleteEvent, EditAttribute, EditEvent, Groups, Index, Judge, Propose, Publish, Sight, TakePart, View, World, as_published, fresh_row}
-use Rattle.misp_history.proofs.Prelude.{let_out_row, own_row_is}
-use Rattle.misp_history.specs.Acts.{scene}
 
 -- ---- lists
 map_cond : {X Y : Type 0} (f : X → Y) (b : Bool) (xs ys : List X) → cond b (map f xs) (map f ys) ≡ map f (cond b xs ys)
 map_cond f true xs ys = refl
 map_cond f false xs ys = refl
 
+map_option : {X Y : Type 0} (f : X → Y) (o : Option X) (xs : List X) → cons_option (option_map f o) (map f xs) ≡ map f (cons_option o xs)
+map_option f None xs = refl
+map_option f (Some x) xs = refl
+
 map_given : {X Y Z : Type 0} (f : Y → Z) (g : X → Option Y) (xs : List X) → filter_map (λ x. option_map f (g x)) xs ≡ map f (filter_map g xs)
 map_given f g [] = refl
-map_given {Y = Y} f g (x ∷ xs) = one (g x) (map_given f g xs)
-  where
-    one : (o : Option Y) → filter_map (λ x. option_map f (g x)) xs ≡ map f (filter_map g xs) →
-        cons_option (option_map f o) (filter_map (λ x. option_map f (g x)) xs) ≡ map f (cons_option o (filter_map g xs))
-    one None ih = ih
-    one (Some y) ih = ap (λ ys. f y ∷ ys) ih
+map_given f g (x ∷ xs) = ap (cons_option (option_map f (g x))) (map_given f g xs) ∙ map_option f (g x) (filter_map g xs)
 
 both_map : {X Y : Type 0} (f : X → Y) (xs ys : List X) (us vs : List Y) → us ≡ map f xs → vs ≡ map f ys → us ++ vs ≡ map f (xs ++ ys)
 both_map f xs ys us vs h k = (λ i. h i ++ k i) ∙ sym (map-append f xs ys)
@@ -71,54 +65,25 @@ module _ (n : ℕ) (s : Scene) where
   unfolding changed_row changed written own_row
   row_as k l f = sym (map-map (version_as n) (λ row. changed s row (l row) (f row.content)) (option_to_list (own_row s k)))
 
-  delete_reference_as : (e : EventId) (x u : ElemId) → change_writes other (DeleteReference e x u) ≡ versions_as n (change_writes s (DeleteReference e x u))
-  unfolding change_writes own_reference changed written
-  delete_reference_as e x u = sym (map-map (version_as n) (λ row. changed s row row.label (as_deleted row.content)) (option_to_list (own_reference s e x u)))
-
-  untag_as : (e : EventId) (p : Place) (name : List ℕ) → change_writes other (Change.Untag e p name) ≡ versions_as n (change_writes s (Change.Untag e p name))
-  unfolding change_writes own_row_is own_row
-  untag_as e p name =
-      ap (λ vs. cond (own_row_is s (Element e p) (has_tag name)) vs []) (row_as (Element e p) (λ row. row.label) (at_tags (untagged name)))
-      ∙ map_cond (version_as n) (own_row_is s (Element e p) (has_tag name)) (changed_row s (Element e p) (λ row. row.label) (at_tags (untagged name))) []
-
-  let_out_as : (e : EventId) → let_out other e ≡ versions_as n (let_out s e)
-  unfolding let_out let_out_row is_held_in
-  let_out_as e = sym (map-map (version_as n) (let_out_row s) (filter (is_held_in s e) s.rows))
-
   published_as : (vs : List Version) → map as_published (versions_as n vs) ≡ versions_as n (map as_published vs)
   unfolding as_published
   published_as vs = map-map as_published (version_as n) vs ∙ sym (map-map (version_as n) as_published vs)
 
-  publish_as : (e : EventId) → change_writes other (Publish e) ≡ versions_as n (change_writes s (Publish e))
-  unfolding change_writes
-  publish_as e =
-      let event : List Version = changed_row s (event_key e) (λ row. row.label) (at_publishing s.now) in
-      both_map (version_as n) (map as_published event) (let_out s e) _ _
-      (ap (map as_published) (row_as (event_key e) (λ row. row.label) (at_publishing s.now)) ∙ published_as event) (let_out_as e)
-
   change_as : (c : Change) → change_writes other c ≡ versions_as n (change_writes s c)
-  unfolding change_writes
+  unfolding change_writes own_reference changed written own_row_is own_row let_out let_out_row is_held_in
   change_as (AddEvent b) = add_as b
   change_as (AddParts e b) = parts_as b
-  change_as (EditEvent e edit) = row_as (event_key e) (λ row. given edit.label row.label) (at_event (edited_event edit))
-  change_as (EditAttribute e p edit) = row_as (Element e p) (λ row. given edit.label row.label) (at_attribute (edited edit))
-  change_as (EditObject e x edit) = row_as (Element e (Place.Object x)) (λ row. given edit.label row.label) (at_object (edited_object edit))
-  change_as (Delete e p) = row_as (Element e p) (λ row. row.label) as_deleted
-  change_as (DeleteReference e x u) = delete_reference_as e x u
-  change_as (Change.Tag e p tag) = row_as (Element e p) (λ row. row.label) (at_tags (tagged tag))
-  change_as (Change.Untag e p name) = untag_as e p name
-  change_as (DeleteEvent e) = row_as (event_key e) (λ row. Label.Own) (λ c. Content.Gone)
-  change_as (Publish e) = publish_as e
+  change_as (DeleteReference e x u) = sym (map-map (version_as n) (λ row. changed s row row.label (as_deleted row.content)) (option_to_list (own_reference s e x u)))
+  change_as (Change.Untag e p name) =
+      ap (λ vs. cond (own_row_is s (Element e p) (has_tag name)) vs []) (row_as (Element e p) (λ row. row.label) (at_tags (untagged name)))
+      ∙ map_cond (version_as n) (own_row_is s (Element e p) (has_tag name)) (changed_row s (Element e p) (λ row. row.label) (at_tags (untagged name))) []
+  change_as (Publish e) =
+      let event : List Version = changed_row s (event_key e) (λ row. row.label) (at_publishing s.now) in
+      both_map (version_as n) (map as_published event) (let_out s e) _ _
+      (ap (map as_published) (row_as (event_key e) (λ row. row.label) (at_publishing s.now)) ∙ published_as event) (sym (map-map (version_as n) (let_out_row s) (filter (is_held_in s e) s.rows)))
+  change_as _ = row_as _ _ _
 
   -- ---- statements
-  propose_as : (d : ProposalDraft) → propose_writes other d ≡ versions_as n (propose_writes s d)
-  unfolding propose_writes proposal_key written
-  propose_as d = refl
-
-  sight_as : (e : EventId) (p : Place) (d : SightingDraft) → sight_writes other e p d ≡ versions_as n (sight_writes s e p d)
-  unfolding sight_writes sighting_key written
-  sight_as e p d = refl
-
   acceptance_as : (e : EventId) (m : ProposalName) (p : ProposalBody) → acceptance other e m p ≡ versions_as n (acceptance s e m p)
   unfolding acceptance written
   acceptance_as e m p =
@@ -167,15 +132,11 @@ module _ (n : ℕ) (s : Scene) where
   -- ---- any request
   -- the versions are the same but for their number
   pub brings_as : (a : Ask) → brings other a ≡ versions_as n (brings s a)
-  unfolding brings
-  brings_as (View e owner) = refl
+  unfolding brings propose_writes proposal_key sight_writes sighting_key written
   brings_as (Ask.Change c) = change_as c
-  brings_as (Propose d) = propose_as d
   brings_as (Judge e m accept) = judge_as e m accept
-  brings_as (Sight e p d) = sight_as e p d
-  brings_as Index = refl
-  brings_as Groups = refl
   brings_as (TakePart p) = taken_as p.rows
+  brings_as _ = refl
 
   -- and so the rows are the same
   pub fresh_as : (a : Ask) → map fresh_row (brings other a) ≡ map fresh_row (brings s a)
@@ -188,15 +149,13 @@ module _ (n : ℕ) (s : Scene) where
   view_as (Some v) = refl
 
   ok_as : (a : Ask) → ok_answer other a ≡ reply_as n (ok_answer s a)
-  unfolding ok_answer reply_as concerning
+  unfolding ok_answer reply_as concerning propose_writes proposal_key sight_writes sighting_key written
   ok_as (View e owner) = (λ i. elim (shown_as n s e owner i) as (λ x. Reply) [ None ↦ Other | Some v ↦ Seen v ]) ∙ view_as (shown s e owner)
   ok_as (Ask.Change c) = ap Saved (change_as c)
-  ok_as (Propose d) = ap Saved (propose_as d)
   ok_as (Judge e m accept) = ap Saved (judge_as e m accept)
-  ok_as (Sight e p d) = ap Saved (sight_as e p d)
   ok_as Index = ap Listed (index_as n s)
-  ok_as Groups = refl
   ok_as (TakePart p) = ap Taken (ap (λ vs. length (newer other vs)) (taken_as p.rows) ∙ ap length (newer_as (taken_rows s p.rows)) ∙ length-map (newer s (taken_rows s p.rows)) (version_as n))
+  ok_as _ = refl
 
   decided_as : (o : Option Rule) (r : Reply) → elim o as (λ x. Reply) [ None ↦ reply_as n r | Some rule ↦ Refused rule ] ≡ reply_as n (elim o as (λ x. Reply) [ None ↦ r | Some rule ↦ Refused rule ])
   unfolding reply_as

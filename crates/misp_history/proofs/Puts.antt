@@ -1,14 +1,12 @@
 -- An accepted request puts each version that it brings in its place as a row.
-use Rattle.std.proofs.Common.{◌≡◌, List, ◌∷◌, Bool, false, [], ◌++◌, true, refl, sym, map, ltb, ◌&&◌, not, cond, Option, Some, None}
-use Rattle.misp_rules.specs.Prelude.{ProposalBody, ProposalName, acceptance, at_tags, body_seen, has_tag, is_for_new, judge_rules, judge_writes, judged_place, proposal_key, propose_rules, propose_writes, sight_rules, sight_writes}
-use Rattle.misp_rules.specs.Prelude.{sighting_key, untagged}
-use Rattle.misp_rules.specs.declared.change.Change.TheVariants.{EditObject, DeleteReference}
+use Rattle.std.proofs.Common.{◌≡◌, List, ◌∷◌, Bool, false, [], ◌++◌, true, refl, sym, map, ltb, ◌&&◌, cond, Option, Some, None}
+use Rattle.misp_history.proofs.Prelude.{AddEvent, AddParts, AllByRecursion, Ask, Change, Content, Element, EventId, Judge, Label, Place, ProposalBody, ProposalName, Propose, Publish, Rule, Scene, Sight, Submission, TakePart, Verdict}
+use Rattle.misp_history.proofs.Prelude.{Version, acceptance, ask_rules, at_tags, bars, body_seen, brings, change_rules, change_writes, clashes, false≢true, fresh_row, hands_in, has_tag, is_accepted, is_for_new, is_row_of, is_taken}
+use Rattle.misp_history.proofs.Prelude.{judge_rules, judge_writes, judged_place, known, list_all, list_any, none_refuses, or_parts, own_row_is, proposal_key, propose_rules, propose_writes, put_all, refuses, same_cell, sight_rules}
+use Rattle.misp_history.proofs.Prelude.{sight_writes, sighting_key, tables, untagged, uuid_at, written}
+use Rattle.misp_rules.specs.declared.change.Change.TheVariants.{DeleteReference}
 use Rattle.misp_rules.specs.declared.statement.ProposalDraftFields.{ProposalDraftFields as ProposalDraft}
 use Rattle.misp_rules.specs.declared.statement.SightingDraftFields.{SightingDraftFields as SightingDraft}
-use Rattle.misp_rules.specs.Machine.{hands_in}
-use Rattle.misp_history.proofs.Prelude.{AddEvent, AddParts, Ask, Change, Content, Delete, DeleteEvent, EditAttribute, EditEvent, Element, EventId, Groups, Index, Judge, Label, Place, Propose, Publish, Rule, Scene, Sight, Submission}
-use Rattle.misp_history.proofs.Prelude.{TakePart, Verdict, Version, View, ask_rules, bars, brings, change_rules, change_writes, clashes, false≢true, fresh_row, is_accepted, is_row_of, is_taken, known, list_all, list_any, none_refuses}
-use Rattle.misp_history.proofs.Prelude.{or_parts, own_row_is, put_all, refuses, same_cell, tables, uuid_at, written}
 use Rattle.misp_history.proofs.Adding.{AreWritten, tables_written}
 use Rattle.misp_history.proofs.Submitted.{event_new, parts_new}
 use Rattle.misp_history.proofs.Changing.{none_new, changed_row_new, choice_new, reference_new, key_new, acceptance_new, acceptance_apart}
@@ -40,11 +38,11 @@ module _ (s : Scene) (log : List Version) (sees : s.rows ≡ known (tables log s
 
   proposed : (d : ProposalDraft) → is_accepted s (Propose d) ≡ true → New (propose_writes s d)
   unfolding propose_writes
-  proposed d h = key_new s log sees (proposal_key s d) Label.Inherit (Content.Proposal (record d.body { by_name = s.by_name })) [] (proposal_free d h) refl (none_new s log sees)
+  proposed d h = key_new s log sees (proposal_key s d) Label.Inherit (Content.Proposal (record d.body { by_name = s.by_name })) [] (proposal_free d h) tt (none_new s log sees)
 
   sighted : (e : EventId) (t : Place) (d : SightingDraft) → is_accepted s (Sight e t d) ≡ true → New (sight_writes s e t d)
   unfolding sight_writes
-  sighted e t d h = key_new s log sees (sighting_key s e t d) Label.Inherit _ [] (sighting_free e t d h) refl (none_new s log sees)
+  sighted e t d h = key_new s log sees (sighting_key s e t d) Label.Inherit _ [] (sighting_free e t d h) tt (none_new s log sees)
 
   module _ (e : EventId) (n : ProposalName) (accept : Bool) (accepted : is_accepted s (Judge e n accept) ≡ true) where
     not_taken : (accept && (is_for_new n && is_taken s e (uuid_at e (judged_place n)))) ≡ false
@@ -60,14 +58,12 @@ module _ (s : Scene) (log : List Version) (sees : s.rows ≡ known (tables log s
     change_of t o = cond t (elim o as (λ x. List Version) [ None ↦ [] | Some p ↦ acceptance s e n p ]) []
 
     change_new : (t : Bool) (o : Option ProposalBody) → (t && (is_for_new n && is_taken s e (uuid_at e (judged_place n)))) ≡ false → New (change_of t o)
-    change_new false o h = none_new s log sees
-    change_new true None h = none_new s log sees
     change_new true (Some p) h = acceptance_new s log sees e n p h
+    change_new _ _ h = none_new s log sees
 
-    change_apart : (v : Version) → v.key ≡ Verdict e n s.at s.by → (t : Bool) (o : Option ProposalBody) → list_all (λ u. not (same_cell v u)) (change_of t o) ≡ true
-    change_apart v k false o = refl
-    change_apart v k true None = refl
+    change_apart : (v : Version) → v.key ≡ Verdict e n s.at s.by → (t : Bool) (o : Option ProposalBody) → AllByRecursion (λ u. same_cell v u ≡ false) (change_of t o)
     change_apart v k true (Some p) = acceptance_apart s log sees e n p v k
+    change_apart v k _ _ = tt
 
     judged_new : New (judge_writes s e n accept)
     unfolding judge_writes written
@@ -86,23 +82,16 @@ module _ (s : Scene) (log : List Version) (sees : s.rows ≡ known (tables log s
     unfolding change_writes
     put_change (AddEvent b) h = put_new _ (event_new s b h log sees)
     put_change (AddParts e b) h = put_new _ (parts_new s b (parts_unclashed e b h) log sees)
-    put_change (EditEvent e edit) h = put_new _ (changed_row_new s log sees _ _ _)
-    put_change (EditAttribute e p edit) h = put_new _ (changed_row_new s log sees _ _ _)
-    put_change (EditObject e x edit) h = put_new _ (changed_row_new s log sees _ _ _)
-    put_change (Delete e p) h = put_new _ (changed_row_new s log sees _ _ _)
     put_change (DeleteReference e x u) h = put_new _ (reference_new s log sees e x u)
-    put_change (Change.Tag e p tag) h = put_new _ (changed_row_new s log sees _ _ _)
     put_change (Change.Untag e p name) h = put_new _ (choice_new s log sees (own_row_is s (Element e p) (has_tag name)) _ (changed_row_new s log sees (Element e p) (λ row. row.label) (at_tags (untagged name))))
-    put_change (DeleteEvent e) h = put_new _ (changed_row_new s log sees _ _ _)
     put_change (Publish e) h = published_put s e log sees h older
+    put_change _ h = put_new _ (changed_row_new s log sees _ _ _)
 
     pub put_ask : (a : Ask) → hands_in a ≡ false → is_accepted s a ≡ true → Puts (brings s a)
     unfolding brings hands_in
-    put_ask (View e owner) i h = put_new [] (none_new s log sees)
     put_ask (Ask.Change c) i h = put_change c h
     put_ask (Propose d) i h = put_new (propose_writes s d) (proposed d h)
     put_ask (Judge e n accept) i h = put_new _ (judged_new e n accept h)
     put_ask (Sight e t d) i h = put_new (sight_writes s e t d) (sighted e t d h)
-    put_ask Index i h = put_new [] (none_new s log sees)
-    put_ask Groups i h = put_new [] (none_new s log sees)
     put_ask (TakePart p) i h = absurd (false≢true (sym i))
+    put_ask _ i h = put_new [] (none_new s log sees)

@@ -1,20 +1,18 @@
 -- A publishing puts each of its versions in its place as a row.
-use Rattle.std.proofs.Common.{◌≡◌, List, true, false, leb, [], ◌∷◌, ◌++◌, ◌∙◌, Bool, refl, ap, map, cond, sym, append_assoc, ltb, arith, subst, ◌&&◌, not, ◌||◌, Option, Some, None, is_some, option_to_list, filter, find, append-nil}
-use Rattle.misp_lists.proofs.Lists.{filter_within, map_same}
-use Rattle.misp_rules.specs.Version.{Published}
-use Rattle.misp_rules.specs.Prelude.{at_publishing, has_home, holds_home, is_held_in, is_known, let_out}
-use Rattle.misp_rules.specs.Machine.{unheld, is_of_copy, let_go, published_row}
+use Rattle.std.proofs.Common.{Bool, Contains, List, None, Option, Some, [], ap, append-nil, append_assoc, arith, cond, false, filter, inl, inr, is_some, leb, ltb, map, not, option_to_list, refl, subst, sym, true, ◌&&◌, ◌++◌, ◌||◌, ◌∙◌, ◌∷◌}
+use Rattle.std.proofs.Common.{◌≡◌}
+use Rattle.misp_history.proofs.Prelude.{AllByRecursion, Ask, EventId, Inst, Publish, Published, Row, Scene, Version, all_among, all_implied, and_left, and_parts, and_right, any_found, any_implies, any_in_order, any_map, any_never}
+use Rattle.misp_history.proofs.Prelude.{as_published, ask_rules, at_publishing, bars, cases_Bool, change_rules, change_writes, changed, changed_row, event_key, event_of, false_from_ne_true, false≢true, filter_within, find_passes, fresh_row}
+use Rattle.misp_history.proofs.Prelude.{has_home, has_path, holds_copy, holds_home, in_order, is_accepted, is_gone, is_handed_in, is_held_in, is_known, is_of_copy, is_published, is_row_of, is_statement, is_tombstone, known, let_go, let_out}
+use Rattle.misp_history.proofs.Prelude.{let_out_row, list_all, list_any, list_any-append, map_from, map_same, newest, newest_more, none_refuses, not-true, of_part, or_left, or_parts, or_right, own_row, published_after, published_row, put}
+use Rattle.misp_history.proofs.Prelude.{put_all, put_row, refuses, released, row_of, row_of_name, same_cell, same_event, same_event-sound, same_inst, same_key, same_key-refl, same_key-sound, same_org, same_org-refl, same_org-sound}
+use Rattle.misp_history.proofs.Prelude.{stands_before, tables, unheld, written}
 use Rattle.misp_rules.specs.Scene.{sees as is_seen}
-use Rattle.misp_rules.proofs.OneRow.{row_of_name}
-use Rattle.misp_history.proofs.Prelude.{Ask, EventId, Inst, Publish, Row, Scene, Version, and_left, and_parts, as_published, ask_rules, bars, change_rules, change_writes, changed, changed_row, event_key, event_of, false_from_ne_true}
-use Rattle.misp_history.proofs.Prelude.{false≢true, find_passes, fresh_row, has_path, holds_copy, in_order, is_accepted, is_gone, is_published, is_row_of, is_statement, is_tombstone, known, let_out_row, list_all, list_any, list_any-append}
-use Rattle.misp_history.proofs.Prelude.{newest, newest_more, next_stamp, none_refuses, not-true, or_left, or_parts, own_row, put, put_all, put_row, refuses, row_of, same_cell, same_event, same_event-sound, same_inst, same_key}
-use Rattle.misp_history.proofs.Prelude.{same_key-refl, same_key-sound, same_org, same_org-sound, stands_before, tables, written}
 use Rattle.misp_history.proofs.Putting.{lets_out, row_of_more, is_other}
-use Rattle.misp_history.proofs.Topmost.{is_backed, tables_backed, held_not_carried}
-use Rattle.misp_history.proofs.Publishing.{event_of_event, IsPublishing, kept_owner, kept_key, let_go_owner, let_go_key, put_map, others_map, published_tables}
-use Rattle.misp_history.proofs.Sorted.{tables_sorted, put_row_sorted, put_each}
-use Rattle.misp_history.proofs.Changing.{change_newer, found_topmost}
+use Rattle.misp_history.proofs.AsNew.{backed, tables_sorted}
+use Rattle.misp_history.proofs.Publishing.{IsPublishing, others_kept, published_tables, put_kept}
+use Rattle.misp_history.proofs.Sorted.{put_row_sorted, put_each}
+use Rattle.misp_history.proofs.Changing.{change_newer, found_there}
 
 -- ---- versions that are no newer and publish nothing
 
@@ -23,149 +21,100 @@ record IsIdle (log : List Version) (v : Version) : Type 0 where
   quiet : (u : Version) → lets_out v u ≡ false
   barred : list_any (λ a. same_cell a v && leb v.stamp a.stamp) log ≡ true
 
-abbrev AreIdle : List Version → List Version → Type 0
-AreIdle log [] = Unit {0}
-AreIdle log (v ∷ vs) = IsIdle log v × AreIdle log vs
-
-idle_more : (v : Version) (log vs : List Version) → AreIdle log vs → AreIdle (log ++ v ∷ []) vs
-idle_more v log [] a = tt
-idle_more v log (u ∷ vs) a =
-    (record { quiet = a.0.quiet; barred = list_any-append (λ a. same_cell a u && leb u.stamp a.stamp) log (v ∷ []) ∙ or_left _ _ a.0.barred }, idle_more v log vs a.1)
-
 one_idle : (log : List Version) (v : Version) (i : Inst) → IsIdle log v → tables (log ++ v ∷ []) i ≡ tables log i
 unfolding tables
 one_idle log v i is =
     (λ j. in_order stands_before (map (λ u. row_of_more log v u (is.quiet u) j) (newest (log ++ v ∷ []) i)))
     ∙ ap (λ us. in_order stands_before (map (row_of log) us))
-    (newest_more v log i ∙ ap (λ b. cond (same_inst v.at i && not b) (filter (λ u. not (same_cell u v)) (newest log i) ++ v ∷ []) (newest log i)) is.barred
-    ∙ nothing (same_inst v.at i))
-  where
-    nothing : (b : Bool) → cond (b && false) (filter (λ u. not (same_cell u v)) (newest log i) ++ v ∷ []) (newest log i) ≡ newest log i
-    nothing true = refl
-    nothing false = refl
+    (newest_more v log i ∙ ap (λ b. cond b (filter (λ u. not (same_cell u v)) (newest log i) ++ v ∷ []) (newest log i)) (and_right (same_inst v.at i) _ (ap not is.barred)))
+
+idle_more : (v : Version) (log vs : List Version) → AllByRecursion (IsIdle log) vs → AllByRecursion (IsIdle (log ++ v ∷ [])) vs
+idle_more v log vs a = all_implied (IsIdle log) (IsIdle (log ++ v ∷ []))
+    (λ u is. record { quiet = is.quiet; barred = list_any-append (λ a. same_cell a u && leb u.stamp a.stamp) log (v ∷ []) ∙ or_left _ _ is.barred }) vs a
 
 -- they change nothing
-all_idle : (i : Inst) (vs log : List Version) → AreIdle log vs → tables (log ++ vs) i ≡ tables log i
+all_idle : (i : Inst) (vs log : List Version) → AllByRecursion (IsIdle log) vs → tables (log ++ vs) i ≡ tables log i
 all_idle i [] log a = ap (λ l. tables l i) (append-nil log)
 all_idle i (v ∷ vs) log a =
     ap (λ l. tables l i) (sym (append_assoc log (v ∷ []) vs)) ∙ all_idle i vs (log ++ v ∷ []) (idle_more v log vs a.1) ∙ one_idle log v i a.0
 
 -- ---- what a publishing lets out
 module _ (s : Scene) (e : EventId) where
-  -- the parts of the test
-  record IsHeldRow (row : Row) : Type 0 where
-    owner : same_org row.owner s.by ≡ true
-    event : same_event (event_of row.key) e ≡ true
-    held : row.held ≡ true
-    not_event : same_key row.key (event_key e) ≡ false
-
-  held_row : (row : Row) → is_held_in s e row ≡ true → IsHeldRow row
+  held_row : (row : Row) → is_held_in s e row ≡ true → (row.owner ≡ s.by) × ((same_event (event_of row.key) e ≡ true) × ((row.held ≡ true) × (same_key row.key (event_key e) ≡ false)))
   unfolding is_held_in
-  held_row row h =
-      let a : (same_org row.owner s.by ≡ true) × ((same_event (event_of row.key) e && (row.held && not (same_key row.key (event_key e)))) ≡ true) = and_parts _ _ h in
-      let b : (same_event (event_of row.key) e ≡ true) × ((row.held && not (same_key row.key (event_key e))) ≡ true) = and_parts _ _ a.1 in
-      let c : (row.held ≡ true) × (not (same_key row.key (event_key e)) ≡ true) = and_parts _ _ b.1 in
-      record { owner = a.0; event = b.0; held = c.0; not_event = not-true _ c.1 }
+  held_row row h = let a = and_parts _ _ h in let b = and_parts _ _ a.1 in let c = and_parts _ _ b.1 in (same_org-sound row.owner s.by a.0, (b.0, (c.0, not-true _ c.1)))
 
   -- one version that is let out is idle
-  let_out_idle : (log : List Version) (row : Row) → is_held_in s e row ≡ true → is_backed log s.at row ≡ true → IsIdle log (let_out_row s row)
-  unfolding let_out_row same_cell
-  let_out_idle log row h backed = record {
-    quiet = λ u. and_left (same_inst s.at u.at && same_org s.by u.owner && same_key row.key (event_key (event_of u.key))) (is_published Published && (not (has_path (let_out_row s row)) && ltb u.act s.act)) (or_key u);
-    barred = (λ j. list_any (λ a. (same_inst a.at s.at && same_org a.owner (sym owner j) && same_key a.key row.key) && leb row.stamp a.stamp) log) ∙ backed;
+  let_out_idle : (log : List Version) (row : Row) → is_held_in s e row ≡ true → Contains (tables log s.at) row → IsIdle log (let_out_row s row)
+  unfolding let_out_row same_cell event_of event_key
+  let_out_idle log row h there = record {
+    quiet = λ u. and_left (same_inst s.at u.at && same_org s.by u.owner && same_key row.key (event_key (event_of u.key))) (is_published Published && (not (has_path (let_out_row s row)) && ltb u.act s.act))
+        (and_right (same_inst s.at u.at && same_org s.by u.owner) (same_key row.key (event_key (event_of u.key))) (not_event (event_of u.key)));
+    barred = (λ j. list_any (λ a. (same_inst a.at s.at && same_org a.owner (sym is.0 j) && same_key a.key row.key) && leb row.stamp a.stamp) log) ∙ backed log s.at row there;
   }
     where
-      is : IsHeldRow row
+      is : (row.owner ≡ s.by) × ((same_event (event_of row.key) e ≡ true) × ((row.held ≡ true) × (same_key row.key (event_key e) ≡ false)))
       is = held_row row h
 
-      owner : row.owner ≡ s.by
-      owner = same_org-sound row.owner s.by is.owner
-
-      not_event_key : (f : EventId) → same_key row.key (event_key f) ≡ false
-      not_event_key f = false_from_ne_true _ (λ k.
+      not_event : (f : EventId) → same_key row.key (event_key f) ≡ false
+      not_event f = false_from_ne_true _ (λ k.
           let key : row.key ≡ event_key f = same_key-sound row.key (event_key f) k in
-          let event : f ≡ e = sym (event_of_event f) ∙ ap event_of (sym key) ∙ same_event-sound (event_of row.key) e is.event in
-          false≢true (sym is.not_event ∙ ap (λ x. same_key x (event_key e)) (key ∙ ap event_key event) ∙ same_key-refl (event_key e)))
+          let event : f ≡ e = ap event_of (sym key) ∙ same_event-sound (event_of row.key) e is.1.0 in
+          false≢true (sym is.1.1.1 ∙ ap (λ x. same_key x (event_key e)) (key ∙ ap event_key event) ∙ same_key-refl (event_key e)))
 
-      or_key : (u : Version) → (same_inst s.at u.at && same_org s.by u.owner && same_key row.key (event_key (event_of u.key))) ≡ false
-      or_key u = right (same_inst s.at u.at && same_org s.by u.owner) (not_event_key (event_of u.key))
-        where
-          right : (b : Bool) → same_key row.key (event_key (event_of u.key)) ≡ false → (b && same_key row.key (event_key (event_of u.key))) ≡ false
-          right true g = g
-          right false g = refl
-
-  lets_idle : (log : List Version) (rows : List Row) → list_all (is_backed log s.at) rows ≡ true → AreIdle log (map (let_out_row s) (filter (is_held_in s e) rows))
-  lets_idle log [] b = tt
-  lets_idle log (row ∷ rows) b = one (is_held_in s e row) refl (lets_idle log rows (and_parts (is_backed log s.at row) (list_all (is_backed log s.at) rows) b).1)
-    where
-      one : (t : Bool) → is_held_in s e row ≡ t → AreIdle log (map (let_out_row s) (filter (is_held_in s e) rows)) →
-          AreIdle log (map (let_out_row s) (cond t (row ∷ filter (is_held_in s e) rows) (filter (is_held_in s e) rows)))
-      one true h ih = (let_out_idle log row h (and_parts (is_backed log s.at row) (list_all (is_backed log s.at) rows) b).0, ih)
-      one false h ih = ih
+  lets_idle : (log : List Version) → AllByRecursion (IsIdle log) (map (let_out_row s) (filter (is_held_in s e) (tables log s.at)))
+  lets_idle log = all_among (IsIdle log) (map (let_out_row s) (filter (is_held_in s e) (tables log s.at))) (λ v m.
+      let f = map_from (let_out_row s) (filter (is_held_in s e) (tables log s.at)) v m in
+      let k = of_part (is_held_in s e) (tables log s.at) f.0 f.1.0 in
+      subst (IsIdle log) f.1.1 (let_out_idle log f.0 k.0 k.1))
 
   -- as a row it is the held one with no hold
   let_out_fresh : (row : Row) → is_held_in s e row ≡ true → (row.held && row.carried) ≡ false → fresh_row (let_out_row s row) ≡ unheld row
   unfolding fresh_row let_out_row is_published
-  let_out_fresh row h c = λ i. record {
-    owner = sym (same_org-sound row.owner s.by (held_row row h).owner) i;
-    key = row.key;
-    stamp = row.stamp;
-    label = row.label;
-    held = free (is_statement row.key || is_gone row.content) i;
-    carried = not_carried (sym (ap (λ b. b && row.carried) (held_row row h).held) ∙ c) i;
-    content = row.content;
-  }
-    where
-      free : (b : Bool) → not (b || true) ≡ false
-      free true = refl
-      free false = refl
-
-      not_carried : row.carried ≡ false → false ≡ row.carried
-      not_carried g = sym g
+  let_out_fresh row h c =
+      let here : row.carried ≡ false = sym (ap (λ b. b && row.carried) (held_row row h).1.1.0) ∙ c in
+      λ i. record (unheld row) { owner = sym (held_row row h).0 i; held = not (or_right (is_statement row.key || is_gone row.content) true refl i); carried = sym here i }
 
   lets_fresh : (rows : List Row) → list_any (λ row. row.held && row.carried) rows ≡ false → map fresh_row (map (let_out_row s) (filter (is_held_in s e) rows)) ≡ map unheld (filter (is_held_in s e) rows)
   lets_fresh [] c = refl
-  lets_fresh (row ∷ rows) c = one (is_held_in s e row) refl (lets_fresh rows (or_parts _ _ c).1)
-    where
-      one : (t : Bool) → is_held_in s e row ≡ t → map fresh_row (map (let_out_row s) (filter (is_held_in s e) rows)) ≡ map unheld (filter (is_held_in s e) rows) →
-          map fresh_row (map (let_out_row s) (cond t (row ∷ filter (is_held_in s e) rows) (filter (is_held_in s e) rows)))
-          ≡ map unheld (cond t (row ∷ filter (is_held_in s e) rows) (filter (is_held_in s e) rows))
-      one true h ih = λ i. let_out_fresh row h (or_parts _ _ c).0 i ∷ ih i
-      one false h ih = ih
+  lets_fresh (row ∷ rows) c = elim (cases_Bool (is_held_in s e row)) [
+    | inl h ↦ rw h (λ i. let_out_fresh row h (or_parts _ _ c).0 i ∷ lets_fresh rows (or_parts _ _ c).1 i)
+    | inr h ↦ rw h (lets_fresh rows (or_parts _ _ c).1)
+  ]
 
   -- the held rows that the caller knows of its copy are those of the tables
   known_held : (rows : List Row) → filter (is_held_in s e) (known rows s.groups s.at s.by) ≡ filter (is_held_in s e) rows
   unfolding known is_known
-  known_held rows = filter_within (is_held_in s e) (is_held_in s e) (is_known rows s.groups s.at s.by) (λ row h. refl) (λ row h. or_left _ _ (held_row row h).owner) rows
+  known_held rows = filter_within (is_held_in s e) (is_held_in s e) (is_known rows s.groups s.at s.by) (λ row h. refl) (λ row h. or_left _ _ (ap (λ w. same_org w s.by) (held_row row h).0 ∙ same_org-refl s.by)) rows
 
 -- ---- the tables after both
 filter_put_out : (h : Row → Bool) (before : Row → Row → Bool) (x : Row) (ys : List Row) → h x ≡ false → filter h (put before x ys) ≡ filter h ys
 unfolding put
-filter_put_out h before x [] e = ap (λ b. cond b (x ∷ []) []) e
-filter_put_out h before x (y ∷ ys) e = one (before x y) (filter_put_out h before x ys e)
-  where
-    one : (b : Bool) → filter h (put before x ys) ≡ filter h ys → filter h (cond b (x ∷ y ∷ ys) (y ∷ put before x ys)) ≡ filter h (y ∷ ys)
-    one true ih = ap (λ b. cond b (x ∷ filter h (y ∷ ys)) (filter h (y ∷ ys))) e
-    one false ih = ap (λ zs. cond (h y) (y ∷ zs) zs) ih
+filter_put_out h before x [] e = rw e refl
+filter_put_out h before x (y ∷ ys) e = elim (cases_Bool (before x y)) [
+  | inl k ↦ rw (k, e) refl
+  | inr k ↦ rw k (ap (λ zs. cond (h y) (y ∷ zs) zs) (filter_put_out h before x ys e))
+]
 
 -- clearing the hold of held rows is clearing that of all
 clear_alike : (row : Row) (a b k : Bool) → not (a && k) ≡ true → cond (a && (b && (row.held && not k))) (unheld row) row ≡ cond (a && b) (unheld row) row
-clear_alike row false b k h = refl
-clear_alike row true false k h = refl
 clear_alike row true true true h = absurd (false≢true h)
-clear_alike row true true false h = one row.held refl
-  where
-    one : (t : Bool) → row.held ≡ t → cond (t && true) (unheld row) row ≡ unheld row
-    one true g = refl
-    one false g = λ i. record {
-      owner = row.owner;
-      key = row.key;
-      stamp = row.stamp;
-      label = row.label;
-      held = g i;
-      carried = row.carried;
-      content = row.content;
-    }
+clear_alike row true true false h = elim (cases_Bool row.held) [ inl g ↦ rw g refl | inr g ↦ rw g refl ]
+clear_alike row _ _ _ h = refl
+
+not_last : (a b c k : Bool) → k ≡ true → (a && (b && (c && not k))) ≡ false
+not_last a b c k h = grind arith
+
+held_is_here : (p h s g b a : Bool) → (not (p || h || s || g || b || a) && (h || p)) ≡ false
+held_is_here p h s g b a = grind arith
+
+-- no row that is held was carried
+held_not_carried : (log : List Version) (i : Inst) → list_any (λ row. row.held && row.carried) (tables log i) ≡ false
+unfolding tables row_of released
+held_not_carried log i =
+    any_in_order stands_before (λ row. row.held && row.carried) (map (row_of log) (newest log i)) ∙ any_map (row_of log) (λ row. row.held && row.carried) (newest log i)
+    ∙ any_never (λ u. (row_of log u).held && (row_of log u).carried)
+    (λ u. held_is_here (has_path u) (is_handed_in u.came) (is_statement u.key) (is_gone u.content) (is_published u.came) (published_after log u)) (newest log i)
 
 module _ (s : Scene) (e : EventId) (log : List Version) (sees : s.rows ≡ known (tables log s.at) s.groups s.at s.by) where
   abbrev held : Row → Bool
@@ -185,27 +134,19 @@ module _ (s : Scene) (e : EventId) (log : List Version) (sees : s.rows ≡ known
       ∙ ap (λ rows. map fresh_row (map (let_out_row s) rows)) (known_held s e table)
       ∙ lets_fresh s e table (held_not_carried log s.at)
 
-  lets_are_idle : AreIdle log (let_out s e)
+  lets_are_idle : AllByRecursion (IsIdle log) (let_out s e)
   unfolding let_out
-  lets_are_idle = subst (λ rows. AreIdle log (map (let_out_row s) rows)) (sym (ap (filter held) sees ∙ known_held s e table)) (lets_idle s e log table (tables_backed log s.at))
+  lets_are_idle = subst (λ rows. AllByRecursion (IsIdle log) (map (let_out_row s) rows)) (sym (ap (filter held) sees ∙ known_held s e table)) (lets_idle s e log)
 
   module _ (p : Version) (is : IsPublishing s.act s.at s.by e p) where
     not_held : held (fresh_row p) ≡ false
     unfolding is_held_in fresh_row
-    not_held = last (same_org p.owner s.by) (same_event (event_of p.key) e) (not (is_statement p.key || is_gone p.content || is_published p.came)) (ap (λ k. same_key k (event_key e)) is.key ∙ same_key-refl (event_key e))
-      where
-        last : (a b c : Bool) {k : Bool} → k ≡ true → (a && (b && (c && not k))) ≡ false
-        last true true true h = ap not h
-        last true true false h = refl
-        last true false c h = refl
-        last false b c h = refl
+    not_held =
+        not_last (same_org p.owner s.by) (same_event (event_of p.key) e) (not (is_statement p.key || is_gone p.content || is_published p.came)) (same_key p.key (event_key e))
+        (ap (λ k. same_key k (event_key e)) is.key ∙ same_key-refl (event_key e))
 
     held_other : (row : Row) → held row ≡ true → is_other p row ≡ true
-    held_other row h = ap not (no (same_org row.owner p.owner) (ap (same_key row.key) is.key ∙ (held_row s e row h).not_event))
-      where
-        no : (b : Bool) → same_key row.key p.key ≡ false → (b && same_key row.key p.key) ≡ false
-        no true g = g
-        no false g = refl
+    held_other row h = ap not (and_right (same_org row.owner p.owner) (same_key row.key p.key) (ap (same_key row.key) is.key ∙ (held_row s e row h).1.1.1))
 
     other_cleared : (row : Row) → is_other p row ≡ true → cleared row ≡ let_go s.by e row
     unfolding is_held_in let_go is_of_copy
@@ -224,18 +165,11 @@ module _ (s : Scene) (e : EventId) (log : List Version) (sees : s.rows ≡ known
         ∙ filter_within held held (is_other p) (λ row h. refl) held_other table
 
     cleared_grown : map cleared grown ≡ put_row (fresh_row p) (map (let_go s.by e) table)
-    unfolding put_row fresh_row
+    unfolding put_row fresh_row let_go
     cleared_grown =
-        sym (put_map cleared (λ r. kept_owner (held r) r) (λ r. kept_key (held r) r) (fresh_row p) (filter (is_other p) table))
-        ∙ (λ i. put stands_before (itself i) (before i))
-      where
-        itself : cleared (fresh_row p) ≡ fresh_row p
-        itself = ap (λ b. cond b (unheld (fresh_row p)) (fresh_row p)) not_held
-
-        before : map cleared (filter (is_other p) table) ≡ filter (is_other p) (map (let_go s.by e) table)
-        before =
-            map_same cleared (let_go s.by e) (is_other p) other_cleared table
-            ∙ sym (others_map (let_go s.by e) (let_go_owner s.by e) (let_go_key s.by e) p table)
+        put_kept held (fresh_row p) (filter (is_other p) table)
+        ∙ (λ i. put stands_before (ap (λ b. cond b (unheld (fresh_row p)) (fresh_row p)) not_held i)
+        ((map_same cleared (let_go s.by e) (is_other p) other_cleared table ∙ sym (others_kept (is_of_copy s.by e) p table)) i))
 
     pub let_go_all : list_all (λ u. ltb u.act s.act) log ≡ true → list_any (λ a. same_cell a p && leb p.stamp a.stamp) log ≡ false →
         tables (log ++ p ∷ let_out s e) s.at ≡ put_row (fresh_row p) (map (let_go s.by e) table)
@@ -251,19 +185,12 @@ module _ (s : Scene) (e : EventId) (log : List Version) (sees : s.rows ≡ known
         let_go_all older newer
         ∙ sym
         (ap (λ rows. put_all rows grown) (lets_are ∙ ap (map unheld) (sym held_grown))
-        ∙ put_each unheld (λ r. refl) (λ r. refl) held grown (put_row_sorted (fresh_row p) table (tables_sorted log s.at))
+        ∙ put_each held grown (put_row_sorted (fresh_row p) table (tables_sorted log s.at))
         ∙ cleared_grown)
 
   -- ---- an accepted publishing
-  not_found : (q : Row → Bool) (k : Row → Bool) (rows : List Row) → find k rows ≡ None → list_any (λ row. k row && q row) rows ≡ false
-  not_found q k [] h = refl
-  not_found q k (row ∷ rows) h = grind (arith, not_found q k rows)
-
   home_from : (c v h : Bool) → (not c && not v || h && not true) ≡ false → (not c && v) ≡ false → (c && not h) ≡ false → h ≡ true
-  home_from c v true a b d = refl
-  home_from true v false a b d = sym d
-  home_from false true false a b d = sym b
-  home_from false false false a b d = sym a
+  home_from c v h a b d = grind arith
 
   is_home : is_accepted s (Ask.Change (Publish e)) ≡ true → holds_home s e ≡ true
   unfolding is_accepted ask_rules change_rules bars refuses
@@ -276,11 +203,9 @@ module _ (s : Scene) (e : EventId) (log : List Version) (sees : s.rows ≡ known
 
   pub is_there : is_accepted s (Ask.Change (Publish e)) ≡ true → is_some (own_row s (event_key e)) ≡ true
   unfolding own_row holds_home has_home
-  is_there accepted = one (find (is_row_of s.by (event_key e)) s.rows) refl
-    where
-      one : (o : Option Row) → find (is_row_of s.by (event_key e)) s.rows ≡ o → is_some o ≡ true
-      one None f = absurd (false≢true (sym (not_found (λ row. not (is_tombstone row) && not row.carried) (is_row_of s.by (event_key e)) s.rows f) ∙ is_home accepted))
-      one (Some row) f = refl
+  is_there accepted =
+      sym (any_found (is_row_of s.by (event_key e)) s.rows)
+      ∙ any_implies (λ row. is_row_of s.by (event_key e) row && (not (is_tombstone row) && not row.carried)) (is_row_of s.by (event_key e)) (λ row h. (and_parts _ _ h).0) s.rows (is_home accepted)
 
   module _ (row : Row) (found : own_row s (event_key e) ≡ Some row) where
     name_is : (row.owner ≡ s.by) × (row.key ≡ event_key e)
@@ -297,24 +222,12 @@ module _ (s : Scene) (e : EventId) (log : List Version) (sees : s.rows ≡ known
 
     own_newer : list_any (λ a. same_cell a own && leb own.stamp a.stamp) log ≡ false
     unfolding as_published changed written same_cell own_row
-    own_newer = change_newer s log sees row row.label (at_publishing s.now row.content) name_is.0 (found_topmost s log sees (is_row_of s.by (event_key e)) row found)
+    own_newer = change_newer s log sees row row.label (at_publishing s.now row.content) name_is.0 (found_there s log sees (is_row_of s.by (event_key e)) row found)
 
     -- as a row
     own_fresh : fresh_row own ≡ published_row s.now row
     unfolding fresh_row as_published changed written is_published published_row
-    own_fresh = λ i. record {
-      owner = sym name_is.0 i;
-      key = row.key;
-      stamp = next_stamp s.now row.stamp;
-      label = row.label;
-      held = free (is_statement row.key || is_gone (at_publishing s.now row.content)) i;
-      carried = false;
-      content = at_publishing s.now row.content;
-    }
-      where
-        free : (b : Bool) → not (b || true) ≡ false
-        free true = refl
-        free false = refl
+    own_fresh = λ i. record (published_row s.now row) { owner = sym name_is.0 i; held = not (or_right (is_statement row.key || is_gone (at_publishing s.now row.content)) true refl i) }
 
     writes_are : change_writes s (Publish e) ≡ own ∷ let_out s e
     unfolding change_writes changed_row

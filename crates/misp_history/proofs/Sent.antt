@@ -1,21 +1,20 @@
 -- What passes in a synchronisation is told by the sender's rows, each key once.
-use Rattle.std.proofs.Common.{◌≡◌, ◌<◌, List, Bool, true, ap, sym, ◌∙◌, inl, inr, ltb, Some, None, ℕ, [], ◌∷◌, false, refl, map, cond, length, ◌&&◌, ◌⊎◌, Option, Contains, filter, lt-ltb}
-use Rattle.std.proofs.lemmas.Bool.{cases_order}
-use Rattle.misp_lists.proofs.Elements.{filter_among, map_has}
-use Rattle.misp_lists.proofs.Distinct.{distinct_part, distinct_from_map, distinct_map}
-use Rattle.misp_lists.proofs.Ordering.{in_order_has}
+use Rattle.std.proofs.Common.{◌≡◌, List, Bool, true, ap, arith, sym, ◌∙◌, inl, inr, ltb, Some, None, ℕ, false, refl, map, cond, length, ◌&&◌, Option, Contains, filter, lt-ltb, subst}
+use Rattle.misp_history.proofs.Prelude.{Content, Element, Group, IsDistinct, IsTable, Key, OrgId, Reference, Route, Row, Tag, Version, all-map, all_of_kept, and_from, and_parts, and_right, any_has, apart_in_order, arrived, arriving_rows}
+use Rattle.misp_history.proofs.Prelude.{cases_order, content_now, distinct_from_map, distinct_map, distinct_part, distinct_weaker, element_passes, event_of, exportable, false_from_ne_true, false≢true, filter-map, filter_all, filter_among}
+use Rattle.misp_history.proofs.Prelude.{from_in_order, granted, granted_known, has_path, in_one_cell, in_order, in_order_has, in_order_rows, is_known, is_least, is_sent_owner, kept_has, known, known_there, label_now, list_all, map_from}
+use Rattle.misp_history.proofs.Prelude.{map_has, map_twice, moved, newest, not-true, one_cell, passes, passes_by, passing, passing_rows, row_of, same_cell, same_inst, same_inst-refl, same_key, same_key-refl, same_key-sound, same_org}
+use Rattle.misp_history.proofs.Prelude.{same_org-sound, sent_copy, stands_before, tables, without_local_tags}
 use Rattle.misp_levels.proofs.Steps.{down_more}
-use Rattle.misp_rules.proofs.Prelude.{Content, Element, Group, IsDistinct, Key, OrgId, Proposal, Reference, Row, Sighting, Tag, Verdict, Version, and_from, and_parts, any_has, event_of, false≢true, filter-map, granted, granted_known}
-use Rattle.misp_rules.proofs.Prelude.{has_path, in_one_cell, in_order, is_known, is_least, kept_has, known, label_now, list_all, not-true, one_cell, same_inst, same_inst-refl, same_key, same_key-refl, same_key-sound, same_org}
-use Rattle.misp_rules.proofs.Prelude.{same_org-sound, stands_before}
 use Rattle.misp_rules.proofs.KnownRows.{granted_is_known}
-use Rattle.misp_history.proofs.Prelude.{Route, arrived, arriving_rows, content_now, in_order_rows, moved, newest, passes, passing, passing_rows, row_of, same_cell, tables, without_local_tags}
-use Rattle.misp_history.specs.Passing.{sent_copy, is_sent_owner, element_passes, passes_by, known_there}
-use Rattle.misp_history.specs.History.{exportable}
-use Rattle.misp_history.proofs.OneNewest.{tables_are_tables, newest_apart}
+use Rattle.misp_history.proofs.AsNew.{tables_are_tables, newest_apart}
 use Rattle.misp_history.proofs.Arriving.{settled, comes}
 
--- ---- elements of lists in order
+and_within : (a b c : Bool) → (b && c) ≡ false → (a && b && c) ≡ false
+and_within a b c h = grind arith
+
+map_within : {X Y : Type 0} (g : X → Y) (xs ys : List X) → ((z : X) → Contains xs z → Contains ys z) → (y : Y) → Contains (map g xs) y → Contains (map g ys) y
+map_within g xs ys h y m = let f = map_from g xs y m in subst (Contains (map g ys)) f.1.1 (map_has g ys f.0 (h f.0 f.1.0))
 
 -- ---- what passes is granted, and of one key from one owner
 module _ (rows : List Row) (groups : List Group) (route : Route) where
@@ -31,9 +30,7 @@ module _ (rows : List Row) (groups : List Group) (route : Route) where
   unfolding passes_by
   by_granted row (Element e p) h = element_passes_granted row h
   by_granted row (Reference e x t u) h = element_passes_granted row h
-  by_granted row (Proposal e n) h = least_granted row _ h
-  by_granted row (Verdict e n j v) h = least_granted row _ h
-  by_granted row (Sighting e t j v u) h = least_granted row _ h
+  by_granted row _ h = least_granted row _ h
 
   pub passes_granted : (row : Row) → passes rows groups route row ≡ true → granted rows groups route.from route.«for» row ≡ true
   unfolding passes
@@ -55,13 +52,10 @@ module _ (rows : List Row) (groups : List Group) (route : Route) where
   least_owner : (a b : Row) → Contains rows a → Contains rows b → same_key a.key b.key ≡ true → same_key b.key a.key ≡ true →
       is_least rows groups route.from route.«for» a ≡ true → is_least rows groups route.from route.«for» b ≡ true → a.owner ≡ b.owner
   unfolding is_least
-  least_owner a b m n s t h k = one (cases_order a.owner.0.0 b.owner.0.0) (and_parts _ _ h).0 (and_parts _ _ k).0
-    where
-      one : (a.owner.0.0 ≡ b.owner.0.0) ⊎ ((a.owner.0.0 < b.owner.0.0) ⊎ (b.owner.0.0 < a.owner.0.0)) →
-          granted rows groups route.from route.«for» a ≡ true → granted rows groups route.from route.«for» b ≡ true → a.owner ≡ b.owner
-      one (inl x) g f = λ i. record { 0 = record { 0 = x i } }
-      one (inr (inl x)) g f = absurd (none_less b a m s g k (lt-ltb a.owner.0.0 b.owner.0.0 x))
-      one (inr (inr x)) g f = absurd (none_less a b n t f h (lt-ltb b.owner.0.0 a.owner.0.0 x))
+  least_owner a b m n s t h k = elim (cases_order a.owner.0.0 b.owner.0.0) [
+    | inl x ↦ λ i. record { 0 = record { 0 = x i } }
+    | inr y ↦ elim y [ inl x ↦ absurd (none_less b a m s (and_parts _ _ h).0 k (lt-ltb a.owner.0.0 b.owner.0.0 x)) | inr x ↦ absurd (none_less a b n t (and_parts _ _ k).0 h (lt-ltb b.owner.0.0 a.owner.0.0 x)) ]
+  ]
 
   element_owner : (a b : Row) → a.key ≡ b.key → element_passes rows groups route a ≡ true → element_passes rows groups route b ≡ true → a.owner ≡ b.owner
   unfolding element_passes
@@ -75,9 +69,7 @@ module _ (rows : List Row) (groups : List Group) (route : Route) where
   unfolding passes_by
   once_by a b m n s t e (Element f p) x y = element_owner a b e x y
   once_by a b m n s t e (Reference f z p u) x y = element_owner a b e x y
-  once_by a b m n s t e (Proposal f p) x y = least_owner a b m n s t (and_parts _ _ x).0 (and_parts _ _ y).0
-  once_by a b m n s t e (Verdict f p j v) x y = least_owner a b m n s t (and_parts _ _ x).0 (and_parts _ _ y).0
-  once_by a b m n s t e (Sighting f p j v u) x y = least_owner a b m n s t (and_parts _ _ x).0 (and_parts _ _ y).0
+  once_by a b m n s t e _ x y = least_owner a b m n s t (and_parts _ _ x).0 (and_parts _ _ y).0
 
   passes_once : (a b : Row) → Contains rows a → Contains rows b → same_key a.key b.key ≡ true → same_key b.key a.key ≡ true →
       passes rows groups route a ≡ true → passes rows groups route b ≡ true → a.owner ≡ b.owner
@@ -115,67 +107,30 @@ module _ (log : List Version) (groups : List Group) (route : Route) where
   goes_seen x m h = kept_has (is_known rows groups route.from route.«for») rows x (in_table x m) (goes_known x (in_table x m) h)
 
   -- of all rows pass those that pass of the known ones
-  passing_in_order : passing_rows rows groups route ≡ in_order stands_before (filter goes loose)
-  unfolding passing_rows known tables
-  passing_in_order =
-      filter_among goes goes (is_known rows groups route.from route.«for») rows (λ x m q. refl) (λ x m h. goes_known x m h)
-      ∙ in_order_rows goes loose
-
   pub arriving_in_order : arriving_rows rows groups route ≡ map (arrived route) (in_order stands_before (filter goes loose))
-  unfolding arriving_rows
-  arriving_in_order = ap (map (arrived route)) passing_in_order
+  unfolding arriving_rows passing_rows known tables
+  arriving_in_order =
+      ap (map (arrived route)) (filter_among goes goes (is_known rows groups route.from route.«for») rows (λ x m q. refl) (λ x m h. goes_known x m h) ∙ in_order_rows goes loose)
 
   one_key : (a b : Row) → Contains loose a → Contains loose b → goes a ≡ true → goes b ≡ true → same_key a.key b.key ≡ true → in_one_cell a b ≡ true
   one_key a b m n h k t =
       let e : a.key ≡ b.key = same_key-sound a.key b.key t in
       one_cell a b (passes_once seen groups route a b (goes_seen a m h) (goes_seen b n k) t (ap (same_key b.key) e ∙ same_key-refl b.key) h k) e
 
-  loose_apart : IsDistinct in_one_cell loose
-  unfolding newest
-  loose_apart = newest_apart log route.from [] log
-
   -- each key passes once
   pub keys_apart : IsDistinct (λ (a b : Row). same_key a.key b.key) (filter goes loose)
-  keys_apart = distinct_part in_one_cell (λ a b. same_key a.key b.key) goes loose one_key loose_apart
-
-  versions_apart : IsDistinct (λ (a b : Version). same_key a.key b.key) (passing log groups route)
-  unfolding passing known_there row_of
-  versions_apart =
-      distinct_part (λ a b. in_one_cell (row_of log a) (row_of log b)) (λ a b. same_key a.key b.key) (λ v. goes (row_of log v)) (newest log route.from)
-      (λ a b m n h k t. one_key (row_of log a) (row_of log b) (map_has (row_of log) (newest log route.from) a m) (map_has (row_of log) (newest log route.from) b n) h k t)
-      (distinct_from_map (row_of log) in_one_cell (newest log route.from) loose_apart)
-
-  pub moved_apart : (n : ℕ) → IsDistinct same_cell (map (moved n route) (passing log groups route))
-  unfolding same_cell moved
-  moved_apart n = distinct_map (moved n route) (λ a b. same_key a.key b.key) same_cell apart (passing log groups route) versions_apart
-    where
-      apart : (a b : Version) → same_key a.key b.key ≡ false → same_cell (moved n route a) (moved n route b) ≡ false
-      apart a b h = ap (λ t. same_inst route.into route.into && same_org route.holder route.holder && t) h ∙ never _
-        where
-          never : (t : Bool) → (t && false) ≡ false
-          never true = refl
-          never false = refl
+  keys_apart = distinct_part in_one_cell (λ a b. same_key a.key b.key) goes loose one_key (newest_apart log route.from)
 
   -- ---- as what they arrive
   exportable_twice : (tags : List Tag) → exportable (exportable tags) ≡ exportable tags
   unfolding exportable
-  exportable_twice [] = refl
-  exportable_twice (t ∷ tags) = one t.exportable refl (exportable_twice tags)
-    where
-      one : (b : Bool) → t.exportable ≡ b → exportable (exportable tags) ≡ exportable tags → exportable (cond b (t ∷ exportable tags) (exportable tags)) ≡ cond b (t ∷ exportable tags) (exportable tags)
-      one true e ih = λ i. cond (e i) (t ∷ ih i) (ih i)
-      one false e ih = ih
+  exportable_twice tags = filter_all (λ t. t.exportable) (exportable tags) (all_of_kept (λ t. t.exportable) (λ t. t.exportable) (λ t h. h) tags)
 
   without_twice : (c : Content) → without_local_tags (without_local_tags c) ≡ without_local_tags c
   unfolding without_local_tags
   without_twice (Content.Event b) = λ i. Content.Event (record b { tags = exportable_twice b.tags i })
   without_twice (Content.Attribute b) = λ i. Content.Attribute (record b { tags = exportable_twice b.tags i })
-  without_twice (Content.Object b) = refl
-  without_twice (Content.Reference b) = refl
-  without_twice (Content.Proposal b) = refl
-  without_twice (Content.Verdict b) = refl
-  without_twice (Content.Sighting b) = refl
-  without_twice Content.Gone = refl
+  without_twice _ = refl
 
   without_once : (b : Bool) (c : Content) → without_local_tags c ≡ without_local_tags (cond b (without_local_tags c) c)
   without_once true c = sym (without_twice c)
@@ -183,25 +138,44 @@ module _ (log : List Version) (groups : List Group) (route : Route) where
 
   one_settled : (n : ℕ) (v : Version) → settled (moved n route v) ≡ arrived route (row_of log v)
   unfolding settled moved arrived row_of label_now content_now has_path
-  one_settled n v = λ i. record {
-    owner = route.holder;
-    key = v.key;
-    stamp = v.stamp;
-    label = down_more v.label (length v.path) i;
-    held = false;
-    carried = true;
-    content = without_once (has_path v) v.content i;
-  }
-
-  all_settled : (n : ℕ) (vs : List Version) → map settled (map (moved n route) vs) ≡ map (arrived route) (map (row_of log) vs)
-  all_settled n [] = refl
-  all_settled n (v ∷ vs) = λ i. one_settled n v i ∷ all_settled n vs i
+  one_settled n v = λ i. record (arrived route (row_of log v)) { label = down_more v.label (length v.path) i; content = without_once (has_path v) v.content i }
 
   pub coming_settled : (n : ℕ) → map settled (map (moved n route) (passing log groups route)) ≡ map (arrived route) (filter goes loose)
   unfolding passing known_there
-  coming_settled n = all_settled n (passing log groups route) ∙ ap (map (arrived route)) (sym (filter-map (row_of log) goes (newest log route.from)))
+  coming_settled n =
+      map_twice (moved n route) settled (λ v. arrived route (row_of log v)) (one_settled n) (passing log groups route)
+      ∙ sym (map_twice (row_of log) (arrived route) (λ v. arrived route (row_of log v)) (λ v. refl) (passing log groups route))
+      ∙ ap (map (arrived route)) (sym (filter-map (row_of log) goes (newest log route.from)))
 
   pub all_come : (n : ℕ) (vs : List Version) → list_all (comes route.into) (map (moved n route) vs) ≡ true
   unfolding moved has_path
-  all_come n [] = refl
-  all_come n (v ∷ vs) = and_from _ _ (and_from _ _ (same_inst-refl route.into) refl) (all_come n vs)
+  all_come n vs = all-map (comes route.into) (moved n route) (λ v. and_from _ _ (same_inst-refl route.into) refl) vs
+
+  -- what arrives are the versions that come, as rows, in another order
+  pub came_so : (n : ℕ) (x : Row) → Contains (arriving_rows rows groups route) x → Contains (map settled (map (moved n route) (passing log groups route))) x
+  came_so n x m = subst (λ rs. Contains rs x) (sym (coming_settled n)) (map_within (arrived route) _ (filter goes loose) (from_in_order stands_before (filter goes loose)) x (subst (λ rs. Contains rs x) arriving_in_order m))
+
+  pub came_back : (n : ℕ) (x : Row) → Contains (map settled (map (moved n route) (passing log groups route))) x → Contains (arriving_rows rows groups route) x
+  came_back n x m = subst (λ rs. Contains rs x) (sym arriving_in_order) (map_within (arrived route) (filter goes loose) _ (in_order_has stands_before (filter goes loose)) x (subst (λ rs. Contains rs x) (coming_settled n) m))
+
+  arrived_apart : (a b : Row) → same_key a.key b.key ≡ false → in_one_cell (arrived route a) (arrived route b) ≡ false
+  unfolding in_one_cell arrived
+  arrived_apart a b h = and_right (same_org route.holder route.holder) _ h
+
+  -- of different names as they come
+  pub settled_table : (n : ℕ) → IsTable (map settled (map (moved n route) (passing log groups route)))
+  settled_table n = subst IsTable (sym (coming_settled n)) (distinct_map (arrived route) (λ a b. same_key a.key b.key) in_one_cell arrived_apart (filter goes loose) keys_apart)
+
+  pub moved_apart : (n : ℕ) → IsDistinct same_cell (map (moved n route) (passing log groups route))
+  unfolding same_cell in_one_cell settled
+  moved_apart n =
+      distinct_weaker same_cell (λ a b. in_one_cell (settled a) (settled b)) (λ a b h. and_within (same_inst a.at b.at) (same_org a.owner b.owner) (same_key a.key b.key) h) (map (moved n route) (passing log groups route))
+      (distinct_from_map settled in_one_cell (map (moved n route) (passing log groups route)) (settled_table n))
+
+  pub arriving_table : IsTable (arriving_rows rows groups route)
+  arriving_table =
+      subst IsTable (sym arriving_in_order)
+      (distinct_map (arrived route) (λ a b. same_key a.key b.key) in_one_cell arrived_apart (in_order stands_before (filter goes loose)) (apart_in_order (λ a b. same_key a.key b.key) back stands_before (filter goes loose) keys_apart))
+    where
+      back : (a b : Row) → same_key a.key b.key ≡ false → same_key b.key a.key ≡ false
+      back a b h = false_from_ne_true _ (λ g. false≢true (sym h ∙ ap (same_key a.key) (same_key-sound b.key a.key g) ∙ same_key-refl a.key))

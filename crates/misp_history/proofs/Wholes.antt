@@ -1,20 +1,18 @@
 -- A run in which nothing failed is the run.
 use Rattle.std.proofs.Common.{Bool, true, false, ◌≡◌, ℕ, refl, List, [], ◌∷◌, ap, ◌∙◌, suc}
 use Rattle.misp_lists.proofs.Prelude.{and_parts, false≢true, list_all}
-use Rattle.misp_history.specs.Outcomes.{Outcome, Whole, Failed, Stopped, step_partly, run_partly}
-use Rattle.misp_history.specs.Acts.{World, Act, Net, step, run}
+use Rattle.misp_history.specs.Outcomes.{Outcome, Whole, step_partly, run_partly}
+use Rattle.misp_history.proofs.Prelude.{Act, Net, World, run, step}
 
 -- the act was applied whole
 unfoldable pub is_whole : Outcome → Bool
 is_whole Whole = true
-is_whole Failed = false
-is_whole (Stopped g p) = false
+is_whole _ = false
 
 step_whole : (net : Net) (n : ℕ) (w : World) (act : Act) (x : Outcome) → is_whole x ≡ true → step_partly net n w act x ≡ step net n w act
 unfolding step_partly is_whole
 step_whole net n w act Whole h = refl
-step_whole net n w act Failed h = absurd (false≢true h)
-step_whole net n w act (Stopped g p) h = absurd (false≢true h)
+step_whole net n w act _ h = absurd (false≢true h)
 
 pub run_whole : (net : Net) (n : ℕ) (w : World) (acts : List Act) (xs : List Outcome) → list_all is_whole xs ≡ true → run_partly net n w acts xs ≡ run net n w acts
 unfolding run_partly run

@@ -93,13 +93,13 @@ fn decode_row(alloc: Global, raw: &RawRow) -> Result<Row, RowFault>
 
 /// The rows that are held there, or the first that is none.
 #[tactic(auto, unfolding(crate::specs::Raw::rows_in))]
-pub(crate) fn decode_rows(alloc: Global, raws: &[RawRow]) -> Result<Vec<Row>, RowFault>
-    ensures ok { IfOk result (λ rows. rows_in raws.now ≡ Ok rows.items) }
-    ensures bad { IfErr result (NamesBadRow (rows_in raws.now)) }
+pub(crate) fn decode_rows(alloc: Global, raws: Vec<RawRow>) -> Result<Vec<Row>, RowFault>
+    ensures ok { IfOk result (λ rows. rows_in raws.items ≡ Ok rows.items) }
+    ensures bad { IfErr result (NamesBadRow (rows_in raws.items)) }
 {
     let mut rows = Vec::with_capacity(alloc, raws.len())?;
     for raw in raws {
-        rows.push(decode_row(alloc, raw)?)?;
+        rows.push(decode_row(alloc, &raw)?)?;
     }
     Ok(rows)
 }

@@ -6,6 +6,7 @@ mod edits;
 mod faults;
 mod groups;
 mod limits;
+mod statements;
 mod written;
 
 use misp_format::read_json;

@@ -52,7 +52,8 @@ pub(crate) fn category_or_other(it: &Members<'_>) -> Result<u8, FormatFault>
     }
 }
 
-fn no_file(it: &Members<'_>) -> Result<(), FormatFault>
+/// No file is there.
+pub(crate) fn no_file(it: &Members<'_>) -> Result<(), FormatFault>
     ensures { Gives result (no_file_at (body_of it.now)) }
 {
     match member(it.value, "data") {

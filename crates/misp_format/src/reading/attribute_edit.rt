@@ -76,7 +76,7 @@ pub fn read_attribute_edit(alloc: Global, value: &Value) -> Result<AttributeEdit
     let label = given_label(&it, 5)?;
     let comment = given_text(&it, "comment")?;
     let kind_value = kind_value(&it)?;
-    let stamp = given_stamp(&it)?;
+    let stamp = given_stamp(&it, "timestamp")?;
     it.unless_long(given_size(&comment).saturating_add(pair_size(&kind_value)))?;
     Ok(AttributeEdit::of(AttributeEditFields {
         stamp,

@@ -1,6 +1,6 @@
 //! What the edits of events, attributes and objects have alike. What is absent stays as it is.
 
-ghost use Rattle.std.specs.Prelude.{◌≡◌, true, IfOk, IfSome, codes};
+ghost use Rattle.std.specs.Prelude.{◌≡◌, true, IfOk, IfSome};
 ghost use Rattle.std.specs.Str.{is_utf8};
 ghost use Rattle.misp_elem.specs.Row.{IsLabel};
 ghost use Rattle.misp_fields.specs.Fields.{text_of, stamp_of};
@@ -37,12 +37,11 @@ pub(crate) fn given_label(it: &Members<'_>, most: u8) -> Result<Option<Label>, F
     }
 }
 
-/// The moment of the edit.
-pub(crate) fn given_stamp(it: &Members<'_>) -> Result<Option<Stamp>, FormatFault>
-    ensures { Gives result (given_row (body_of it.now) (codes "timestamp") stamp_of) }
+pub(crate) fn given_stamp(it: &Members<'_>, name: &str) -> Result<Option<Stamp>, FormatFault>
+    ensures { Gives result (given_row (body_of it.now) name.now stamp_of) }
 {
-    match member(it.value, "timestamp") {
-        Some(value) => Ok(Some(it.kept("timestamp", fields::stamp(value))?)),
+    match member(it.value, name) {
+        Some(value) => Ok(Some(it.kept(name, fields::stamp(value))?)),
         None => Ok(None),
     }
 }

@@ -66,7 +66,7 @@ pub fn read_event_edit(alloc: Global, value: &Value) -> Result<EventEdit, Format
     let analysis = number(&it, "analysis", 0, 2)?;
     let label = given_label(&it, 4)?;
     let extends_uuid = extends_uuid(&it)?;
-    let stamp = given_stamp(&it)?;
+    let stamp = given_stamp(&it, "timestamp")?;
     it.unless_long(given_size(&info))?;
     Ok(EventEdit::of(EventEditFields {
         stamp,

@@ -10,7 +10,7 @@ ghost use Rattle.serde_json.specs.View.{view, items_of};
 ghost use Rattle.misp_groups.specs.Group.{by_org, by_server, IsOrg, IsServer};
 ghost use Rattle.misp_fields.specs.Fields.{stamp_of};
 ghost use Rattle.misp_format.specs.Members.{body_of, path_text};
-ghost use Rattle.misp_format.specs.Groups.{organisation_at, named_organisation_at, org_at, next_org, org_of, orgs_at, inst_name_of, server_name_at, named_server_at, server_at, next_server, server_of, servers_at, whole_group_at, group_body_at};
+ghost use Rattle.misp_format.specs.Groups.{organisation_at, named_organisation_at, org_at, next_org, org_of, orgs_at, server_name_at, named_server_at, server_at, next_server, server_of, servers_at, whole_group_at, group_body_at};
 ghost use Rattle.misp_format.specs.Entries.{IsSpelled};
 ghost use Rattle.misp_format.specs.Rows.{Gives, Shows, row, each};
 
@@ -115,24 +115,11 @@ fn orgs(it: &Members<'_>) -> Result<Items<GroupOrg>, FormatFault>
 /// Instances and whether all their organisations belong to the group, by their names.
 type Servers = BTreeMap<Text, (InstId, bool)>;
 
-fn inst_name(value: &Value) -> Result<InstId, Need>
-    ensures { result ≡ inst_name_of (view value.now) }
-{
-    match fields::text(value) {
-        Ok(text) => InstId::read(text).ok_or(Need::Range),
-        Err(need) => Err(need),
-    }
-}
-
 #[tactic(auto, unfolding(crate::specs::Groups::server_name_at))]
 fn server_name(alloc: Global, path: &Path<'_>, value: &Value) -> Result<InstId, FormatFault>
     ensures { Gives result (server_name_at (path_text path.now) (view value.now)) }
 {
-    let it = Members::of(alloc, path, value)?;
-    match member(it.value, "name") {
-        Some(value) => it.kept("name", inst_name(value)),
-        None => it.refused("name", Need::Present),
-    }
+    Members::of(alloc, path, value)?.inst_name("name")
 }
 
 fn named_server(it: &Members<'_>) -> Result<InstId, FormatFault>

@@ -9,14 +9,14 @@ ghost use Rattle.misp_format.specs.declared.fault.FormatFault.TheVariants as fau
 ghost use Rattle.misp_format.specs.Path.{member_path};
 ghost use Rattle.misp_format.specs.Members.{path_text, body_of};
 ghost use Rattle.misp_format.specs.Elements.{unless_long};
-ghost use Rattle.misp_format.specs.Readers.{number_within, is_long, text_within, some_text_of};
+ghost use Rattle.misp_format.specs.Readers.{number_within, is_long, text_within, some_text_of, inst_name_of};
 ghost use Rattle.misp_format.specs.Rows.{Gives, Shows, row, must_be, at, body_at};
 
 use crate::fault::FormatFault;
 use crate::reading::path::Path;
-use crate::reading::readers::number_within;
+use crate::reading::readers::{inst_name, number_within};
 use misp_fields::{self as fields, Need, member};
-use misp_ids::{Text, Uid};
+use misp_ids::{InstId, Text, Uid};
 use serde_json::Value;
 use std::alloc::Global;
 
@@ -207,6 +207,16 @@ impl<'a> Members<'a> {
                 Ok(_) => self.refused(name, Need::Range),
                 Err(need) => self.refused(name, need),
             },
+            None => self.refused(name, Need::Present),
+        }
+    }
+
+    /// The name of an instance, which may not be absent.
+    pub(crate) fn inst_name(&self, name: &str) -> Result<InstId, FormatFault>
+        ensures { Gives result (row (body_of self.now) name.now inst_name_of must_be) }
+    {
+        match member(self.value, name) {
+            Some(value) => self.kept(name, inst_name(value)),
             None => self.refused(name, Need::Present),
         }
     }

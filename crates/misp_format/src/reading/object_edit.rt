@@ -23,7 +23,7 @@ pub fn read_object_edit(alloc: Global, value: &Value) -> Result<ObjectEdit, Form
     let label = given_label(&it, 5)?;
     let comment = given_text(&it, "comment")?;
     let description = given_text(&it, "description")?;
-    let stamp = given_stamp(&it)?;
+    let stamp = given_stamp(&it, "timestamp")?;
     it.unless_long(given_size(&comment).saturating_add(given_size(&description)))?;
     Ok(ObjectEdit::of(ObjectEditFields {
         stamp,

@@ -2,9 +2,10 @@
 
 ghost use Rattle.std.specs.Prelude.{◌≡◌};
 ghost use Rattle.serde_json.specs.View.{view};
-ghost use Rattle.misp_format.specs.Readers.{within, number_within, is_file};
+ghost use Rattle.misp_format.specs.Readers.{within, number_within, inst_name_of, is_file};
 
 use misp_fields::{self as fields, Need};
+use misp_ids::InstId;
 use serde_json::Value;
 
 /// The number, where it is one of the stated ones.
@@ -22,6 +23,16 @@ pub(crate) fn number_within(value: &Value, least: u8, most: u8) -> Result<u8, Ne
     ensures { result ≡ number_within least most (view value.now) }
 {
     within(fields::number(value), least, most)
+}
+
+/// The name of an instance.
+pub(crate) fn inst_name(value: &Value) -> Result<InstId, Need>
+    ensures { result ≡ inst_name_of (view value.now) }
+{
+    match fields::text(value) {
+        Ok(text) => InstId::read(text).ok_or(Need::Range),
+        Err(need) => Err(need),
+    }
 }
 
 /// Whether it is a text that is not empty.

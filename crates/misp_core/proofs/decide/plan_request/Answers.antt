@@ -10,3 +10,12 @@ returns-in-Groups-clause-no_fault c = asks_none c.list.result _ (c.list.ensures 
 
 pub returns-in-Change-clause-no_fault : goal.returns-in-Change-clause-no_fault
 returns-in-Change-clause-no_fault c = asks_none c.change_known.result _ c.change_known.ensures
+
+pub returns-in-Propose-clause-no_fault : goal.returns-in-Propose-clause-no_fault
+returns-in-Propose-clause-no_fault c = asks_none c.plan_proposal.result _ c.plan_proposal.ensures
+
+pub returns-in-Judge-clause-no_fault : goal.returns-in-Judge-clause-no_fault
+returns-in-Judge-clause-no_fault c = asks_none c.plan_judgement.result _ c.plan_judgement.ensures
+
+pub returns-in-Sight-clause-no_fault : goal.returns-in-Sight-clause-no_fault
+returns-in-Sight-clause-no_fault c = asks_none c.plan_sighting.result _ c.plan_sighting.ensures

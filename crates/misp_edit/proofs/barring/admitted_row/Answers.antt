@@ -1,7 +1,5 @@
-use Rattle.std.proofs.Common.{ap, ◌∙◌, Option}
-use Rattle.misp_rules.specs.Prelude.{Row, Rule, first_rule}
-use Rattle.misp_edit.specs.Changing.{ruling, late_rules}
-use Rattle.misp_edit.proofs.ChangeLemmas.{or_first, or_second}
+use Rattle.misp_edit.specs.Changing.{ruling}
+use Rattle.misp_copies.proofs.Barred.{or_first, or_second}
 use Rattle.misp_edit.proofs.barring.admitted_row.Goals as goal
 
 pub returns-in-Err-clause-rule : goal.returns-in-Err-clause-rule
@@ -13,12 +11,8 @@ returns-in-Err-clause-names c = c.in-Err.ensures.names c.args.label
 
 pub returns-in-Err-late_fault-clause-rule : goal.returns-in-Err-late_fault-clause-rule
 unfolding ruling
-returns-in-Err-late_fault-clause-rule c =
-    let late : Option Row → Option Rule = λ o. first_rule (late_rules c.args.who.now.groups.now c.args.who.now.here c.args.who.now.org o c.args.label c.args.stamp) in
-    or_second _ _ _ c.in-Ok.ensures.rule (c.in-Err-late_fault.ensures.rule ∙ ap late c.own_row-own.ensures)
+returns-in-Err-late_fault-clause-rule c = or_second _ _ _ c.in-Ok.ensures.rule c.in-Err-late_fault.ensures.rule
 
 pub returns-in-Ok-late_fault-clause-rule : goal.returns-in-Ok-late_fault-clause-rule
 unfolding ruling
-returns-in-Ok-late_fault-clause-rule c =
-    let late : Option Row → Option Rule = λ o. first_rule (late_rules c.args.who.now.groups.now c.args.who.now.here c.args.who.now.org o c.args.label c.args.stamp) in
-    or_second _ _ _ c.in-Ok.ensures.rule (c.in-Ok-late_fault.ensures.rule ∙ ap late c.own_row-own.ensures)
+returns-in-Ok-late_fault-clause-rule c = or_second _ _ _ c.in-Ok.ensures.rule c.in-Ok-late_fault.ensures.rule

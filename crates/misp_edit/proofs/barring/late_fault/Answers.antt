@@ -1,7 +1,7 @@
-use Rattle.std.proofs.Common.{ap, sym, option_copied}
+use Rattle.std.proofs.Common.{sym, option_copied}
 use Rattle.misp_ids.specs.declared.label.Label.{Label}
 use Rattle.misp_copies.specs.Barring.{rule_of}
-use Rattle.misp_edit.proofs.ChangeLemmas.{late_group, late_nothing, late_older, late_limit, late_free, limit_is, limit_not}
+use Rattle.misp_edit.proofs.LateRules.{late_group, late_nothing, late_older, late_limit, late_free}
 use Rattle.misp_edit.proofs.barring.late_fault.Goals as goal
 
 pub returns-in-Some-clause-rule : goal.returns-in-Some-clause-rule
@@ -17,13 +17,11 @@ unfolding rule_of
 returns-then-is_newer_than-clause-rule c =
     rw c.in-Some-own.is (late_older c.args.who.now.groups.now c.args.who.now.here c.args.who.now.org c.args.label c.args.stamp c.in-Some-own.row.now c.in_default.ensures (sym c.if-is_newer_than.ensures))
 
-pub returns-then-get-eq-LAST_SECOND-clause-rule : goal.returns-then-get-eq-LAST_SECOND-clause-rule
+pub returns-then-has_last_stamp-clause-rule : goal.returns-then-has_last_stamp-clause-rule
 unfolding rule_of
-returns-then-get-eq-LAST_SECOND-clause-rule c =
-    rw c.in-Some-own.is (late_limit c.args.who.now.groups.now c.args.who.now.here c.args.who.now.org c.args.label c.args.stamp c.in-Some-own.row.now c.in_default.ensures (sym c.if-is_newer_than.ensures)
-    (limit_is c.in-Some-own.row.now c.row.inside.stamp c.get.result c.get.ensures.value (ap (λ r. r.stamp) c.row.view_is) c.if-get-eq-LAST_SECOND.true))
+returns-then-has_last_stamp-clause-rule c =
+    rw c.in-Some-own.is (late_limit c.args.who.now.groups.now c.args.who.now.here c.args.who.now.org c.args.label c.args.stamp c.in-Some-own.row.now c.in_default.ensures (sym c.if-is_newer_than.ensures) (sym c.if-has_last_stamp.ensures))
 
 pub returns-clause-rule : goal.returns-clause-rule
 returns-clause-rule c =
-    rw c.in-Some-own.is (late_free c.args.who.now.groups.now c.args.who.now.here c.args.who.now.org c.args.label c.args.stamp c.in-Some-own.row.now c.in_default.ensures (sym c.if-is_newer_than.ensures)
-    (limit_not c.in-Some-own.row.now c.row.inside.stamp c.get.result c.get.ensures.value (ap (λ r. r.stamp) c.row.view_is) c.if-get-eq-LAST_SECOND.false))
+    rw c.in-Some-own.is (late_free c.args.who.now.groups.now c.args.who.now.here c.args.who.now.org c.args.label c.args.stamp c.in-Some-own.row.now c.in_default.ensures (sym c.if-is_newer_than.ensures) (sym c.if-has_last_stamp.ensures))

@@ -1,6 +1,6 @@
 use Rattle.std.proofs.Common.{◌≡◌, ℕ, ◌||◌, eqb, take, nat_cmp}
 use Rattle.misp_lists.specs.Prelude.{contains, list_any}
-use Rattle.misp_edit.specs.Uuids.{has_uuid}
+use Rattle.misp_copies.specs.Uuids.{has_uuid}
 use Rattle.misp_edit.proofs.clash.used_uuids.Given as goal
 
 abbrev pub invariant-loop-row : goal.invariant-loop-row

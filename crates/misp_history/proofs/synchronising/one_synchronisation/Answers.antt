@@ -3,4 +3,4 @@ use Rattle.misp_history.proofs.Merging.{synced_here, synced_elsewhere}
 use Rattle.misp_history.proofs.synchronising.one_synchronisation.Goals as goal
 
 pub returns : goal.returns
-returns c = record { here = λ n w r. synced_here n w r; elsewhere = λ n w r j h. synced_elsewhere n w r j h }
+returns c = record { here = synced_here; elsewhere = synced_elsewhere }
