@@ -29,6 +29,8 @@ fn main(rt: HostRuntime) -> io::Result<ExitCode> {
     let mut source = StandardInput::new(BufReader::new(alloc, rt.reader())?);
     let mut sink = StandardOutput::new(io::writer(&rt));
     let mut keepers = keepers(alloc)?;
+    let door = MemDoor::new(alloc, Vec::new(alloc), Vec::new(alloc));
+    let mut door = door.map_err(|_| AllocError)?;
     let mut clock = StepClock { time: 0, word: 0 };
     let status = run(
         alloc,
@@ -37,7 +39,7 @@ fn main(rt: HostRuntime) -> io::Result<ExitCode> {
         &mut sink,
         &mut keepers,
         &mut SureCarry::new(),
-        &mut MemDoor::new(Vec::new(alloc)),
+        &mut door,
         &mut MemDial::new(),
         &mut clock,
     );

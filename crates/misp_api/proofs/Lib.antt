@@ -1,3 +1,4 @@
+pub mod Apart
 pub mod Built
 pub mod Formed
 pub mod Forms
@@ -6,4 +7,11 @@ pub mod Turning
 pub mod GroupTexts
 pub mod Ordering
 pub mod Idle
+pub mod Placing
+pub mod Table
 pub mod Told
+pub mod TokenRows
+pub mod Tokens
+pub mod Walks
+pub mod Whole
+pub mod Words

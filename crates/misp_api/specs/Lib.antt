@@ -2,9 +2,11 @@ pub mod Administering
 pub mod Answering
 pub mod Order
 pub mod Path
+pub mod Pattern
 pub mod Prelude
 pub mod Refusing
 pub mod Request
 pub mod Route
+pub mod Router
 pub mod Text
 pub mod Unread

@@ -1,52 +1,55 @@
 -- What a path is for, and the identifiers that it ends with.
-use Rattle.std.specs.Prelude.{ℕ, ◌+◌, ◌==◌, Bool, List, [], ◌∷◌, take, drop, position, codes, eqb, Option, Some, None, option_map}
-use Rattle.std.specs.List.{starts_with}
+use Rattle.std.specs.Prelude.{ℕ, ◌+◌, List, [], ◌∷◌, take, drop, position, codes, find, Option, Some, None, option_map}
+use Rattle.std.specs.Option.{option_map_or}
 use Rattle.misp_ids.specs.Uid.{read_uid}
 use Rattle.misp_groups.specs.Prelude.{Uid}
 use Rattle.misp_api.specs.declared.path_kind.PathKind.{PathKind}
 use Rattle.misp_api.specs.declared.path_ids.PathIds.{PathIds}
+use Rattle.misp_api.specs.Pattern.{is_slash, fits_pattern}
 
 -- ---- what a path is for
 
--- how the paths of a kind begin
-abbrev pub start_of : PathKind → List ℕ
-start_of PathKind.ViewEvent = codes "/events/view/"
-start_of PathKind.AddEvent = codes "/events/add"
-start_of PathKind.EditEvent = codes "/events/edit/"
-start_of PathKind.DeleteEvent = codes "/events/delete/"
-start_of PathKind.Publish = codes "/events/publish/"
-start_of PathKind.AddAttributes = codes "/attributes/add/"
-start_of PathKind.EditAttribute = codes "/attributes/edit/"
-start_of PathKind.DeleteAttribute = codes "/attributes/delete/"
-start_of PathKind.AddObject = codes "/objects/add/"
-start_of PathKind.EditObject = codes "/objects/edit/"
-start_of PathKind.DeleteObject = codes "/objects/delete/"
-start_of PathKind.AddReference = codes "/references/add/"
-start_of PathKind.DeleteReference = codes "/references/delete/"
-start_of PathKind.Tag = codes "/tags/attach/"
-start_of PathKind.Untag = codes "/tags/remove/"
-start_of PathKind.Propose = codes "/shadow_attributes/add/"
-start_of PathKind.Accept = codes "/shadow_attributes/accept/"
-start_of PathKind.Discard = codes "/shadow_attributes/discard/"
-start_of PathKind.Sight = codes "/sightings/add/"
-start_of PathKind.Groups = codes "/sharing_groups/index"
+-- the patterns of paths, each with what it is for; a name in braces is an identifier
+unfoldable pub paths : List (List ℕ × PathKind)
+paths =
+    (codes "/events/view/{event}", PathKind.ViewEvent)
+    ∷ (codes "/events/view/{event}/{owner}", PathKind.ViewEvent)
+    ∷ (codes "/events/add", PathKind.AddEvent)
+    ∷ (codes "/events/edit/{event}", PathKind.EditEvent)
+    ∷ (codes "/events/delete/{event}", PathKind.DeleteEvent)
+    ∷ (codes "/events/publish/{event}", PathKind.Publish)
+    ∷ (codes "/attributes/add/{event}", PathKind.AddAttributes)
+    ∷ (codes "/attributes/add/{event}/{object}", PathKind.AddAttributes)
+    ∷ (codes "/attributes/edit/{event}/{attribute}", PathKind.EditAttribute)
+    ∷ (codes "/attributes/edit/{event}/{object}/{attribute}", PathKind.EditAttribute)
+    ∷ (codes "/attributes/delete/{event}/{attribute}", PathKind.DeleteAttribute)
+    ∷ (codes "/attributes/delete/{event}/{object}/{attribute}", PathKind.DeleteAttribute)
+    ∷ (codes "/objects/add/{event}", PathKind.AddObject)
+    ∷ (codes "/objects/edit/{event}/{object}", PathKind.EditObject)
+    ∷ (codes "/objects/delete/{event}/{object}", PathKind.DeleteObject)
+    ∷ (codes "/references/add/{event}/{object}", PathKind.AddReference)
+    ∷ (codes "/references/delete/{event}/{object}/{reference}", PathKind.DeleteReference)
+    ∷ (codes "/tags/attach/{event}", PathKind.Tag)
+    ∷ (codes "/tags/attach/{event}/{attribute}", PathKind.Tag)
+    ∷ (codes "/tags/attach/{event}/{object}/{attribute}", PathKind.Tag)
+    ∷ (codes "/tags/remove/{event}", PathKind.Untag)
+    ∷ (codes "/tags/remove/{event}/{attribute}", PathKind.Untag)
+    ∷ (codes "/tags/remove/{event}/{object}/{attribute}", PathKind.Untag)
+    ∷ (codes "/shadow_attributes/add/{event}", PathKind.Propose)
+    ∷ (codes "/shadow_attributes/add/{event}/{attribute}", PathKind.Propose)
+    ∷ (codes "/shadow_attributes/add/{event}/{object}/{attribute}", PathKind.Propose)
+    ∷ (codes "/shadow_attributes/accept/{event}", PathKind.Accept)
+    ∷ (codes "/shadow_attributes/discard/{event}", PathKind.Discard)
+    ∷ (codes "/sightings/add/{event}/{attribute}", PathKind.Sight)
+    ∷ (codes "/sightings/add/{event}/{object}/{attribute}", PathKind.Sight)
+    ∷ (codes "/sharing_groups/index", PathKind.Groups)
+    ∷ []
 
-unfoldable pub kinds : List PathKind
-kinds =
-    PathKind.ViewEvent ∷ PathKind.AddEvent ∷ PathKind.EditEvent ∷ PathKind.DeleteEvent
-    ∷ PathKind.Publish ∷ PathKind.AddAttributes ∷ PathKind.EditAttribute
-    ∷ PathKind.DeleteAttribute ∷ PathKind.AddObject ∷ PathKind.EditObject ∷ PathKind.DeleteObject
-    ∷ PathKind.AddReference ∷ PathKind.DeleteReference ∷ PathKind.Tag ∷ PathKind.Untag
-    ∷ PathKind.Propose ∷ PathKind.Accept ∷ PathKind.Discard ∷ PathKind.Sight ∷ PathKind.Groups ∷ []
-
--- the path begins as those of the kind
-abbrev pub begins : List ℕ → PathKind → Bool
-begins path kind = starts_with eqb path (start_of kind)
+-- what the first pattern is for that fits the path
+unfoldable pub kind_of : List ℕ → Option PathKind
+kind_of path = option_map (λ p. p.1) (find (λ p. fits_pattern p.0 path) paths)
 
 -- ---- identifiers
-
-abbrev pub is_slash : ℕ → Bool
-is_slash byte = byte == 47
 
 abbrev pub one : Option Uid → Option PathIds
 one a = option_map PathIds.One a
@@ -75,3 +78,11 @@ from_one text (Some at) =
 abbrev pub ids_in : List ℕ → Option PathIds
 ids_in [] = Some PathIds.Nobody
 ids_in (byte ∷ text) = from_one (byte ∷ text) (position is_slash (byte ∷ text))
+
+-- what stands behind the first slash, or nothing
+abbrev pub behind_slash : List ℕ → List ℕ
+behind_slash text = option_map_or (λ at. drop (at + 1) text) (position is_slash text) []
+
+-- the identifiers of a path stand behind its third slash
+abbrev pub ids_of : List ℕ → Option PathIds
+ids_of path = ids_in (behind_slash (behind_slash (behind_slash path)))

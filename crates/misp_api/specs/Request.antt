@@ -116,6 +116,17 @@ sighting_in event target body word =
 
 -- ---- asks
 
+-- what a request of this route asks is in its body
+abbrev pub ReadsBody : Route → Type 0
+ReadsBody (Route.ViewEvent event owner) = ⊥
+ReadsBody (Route.DeleteEvent event) = ⊥
+ReadsBody (Route.Publish event) = ⊥
+ReadsBody (Route.DeleteAttribute event place) = ⊥
+ReadsBody (Route.DeleteObject event object) = ⊥
+ReadsBody (Route.DeleteReference event object reference) = ⊥
+ReadsBody Route.Groups = ⊥
+ReadsBody route = Unit {0}
+
 -- what a request of this route asks
 unfoldable pub ask_of : Route → List ℕ → ℕ → Reading Ask
 ask_of Route.AddEvent body word = formed (event_in body word)

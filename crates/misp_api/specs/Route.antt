@@ -1,5 +1,5 @@
 -- Which request a method and a target are.
-use Rattle.std.specs.Prelude.{ℕ, ◌==◌, Bool, true, false, List, take, drop, length, position, codes, bytes_eq, find, Option, Some, None, option_map, Result, Ok, Err, if◌then◌else◌}
+use Rattle.std.specs.Prelude.{ℕ, ◌==◌, Bool, true, false, List, take, position, codes, bytes_eq, Option, Some, None, option_map, Result, Ok, Err, if◌then◌else◌}
 use Rattle.std.specs.Option.{option_map_or}
 use Rattle.misp_ids.specs.declared.refusal.RuleName.TheVariants.{NoRoute, NoMethod}
 use Rattle.misp_groups.specs.Prelude.{OrgId, RuleName, Uid}
@@ -9,7 +9,7 @@ use Rattle.misp_elem.specs.declared.key.Place.{Place}
 use Rattle.misp_api.specs.declared.route.Route.{Route}
 use Rattle.misp_api.specs.declared.path_kind.PathKind.{PathKind}
 use Rattle.misp_api.specs.declared.path_ids.PathIds.{PathIds}
-use Rattle.misp_api.specs.Path.{start_of, begins, kinds, ids_in}
+use Rattle.misp_api.specs.Path.{kind_of, ids_of}
 
 -- ---- targets
 
@@ -121,11 +121,11 @@ route_by kind (Some ids) = route_with kind ids
 -- of a path of a kind
 abbrev pub route_in : List ℕ → Option PathKind → Option Route
 route_in path None = None
-route_in path (Some kind) = route_by kind (ids_in (drop (length (start_of kind)) path))
+route_in path (Some kind) = route_by kind (ids_of path)
 
 -- what a path is for
 unfoldable pub path_route : List ℕ → Option Route
-path_route path = route_in path (find (begins path) kinds)
+path_route path = route_in path (kind_of path)
 
 -- ---- routes
 

@@ -14,7 +14,7 @@ ghost use Rattle.misp_api.specs.Text.{reply_text};
 
 use crate::asking::read_ask;
 use crate::request::{AskFault, Request};
-use crate::route::Route;
+use crate::routes::Routes;
 use crate::telling::{tell, told};
 use misp_core::{Instance, Reply};
 use misp_ids::{ApiKey, NoMemory, Refusal, RuleName, Stamp};
@@ -36,13 +36,14 @@ fn caller<K: Keeper>(instance: &Instance<K>, key: &Option<&str>) -> Option<Calle
 #[tactic(auto, unfolding(crate::specs::Answering::read_of))]
 fn read<K: Keeper>(
     alloc: Global,
+    routes: &Routes,
     instance: &Instance<K>,
     request: &Request<'_>,
 ) -> Result<(Caller, Ask), AskFault>
     ensures read { Gives result (read_of instance.now.admin (request_data request.now)) }
     ensures built { IfOk result (λ asked. IsBuilt asked.1) }
 {
-    let route = match Route::of(request.method, request.target) {
+    let route = match routes.route(request.method, request.target) {
         Ok(route) => route,
         Err(rule) => return Err(AskFault::Refused(Refusal::bare(alloc, rule))),
     };
@@ -68,6 +69,7 @@ pub(crate) fn refused(alloc: Global, fault: AskFault) -> Reply
 pub fn answer<K: Keeper>(
     text: &mut Vec<u8>,
     alloc: Global,
+    routes: &Routes,
     instance: &mut Instance<K>,
     now: Stamp,
     request: &Request<'_>,
@@ -103,7 +105,7 @@ pub fn answer<K: Keeper>(
     ensures name { instance.new.name ≡ instance.old.name }
     ensures admin { instance.new.admin ≡ instance.old.admin }
 {
-    match read(alloc, instance, request) {
+    match read(alloc, routes, instance, request) {
         Ok((caller, ask)) => {
             let planned = instance.plan(alloc, now, &caller, ask);
             tell(text, alloc, instance, planned)

@@ -8,7 +8,7 @@ ghost use Rattle.misp_rules.specs.declared.ask.Ask.{Ask as SomeAsk};
 ghost use Rattle.misp_rules.specs.declared.ask.Ask.TheVariants as asks;
 ghost use Rattle.misp_rules.specs.declared.change.Change.TheVariants as changes;
 ghost use Rattle.misp_core.specs.Answers.{IsBuilt};
-ghost use Rattle.misp_api.specs.Request.{Gives, formed, event_in, event_edit_in, attribute_edit_in, object_edit_in, parts_in, tag_in, untag_in, proposal_in, judgement_in, sighting_in, ask_of};
+ghost use Rattle.misp_api.specs.Request.{Gives, ReadsBody, formed, event_in, event_edit_in, attribute_edit_in, object_edit_in, parts_in, tag_in, untag_in, proposal_in, judgement_in, sighting_in, ask_of};
 
 use crate::request::{AskFault, fault};
 use crate::route::Route;
@@ -220,18 +220,16 @@ fn delete_reference(event: EventId, object: ElemId, reference: ElemId) -> Ask
     })
 }
 
-/// What a request asks. Elements without an identifier get those that are made of `word`.
+// What the body of a request asks, by a route that reads it.
 #[tactic(auto, unfolding(crate::specs::Request::ask_of))]
-pub fn read_ask(alloc: Global, route: Route, body: &[u8], word: u128) -> Result<Ask, AskFault>
+fn body_ask(alloc: Global, route: Route, body: &[u8], word: u128) -> Result<Ask, AskFault>
+    requires { ReadsBody route }
     ensures ask { Gives result (ask_of route body.now word) }
     ensures built { IfOk result IsBuilt }
 {
     match route {
         Route::AddEvent => formed(alloc, event_in(alloc, body, word)),
-        Route::ViewEvent(event, owner) => Ok(Ask::View { event, owner }),
         Route::EditEvent(event) => formed(alloc, event_edit_in(alloc, event, body)),
-        Route::DeleteEvent(event) => Ok(Ask::Change(Change::DeleteEvent { event })),
-        Route::Publish(event) => Ok(Ask::Change(Change::Publish { event })),
         Route::AddAttributes(event, object) => {
             let form = PartForm::Attributes;
             formed(alloc, parts_in(alloc, event, object, form, body, word))
@@ -239,26 +237,17 @@ pub fn read_ask(alloc: Global, route: Route, body: &[u8], word: u128) -> Result<
         Route::EditAttribute(event, place) => {
             formed(alloc, attribute_edit_in(alloc, event, place, body))
         }
-        Route::DeleteAttribute(event, place) => Ok(delete(event, element_place(place))),
         Route::AddObject(event) => {
-            formed(
-                alloc,
-                parts_in(alloc, event, None, PartForm::Object, body, word),
-            )
+            let form = PartForm::Object;
+            formed(alloc, parts_in(alloc, event, None, form, body, word))
         }
         Route::EditObject(event, object) => {
             formed(alloc, object_edit_in(alloc, event, object, body))
         }
-        Route::DeleteObject(event, object) => Ok(delete(event, object_place(object))),
         Route::AddReference(event, object) => {
+            let object = Some(object);
             let form = PartForm::Reference;
-            formed(
-                alloc,
-                parts_in(alloc, event, Some(object), form, body, word),
-            )
-        }
-        Route::DeleteReference(event, object, reference) => {
-            Ok(delete_reference(event, object, reference))
+            formed(alloc, parts_in(alloc, event, object, form, body, word))
         }
         Route::Tag(event, place) => formed(alloc, tag_in(alloc, event, place, body)),
         Route::Untag(event, place) => formed(alloc, untag_in(alloc, event, place, body)),
@@ -269,6 +258,26 @@ pub fn read_ask(alloc: Global, route: Route, body: &[u8], word: u128) -> Result<
         Route::Sight(event, target) => {
             formed(alloc, sighting_in(alloc, event, target, body, word))
         }
+        _ => unreachable!(),
+    }
+}
+
+/// What a request asks. Elements without an identifier get those that are made of `word`.
+#[tactic(auto, unfolding(crate::specs::Request::ask_of))]
+pub fn read_ask(alloc: Global, route: Route, body: &[u8], word: u128) -> Result<Ask, AskFault>
+    ensures ask { Gives result (ask_of route body.now word) }
+    ensures built { IfOk result IsBuilt }
+{
+    match route {
+        Route::ViewEvent(event, owner) => Ok(Ask::View { event, owner }),
+        Route::DeleteEvent(event) => Ok(Ask::Change(Change::DeleteEvent { event })),
+        Route::Publish(event) => Ok(Ask::Change(Change::Publish { event })),
+        Route::DeleteAttribute(event, place) => Ok(delete(event, element_place(place))),
+        Route::DeleteObject(event, object) => Ok(delete(event, object_place(object))),
+        Route::DeleteReference(event, object, reference) => {
+            Ok(delete_reference(event, object, reference))
+        }
         Route::Groups => Ok(Ask::Groups),
+        _ => body_ask(alloc, route, body, word),
     }
 }

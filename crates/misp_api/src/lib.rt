@@ -9,6 +9,7 @@ mod path_kind;
 mod reply;
 mod request;
 mod route;
+mod routes;
 mod telling;
 
 pub use administering::{GroupRequest, administer};
@@ -17,3 +18,4 @@ pub use asking::read_ask;
 pub use reply::{put_number, put_reply, put_text};
 pub use request::{AskFault, Request};
 pub use route::Route;
+pub use routes::{Routes, at_most_one_pattern_fits};

@@ -1,7 +1,8 @@
 //! Identifiers at the end of a path.
 
 ghost use Rattle.std.specs.Prelude.{◌≡◌, position};
-ghost use Rattle.misp_api.specs.Path.{is_slash, behind_one, ids_in, two, three};
+ghost use Rattle.misp_api.specs.Path.{behind_one, behind_slash, ids_in, ids_of, two, three};
+ghost use Rattle.misp_api.specs.Pattern.{is_slash};
 
 use misp_ids::Uid;
 
@@ -42,8 +43,8 @@ fn behind_one(a: Option<Uid>, text: &str) -> Option<PathIds>
     }
 }
 
-/// The identifiers in a text with a slash between two. They are at most three.
-pub(crate) fn ids_in(text: &str) -> Option<PathIds>
+// The identifiers in a text with a slash between two. They are at most three.
+fn ids_in(text: &str) -> Option<PathIds>
     ensures { result ≡ ids_in text.now }
 {
     if text.is_empty() {
@@ -56,4 +57,20 @@ pub(crate) fn ids_in(text: &str) -> Option<PathIds>
             None => None,
         },
     }
+}
+
+fn behind_slash(text: &str) -> &str
+    ensures { result.now ≡ behind_slash text.now }
+{
+    match text.split_once('/') {
+        Some((_, rest)) => rest,
+        None => "",
+    }
+}
+
+/// The identifiers of a path, behind its third slash.
+pub(crate) fn ids_of(path: &str) -> Option<PathIds>
+    ensures { result ≡ ids_of path.now }
+{
+    ids_in(behind_slash(behind_slash(behind_slash(path))))
 }

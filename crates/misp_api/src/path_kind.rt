@@ -1,10 +1,7 @@
-//! What paths are for, by how they begin.
-
-ghost use Rattle.std.specs.Prelude.{◌≡◌, find};
-ghost use Rattle.misp_api.specs.Path.{start_of, begins, kinds};
+//! What paths are for, by their patterns.
 
 /// What a path is for, whatever identifiers it ends with.
-#[derive(Clone, Copy, Debug, PartialEq, Eq)]
+#[derive(Clone, Copy, Debug, PartialEq, Eq, Drop)]
 pub enum PathKind {
     ViewEvent,
     AddEvent,
@@ -28,80 +25,61 @@ pub enum PathKind {
     Groups,
 }
 
-const KINDS: [PathKind; 20] = [
-    PathKind::ViewEvent,
-    PathKind::AddEvent,
-    PathKind::EditEvent,
-    PathKind::DeleteEvent,
-    PathKind::Publish,
-    PathKind::AddAttributes,
-    PathKind::EditAttribute,
-    PathKind::DeleteAttribute,
-    PathKind::AddObject,
-    PathKind::EditObject,
-    PathKind::DeleteObject,
-    PathKind::AddReference,
-    PathKind::DeleteReference,
-    PathKind::Tag,
-    PathKind::Untag,
-    PathKind::Propose,
-    PathKind::Accept,
-    PathKind::Discard,
-    PathKind::Sight,
-    PathKind::Groups,
+/// The patterns of paths, each with what it is for. A name in braces is an identifier.
+pub(crate) const PATHS: [(&str, PathKind); 31] = [
+    ("/events/view/{event}", PathKind::ViewEvent),
+    ("/events/view/{event}/{owner}", PathKind::ViewEvent),
+    ("/events/add", PathKind::AddEvent),
+    ("/events/edit/{event}", PathKind::EditEvent),
+    ("/events/delete/{event}", PathKind::DeleteEvent),
+    ("/events/publish/{event}", PathKind::Publish),
+    ("/attributes/add/{event}", PathKind::AddAttributes),
+    ("/attributes/add/{event}/{object}", PathKind::AddAttributes),
+    (
+        "/attributes/edit/{event}/{attribute}",
+        PathKind::EditAttribute,
+    ),
+    (
+        "/attributes/edit/{event}/{object}/{attribute}",
+        PathKind::EditAttribute,
+    ),
+    (
+        "/attributes/delete/{event}/{attribute}",
+        PathKind::DeleteAttribute,
+    ),
+    (
+        "/attributes/delete/{event}/{object}/{attribute}",
+        PathKind::DeleteAttribute,
+    ),
+    ("/objects/add/{event}", PathKind::AddObject),
+    ("/objects/edit/{event}/{object}", PathKind::EditObject),
+    ("/objects/delete/{event}/{object}", PathKind::DeleteObject),
+    ("/references/add/{event}/{object}", PathKind::AddReference),
+    (
+        "/references/delete/{event}/{object}/{reference}",
+        PathKind::DeleteReference,
+    ),
+    ("/tags/attach/{event}", PathKind::Tag),
+    ("/tags/attach/{event}/{attribute}", PathKind::Tag),
+    ("/tags/attach/{event}/{object}/{attribute}", PathKind::Tag),
+    ("/tags/remove/{event}", PathKind::Untag),
+    ("/tags/remove/{event}/{attribute}", PathKind::Untag),
+    ("/tags/remove/{event}/{object}/{attribute}", PathKind::Untag),
+    ("/shadow_attributes/add/{event}", PathKind::Propose),
+    (
+        "/shadow_attributes/add/{event}/{attribute}",
+        PathKind::Propose,
+    ),
+    (
+        "/shadow_attributes/add/{event}/{object}/{attribute}",
+        PathKind::Propose,
+    ),
+    ("/shadow_attributes/accept/{event}", PathKind::Accept),
+    ("/shadow_attributes/discard/{event}", PathKind::Discard),
+    ("/sightings/add/{event}/{attribute}", PathKind::Sight),
+    (
+        "/sightings/add/{event}/{object}/{attribute}",
+        PathKind::Sight,
+    ),
+    ("/sharing_groups/index", PathKind::Groups),
 ];
-
-impl PathKind {
-    /// How its paths begin.
-    pub(crate) fn start(self) -> &'static str
-        ensures { result.now ≡ start_of self }
-    {
-        match self {
-            PathKind::ViewEvent => "/events/view/",
-            PathKind::AddEvent => "/events/add",
-            PathKind::EditEvent => "/events/edit/",
-            PathKind::DeleteEvent => "/events/delete/",
-            PathKind::Publish => "/events/publish/",
-            PathKind::AddAttributes => "/attributes/add/",
-            PathKind::EditAttribute => "/attributes/edit/",
-            PathKind::DeleteAttribute => "/attributes/delete/",
-            PathKind::AddObject => "/objects/add/",
-            PathKind::EditObject => "/objects/edit/",
-            PathKind::DeleteObject => "/objects/delete/",
-            PathKind::AddReference => "/references/add/",
-            PathKind::DeleteReference => "/references/delete/",
-            PathKind::Tag => "/tags/attach/",
-            PathKind::Untag => "/tags/remove/",
-            PathKind::Propose => "/shadow_attributes/add/",
-            PathKind::Accept => "/shadow_attributes/accept/",
-            PathKind::Discard => "/shadow_attributes/discard/",
-            PathKind::Sight => "/sightings/add/",
-            PathKind::Groups => "/sharing_groups/index",
-        }
-    }
-}
-
-fn begins(path: &str, kind: PathKind) -> bool
-    ensures { result ≡ begins path.now kind }
-{
-    path.starts_with(kind.start())
-}
-
-fn first_kind(path: &str, kinds: &[PathKind]) -> Option<PathKind>
-    ensures { result ≡ find (begins path.now) kinds.now }
-{
-    for kind in kinds {
-        if begins(path, *kind) {
-            return Some(*kind);
-        }
-    }
-    None
-}
-
-/// What a path is for.
-#[tactic(auto, unfolding(crate::specs::Path::kinds))]
-pub(crate) fn kind_of(path: &str) -> Option<PathKind>
-    ensures { result ≡ find (begins path.now) kinds }
-{
-    first_kind(path, &KINDS)
-}

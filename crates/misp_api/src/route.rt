@@ -1,13 +1,13 @@
 //! Routes.
 
-ghost use Rattle.std.specs.Prelude.{◌≡◌, true, drop, length};
-ghost use Rattle.misp_api.specs.Path.{start_of, begins, ids_in};
-ghost use Rattle.misp_api.specs.Route.{path_of, event_in, object_in, reference_in, attribute_in, tagged_in, copy_in, parent_in, alone, element_route, route_with, route_by, path_route, method_of, route_of};
+ghost use Rattle.std.specs.Prelude.{◌≡◌};
+ghost use Rattle.misp_api.specs.Path.{ids_of};
+ghost use Rattle.misp_api.specs.Route.{path_of, event_in, object_in, reference_in, attribute_in, tagged_in, copy_in, parent_in, alone, element_route, route_with, route_by, method_of};
 
-use crate::path_ids::{PathIds, ids_in};
-use crate::path_kind::{PathKind, kind_of};
+use crate::path_ids::{PathIds, ids_of};
+use crate::path_kind::PathKind;
 use misp_elem::Place;
-use misp_ids::{ElemId, EventId, OrgId, RuleName, Uid};
+use misp_ids::{ElemId, EventId, OrgId};
 use misp_rules::{AttributePlace, TaggedPlace};
 
 /// What a request asks for, by its method and path.
@@ -41,7 +41,7 @@ pub enum Route {
 }
 
 /// What stands before the first `?`.
-fn path_of(target: &str) -> &str
+pub(crate) fn path_of(target: &str) -> &str
     ensures { result.now ≡ path_of target.now }
 {
     match target.split_once('?') {
@@ -214,54 +214,22 @@ fn route_with(kind: PathKind, ids: PathIds) -> Option<Route>
     }
 }
 
-// The route of a path of a kind.
-fn route_by(path: &str, kind: PathKind) -> Option<Route>
-    ensures { begins path.now kind ≡ true →
-        result ≡ route_by kind (ids_in (drop (length (start_of kind)) path.now)) }
+/// The route of a path of a kind.
+pub(crate) fn route_by(path: &str, kind: PathKind) -> Option<Route>
+    ensures { result ≡ route_by kind (ids_of path.now) }
 {
-    match path.strip_prefix(kind.start()) {
-        Some(rest) => match ids_in(rest) {
-            Some(ids) => route_with(kind, ids),
-            None => None,
-        },
+    match ids_of(path) {
+        Some(ids) => route_with(kind, ids),
         None => None,
     }
 }
 
-#[tactic(auto, unfolding(crate::specs::Route::path_route))]
-fn path_route(path: &str) -> Option<Route>
-    ensures { result ≡ path_route path.now }
-{
-    match kind_of(path) {
-        Some(kind) => route_by(path, kind),
-        None => None,
-    }
-}
-
-fn method_of(route: &Route) -> &'static str
+/// The method by which it is asked for.
+pub(crate) fn method_of(route: &Route) -> &'static str
     ensures { result.now ≡ method_of route.now }
 {
     match route {
         Route::ViewEvent(_, _) | Route::Groups => "GET",
         _ => "POST",
-    }
-}
-
-impl Route {
-    /// The route of a method and a target, or the rule by which they are refused.
-    #[tactic(auto, unfolding(crate::specs::Route::route_of))]
-    pub fn of(method: &str, target: &str) -> Result<Route, RuleName>
-        ensures { result ≡ route_of method.now target.now }
-    {
-        match path_route(path_of(target)) {
-            Some(route) => {
-                if method == method_of(&route) {
-                    Ok(route)
-                } else {
-                    Err(RuleName::NoMethod)
-                }
-            }
-            None => Err(RuleName::NoRoute),
-        }
     }
 }

@@ -1,12 +1,12 @@
 -- How a run ends.
 use Rattle.std.specs.Prelude.{ℕ, List, Option, Some}
 use Rattle.std.specs.Io.KnownBytes.{Appends}
+use Rattle.misp_http.specs.Streams.{AppendsSome}
 use Rattle.misp_net.specs.declared.places.NetFault.{NetFault}
 use Rattle.misp_app.specs.declared.command.Command.{Command}
 use Rattle.misp_app.specs.declared.command.Command.TheVariants.{Net}
 use Rattle.misp_app.specs.declared.status.Status.{Status}
 use Rattle.misp_app.specs.declared.status.Status.TheVariants.{Done, Usage, ReadFault, WriteFault, BadDescription, OutOfMemory, TooMuch, KeeperFault, BadRow}
-use Rattle.misp_app.specs.Streams.{AppendsSome}
 
 -- how a run ends where the run of its script ends so
 abbrev pub status_after : NetFault → Status

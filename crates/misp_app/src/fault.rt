@@ -7,7 +7,7 @@ ghost use Rattle.misp_app.specs.Ends.{IsPutEnd, IsFaultEnd};
 ghost use Rattle.misp_app.specs.Streams.{fault_line};
 
 use crate::Status;
-use crate::writing::write_all;
+use misp_http::write_all;
 use misp_outside::Sink;
 use misp_script::DescNeed;
 use std::alloc::{AllocError, Global};

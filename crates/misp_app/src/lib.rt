@@ -7,7 +7,6 @@ mod entry;
 mod fault;
 mod reading;
 mod status;
-mod writing;
 
 pub use command::Command;
 pub use entry::run;

@@ -13,13 +13,13 @@ use Rattle.misp_rules.specs.Machine.{event_changed}
 use Rattle.misp_rules.specs.Scene.{NotOwner, LockedCopy, EventGone, ElementExists, GroupNotUsable, OlderTime, TimeLimit, ProposalExists, ProposalClosed, ElementFull}
 use Rattle.misp_copies.specs.Barring.{rule_of}
 use Rattle.misp_copies.specs.declared.change_fault.ChangeFault.{ChangeFault}
-use Rattle.misp_edit.specs.Refusals.{named, place_of, refusal_of, label_place, uuid_place}
+use Rattle.misp_edit.specs.Refusals.{named, place_of, refusal_of, label_place, uuid_place, rule_named}
 use Rattle.misp_edit.specs.declared.fault.AddFault.{AddFault}
 use Rattle.misp_core.specs.Prelude.{Admin, Answer, Ask, Asked, Effect, EventId, Group, Host, IsBuilt, IsRefused, OrgId, Plan, Refusal, Reply, Row, RuleName, Scene, View, ask_rules, asked_over, asked_where, bare, fresh_row, reach_of}
 use Rattle.misp_core.specs.Prelude.{refused, reply_in, scene_at, seeing, writes_in}
 use Rattle.misp_core.specs.Answers.{reply_of, greatest, event_saved, named_event, saved}
 use Rattle.misp_core.specs.Changing.{NamesGroupOf}
-use Rattle.misp_core.specs.Saving.{IsOfEvent, NamesPlace, rule_named, place_named}
+use Rattle.misp_core.specs.Saving.{IsOfEvent, NamesPlace, place_named}
 use Rattle.misp_statements.specs.Saving.{Saves}
 use Rattle.misp_core.specs.Effects.{stop_by, row_batches, asked}
 use Rattle.misp_core.specs.Planning.{batches_of, rows_put, IsPlan, Refuses}

@@ -1,13 +1,13 @@
 -- Requests that write rows of an event, and what the refusal of one names.
-use Rattle.std.specs.Prelude.{◌≡◌, ℕ, List, [], IfSome, option_map, Option}
+use Rattle.std.specs.Prelude.{◌≡◌, ℕ, List, [], IfSome}
 use Rattle.misp_ids.specs.Uid.{text_of}
 use Rattle.misp_rules.specs.Prelude.{EventId, Scene}
 use Rattle.misp_rules.specs.Machine.{event_changed}
 use Rattle.misp_copies.specs.Barring.{rule_of}
 use Rattle.misp_copies.specs.declared.change_fault.ChangeFault.{ChangeFault}
 use Rattle.misp_copies.specs.declared.change_fault.ChangeFault.TheVariants.{ElementExists, GroupNotUsable}
-use Rattle.misp_edit.specs.Refusals.{named, place_of}
-use Rattle.misp_core.specs.Prelude.{Ask, RuleName}
+use Rattle.misp_edit.specs.Refusals.{place_of}
+use Rattle.misp_core.specs.Prelude.{Ask}
 
 -- the ask writes rows of this event
 abbrev pub IsOfEvent : Ask → EventId → Type 0
@@ -16,10 +16,6 @@ IsOfEvent (Ask.Propose draft) e = draft.event ≡ e
 IsOfEvent (Ask.Judge event proposal accept) e = event ≡ e
 IsOfEvent (Ask.Sight event target draft) e = event ≡ e
 IsOfEvent ask e = ⊥
-
--- the rule that a fault names
-abbrev pub rule_named : ChangeFault → Option RuleName
-rule_named fault = option_map named (rule_of fault)
 
 -- the uuid of the group or of the element that it names
 abbrev pub place_named : ChangeFault → List ℕ

@@ -6,19 +6,20 @@ ghost use Rattle.misp_orgs.specs.Admin.{AdminFields};
 ghost use Rattle.misp_rules.specs.declared.ask.Ask.{Ask};
 ghost use Rattle.misp_rules.specs.Answers.{ask_rules};
 ghost use Rattle.misp_rules.specs.Scene.{Scene};
-ghost use Rattle.misp_copies.specs.Barring.{Refuses, rule_of};
+ghost use Rattle.misp_copies.specs.Barring.{Refuses};
 ghost use Rattle.misp_statements.specs.Saving.{Saves};
 ghost use Rattle.misp_core.specs.declared.reply.Answer.TheVariants as answers;
 ghost use Rattle.misp_core.specs.Answers.{greatest};
 ghost use Rattle.misp_core.specs.Effects.{asked, row_batches};
 ghost use Rattle.misp_core.specs.Planning.{Plans, batches_of, rows_put};
-ghost use Rattle.misp_core.specs.Saving.{IsOfEvent, NamesPlace, place_named, rule_named};
+ghost use Rattle.misp_core.specs.Saving.{IsOfEvent, NamesPlace, place_named};
 
 use crate::planning::{Batch, NoPlan, Plan};
 use crate::reply::Answer;
 use misp_copies::ChangeFault;
+use misp_edit::rule_name;
 use misp_elem::{NoMemory, Row};
-use misp_ids::{EventId, Items, Refusal, RuleName, Stamp, Text};
+use misp_ids::{EventId, Items, Refusal, Stamp, Text};
 use std::alloc::Global;
 
 // Rows are put in one batch, and no rows in none.
@@ -65,27 +66,6 @@ pub(crate) fn saved(alloc: Global, event: EventId, rows: Vec<Row>) -> Plan
     }
 }
 
-// The rule of a fault, where it is not that memory ran out.
-#[tactic(auto, unfolding(misp_copies::specs::Barring::rule_of))]
-fn rule_named(fault: ChangeFault) -> Option<RuleName>
-    ensures { result ≡ rule_named fault }
-{
-    match fault {
-        ChangeFault::NotGranted => Some(RuleName::NotGranted),
-        ChangeFault::NotOwner => Some(RuleName::NotOwner),
-        ChangeFault::LockedCopy => Some(RuleName::LockedCopy),
-        ChangeFault::EventGone => Some(RuleName::EventGone),
-        ChangeFault::ElementExists(_) => Some(RuleName::ElementExists),
-        ChangeFault::GroupNotUsable(_) => Some(RuleName::GroupNotUsable),
-        ChangeFault::OlderTime => Some(RuleName::OlderTime),
-        ChangeFault::TimeLimit => Some(RuleName::TimeLimit),
-        ChangeFault::ProposalExists => Some(RuleName::ProposalExists),
-        ChangeFault::ProposalClosed => Some(RuleName::ProposalClosed),
-        ChangeFault::ElementFull => Some(RuleName::ElementFull),
-        ChangeFault::NoMemory => None,
-    }
-}
-
 // The group or the element that a fault names.
 fn place_named(alloc: Global, fault: ChangeFault) -> Result<Text, NoMemory>
     ensures { IfOk result (λ place. place ≡ place_named fault) }
@@ -102,7 +82,7 @@ fn not_saved(alloc: Global, fault: ChangeFault) -> NoPlan
     ensures { (admin : AdminFields) (s : Scene) (ask : Ask) → Refuses (ask_rules s ask) fault →
         NamesPlace s ask fault → Plans (Err result) (asked admin s ask) }
 {
-    let Some(name) = rule_named(fault) else {
+    let Some(name) = rule_name(fault) else {
         return NoPlan::NoMemory;
     };
     match place_named(alloc, fault) {

@@ -8,6 +8,8 @@ use Rattle.misp_rules.specs.declared.ask.Ask.{Ask}
 use Rattle.misp_rules.specs.declared.ask.Ask.TheVariants.{Judge, Propose, Sight}
 use Rattle.misp_rules.specs.declared.change.Change.{Change}
 use Rattle.misp_rules.specs.declared.change.Change.TheVariants.{AddEvent, AddParts, EditEvent, EditAttribute, EditObject}
+use Rattle.misp_copies.specs.Barring.{rule_of}
+use Rattle.misp_copies.specs.declared.change_fault.ChangeFault.{ChangeFault}
 use Rattle.misp_edit.specs.Adding.{first_clash, first_unusable}
 use Rattle.misp_edit.specs.declared.fault.AddFault.{AddFault}
 use Rattle.misp_rules.specs.Scene as asking
@@ -26,6 +28,10 @@ named asking.TimeLimit = RuleName.TimeLimit
 named asking.ProposalExists = RuleName.ProposalExists
 named asking.ProposalClosed = RuleName.ProposalClosed
 named asking.ElementFull = RuleName.ElementFull
+
+-- the rule that a fault names
+abbrev pub rule_named : ChangeFault → Option RuleName
+rule_named fault = option_map named (rule_of fault)
 
 -- the text of a uuid, where there is one
 abbrev pub uuid_text : Option ℕ → List ℕ

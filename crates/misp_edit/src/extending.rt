@@ -17,33 +17,23 @@ use crate::belonging::all_belong;
 use crate::fault::AddFault;
 use crate::refusing::look_at_brought;
 use crate::rows::parts_rows;
+use crate::rule_names::rule_name;
 use crate::targets::{Targets, targets};
 use misp_copies::{ChangeFault, Viewer, may_change};
 use misp_elem::{Row, Submission};
-use misp_ids::{EventId, Refusal, RuleName, Stamp};
+use misp_ids::{EventId, Refusal, Stamp};
 use misp_rules::Parts;
 use std::alloc::Global;
 
 // The refusal by the rule of a fault, without a place.
-#[tactic(auto, unfolding(crate::specs::Refusals::bare_fault, misp_copies::specs::Barring::rule_of))]
+#[tactic(auto, unfolding(crate::specs::Refusals::bare_fault))]
 fn bare_fault(alloc: Global, fault: ChangeFault) -> AddFault
     ensures { result ≡ bare_fault (rule_of fault) }
 {
-    let name = match fault {
-        ChangeFault::NotGranted => RuleName::NotGranted,
-        ChangeFault::NotOwner => RuleName::NotOwner,
-        ChangeFault::LockedCopy => RuleName::LockedCopy,
-        ChangeFault::EventGone => RuleName::EventGone,
-        ChangeFault::ElementExists(_) => RuleName::ElementExists,
-        ChangeFault::GroupNotUsable(_) => RuleName::GroupNotUsable,
-        ChangeFault::OlderTime => RuleName::OlderTime,
-        ChangeFault::TimeLimit => RuleName::TimeLimit,
-        ChangeFault::ProposalExists => RuleName::ProposalExists,
-        ChangeFault::ProposalClosed => RuleName::ProposalClosed,
-        ChangeFault::ElementFull => RuleName::ElementFull,
-        ChangeFault::NoMemory => return AddFault::NoMemory,
-    };
-    AddFault::Refused(Refusal::bare(alloc, name))
+    match rule_name(fault) {
+        Some(name) => AddFault::Refused(Refusal::bare(alloc, name)),
+        None => AddFault::NoMemory,
+    }
 }
 
 // The refusal by the first rule that refuses, or, where none does, what the references name.

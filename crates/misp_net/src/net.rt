@@ -1,8 +1,8 @@
 //! The run of a script.
 
-ghost use Rattle.std.specs.Prelude.{◌≡◌, ◌<◌, ◌≤◌, ◌++◌, true, Err, IfOk, IfErr, OnOk, OnErr, length, map, take, drop, vec_len, vec_capacity};
+ghost use Rattle.std.specs.Prelude.{◌≡◌, ◌<◌, ◌≤◌, ◌++◌, true, Ok, Err, IfOk, IfErr, OnOk, OnErr, length, map, take, drop, vec_len, vec_capacity};
 ghost use Rattle.misp_script.specs.Directory.{directory_of};
-ghost use Rattle.misp_script.specs.Step.{step_of};
+ghost use Rattle.misp_script.specs.Step.{IsPlaced, command_data, step_data, step_of};
 ghost use Rattle.misp_script.specs.Step as commands;
 ghost use Rattle.misp_api.specs.Request as requests;
 ghost use Rattle.misp_net.specs.Meaning.{meaning, request_in, IsAsFormed};
@@ -18,12 +18,14 @@ ghost use Rattle.misp_net.specs.Promise.{IsPrivate, AreReplied, AreNewest, IsCut
 
 use crate::line::{Output, put_bad, put_front, put_nothing};
 use crate::places::{NetFault, close_all, open_all};
-use misp_api::{GroupRequest, Request, administer, answer};
+use misp_api::{GroupRequest, Request, Routes, administer, answer};
 use misp_core::Instance;
 use misp_format::a_group_is_read_from_its_text;
 use misp_ids::NoMemory;
 use misp_outside::Keeper;
-use misp_script::{Command, Description, Directory, GroupLine, RequestLine, read_line, split_line};
+use misp_script::{
+    Command, Description, Directory, GroupLine, RequestLine, Step, read_line, split_line,
+};
 use std::alloc::Global;
 
 // The request of a line, with the word of its step.
@@ -52,11 +54,50 @@ fn group_in<'a>(line: &GroupLine<'a>) -> GroupRequest<'a>
     }
 }
 
-// Runs one line, and writes its output, with room for one byte after it. The text is written
+// Runs one step, and writes its output, with room for one byte after it. The text is written
 // before anything is put.
+fn run_step<K: Keeper>(
+    lines: &mut Vec<u8>,
+    alloc: Global,
+    routes: &Routes,
+    instances: &mut Vec<Instance<K>>,
+    step: &Step<'_>,
+) -> Result<Output, NoMemory>
+    requires { IsPlaced (vec_len instances.old) (command_data step.now.command) }
+    ensures text { IfOk result (λ output.
+        lines.new.items ≡ lines.old.items ++ output_text output) }
+    ensures room { OnOk result (vec_len lines.new < vec_capacity lines.new) }
+    ensures act { IfOk result (λ output.
+        IsAct (hosts_of instances.old.items) (Ok (step_data step.now))
+        (states_of instances.old.items) (states_of instances.new.items) output) }
+    ensures formed { IfOk result (λ output. IsAsFormed
+        (meaning (hosts_of instances.old.items) (Ok (step_data step.now))).formed output) }
+    ensures kept { OnErr result
+        (AreKept (states_of instances.old.items) (states_of instances.new.items)) }
+    ensures hosts { hosts_of instances.new.items ≡ hosts_of instances.old.items }
+{
+    match step.command {
+        Command::Nothing => put_nothing(lines),
+        Command::Request(request) => {
+            let instance = &mut instances[request.at];
+            let request = request_in(step.word, &request);
+            let reply = answer(lines, alloc, routes, instance, step.time, &request)?;
+            Ok(Output::Replied(reply))
+        }
+        Command::Group(group) => {
+            let instance = &mut instances[group.at];
+            let group = group_in(&group);
+            let reply = administer(lines, alloc, instance, step.time, &group)?;
+            Ok(Output::Replied(reply))
+        }
+    }
+}
+
+// Runs one line, and writes its output, as `run_step` does.
 fn run_line<K: Keeper>(
     lines: &mut Vec<u8>,
     alloc: Global,
+    routes: &Routes,
     directory: &Directory,
     instances: &mut Vec<Instance<K>>,
     line: &[u8],
@@ -76,21 +117,7 @@ fn run_line<K: Keeper>(
     ensures hosts { hosts_of instances.new.items ≡ hosts_of instances.old.items }
 {
     match read_line(line, directory) {
-        Ok(step) => match step.command {
-            Command::Nothing => put_nothing(lines),
-            Command::Request(request) => {
-                let instance = &mut instances[request.at];
-                let request = request_in(step.word, &request);
-                let reply = answer(lines, alloc, instance, step.time, &request)?;
-                Ok(Output::Replied(reply))
-            }
-            Command::Group(group) => {
-                let instance = &mut instances[group.at];
-                let group = group_in(&group);
-                let reply = administer(lines, alloc, instance, step.time, &group)?;
-                Ok(Output::Replied(reply))
-            }
-        },
+        Ok(step) => run_step(lines, alloc, routes, instances, &step),
         Err(bad) => put_bad(lines, alloc, bad.place),
     }
 }
@@ -100,6 +127,7 @@ fn run_line<K: Keeper>(
 fn put_line<K: Keeper>(
     lines: &mut Vec<u8>,
     alloc: Global,
+    routes: &Routes,
     directory: &Directory,
     instances: &mut Vec<Instance<K>>,
     number: usize,
@@ -120,7 +148,7 @@ fn put_line<K: Keeper>(
     ensures hosts { hosts_of instances.new.items ≡ hosts_of instances.old.items }
 {
     put_front(lines, alloc, number)?;
-    let output = run_line(lines, alloc, directory, instances, line)?;
+    let output = run_line(lines, alloc, routes, directory, instances, line)?;
     lines.push(b'\n').unwrap();
     Ok(output)
 }
@@ -128,6 +156,7 @@ fn put_line<K: Keeper>(
 // Runs a script, one line after another.
 fn run_lines<K: Keeper>(
     alloc: Global,
+    routes: &Routes,
     directory: &Directory,
     instances: &mut Vec<Instance<K>>,
     script: &[u8],
@@ -146,7 +175,9 @@ fn run_lines<K: Keeper>(
     let mut rest = script;
     while !rest.is_empty() {
         let (line, after) = split_line(rest);
-        let output = put_line(&mut lines, alloc, directory, instances, number, line)?;
+        let output = put_line(
+            &mut lines, alloc, routes, directory, instances, number, line,
+        )?;
         drop(output);
         rest = after;
         number += 1;
@@ -209,8 +240,9 @@ pub fn run_net<K: Keeper>(
     // A group that is held is read again as it was.
     a_group_is_read_from_its_text();
     let directory = net.directory(alloc)?;
+    let routes = Routes::new(alloc)?;
     let mut instances = open_all(alloc, keepers, net.instances.into_vec())?;
-    let lines = run_lines(alloc, &directory, &mut instances, script);
+    let lines = run_lines(alloc, &routes, &directory, &mut instances, script);
     close_all(instances, keepers);
     Ok(lines?)
 }

@@ -1,7 +1,11 @@
 //! The outside over the system. What stands here tells nothing of the bytes.
 
+mod clock;
 mod input;
 mod output;
+mod tcp;
 
+pub use clock::SystemClock;
 pub use input::StandardInput;
 pub use output::StandardOutput;
+pub use tcp::{TcpDoor, TcpSink, TcpSource};

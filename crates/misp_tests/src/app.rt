@@ -81,6 +81,8 @@ fn ran(alloc: Global, case: &Case<'_>, admin: Vec<AdminRow>) -> Result<Outcome, 
     if keepers.len() < KEEPERS {
         return Err(Fail::from("too few keepers"));
     }
+    let door = MemDoor::new(alloc, Vec::new(alloc), Vec::new(alloc));
+    let mut door = door.ok().ok_or("no memory")?;
     let status = run(
         alloc,
         &words,
@@ -88,7 +90,7 @@ fn ran(alloc: Global, case: &Case<'_>, admin: Vec<AdminRow>) -> Result<Outcome, 
         &mut sink,
         &mut keepers,
         &mut SureCarry::new(),
-        &mut MemDoor::new(Vec::new(alloc)),
+        &mut door,
         &mut MemDial::new(),
         &mut StepClock { time: 0, word: 0 },
     );

@@ -5,3 +5,5 @@
 mod edit;
 #[cfg(test)]
 mod publish;
+#[cfg(test)]
+mod statements;

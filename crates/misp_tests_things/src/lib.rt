@@ -8,6 +8,8 @@ mod elem;
 #[cfg(test)]
 mod fields;
 #[cfg(test)]
+mod http;
+#[cfg(test)]
 mod ids;
 #[cfg(test)]
 mod outside;

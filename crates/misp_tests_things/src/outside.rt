@@ -1,9 +1,10 @@
-use misp_ids::{EventId, Items, Uid};
+mod doors;
+
+use misp_ids::{EventId, Items, LAST_SECOND, Uid};
 use misp_outside::{
-    AdminRow, Carry, Clock, Dial, Door, DoorFault, Keeper, KeeperFault, MemDial, MemDoor,
-    MemKeeper, MemSink, MemSource, RawBatch, RawRow, Sink, SinkFault, Source, SourceFault,
-    StandardInput, StandardOutput, StepClock, SureCarry, SureKeeper, SureSink, SureSource,
-    WireFault,
+    AdminRow, Carry, Clock, Dial, Keeper, KeeperFault, MemDial, MemKeeper, MemSink, MemSource,
+    RawBatch, RawRow, Sink, SinkFault, Source, SourceFault, StandardInput, StandardOutput,
+    StepClock, SureCarry, SureKeeper, SureSink, SureSource, SystemClock, WireFault,
 };
 use std::alloc::Global;
 use std::io;
@@ -193,14 +194,20 @@ fn the_system_and_what_is_not_there(rt: HostRuntime) -> Result<(), Fail> {
         .pass(alloc, b"ab")
         .map_err(|_| Fail::from("carry"))?;
     assert_eq!(rt; carried.as_slice(), b"ab".as_slice());
-    let mut door = MemDoor::new(vec![in alloc; 1u64]?);
-    assert!(rt; matches!(door.next(), Err(DoorFault::Failed)));
-    assert!(rt; matches!(door.next(), Ok(None)));
     assert!(rt; matches!(MemDial::new().ask(alloc, "a", b"b"), Err(WireFault::Failed)));
     let mut clock = StepClock { time: 5, word: 1 };
     assert_eq!(rt;
         (clock.now(), clock.word(), clock.word()),
         (5, 1, (1 << 32) + 1)
     );
+    Ok(())
+}
+
+#[test]
+fn the_clock_of_the_system_goes(rt: HostRuntime) -> Result<(), Fail> {
+    let mut clock = SystemClock::new(&rt);
+    let now = clock.now();
+    assert!(rt; 0 < now && now <= LAST_SECOND, "{now}");
+    assert_ne!(rt; clock.word(), clock.word());
     Ok(())
 }

@@ -1,48 +1,67 @@
 //! A door in memory.
 
-ghost use Rattle.std.specs.Prelude.{◌≡◌, ◌<◌, Some, [], false, IsTrue, vec_len, vec_capacity};
+ghost use Rattle.std.specs.Prelude.{◌≡◌, ◌≤◌, ◌+◌, Some, [], map, false, IfOk, if◌then◌else◌, vec_len, vec_capacity};
+ghost use Rattle.std.specs.VecDeque.{deque_len};
 
 use super::failing::Failing;
 use super::{MemSink, MemSource};
-use crate::{Door, DoorFault};
+use crate::{Door, DoorFault, NoMemory};
+use std::alloc::Global;
+use std::collections::VecDeque;
 
-/// A door through which nobody comes, and which fails at the calls with the given numbers. What is
-/// given back is kept, and there is room for it where a connection is out.
+/// A door through which the connections come that it was made with, one after another, and which
+/// fails at the calls with the given numbers. What is given back is kept, and there is room for it.
 #[derive(Drop)]
 pub struct MemDoor {
+    coming: VecDeque<(MemSource, MemSink)>,
     out: bool,
     back: Vec<(MemSource, MemSink)>,
     failing: Failing,
-    ghost room: { IsTrue out → vec_len back < vec_capacity back },
+    ghost room: { vec_len back + deque_len coming + (if out then 1 else 0) ≤ vec_capacity back },
 }
 
 impl MemDoor {
-    ghost use Rattle.misp_outside.specs.Doors.{door_back, door_is_out, door_faults, door_calls, door_failing};
+    ghost use Rattle.misp_outside.specs.Doors.{connection_of, door_coming, door_back, door_is_out, door_faults, door_calls, door_failing};
 
-    /// The calls of `next` with the numbers `failing`, counted from 1, fail.
-    pub fn new(failing: Vec<u64>) -> Self
-        ensures out { door_is_out result ≡ false }
-        ensures back { door_back result ≡ [] }
-        ensures faults { door_faults result ≡ 0 }
-        ensures calls { door_calls result ≡ 0 }
-        ensures numbers { door_failing result ≡ failing.items }
+    /// The pairs are to come in their order. The calls of `next` with the numbers `failing`,
+    /// counted from 1, fail.
+    pub fn new(
+        alloc: Global,
+        pairs: Vec<(MemSource, MemSink)>,
+        failing: Vec<u64>,
+    ) -> Result<Self, NoMemory>
+        ensures coming { IfOk result (λ door. door_coming door ≡ map connection_of pairs.items) }
+        ensures out { IfOk result (λ door. door_is_out door ≡ false) }
+        ensures back { IfOk result (λ door. door_back door ≡ []) }
+        ensures faults { IfOk result (λ door. door_faults door ≡ 0) }
+        ensures calls { IfOk result (λ door. door_calls door ≡ 0) }
+        ensures numbers { IfOk result (λ door. door_failing door ≡ failing.items) }
     {
-        MemDoor {
+        let back = Vec::with_capacity(alloc, pairs.len())?;
+        Ok(MemDoor {
+            coming: VecDeque::from(pairs),
             out: false,
-            back: Vec::new(*failing.allocator()),
+            back,
             failing: Failing::at(failing),
-        }
+        })
+    }
+
+    /// The connections that were given back, in that order.
+    pub fn back(&self) -> &[(MemSource, MemSink)]
+        ensures { map connection_of result.now ≡ door_back self.now }
+    {
+        &self.back
     }
 }
 
 impl Door for MemDoor {
-    ghost use Rattle.misp_outside.specs.Doors.{door_back, door_is_out, door_faults};
+    ghost use Rattle.misp_outside.specs.Doors.{door_coming, door_back, door_is_out, door_faults};
 
     type From = MemSource;
 
     type To = MemSink;
 
-    ghost coming = { λ _. Some [] };
+    ghost coming = { λ door. Some (door_coming door) };
 
     ghost back = { λ door. Some (door_back door) };
 
@@ -54,7 +73,13 @@ impl Door for MemDoor {
         if self.failing.next() {
             return Err(DoorFault::Failed);
         }
-        Ok(None)
+        match self.coming.pop_front() {
+            Some(ends) => {
+                self.out = true;
+                Ok(Some(ends))
+            }
+            None => Ok(None),
+        }
     }
 
     fn close(&mut self, from: Self::From, to: Self::To) {

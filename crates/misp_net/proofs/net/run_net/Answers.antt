@@ -135,5 +135,8 @@ returns-in_err-instances-clause-kept g c =
 pub returns-in_err-directory-clause-cut : goal.returns-in_err-directory-clause-cut
 returns-in_err-directory-clause-cut g c = λ is. none_ran _ _ _ _ (all_kept _)
 
+pub returns-in_err-routes-clause-cut : goal.returns-in_err-routes-clause-cut
+returns-in_err-routes-clause-cut g c = λ is. none_ran _ _ _ _ (all_kept _)
+
 pub returns-in_err-instances-clause-cut : goal.returns-in_err-instances-clause-cut
 returns-in_err-instances-clause-cut g c = λ is. none_ran _ _ _ _ (kept_take (length c.args.net.instances) _ _ c.in_err-instances.ensures.back)

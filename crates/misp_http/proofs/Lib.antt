@@ -1,0 +1,13 @@
+pub mod Bodies
+pub mod Digits
+pub mod Ends
+pub mod Growing
+pub mod Heads
+pub mod Lengths
+pub mod Prompt
+pub mod Putting
+pub mod Readings
+pub mod ReplyReadBack
+pub mod RequestReadBack
+pub mod Sending
+pub mod Texts

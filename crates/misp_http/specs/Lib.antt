@@ -1,0 +1,11 @@
+pub mod Faults
+pub mod Finding
+pub mod Headers
+pub mod Limits
+pub mod Lines
+pub mod Parsing
+pub mod ReadBack
+pub mod Reading
+pub mod Reply
+pub mod Streams
+pub mod Texts

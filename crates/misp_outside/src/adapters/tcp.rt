@@ -1,0 +1,166 @@
+//! Sockets.
+
+ghost use Rattle.std.specs.Prelude.{◌≡◌, None, false};
+
+use crate::{Door, DoorFault, NoMemory, Sink, SinkFault, Source, SourceFault};
+use std::io::{self, Read, Write};
+use std::net::{Shutdown, TcpListener, TcpStream};
+use std::time::{Duration, Instant};
+
+/// How many seconds a read or a write of a connection may wait. One that waits longer is a fault.
+const WAIT_SECONDS: u64 = 30;
+
+/// For how many seconds a connection that was given back is still read.
+const LINGER_SECONDS: u64 = 1;
+
+/// How often it is read, each time for at most 1024 bytes.
+const LINGER_READS: u32 = 1024;
+
+/// The bytes that come from a socket. It tells nothing of them.
+#[derive(Drop)]
+pub struct TcpSource {
+    stream: TcpStream,
+    faults: u64,
+}
+
+impl Source for TcpSource {
+    ghost use Rattle.misp_outside.specs.System.{tcp_source_faults};
+
+    ghost left = { λ _. None };
+
+    ghost faults = { tcp_source_faults };
+
+    fn read(&mut self, into: &mut [u8]) -> Result<usize, SourceFault> {
+        match self.stream.read(into) {
+            Ok(count) => Ok(count),
+            Err(_) => {
+                self.faults = self.faults.saturating_add(1);
+                Err(SourceFault::Failed)
+            }
+        }
+    }
+}
+
+/// The bytes that go to a socket. It tells nothing of them, and never how many more it can take. A
+/// write of no byte where there are some is a fault too.
+#[derive(Drop)]
+pub struct TcpSink {
+    stream: TcpStream,
+    faults: u64,
+}
+
+impl Sink for TcpSink {
+    ghost use Rattle.misp_outside.specs.System.{tcp_sink_faults};
+
+    ghost written = { λ _. None };
+
+    ghost space = { λ _. None };
+
+    ghost faults = { tcp_sink_faults };
+
+    fn room(&mut self, _count: usize) -> Result<(), NoMemory> {
+        Ok(())
+    }
+
+    fn write(&mut self, from: &[u8]) -> Result<usize, SinkFault> {
+        match self.stream.write(from) {
+            Ok(count) if 0 < count || from.is_empty() => Ok(count),
+            _ => {
+                self.faults = self.faults.saturating_add(1);
+                Err(SinkFault::Failed)
+            }
+        }
+    }
+}
+
+/// A door on a socket, which tells nothing of who comes. A connection whose waits cannot be
+/// limited, or of which there is no second end to be had, is a fault of the door.
+#[derive(Drop)]
+pub struct TcpDoor<'a> {
+    system: &'a HostRuntime,
+    listener: TcpListener,
+    out: bool,
+    faults: u64,
+}
+
+impl<'a> TcpDoor<'a> {
+    ghost use Rattle.misp_outside.specs.System.{tcp_is_out, tcp_faults};
+
+    pub fn new(system: &'a HostRuntime, listener: TcpListener) -> Self
+        ensures out { tcp_is_out result ≡ false }
+        ensures faults { tcp_faults result ≡ 0 }
+    {
+        TcpDoor {
+            system,
+            listener,
+            out: false,
+            faults: 0,
+        }
+    }
+
+    fn ends(&self) -> io::Result<(TcpSource, TcpSink)> {
+        let (stream, _) = self.listener.accept()?;
+        stream.set_read_timeout(Some(Duration::from_secs(WAIT_SECONDS)))?;
+        stream.set_write_timeout(Some(Duration::from_secs(WAIT_SECONDS)))?;
+        let second = stream.try_clone()?;
+        Ok((
+            TcpSource { stream, faults: 0 },
+            TcpSink {
+                stream: second,
+                faults: 0,
+            },
+        ))
+    }
+
+    // Closes the writing side, and reads what the client still sends: the system resets a
+    // connection that is closed with unread bytes, and the reply may be lost with it. A wait of 0
+    // is an error, and ends it.
+    fn linger(&self, mut from: TcpSource) -> io::Result<()> {
+        from.stream.shutdown(Shutdown::Write)?;
+        let most = Duration::from_secs(LINGER_SECONDS);
+        let begun = Instant::now(self.system)?;
+        let mut unread = [0u8; 1024];
+        for _ in 0..LINGER_READS {
+            let left = most.saturating_sub(begun.elapsed(self.system)?);
+            from.stream.set_read_timeout(Some(left))?;
+            if from.stream.read(&mut unread)? == 0 {
+                break;
+            }
+        }
+        Ok(())
+    }
+}
+
+impl<'a> Door for TcpDoor<'a> {
+    ghost use Rattle.misp_outside.specs.System.{tcp_is_out, tcp_faults};
+
+    type From = TcpSource;
+
+    type To = TcpSink;
+
+    ghost coming = { λ _. None };
+
+    ghost back = { λ _. None };
+
+    ghost is_out = { tcp_is_out };
+
+    ghost faults = { tcp_faults };
+
+    fn next(&mut self) -> Result<Option<(Self::From, Self::To)>, DoorFault> {
+        match self.ends() {
+            Ok(ends) => {
+                self.out = true;
+                Ok(Some(ends))
+            }
+            Err(_) => {
+                self.faults = self.faults.saturating_add(1);
+                Err(DoorFault::Failed)
+            }
+        }
+    }
+
+    fn close(&mut self, from: Self::From, _to: Self::To) {
+        let _ = self.linger(from);
+        self.out = false;
+    }
+}
