@@ -1,13 +1,15 @@
-//! The program: the real streams, keepers in memory, and the status as its exit status.
+//! The program: the real streams, keepers in memory, and the status as its exit status. Words that
+//! are not accepted are answered by the usage.
 #![tactic(auto)]
 
 ghost use Rattle.std.specs.Prelude.{◌≡◌, IfOk, vec_len};
 ghost use Rattle.misp_app.specs.Limits.{least_keepers};
 
-use misp_app::{KEEPERS, run};
+use misp_app::{KEEPERS, Status, run};
 use misp_outside::{
     MemDial, MemDoor, StandardInput, StandardOutput, StepClock, SureCarry, SureKeeper,
 };
+use misp_words::USAGE;
 use std::alloc::{AllocError, Global};
 use std::env;
 use std::io::{self, BufReader};
@@ -43,5 +45,9 @@ fn main(rt: HostRuntime) -> io::Result<ExitCode> {
         &mut MemDial::new(),
         &mut clock,
     );
+    if status == Status::Usage {
+        // Where standard error takes nothing, the exit status says it alone.
+        let _ = eprint!(rt; "{USAGE}");
+    }
     Ok(ExitCode::from(status.code()))
 }

@@ -2,8 +2,12 @@ pub mod Apart
 pub mod Built
 pub mod Formed
 pub mod Forms
+pub mod HttpTexts
 pub mod Replying
+pub mod Runs
+pub mod Outgoing
 pub mod Turning
+pub mod Turns
 pub mod GroupTexts
 pub mod Ordering
 pub mod Idle

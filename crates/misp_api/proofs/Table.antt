@@ -1,5 +1,5 @@
 -- What the router of all paths finds is what the path is for.
-use Rattle.std.proofs.Common.{◌≡◌, ◌<◌, ◌≤◌, ◌⊎◌, ℕ, suc, Bool, true, false, ◌&&◌, cond, List, [], ◌∷◌, length, map, get_or, filter, find, Option, Some, None, IsSome, option_map, Result, Ok, Err, refl, sym, ap, ◌∙◌, inl, inr, arith}
+use Rattle.std.proofs.Common.{◌≡◌, ◌<◌, ◌≤◌, ℕ, suc, Bool, true, false, ◌&&◌, cond, List, [], ◌∷◌, length, map, get_or, filter, find, Option, Some, None, IsSome, option_map, Result, Ok, Err, refl, sym, ap, ◌∙◌, inl, inr, arith}
 use Rattle.std.proofs.lemmas.Bool.{cases_Bool, and_parts, false_from_ne_true, false≢true}
 use Rattle.matchit.specs.Router.{RouteOf}
 use Rattle.matchit.specs.Route.{parse_route, Scan}
@@ -9,7 +9,7 @@ use Rattle.misp_api.specs.Path.{paths, kind_of}
 use Rattle.misp_api.specs.Pattern.{fits_pattern}
 use Rattle.misp_api.specs.Router.{rows}
 use Rattle.misp_api.specs.declared.path_kind.PathKind.{PathKind}
-use Rattle.misp_api.proofs.Tokens.{fits, is_whole, differs, InRows, AreWhole}
+use Rattle.misp_api.proofs.Tokens.{is_whole, differs, AreWhole}
 use Rattle.misp_api.proofs.Words.{reads, by_tokens}
 use Rattle.misp_api.proofs.Whole.{AreBytes, sound, complete}
 use Rattle.misp_api.proofs.Apart.{apart_sound}

@@ -9,12 +9,12 @@ use Rattle.misp_core.specs.declared.planning.Plan.{Plan}
 use Rattle.misp_core.specs.declared.planning.Batch.{Batch as Put}
 use Rattle.misp_core.specs.declared.planning.NoPlan.{NoPlan}
 use Rattle.misp_core.proofs.Carried.{DidThere, is_planned}
-use Rattle.misp_api.specs.Prelude.{Reply, RequestData, by_keeper, form_of, read_of}
+use Rattle.misp_api.specs.Prelude.{Reply, RequestData, RuleName, by_keeper, form_of, read_of, refused_by}
 use Rattle.misp_api.specs.Order.{IsInOrder, order}
 use Rattle.misp_api.specs.Refusing.{TurnsAway}
 use Rattle.misp_api.specs.Text.{reply_text}
 use Rattle.misp_api.specs.Answering.{IsReplied}
-use Rattle.misp_api.proofs.Turning.{turned_there, turned_by_step}
+use Rattle.misp_api.proofs.Turning.{lost_there, turned_there, turned_by_step}
 use Rattle.misp_api.proofs.Replying.{by_step}
 use Rattle.misp_api.proofs.Ordering.{order_by_step}
 use Rattle.misp_effects.specs.Effect as effects
@@ -57,6 +57,19 @@ module _ {E : Type 0} where
   turned_told (Ok reply) old mid new request asked planned is bars just still =
       turned_by_step old new request asked reply is (λ not_. turned_there old mid new asked.1 planned reply (bars not_) just still)
   turned_told (Err short) old mid new request asked planned is bars just still = tt
+
+  -- the same, where memory runs out for its text
+  pub unformed_told : (r : Result Reply E) (old mid new : Standing) (request : RequestData) (asked : Asked) (planned : Result Plan NoPlan) → read_of old.admin request ≡ Ok asked
+      → (is_permitted asked.0 asked.1 ≡ false → IsBarred (forbidden asked.1) old mid planned) → OnErr planned (new ≡ mid)
+      → OnErr r (TurnsAway (form_of old.admin request) old new (refused_by RuleName.NoMemory))
+  unformed_told (Ok reply) old mid new request asked planned is bars still = tt
+  unformed_told (Err short) old mid new request asked planned is bars still =
+      turned_by_step old new request asked (refused_by RuleName.NoMemory) is (λ not_. lost_there old mid new asked.1 planned (bars not_) still)
+
+  -- what holds where memory runs out
+  pub where_short : (r : Result Reply E) {P : Type 0} → P → OnErr r P
+  where_short (Ok reply) holds = tt
+  where_short (Err short) holds = holds
 
   -- a fault that is told has its cause in the planning, or in the telling
   pub cause_told : (r : Result Reply E) (planned : Result Plan NoPlan) (before mid now : ℕ) → HasCause before mid (stop_planned planned ≡ by_keeper) → mid ≤ now

@@ -13,7 +13,7 @@ use Rattle.misp_api.proofs.Replying.{ByForm, read_by_form, no_keeper_in}
 -- ---- what was not read
 
 -- memory may run out whatever the form
-out_of_memory : {A : Type 0} (i : Standing) (read : Reading A) → TurnsAway read i i (fault_reply AskFault.NoMemory)
+pub out_of_memory : {A : Type 0} (i : Standing) (read : Reading A) → TurnsAway read i i (fault_reply AskFault.NoMemory)
 out_of_memory i (Ok x) = tt
 out_of_memory i (Err refusal) = record { just = inr refl; no_fault = λ is. absurd cc; still = refl }
 
@@ -49,6 +49,14 @@ turned_there old mid new ask planned reply bars is still = elim bars.just [
   | inr e ↦
       let just : reply ≡ refused_by RuleName.NoMemory = IfErr-at_err (λ no. reply ≡ unplanned no) e is in
       record { just = inr just; no_fault = λ told. no_memory (subst (λ r. stop_in r ≡ by_keeper) just told); still = IfErr-at_err (λ no. new ≡ mid) e still ∙ bars.still }
+]
+
+-- and where memory runs out for its text, it stands as it stood
+pub lost_there : (old mid new : Standing) (ask : Ask) (planned : Result Plan NoPlan) → IsBarred (forbidden ask) old mid planned
+    → OnErr planned (new ≡ mid) → IsTurnedAway (forbidden ask) old new (refused_by RuleName.NoMemory)
+lost_there old mid new ask planned bars still = elim bars.just [
+  | inl e ↦ record { just = inr refl; no_fault = no_memory; still = IfErr-at_err (λ no. new ≡ mid) e still ∙ bars.still }
+  | inr e ↦ record { just = inr refl; no_fault = no_memory; still = IfErr-at_err (λ no. new ≡ mid) e still ∙ bars.still }
 ]
 
 by_role : (may : Bool) (asked : Asked) (old new : Standing) (reply : Reply) → (may ≡ false → IsTurnedAway (forbidden asked.1) old new reply) → TurnsAway (allowed may asked) old new reply

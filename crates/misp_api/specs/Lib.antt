@@ -1,5 +1,6 @@
 pub mod Administering
 pub mod Answering
+pub mod Limits
 pub mod Order
 pub mod Path
 pub mod Pattern
@@ -8,5 +9,8 @@ pub mod Refusing
 pub mod Request
 pub mod Route
 pub mod Router
+pub mod Sending
+pub mod Session
 pub mod Text
+pub mod Turn
 pub mod Unread

@@ -1,8 +1,9 @@
 -- What a request is and asks, or the rule that its form breaks.
-use Rattle.std.specs.Prelude.{◌≡◌, ℕ, Bool, List, ◌∷◌, ◌++◌, Option, Some, None, option_map, Result, Ok, Err}
+use Rattle.std.specs.Prelude.{◌≡◌, ℕ, Bool, List, ◌∷◌, ◌++◌, Option, Some, None, Result, Ok, Err}
 use Rattle.misp_fields.specs.Needs.{need_words}
 use Rattle.misp_elem.specs.Prelude.{ElemId}
 use Rattle.misp_elem.specs.declared.key.Place.{Place}
+use Rattle.misp_http.specs.declared.request.Request.{Request}
 use Rattle.misp_format.specs.Prelude.{◌>>=◌, Need, event_at, json_in}
 use Rattle.misp_format.specs.Edits.{event_edit_at, attribute_edit_at, object_edit_at}
 use Rattle.misp_format.specs.Statements.{proposal_at, judgement_at, sighting_at}
@@ -11,11 +12,11 @@ use Rattle.misp_format.specs.declared.reading.parts.PartForm.{PartForm}
 use Rattle.misp_rules.specs.declared.change.Change.{Change}
 use Rattle.misp_core.specs.Prelude.{Ask, EventId, FormatFault, Refusal, RuleName, View, bare}
 use Rattle.misp_api.specs.declared.route.Route.{Route}
-use Rattle.misp_api.specs.declared.request.Request.{Request}
 use Rattle.misp_api.specs.declared.request.AskFault.{AskFault}
 use Rattle.misp_format.specs.Rows as rows
 
--- a request: its key, its method, its target, its body, and the word of which it makes identifiers
+-- a request: its key, its method, its target, its body, and the word of which identifiers are made
+-- for elements that have none
 pub record RequestData : Type 0 where
   pub key : Option (List ℕ)
   pub method : List ℕ
@@ -23,15 +24,9 @@ pub record RequestData : Type 0 where
   pub body : List ℕ
   pub word : ℕ
 
-abbrev pub request_data : Request → RequestData
-request_data r =
-    record {
-      key = option_map (λ text. text.now) r.key;
-      method = r.method.now;
-      target = r.target.now;
-      body = r.body.now;
-      word = r.word;
-    }
+abbrev pub request_data : ℕ → Request → RequestData
+request_data word r =
+    record { key = r.key; method = r.method; target = r.target; body = r.body; word = word }
 
 -- a value, or the refusal
 abbrev pub Reading : Type 0 → Type 0

@@ -14,8 +14,13 @@ answer_text (Answer.Event event) = compact_text (body_data event)
 answer_text (Answer.Groups groups) = groups_text groups
 answer_text (Answer.Taken count) = compact_text (taken_data count)
 
+-- the body of a reply
+abbrev pub body_text : Reply → List ℕ
+body_text (Reply.Ok answer) = answer_text answer
+body_text (Reply.Refused refusal) = compact_text (refusal_data refusal)
+
 -- the status of a reply, a space and its body
 abbrev pub reply_text : Reply → List ℕ
-reply_text (Reply.Ok answer) = codes "200 " ++ answer_text answer
+reply_text (Reply.Ok answer) = codes "200 " ++ body_text (Reply.Ok answer)
 reply_text (Reply.Refused refusal) =
-    decimal (rule_status refusal.name) ++ 32 ∷ compact_text (refusal_data refusal)
+    decimal (rule_status refusal.name) ++ 32 ∷ body_text (Reply.Refused refusal)

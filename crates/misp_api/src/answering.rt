@@ -1,9 +1,9 @@
 //! Answers a request at an instance.
 
-ghost use Rattle.std.specs.Prelude.{◌≡◌, ◌<◌, ◌++◌, Err, IfOk, IsOkAnd, IfSome, OnOk, OnErr, option_map, vec_len, vec_capacity};
+ghost use Rattle.std.specs.Prelude.{◌≡◌, ◌<◌, ◌++◌, Err, IfOk, IsOkAnd, IfSome, OnOk, OnErr, length, vec_len, vec_capacity};
 ghost use Rattle.misp_outside.specs.Causes.{HasCause};
 ghost use Rattle.misp_core.specs.Answers.{IsBuilt};
-ghost use Rattle.misp_core.specs.Effects.{stop_in, by_keeper, IsRefused};
+ghost use Rattle.misp_core.specs.Effects.{stop_in, by_keeper, refused_by, IsRefused};
 ghost use Rattle.misp_api.specs.Answering.{caller_in, read_of, form_of, IsReplied};
 ghost use Rattle.misp_api.specs.Unread.{fault_reply};
 ghost use Rattle.misp_api.specs.Order.{IsInOrder, order};
@@ -11,23 +11,25 @@ ghost use Rattle.misp_core.specs.Standing.{host_of};
 ghost use Rattle.misp_api.specs.Request.{Gives, request_data};
 ghost use Rattle.misp_api.specs.Refusing.{TurnsAway};
 ghost use Rattle.misp_api.specs.Text.{reply_text};
+ghost use Rattle.misp_api.specs.declared.TheConstants.{CHANGE_TEXT};
 
 use crate::asking::read_ask;
-use crate::request::{AskFault, Request};
+use crate::request::AskFault;
 use crate::routes::Routes;
 use crate::telling::{tell, told};
 use misp_core::{Instance, Reply};
-use misp_ids::{ApiKey, NoMemory, Refusal, RuleName, Stamp};
+use misp_http::Request;
+use misp_ids::{ApiKey, NoMemory, Refusal, RuleName, Stamp, Text};
 use misp_orgs::Caller;
 use misp_outside::Keeper;
 use misp_rules::Ask;
 use std::alloc::Global;
 
-fn caller<K: Keeper>(instance: &Instance<K>, key: &Option<&str>) -> Option<Caller>
-    ensures { result ≡ caller_in instance.now.admin (option_map (λ text. text.now) key.now) }
+fn caller<K: Keeper>(instance: &Instance<K>, key: &Option<Text>) -> Option<Caller>
+    ensures { result ≡ caller_in instance.now.admin key.now }
 {
     match key {
-        Some(text) => instance.who(&ApiKey::read(text)?),
+        Some(text) => instance.who(&ApiKey::read(text.as_str())?),
         None => None,
     }
 }
@@ -38,19 +40,20 @@ fn read<K: Keeper>(
     alloc: Global,
     routes: &Routes,
     instance: &Instance<K>,
-    request: &Request<'_>,
+    word: u128,
+    request: &Request,
 ) -> Result<(Caller, Ask), AskFault>
-    ensures read { Gives result (read_of instance.now.admin (request_data request.now)) }
+    ensures read { Gives result (read_of instance.now.admin (request_data word request.now)) }
     ensures built { IfOk result (λ asked. IsBuilt asked.1) }
 {
-    let route = match routes.route(request.method, request.target) {
+    let route = match routes.route(request.method.as_str(), request.target.as_str()) {
         Ok(route) => route,
         Err(rule) => return Err(AskFault::Refused(Refusal::bare(alloc, rule))),
     };
     let Some(caller) = caller(instance, &request.key) else {
         return Err(AskFault::Refused(Refusal::bare(alloc, RuleName::NoKey)));
     };
-    let ask = read_ask(alloc, route, request.body, request.word)?;
+    let ask = read_ask(alloc, route, request.body.as_slice(), word)?;
     Ok((caller, ask))
 }
 
@@ -64,38 +67,43 @@ pub(crate) fn refused(alloc: Global, fault: AskFault) -> Reply
     }
 }
 
-/// Answers a request of this moment, and writes the reply. The text is written before anything is
-/// put.
+/// Answers a request of this moment, and writes the reply. Elements without an identifier get those
+/// that are made of `word`. The text is written before anything is put.
 pub fn answer<K: Keeper>(
     text: &mut Vec<u8>,
     alloc: Global,
     routes: &Routes,
     instance: &mut Instance<K>,
     now: Stamp,
-    request: &Request<'_>,
+    word: u128,
+    request: &Request,
 ) -> Result<Reply, NoMemory>
     // The text of the reply is after what was there, with room for one byte after it.
     ensures text { IfOk result (λ reply. text.new.items ≡ text.old.items ++ reply_text reply) }
     ensures room { OnOk result (vec_len text.new < vec_capacity text.new) }
 
-    // Where memory runs out for the text, nothing is put.
-    ensures kept { OnErr result (instance.new.held ≡ instance.old.held) }
+    // Where memory runs out for the text, or it is longer than that of any change, nothing is put.
+    ensures kept { IfOk result (λ reply. CHANGE_TEXT < length (reply_text reply)) →
+        instance.new.held ≡ instance.old.held }
 
     // Reply and rows are the stated functions of the request and of what is held.
     ensures replied { IfOk result (λ reply. IfSome instance.old.held (λ held. IsReplied
         (host_of instance.old) now
-        (form_of instance.old.admin (request_data request.now))
+        (form_of instance.old.admin (request_data word request.now))
         held reply instance.new.held)) }
 
     // Where several rules refuse the request, the first in the one order is answered.
     ensures order { IfOk result (λ reply. IfSome instance.old.held (λ held. IsInOrder
-        (order (host_of instance.old) now (request_data request.now) held) reply)) }
+        (order (host_of instance.old) now (request_data word request.now) held) reply)) }
 
     // What the form of the request refuses, or the role of its caller, is refused just so, and the
     // keeper is as it was.
     ensures formed { IfOk result (λ reply.
-        TurnsAway (form_of instance.old.admin (request_data request.now))
+        TurnsAway (form_of instance.old.admin (request_data word request.now))
         instance.old instance.new reply) }
+    ensures unformed { OnErr result
+        (TurnsAway (form_of instance.old.admin (request_data word request.now))
+        instance.old instance.new (refused_by RuleName.NoMemory)) }
 
     // A refused request changes nothing.
     ensures refused { IfOk result (λ reply.
@@ -105,7 +113,7 @@ pub fn answer<K: Keeper>(
     ensures name { instance.new.name ≡ instance.old.name }
     ensures admin { instance.new.admin ≡ instance.old.admin }
 {
-    match read(alloc, routes, instance, request) {
+    match read(alloc, routes, instance, word, request) {
         Ok((caller, ask)) => {
             let planned = instance.plan(alloc, now, &caller, ask);
             tell(text, alloc, instance, planned)

@@ -4,18 +4,35 @@
 mod administering;
 mod answering;
 mod asking;
+mod limits;
 mod path_ids;
 mod path_kind;
 mod reply;
 mod request;
 mod route;
 mod routes;
+mod sending;
+mod sessions;
 mod telling;
+mod turn;
 
 pub use administering::{GroupRequest, administer};
 pub use answering::answer;
 pub use asking::read_ask;
+pub use limits::the_limits_are_as_stated;
 pub use reply::{put_number, put_reply, put_text};
-pub use request::{AskFault, Request};
+pub use request::AskFault;
 pub use route::Route;
 pub use routes::{Routes, at_most_one_pattern_fits};
+pub use sending::{Delivery, refuse};
+pub use sessions::{End, SessionEnd, session};
+pub use turn::Turn;
+
+/// The most requests of a connection.
+pub const MAX_REQUESTS: u32 = 1000;
+
+/// The room that is made before a request is answered, in bytes.
+pub const REPLY_ROOM: usize = 4096;
+
+/// The longest text of the reply to a change, in bytes.
+pub const CHANGE_TEXT: usize = 1000;

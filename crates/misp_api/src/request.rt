@@ -1,4 +1,4 @@
-//! Requests, and why they are not read.
+//! Why a request is not read.
 
 ghost use Rattle.std.specs.Prelude.{◌≡◌, IfOk};
 ghost use Rattle.misp_api.specs.Request.{field_place};
@@ -8,18 +8,6 @@ use misp_fields::{Need, write_need};
 use misp_format::FormatFault;
 use misp_ids::{Refusal, RuleName, Text};
 use std::alloc::{AllocError, AllocFailed, Global};
-
-/// A request to an instance.
-#[derive(Clone, Copy, Debug, PartialEq, Eq)]
-pub struct Request<'a> {
-    /// The text of the key, if one is given. It may be none that a key could be.
-    pub key: Option<&'a str>,
-    pub method: &'a str,
-    pub target: &'a str,
-    pub body: &'a [u8],
-    /// The word from which identifiers are made for elements that have none.
-    pub word: u128,
-}
 
 /// Why a request was not read.
 #[derive(Debug, Drop)]

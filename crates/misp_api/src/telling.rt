@@ -8,7 +8,9 @@ ghost use Rattle.misp_core.specs.Planning.{IsPlan, IsPlanned, unplanned, stop_pl
 ghost use Rattle.misp_core.specs.declared.planning.Plan.{Plan as Planned};
 ghost use Rattle.misp_core.specs.declared.reply.Reply.{Reply as Answered};
 ghost use Rattle.misp_api.specs.Text.{reply_text};
+ghost use Rattle.misp_api.specs.declared.TheConstants.{CHANGE_TEXT};
 
+use crate::CHANGE_TEXT;
 use crate::reply::put_reply;
 use misp_core::{Answer, Batch, Instance, NoPlan, Plan, Reply};
 use misp_ids::NoMemory;
@@ -86,7 +88,8 @@ struct Written {
     stops: StopTexts,
 }
 
-// Writes an answer, with room for each refusal in place of it, and for one byte after.
+// Writes an answer, with room for each refusal in place of it, and for one byte after. One that is
+// longer than the answer to any change is given no memory.
 fn write_answer(text: &mut Vec<u8>, alloc: Global, answer: Answer) -> Result<Written, NoMemory>
     ensures reply { IfOk result (λ written. written.reply ≡ Answered.Ok answer) }
     ensures failed { IfOk result (λ written.
@@ -100,9 +103,14 @@ fn write_answer(text: &mut Vec<u8>, alloc: Global, answer: Answer) -> Result<Wri
         vec_len text.old + vec_len written.stops.failed < vec_capacity text.new) }
     ensures room_no_memory { IfOk result (λ written.
         vec_len text.old + vec_len written.stops.no_memory < vec_capacity text.new) }
+    ensures short { OnOk result (length (reply_text (Answered.Ok answer)) ≤ CHANGE_TEXT) }
 {
+    let start = text.len();
     let stops = stop_texts(alloc)?;
     let reply = told(text, alloc, Reply::Ok(answer))?;
+    if text.len().saturating_sub(start) > CHANGE_TEXT {
+        return Err(NoMemory);
+    }
     take_room(text, &stops)?;
     Ok(Written { reply, stops })
 }
@@ -127,12 +135,15 @@ fn settled<K: Keeper>(
         ≡ reply_text (refused_by (rule_of_stop KeeperFault.NoMemory)) }
     requires room_failed { start + vec_len written.stops.failed < vec_capacity text.old }
     requires room_no_memory { start + vec_len written.stops.no_memory < vec_capacity text.old }
+    requires short { length (reply_text written.reply) ≤ CHANGE_TEXT }
     ensures text { text.new.items ≡ take start text.old.items ++ reply_text result }
     ensures room { vec_len text.new < vec_capacity text.new }
     ensures done { (p : Planned) (e : Effect Answered) → written.reply ≡ Answered.Ok p.answer →
         p.batch ≡ Some put → IsPlan p e →
         IfSome instance.old.held (λ held. Did e held result instance.new.held) }
     ensures refused { IsRefused result → instance.new.held ≡ instance.old.held }
+    ensures long { CHANGE_TEXT < length (reply_text result) →
+        instance.new.held ≡ instance.old.held }
     ensures cause { HasCause instance.old.faults instance.new.faults
         (stop_in result ≡ by_keeper) }
     ensures name { instance.new.name ≡ instance.old.name }
@@ -161,7 +172,8 @@ fn told_and_put<K: Keeper>(
 ) -> Result<Reply, NoMemory>
     ensures text { IfOk result (λ reply. text.new.items ≡ text.old.items ++ reply_text reply) }
     ensures room { OnOk result (vec_len text.new < vec_capacity text.new) }
-    ensures kept { OnErr result (instance.new.held ≡ instance.old.held) }
+    ensures kept { IfOk result (λ reply. CHANGE_TEXT < length (reply_text reply)) →
+        instance.new.held ≡ instance.old.held }
     ensures done { (p : Planned) (e : Effect Answered) → p.answer ≡ answer →
         p.batch ≡ Some put → IsPlan p e → IfOk result (λ reply.
         IfSome instance.old.held (λ held. Did e held reply instance.new.held)) }
@@ -188,8 +200,9 @@ pub(crate) fn tell<K: Keeper>(
     ensures text { IfOk result (λ reply. text.new.items ≡ text.old.items ++ reply_text reply) }
     ensures room { OnOk result (vec_len text.new < vec_capacity text.new) }
 
-    // Where memory runs out for the text, nothing is put.
-    ensures kept { OnErr result (instance.new.held ≡ instance.old.held) }
+    // Where memory runs out for the text, or it is longer than that of any change, nothing is put.
+    ensures kept { IfOk result (λ reply. CHANGE_TEXT < length (reply_text reply)) →
+        instance.new.held ≡ instance.old.held }
 
     // Else reply and rows are those of the plan.
     ensures done { (e : Effect Answered) → IsPlanned planned e → IfOk result (λ reply.

@@ -6,7 +6,7 @@ use Rattle.misp_script.specs.Directory.{directory_of}
 use Rattle.misp_script.specs.Source.{description_part, script_part}
 use Rattle.misp_effects.specs.KeeperStates.{told, OneFailed}
 use Rattle.misp_store.specs.Sharing.{may_be_sound, may_be_unsound}
-use Rattle.misp_net.specs.Prelude.{Act, AreDistinct, Description, Host, IsCut, KeeperState, acts_of, described_hosts, description_at, nothing_held}
+use Rattle.misp_net.specs.Prelude.{AreDistinct, Description, Host, IsCut, KeeperState, Line, described_hosts, description_at, lines_of, nothing_held}
 use Rattle.misp_app.specs.declared.status.Status.{Status}
 use Rattle.misp_app.specs.declared.status.Status.TheVariants.{Done, BadDescription, TooMuch}
 use Rattle.misp_app.specs.Limits.{source_limit}
@@ -33,17 +33,17 @@ IsTold (Err DescFault.NoMemory) Writes = ⊥
 
 -- The script of a network was run over the keepers of its instances, and its lines were written so.
 -- This is said of them.
-pub record HasWritten (Says : List Host → List Act → List KeeperState → List KeeperState → List ℕ → Type 0)
+pub record HasWritten (Says : List Host → List Line → List KeeperState → List KeeperState → List ℕ → Type 0)
     (net : Description) (script : List ℕ) (old new : List KeeperState)
     (Writes : List ℕ → Type 0) : Type 0 where
   pub lines : List ℕ
   pub distinct : AreDistinct (described_hosts net)
-  pub says : Says (described_hosts net) (acts_of (directory_of net) script)
+  pub says : Says (described_hosts net) (lines_of (directory_of net) script)
       (take (length net.instances) old) (take (length net.instances) new) lines
   pub written : Writes lines
 
 -- the same of a source that describes a network
-abbrev pub HasRun : (List Host → List Act → List KeeperState → List KeeperState → List ℕ → Type 0)
+abbrev pub HasRun : (List Host → List Line → List KeeperState → List KeeperState → List ℕ → Type 0)
     → List ℕ → List KeeperState → List KeeperState → (List ℕ → Type 0) → Type 0
 HasRun Says source old new Writes =
     IfOk (described source) (λ net. HasWritten Says net (script_part source) old new Writes)
@@ -53,7 +53,7 @@ HasRun Says source old new Writes =
 abbrev pub IsCutShort : List ℕ → List KeeperState → List KeeperState → Type 0
 IsCutShort source old new =
     IfOk (described source) (λ net.
-    IsCut (described_hosts net) (acts_of (directory_of net) (script_part source))
+    IsCut (described_hosts net) (lines_of (directory_of net) (script_part source))
     (take (length net.instances) old) (take (length net.instances) new))
 
 -- as far as the keepers of its instances tell, every row of the administration is a group

@@ -7,7 +7,6 @@ use Rattle.httparse.proofs.GrammarLemmas.{request_unique, response_unique}
 use Rattle.misp_http.proofs.Heads.{head_size}
 use Rattle.misp_http.proofs.Growing.{all_looked_at}
 use Rattle.misp_http.specs.Limits.{head_limit}
-use Rattle.misp_http.specs.Faults.{fault_refusal}
 use Rattle.misp_http.specs.Headers.{BodyLength, headers_of, body_length}
 use Rattle.misp_http.specs.Reading.{Begins, NeverBegins, HasBadHead, IsUndecided, looked_at, after_head, request_of, Refuses, IsRead, IsConclusive, EndsInHead, EndsInBody, AreOne, LeaveOne}
 use Rattle.misp_http.specs.Reply.{IsOneReply}
@@ -23,7 +22,7 @@ abbrev Outcome : Type 0
 Outcome = Result Read ReadEnd
 
 abbrev refused : Fault → Outcome
-refused fault = Ok (reads.Refused (fault_refusal fault))
+refused fault = Ok (reads.Refused fault)
 
 abbrev by_length : BodyLength → RequestHead → List ℕ → Outcome
 by_length (Ok n) h bytes =
@@ -85,7 +84,7 @@ nothing h rest reads =
 is_outcome : (bytes : List ℕ) (a : Outcome) (x : Option (List ℕ)) → IsConclusive a → IsRead bytes a x → IsOutcome bytes a
 is_outcome bytes (Ok (reads.Request request)) x conclusive is =
     inl (is.head, is.framed.head, rw (is.parts, is.framed.body, le_true is.size (length (after_head is.head bytes)) is.whole) refl)
-is_outcome bytes (Ok (reads.Refused refusal)) x conclusive (fault, is, refuses) = subst (λ r. IsOutcome bytes (Ok (reads.Refused r))) (sym is) (outcome_of_fault bytes fault refuses)
+is_outcome bytes (Ok (reads.Refused fault)) x conclusive refuses = outcome_of_fault bytes fault refuses
 is_outcome bytes (Err ends.Ended) x conclusive is = subst (λ xs. IsOutcome xs (Err ends.Ended)) (sym is) (inr (inr ((nothing, λ never. absurd (omega (arith, never.0))), refl)))
 is_outcome bytes (Err ends.Cut) x conclusive is = elim is [
   | inl head ↦ cut_head bytes head

@@ -8,7 +8,6 @@ use Rattle.std.specs.Prelude.{◌≡◌, ◌≤◌, ◌<◌, ◌==◌, ◌⊎◌
 use Rattle.httparse.specs.Grammar.{RequestHead, ReadsRequest, HasNoRequest, NeverHasRequest, print_request}
 use Rattle.misp_http.specs.Limits.{head_limit}
 use Rattle.misp_http.specs.Headers.{headers_of, body_length, key_of, asks_to_close}
-use Rattle.misp_http.specs.Faults.{fault_refusal}
 use Rattle.misp_http.specs.declared.fault.Fault.{Fault}
 use Rattle.misp_http.specs.declared.fault.Fault.TheVariants.{NoHead, LongHead, BadHead}
 use Rattle.misp_http.specs.declared.fault.HeadFault.{HeadFault}
@@ -102,8 +101,7 @@ pub record BeginsWithRequest (bytes : List ℕ) : Type 0 where
 -- what the bytes of a connection are, of which rest are left
 abbrev pub IsRead : List ℕ → Result Read ReadEnd → Option (List ℕ) → Type 0
 IsRead bytes (Ok (reads.Request request)) rest = IsRequest bytes request rest
-IsRead bytes (Ok (reads.Refused refusal)) rest =
-    (fault : Fault) × (refusal ≡ fault_refusal fault) × Refuses bytes fault
+IsRead bytes (Ok (reads.Refused fault)) rest = Refuses bytes fault
 IsRead bytes (Err ends.Ended) rest = bytes ≡ []
 IsRead bytes (Err ends.Cut) rest = EndsInHead bytes ⊎ EndsInBody bytes
 IsRead bytes (Err ends.ReadFault) rest = Unit {0}

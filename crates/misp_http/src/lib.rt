@@ -15,6 +15,7 @@ mod reply;
 mod request;
 mod writing;
 
+pub use fault::{Fault, HeadFault};
 pub use kind::BodyKind;
 pub use laws::{
     a_reply_is_one_thing, a_reply_is_read_back, a_request_is_read_back, bytes_are_one_thing,

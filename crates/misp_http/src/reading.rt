@@ -224,7 +224,7 @@ pub fn read_request<S: Source>(
             Ok(request) => Ok(Read::Request(request)),
             Err(end) => Err(end),
         },
-        Ok(Err(fault)) => Ok(Read::Refused(fault.refusal(alloc)?)),
+        Ok(Err(fault)) => Ok(Read::Refused(fault)),
         Err(end) => Err(end),
     }
 }

@@ -2,7 +2,8 @@
 
 ghost use Rattle.std.specs.Prelude.{◌≡◌};
 
-use misp_ids::{Items, NoMemory, Refusal, Text};
+use crate::fault::Fault;
+use misp_ids::{Items, NoMemory, Text};
 use std::alloc::{AllocError, AllocFailed};
 
 /// A request.
@@ -22,7 +23,7 @@ pub struct Request {
 pub enum Read {
     Request(Request),
     /// The bytes are refused.
-    Refused(Refusal),
+    Refused(Fault),
 }
 
 /// Why nothing was read.

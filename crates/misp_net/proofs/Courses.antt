@@ -1,95 +1,146 @@
 -- A course goes on by one line.
-use Rattle.std.proofs.Common.{◌≡◌, ℕ, suc, ◌+◌, take, List, [], ◌∷◌, ◌++◌, length, refl, sym, ◌∙◌, ap, subst, arith, append_assoc, append-nil, decimal, take_at}
-use Rattle.std.proofs.lemmas.List.{length-map, map_push}
+use Rattle.std.proofs.Common.{◌≡◌, ℕ, suc, ◌+◌, take, List, [], ◌∷◌, ◌++◌, length, refl, sym, ◌∙◌, ap, subst, inl, inr, arith, append_assoc, append-nil, decimal, length-append, take_at}
+use Rattle.std.proofs.lemmas.List.{length-map, map-append}
 use Rattle.misp_effects.specs.Meanings.{Meaning}
 use Rattle.misp_effects.proofs.Courses.{no_lines, run_kept}
+use Rattle.misp_net.proofs.Appending.{more_ran}
 use Rattle.misp_effects.proofs.KeeperStates.{all_kept}
-use Rattle.misp_net.specs.Prelude.{Act, AreAmong, AreKept, HasRun, Host, IsAmong, IsCut, KeeperState, Output, Ran, Seen, meaning, seen_in, spelled, stop_in}
-use Rattle.misp_net.specs.Meaning.{meanings_of, IsAsFormed, AreAsFormed}
-use Rattle.misp_net.specs.Text.{output_text, line_of, text_from}
-use Rattle.misp_net.specs.Running.{IsAct}
+use Rattle.misp_net.specs.Prelude.{Act, AreAmong, AreDone, AreKept, Done, HasRun, Host, IsCut, IsDone, KeeperState, Line, Output, Ran, Seen, acts_of, meaning, outputs_of, seen_in, spelled, stop_in}
+use Rattle.misp_net.specs.Acts.{Does, acts_done, outputs_done}
+use Rattle.misp_net.specs.Meaning.{meanings_of, AreAsFormed}
+use Rattle.misp_net.specs.Running.{CutLine}
+use Rattle.misp_net.specs.Text.{done_text, line_of, text_from}
 use Rattle.misp_effects.specs.Course as courses
-use Rattle.misp_effects.proofs.Courses as more
 
-among_push : (count : ℕ) (acts : List Act) (act : Act) → AreAmong count acts → IsAmong count act → AreAmong count (acts ++ act ∷ [])
-among_push count [] act all is = (is, tt)
-among_push count (a ∷ acts) act all is = (all.0, among_push count acts act all.1 is)
+-- ---- acts after acts
 
-formed_push : (hosts : List Host) (acts : List Act) (act : Act) (outputs : List Output) (output : Output) → length outputs ≡ length acts
-    → AreAsFormed hosts acts outputs → IsAsFormed (meaning hosts act).formed output → AreAsFormed hosts (acts ++ act ∷ []) (outputs ++ output ∷ [])
-formed_push hosts [] act [] output long all is = (is, tt)
-formed_push hosts [] act (o ∷ outputs) output long all is = absurd (omega (arith, long))
-formed_push hosts (a ∷ acts) act [] output long all is = absurd (omega (arith, long))
-formed_push hosts (a ∷ acts) act (o ∷ outputs) output long all is = (all.0, formed_push hosts acts act outputs output (omega (arith, long)) all.1 is)
+among_append : (count : ℕ) (acts more : List Act) → AreAmong count acts → AreAmong count more → AreAmong count (acts ++ more)
+among_append count [] more first last = last
+among_append count (a ∷ acts) more first last = (first.0, among_append count acts more first.1 last)
 
-text_push : (number : ℕ) (outputs : List Output) (output : Output) → text_from number (outputs ++ output ∷ []) ≡ text_from number outputs ++ line_of (number + length outputs) output
-text_push number [] output = simp append-nil (ap (λ n. line_of n output) (omega arith))
-text_push number (o ∷ outputs) output =
-    let rest = text_push (number + 1) outputs output in
-    let count : (number + 1) + length outputs ≡ number + suc (length outputs) = omega arith in
-    let same = ap (λ n. line_of n output) count in
+pub formed_append : (hosts : List Host) (acts more : List Act) (outputs others : List Output) → length outputs ≡ length acts
+    → AreAsFormed hosts acts outputs → AreAsFormed hosts more others → AreAsFormed hosts (acts ++ more) (outputs ++ others)
+formed_append hosts [] more [] others long first last = last
+formed_append hosts [] more (o ∷ outputs) others long first last = absurd (omega (arith, long))
+formed_append hosts (a ∷ acts) more [] others long first last = absurd (omega (arith, long))
+formed_append hosts (a ∷ acts) more (o ∷ outputs) others long first last = (first.0, formed_append hosts acts more outputs others (omega (arith, long)) first.1 last)
+
+pub ran_append : (hosts : List Host) (acts more : List Act) (outputs others : List Output) (old mid new : List KeeperState) → Ran hosts acts old mid outputs → Ran hosts more mid new others → Ran hosts (acts ++ more) old new (outputs ++ others)
+ran_append hosts acts more outputs others old mid new first last =
+    subst (λ (ms : List (Meaning Seen Output)). courses.HasRun Seen Output seen_in spelled stop_in ms old new (outputs ++ others)) (sym (map-append (λ a. (meaning hosts a).means) acts more))
+    (more_ran Seen Output seen_in spelled stop_in (meanings_of hosts acts) (meanings_of hosts more) old mid new outputs others first last)
+
+-- ---- lines after lines
+
+acts_push : (dones : List Done) (d : Done) → acts_of (dones ++ d ∷ []) ≡ acts_of dones ++ acts_done d
+acts_push [] d = append-nil (acts_done d)
+acts_push (e ∷ dones) d = ap (λ acts. acts_done e ++ acts) (acts_push dones d) ∙ sym (append_assoc (acts_done e) (acts_of dones) (acts_done d))
+
+outputs_push : (dones : List Done) (d : Done) → outputs_of (dones ++ d ∷ []) ≡ outputs_of dones ++ outputs_done d
+outputs_push [] d = append-nil (outputs_done d)
+outputs_push (e ∷ dones) d = ap (λ outputs. outputs_done e ++ outputs) (outputs_push dones d) ∙ sym (append_assoc (outputs_done e) (outputs_of dones) (outputs_done d))
+
+done_push : (lines : List Line) (line : Line) (dones : List Done) (d : Done) → AreDone lines dones → Does line d → AreDone (lines ++ line ∷ []) (dones ++ d ∷ [])
+done_push [] line [] d all does = (does, tt)
+done_push [] line (e ∷ dones) d all does = absurd all
+done_push (l ∷ lines) line [] d all does = absurd all
+done_push (l ∷ lines) line (e ∷ dones) d all does = (all.0, done_push lines line dones d all.1 does)
+
+done_long : (lines : List Line) (dones : List Done) → AreDone lines dones → length dones ≡ length lines
+done_long [] [] all = refl
+done_long [] (e ∷ dones) all = absurd all
+done_long (l ∷ lines) [] all = absurd all
+done_long (l ∷ lines) (e ∷ dones) all = ap suc (done_long lines dones all.1)
+
+text_push : (number : ℕ) (dones : List Done) (d : Done) → text_from number (dones ++ d ∷ []) ≡ text_from number dones ++ line_of (number + length dones) d
+text_push number [] d = simp append-nil (ap (λ n. line_of n d) (omega arith))
+text_push number (e ∷ dones) d =
+    let rest = text_push (number + 1) dones d in
+    let count : (number + 1) + length dones ≡ number + suc (length dones) = omega arith in
+    let same = ap (λ n. line_of n d) count in
     grind (arith, append_assoc, rest, same)
 
-pub no_acts : (hosts : List Host) (old : List KeeperState) → HasRun hosts [] old old []
-no_acts hosts old = record {
-  outputs = [];
+pub none_run : (hosts : List Host) (old : List KeeperState) → HasRun hosts [] old old []
+none_run hosts old = record {
+  dones = [];
+  done = tt;
   text_is = refl;
   ran = no_lines Seen Output seen_in spelled stop_in old;
   formed = tt;
   among = tt;
 }
 
-pub one_more : (hosts : List Host) (acts : List Act) (act : Act) (old mid new : List KeeperState) (before after : List ℕ) (output : Output)
-    → HasRun hosts acts old mid before → after ≡ before ++ line_of (1 + length acts) output → IsAct hosts act mid new output → IsAsFormed (meaning hosts act).formed output
-    → IsAmong (length hosts) act → HasRun hosts (acts ++ act ∷ []) old new after
-one_more hosts acts act old mid new before after output run text_is did formed among =
-    let long : length run.outputs ≡ length acts = run.ran.each ∙ length-map acts (λ a. (meaning hosts a).means) in
+module _ (hosts : List Host) (lines : List Line) (line : Line) (old mid new : List KeeperState) (dones : List Done) (d : Done) (ran : Ran hosts (acts_of dones) old mid (outputs_of dones)) (is : IsDone hosts d mid new) where
+  -- what was done by the lines and one more
+  more_done : Ran hosts (acts_of (dones ++ d ∷ [])) old new (outputs_of (dones ++ d ∷ []))
+  more_done =
+      subst (λ acts. Ran hosts acts old new (outputs_of (dones ++ d ∷ []))) (sym (acts_push dones d))
+      (subst (λ outputs. Ran hosts (acts_of dones ++ acts_done d) old new outputs) (sym (outputs_push dones d))
+      (ran_append hosts (acts_of dones) (acts_done d) (outputs_of dones) (outputs_done d) old mid new ran is.ran))
+
+pub one_more : (hosts : List Host) (lines : List Line) (line : Line) (old mid new : List KeeperState) (before after : List ℕ) (d : Done)
+    → HasRun hosts lines old mid before → Does line d → IsDone hosts d mid new → after ≡ before ++ line_of (1 + length lines) d → HasRun hosts (lines ++ line ∷ []) old new after
+one_more hosts lines line old mid new before after d run does is text_is =
+    let long : length (outputs_of run.dones) ≡ length (acts_of run.dones) = run.ran.each ∙ length-map (acts_of run.dones) (λ a. (meaning hosts a).means) in
     record {
-      outputs = run.outputs ++ output ∷ [];
+      dones = run.dones ++ d ∷ [];
+      done = done_push lines line run.dones d run.done does;
       text_is =
           text_is
-          ∙ ap (λ text. text ++ line_of (1 + length acts) output) run.text_is
-          ∙ ap (λ n. text_from 1 run.outputs ++ line_of (1 + n) output) (sym long)
-          ∙ sym (text_push 1 run.outputs output);
-      ran =
-          subst (λ (ms : List (Meaning Seen Output)). courses.HasRun Seen Output seen_in spelled stop_in ms old new (run.outputs ++ output ∷ [])) (sym (map_push (λ a. (meaning hosts a).means) acts act))
-          (more.one_more Seen Output seen_in spelled stop_in (meanings_of hosts acts) (meaning hosts act).means old mid new run.outputs output run.ran did);
-      formed = formed_push hosts acts act run.outputs output long run.formed formed;
-      among = among_push (length hosts) acts act run.among among;
+          ∙ ap (λ text. text ++ line_of (1 + length lines) d) run.text_is
+          ∙ ap (λ n. text_from 1 run.dones ++ line_of (1 + n) d) (sym (done_long lines run.dones run.done))
+          ∙ sym (text_push 1 run.dones d);
+      ran = more_done hosts lines line old mid new run.dones d run.ran is;
+      formed =
+          subst (λ acts. AreAsFormed hosts acts (outputs_of (run.dones ++ d ∷ []))) (sym (acts_push run.dones d))
+          (subst (λ outputs. AreAsFormed hosts (acts_of run.dones ++ acts_done d) outputs) (sym (outputs_push run.dones d))
+          (formed_append hosts (acts_of run.dones) (acts_done d) (outputs_of run.dones) (outputs_done d) long run.formed is.formed));
+      among = subst (AreAmong (length hosts)) (sym (acts_push run.dones d)) (among_append (length hosts) (acts_of run.dones) (acts_done d) run.among is.among);
     }
 
 -- ---- cut short
 
 -- no line was run
-pub none_ran : (hosts : List Host) (acts : List Act) (old new : List KeeperState) → AreKept old new → IsCut hosts acts old new
-none_ran hosts acts old new kept =
-    record { count = 0; outputs = []; ran = run_kept (all_kept old) (no_lines Seen Output seen_in spelled stop_in old) kept }
+pub none_ran : (hosts : List Host) (lines : List Line) (old new : List KeeperState) → AreKept old new → IsCut hosts lines old new
+none_ran hosts lines old new kept =
+    record { count = 0; dones = []; done = tt; ran = run_kept (all_kept old) (no_lines Seen Output seen_in spelled stop_in old) kept }
 
--- these were, and more were to follow
-pub some_ran : (hosts : List Host) (done more acts : List Act) (old mid new : List KeeperState) (text : List ℕ) → HasRun hosts done old mid text → done ++ more ≡ acts → AreKept mid new
-    → IsCut hosts acts old new
-some_ran hosts done more acts old mid new text run all kept =
-    let first : take (length done) acts ≡ done = ap (take (length done)) (sym all) ∙ take_at done more (length done) refl in
+-- these were, and perhaps the next, which is not written
+pub some_ran : (hosts : List Host) (before more lines : List Line) (line : Line) (old mid new : List KeeperState) (text : List ℕ) → HasRun hosts before old mid text
+    → before ++ line ∷ more ≡ lines → CutLine hosts line mid new → IsCut hosts lines old new
+some_ran hosts before more lines line old mid new text run all (inl kept) =
+    let first : take (length before) lines ≡ before = ap (take (length before)) (sym all) ∙ take_at before (line ∷ more) (length before) refl in
     record {
-      count = length done;
-      outputs = run.outputs;
-      ran = subst (λ lines. Ran hosts lines old new run.outputs) (sym first) (run_kept (all_kept old) run.ran kept);
+      count = length before;
+      dones = run.dones;
+      done = subst (λ front. AreDone front run.dones) (sym first) run.done;
+      ran = run_kept (all_kept old) run.ran kept;
+    }
+some_ran hosts before more lines line old mid new text run all (inr (d, does, is)) =
+    let whole : (before ++ line ∷ []) ++ more ≡ lines = append_assoc before (line ∷ []) more ∙ all in
+    let long : length (before ++ line ∷ []) ≡ length before + 1 = length-append before (line ∷ []) in
+    let first : take (length before + 1) lines ≡ before ++ line ∷ [] = ap (take (length before + 1)) (sym whole) ∙ take_at (before ++ line ∷ []) more (length before + 1) long in
+    record {
+      count = length before + 1;
+      dones = run.dones ++ d ∷ [];
+      done = subst (λ front. AreDone front (run.dones ++ d ∷ [])) (sym first) (done_push before line run.dones d run.done does);
+      ran = more_done hosts before line old mid new run.dones d run.ran is;
     }
 
 -- all were
-pub all_ran : (hosts : List Host) (acts : List Act) (old new : List KeeperState) (outputs : List Output) → Ran hosts acts old new outputs → IsCut hosts acts old new
-all_ran hosts acts old new outputs run =
-    let all : take (length acts) acts ≡ acts = ap (take (length acts)) (sym (append-nil acts)) ∙ take_at acts [] (length acts) refl in
-    record { count = length acts; outputs = outputs; ran = subst (λ lines. Ran hosts lines old new outputs) (sym all) run }
+pub all_ran : (hosts : List Host) (lines : List Line) (old new : List KeeperState) (dones : List Done) → AreDone lines dones → Ran hosts (acts_of dones) old new (outputs_of dones) → IsCut hosts lines old new
+all_ran hosts lines old new dones done run =
+    let all : take (length lines) lines ≡ lines = ap (take (length lines)) (sym (append-nil lines)) ∙ take_at lines [] (length lines) refl in
+    record { count = length lines; dones = dones; done = subst (λ front. AreDone front dones) (sym all) done; ran = run }
 
 -- ---- what a line writes
 
-pub line_put : (number : ℕ) (output : Output) (before front behind after : List ℕ) → front ≡ (before ++ decimal number) ++ 32 ∷ [] → behind ≡ front ++ output_text output → after ≡ behind ++ 10 ∷ []
-    → after ≡ before ++ line_of number output
-line_put number output before front behind after a b d =
-    d
-    ∙ ap (λ text. text ++ 10 ∷ []) (b ∙ ap (λ text. text ++ output_text output) a)
-    ∙ append_assoc ((before ++ decimal number) ++ 32 ∷ []) (output_text output) (10 ∷ [])
-    ∙ append_assoc (before ++ decimal number) (32 ∷ []) (output_text output ++ 10 ∷ [])
-    ∙ append_assoc before (decimal number) ((32 ∷ output_text output) ++ 10 ∷ [])
-    ∙ ap (λ line. before ++ line) (sym (append_assoc (decimal number) (32 ∷ output_text output) (10 ∷ [])))
+pub line_put : (number : ℕ) (d : Done) (before front behind after : List ℕ) → front ≡ (before ++ decimal number) ++ 32 ∷ [] → behind ≡ front ++ done_text d → after ≡ behind ++ 10 ∷ []
+    → after ≡ before ++ line_of number d
+line_put number d before front behind after a b e =
+    e
+    ∙ ap (λ text. text ++ 10 ∷ []) (b ∙ ap (λ text. text ++ done_text d) a)
+    ∙ append_assoc ((before ++ decimal number) ++ 32 ∷ []) (done_text d) (10 ∷ [])
+    ∙ append_assoc (before ++ decimal number) (32 ∷ []) (done_text d ++ 10 ∷ [])
+    ∙ append_assoc before (decimal number) ((32 ∷ done_text d) ++ 10 ∷ [])
+    ∙ ap (λ line. before ++ line) (sym (append_assoc (decimal number) (32 ∷ done_text d) (10 ∷ [])))

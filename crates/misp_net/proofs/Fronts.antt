@@ -4,7 +4,7 @@ use Rattle.std.proofs.lemmas.List.{length-map}
 use Rattle.misp_script.specs.declared.description.Entry.{Entry}
 use Rattle.misp_effects.proofs.KeeperStates.{all_kept}
 use Rattle.misp_effects.proofs.Courses.{run_kept}
-use Rattle.misp_net.specs.Prelude.{Act, AreAmong, AreKept, HasRun, Host, IsCut, KeeperState, Output, Ran, Standing, described_host, host_of, hosts_of, state_of, states_of}
+use Rattle.misp_net.specs.Prelude.{Act, AreAmong, AreKept, HasRun, Host, IsCut, KeeperState, Line, Output, Ran, Standing, acts_of, described_host, host_of, hosts_of, outputs_of, state_of, states_of}
 use Rattle.misp_net.specs.Meaning.{AreAsFormed}
 
 -- there are as many as are described
@@ -32,15 +32,16 @@ module _ {hosts described : List Host} {front after rest olds news : List Keeper
       let last : take count news ≡ after = ap (take count) over.is ∙ take_at after rest count (over.still ∙ over.long) in
       subst (λ there. Ran there acts (take count olds) (take count news) outputs) over.same (run_kept over.kept ran (rw last (all_kept after)))
 
-  pub run_in_front : {acts : List Act} {text : List ℕ} → HasRun hosts acts front after text → HasRun described acts (take count olds) (take count news) text
-  run_in_front {acts} run = record {
-    outputs = run.outputs;
+  pub run_in_front : {lines : List Line} {text : List ℕ} → HasRun hosts lines front after text → HasRun described lines (take count olds) (take count news) text
+  run_in_front run = record {
+    dones = run.dones;
+    done = run.done;
     text_is = run.text_is;
-    ran = ran_in_front acts run.outputs run.ran;
-    formed = subst (λ there. AreAsFormed there acts run.outputs) over.same run.formed;
-    among = subst (λ there. AreAmong (length there) acts) over.same run.among;
+    ran = ran_in_front (acts_of run.dones) (outputs_of run.dones) run.ran;
+    formed = subst (λ there. AreAsFormed there (acts_of run.dones) (outputs_of run.dones)) over.same run.formed;
+    among = subst (λ there. AreAmong (length there) (acts_of run.dones)) over.same run.among;
   }
 
   -- and so is one that was cut short
-  pub cut_in_front : {acts : List Act} → IsCut hosts acts front after → IsCut described acts (take count olds) (take count news)
-  cut_in_front {acts} cut = record { count = cut.count; outputs = cut.outputs; ran = ran_in_front (take cut.count acts) cut.outputs cut.ran }
+  pub cut_in_front : {lines : List Line} → IsCut hosts lines front after → IsCut described lines (take count olds) (take count news)
+  cut_in_front cut = record { count = cut.count; dones = cut.dones; done = cut.done; ran = ran_in_front (acts_of cut.dones) (outputs_of cut.dones) cut.ran }

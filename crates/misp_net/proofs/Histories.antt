@@ -1,4 +1,4 @@
--- The lines over keepers that held nothing are those of the history.
+-- The acts over keepers that held nothing are those of the history.
 use Rattle.std.proofs.Common.{◌≡◌, ℕ, zero, suc, ◌+◌, List, [], ◌∷◌, length, refl, ◌∙◌, ap, subst, arith}
 use Rattle.std.proofs.lemmas.List.{length-map}
 use Rattle.misp_lists.specs.Prelude.{IsStrictlySortedBy, in_order}
@@ -11,7 +11,7 @@ use Rattle.misp_net.specs.Prelude.{Act, AreAmong, AreDistinct, Host, KeeperState
 use Rattle.misp_net.specs.Meaning.{meanings_of}
 use Rattle.misp_net.specs.Run.{tables_after}
 use Rattle.misp_net.specs.History.{world_after, world_left, told_outputs, empty_tables, IsHistory, AreTold, AreHeld}
-use Rattle.misp_net.proofs.Commands.{output_told, line_left}
+use Rattle.misp_net.proofs.Commands.{output_told, act_left}
 
 empty_at : (place : ℕ) (hosts : List Host) → held_at place (empty_tables hosts) ≡ nothing_held
 empty_at zero [] = refl
@@ -41,7 +41,7 @@ module _ (back : AreReadBack) (hosts : List Host) (distinct : AreDistinct hosts)
       let after : Tables = tables_after outcome hosts act old in
       let next : World = world_after outcome n hosts w act in
       let rest = all_told (suc n) next acts outcomes after (omega (arith, each)) among.1
-      (line_left hosts distinct n w old history back outcome act among.0 fits.0) fits.1 in
+      (act_left hosts distinct n w old history back outcome act among.0 fits.0) fits.1 in
       let later : suc n + length acts ≡ n + suc (length acts) = omega arith in (
         ap (λ output. output ∷ outputs_of seen_in spelled (meanings_of hosts acts) outcomes after) (output_told hosts distinct n w old history outcome act among.0)
             ∙ ap (λ outputs. told_output outcome hosts w act ∷ outputs) rest.0,

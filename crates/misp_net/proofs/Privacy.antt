@@ -1,5 +1,6 @@
 -- What an organisation was never granted changes none of its replies.
 use Rattle.std.proofs.Common.{◌≡◌, ℕ, suc, Bool, true, List, [], ◌∷◌, length, map, Some, None, refl, sym, ◌∙◌, ap, inl, inr, arith, if◌then◌else◌}
+use Rattle.std.specs.List.{AllByRecursion}
 use Rattle.std.proofs.lemmas.Bool.{cases_Bool}
 use Rattle.misp_effects.specs.Effect.{stop_of}
 use Rattle.misp_rules.specs.Prelude.{IsClosed, Key}
@@ -8,21 +9,21 @@ use Rattle.misp_erasure.specs.Kept.{kept, erased}
 use Rattle.misp_erasure.proofs.Erasing.{step_cut}
 use Rattle.misp_erasure.proofs.Headline.{kept_is_closed, kept_has, cut_start}
 use Rattle.misp_store.proofs.GroupRows.{AreReadBack}
-use Rattle.misp_net.specs.Prelude.{Act, AreDistinct, HasRun, Host, KeeperState, OrgId, Outcome, Output, Stopped, Tell, Went, World, no_links, start, step, stop_in, told_output}
+use Rattle.misp_net.specs.Prelude.{Act, AreDistinct, HasRun, Host, KeeperState, Line, OrgId, Outcome, Output, Stopped, Tell, Went, World, acts_of, no_links, outputs_of, start, step, stop_in, told_output}
 use Rattle.misp_net.specs.History.{act_in, acts_in, told_outputs, empty_tables, AreTold, is_of}
-use Rattle.misp_net.specs.Promise.{ShowNoStop, outputs_over, replies_to, own_lines, AreReplied, AreNewest, IsPrivate}
+use Rattle.misp_net.specs.Promise.{ShowNoStop, outputs_over, replies_to, own_acts, AreReplied, AreNewest, IsPrivate}
 use Rattle.misp_net.proofs.Telling.{world_whole}
 use Rattle.misp_net.proofs.Histories.{are_told, are_held}
-use Rattle.misp_net.proofs.Commands.{line_law, idle_same}
+use Rattle.misp_net.proofs.Commands.{act_law, idle_same}
 use Rattle.misp_history.specs.Acts as model
 
 -- ---- over a set of keys that has all that the organisation knows
 
 module _ (keep : Key → Bool) (closed : IsClosed keep) (o : OrgId) (hosts : List Host) where
-  -- its own lines are told the same
-  own_line : (w : World) (act : Act) → is_of o hosts act ≡ true → HasKnown o keep w
+  -- its own acts are told the same
+  own_act : (w : World) (act : Act) → is_of o hosts act ≡ true → HasKnown o keep w
       → told_output Went hosts (cut_world keep w) act ≡ told_output Went hosts w act
-  own_line w act own has = (line_law hosts act).own keep closed o w own has
+  own_act w act own has = (act_law hosts act).own keep closed o w own has
 
   known_first : (n : ℕ) (w : World) (acts : List model.Act) → IsKept o keep no_links n w acts → HasKnown o keep w
   unfolding IsKept
@@ -43,7 +44,7 @@ module _ (keep : Key → Bool) (closed : IsClosed keep) (o : OrgId) (hosts : Lis
       (step_cut keep closed o no_links n w a has.0 (known_first (suc n) after (acts_in hosts acts) has.2) has.1)
       ∙ kept_replies (suc n) after acts has.2 in
       elim (cases_Bool (is_of o hosts act)) [
-        | inl own ↦ rw (own, own_line w act own has.0, rest) refl
+        | inl own ↦ rw (own, own_act w act own has.0, rest) refl
         | inr other ↦ rw other rest
       ]
 
@@ -58,17 +59,17 @@ private_replies o hosts acts =
 
 -- ---- scripts that are alike
 
--- over one history lines are told the same where its own lines are the same
-same_lines : (o : OrgId) (hosts : List Host) (n : ℕ) (w : World) (acts others : List Act) (history : List model.Act) → own_lines o hosts others ≡ own_lines o hosts acts
+-- over one history acts are told the same where its own acts are the same
+same_acts : (o : OrgId) (hosts : List Host) (n : ℕ) (w : World) (acts others : List Act) (history : List model.Act) → own_acts o hosts others ≡ own_acts o hosts acts
     → replies_to o hosts others (outputs_over n hosts w others history) ≡ replies_to o hosts acts (outputs_over n hosts w acts history)
-same_lines o hosts n w [] [] history same = refl
-same_lines o hosts n w [] (other ∷ others) history same = cc
-same_lines o hosts n w (act ∷ acts) [] history same = cc
-same_lines o hosts n w (act ∷ acts) (other ∷ others) [] same = refl
-same_lines o hosts n w (act ∷ acts) (other ∷ others) (a ∷ history) same =
-    let rest : own_lines o hosts others ≡ own_lines o hosts acts = cc in
+same_acts o hosts n w [] [] history same = refl
+same_acts o hosts n w [] (other ∷ others) history same = cc
+same_acts o hosts n w (act ∷ acts) [] history same = cc
+same_acts o hosts n w (act ∷ acts) (other ∷ others) [] same = refl
+same_acts o hosts n w (act ∷ acts) (other ∷ others) (a ∷ history) same =
+    let rest : own_acts o hosts others ≡ own_acts o hosts acts = cc in
     let first : (if is_of o hosts other then Some other else None) ≡ (if is_of o hosts act then Some act else None) = cc in
-    let more = same_lines o hosts (suc n) (step no_links n w a) acts others history rest in
+    let more = same_acts o hosts (suc n) (step no_links n w a) acts others history rest in
     elim (cases_Bool (is_of o hosts other)) [
       | inl its ↦ elim (cases_Bool (is_of o hosts act)) [
         | inl own ↦
@@ -84,7 +85,7 @@ same_lines o hosts n w (act ∷ acts) (other ∷ others) (a ∷ history) same =
 
 -- where nothing is stopped, the history is that of all acts
 told_unstopped : (n : ℕ) (hosts : List Host) (w : World) (acts : List Act) (outcomes : List Outcome) (outputs : List Output) → length outcomes ≡ length acts
-    → map stop_of outcomes ≡ map stop_in outputs → ShowNoStop outputs → told_outputs n hosts w acts outcomes ≡ outputs_over n hosts w acts (acts_in hosts acts)
+    → map stop_of outcomes ≡ map stop_in outputs → AllByRecursion (λ output. stop_in output ≡ None) outputs → told_outputs n hosts w acts outcomes ≡ outputs_over n hosts w acts (acts_in hosts acts)
 told_unstopped n hosts w [] outcomes outputs each agree none = refl
 told_unstopped n hosts w (act ∷ acts) [] outputs each agree none = absurd (omega (arith, each))
 told_unstopped n hosts w (act ∷ acts) (outcome ∷ outcomes) [] each agree none = absurd cc
@@ -95,22 +96,28 @@ told_unstopped n hosts w (act ∷ acts) (Went ∷ outcomes) (output ∷ outputs)
     ap (λ v. told_output Went hosts w act ∷ told_outputs (suc n) hosts v acts outcomes) (world_whole n w (act_in hosts act))
     ∙ ap (λ os. told_output Went hosts w act ∷ os) (told_unstopped (suc n) hosts (step no_links n w (act_in hosts act)) acts outcomes outputs (omega (arith, each)) rest none.1)
 
-module _ (back : AreReadBack) (hosts : List Host) (acts : List Act) (old new : List KeeperState) (text : List ℕ) (run : HasRun hosts acts old new text) where
-  told : AreDistinct hosts → Tell old (empty_tables hosts) → AreTold hosts acts run.outputs
-  told distinct empty = are_told back hosts distinct acts old new run.outputs run.among run.ran empty
+module _ (back : AreReadBack) (hosts : List Host) (lines : List Line) (old new : List KeeperState) (text : List ℕ) (run : HasRun hosts lines old new text) where
+  abbrev acts : List Act
+  acts = acts_of run.dones
+
+  abbrev outputs : List Output
+  outputs = outputs_of run.dones
+
+  told : AreDistinct hosts → Tell old (empty_tables hosts) → AreTold hosts acts outputs
+  told distinct empty = are_told back hosts distinct acts old new outputs run.among run.ran empty
 
   -- what was put out is what the history says of all acts
-  told_whole : AreDistinct hosts → Tell old (empty_tables hosts) → ShowNoStop run.outputs → run.outputs ≡ outputs_over 0 hosts start acts (acts_in hosts acts)
+  told_whole : AreDistinct hosts → Tell old (empty_tables hosts) → ShowNoStop run.dones → outputs ≡ outputs_over 0 hosts start acts (acts_in hosts acts)
   told_whole distinct empty none =
-      let by = told distinct empty in by.outputs_are ∙ told_unstopped 0 hosts start acts by.outcomes run.outputs by.each by.agree none
+      let by = told distinct empty in by.outputs_are ∙ told_unstopped 0 hosts start acts by.outcomes outputs by.each by.agree none.0
 
-  pub are_replied : AreReplied hosts acts old new text
+  pub are_replied : AreReplied hosts lines old new text
   are_replied = record { run = run; refused = λ outcome act tables idle. idle_same outcome hosts act tables idle; told = told }
 
-  pub are_newest : AreNewest hosts acts old new text
-  are_newest = record { run = run; held = λ distinct empty. are_held back hosts distinct acts old new run.outputs run.among run.ran empty }
+  pub are_newest : AreNewest hosts lines old new text
+  are_newest = record { run = run; held = λ distinct empty. are_held back hosts distinct acts old new outputs run.among run.ran empty }
 
-  pub is_private : IsPrivate hosts acts old new text
+  pub is_private : IsPrivate hosts lines old new text
   is_private = record {
     run = run;
     kept = λ distinct empty none o.
@@ -119,7 +126,7 @@ module _ (back : AreReadBack) (hosts : List Host) (acts : List Act) (old new : L
     alike = λ distinct empty none o others own same.
         sym (private_replies o hosts others)
         ∙ ap (λ history. replies_to o hosts others (outputs_over 0 hosts start others history)) same
-        ∙ same_lines o hosts 0 start acts others (erased o no_links (acts_in hosts acts)) own
+        ∙ same_acts o hosts 0 start acts others (erased o no_links (acts_in hosts acts)) own
         ∙ private_replies o hosts acts
         ∙ sym (ap (replies_to o hosts acts) (told_whole distinct empty none));
   }

@@ -3,22 +3,23 @@ use Rattle.std.proofs.Common.{◌≡◌, ℕ, zero, suc, ◌<◌, Bool, true, fa
 use Rattle.std.proofs.lemmas.List.{length-map, get_or-map, set-get_or}
 use Rattle.misp_ids.specs.Refusal.{rule_number}
 use Rattle.misp_outside.specs.Causes.{HasCause}
-use Rattle.misp_script.specs.Step.{StepData, RequestData}
+use Rattle.misp_http.specs.declared.request.Read.{Read}
 use Rattle.misp_effects.specs.declared.stop.Side.TheVariants.{Here, There}
 use Rattle.misp_effects.specs.Course.{IsAct}
 use Rattle.misp_effects.proofs.Acting.{shown_act}
 use Rattle.misp_core.specs.Effects.{refused_by, by_keeper, rule_told, Did}
-use Rattle.misp_api.specs.Answering.{form_of, replied, IsReplied}
+use Rattle.misp_api.specs.Answering.{replied, IsReplied}
 use Rattle.misp_api.specs.Administering.{IsDone}
 use Rattle.misp_api.specs.Refusing.{TurnsAway}
 use Rattle.misp_api.specs.Request.{Reading}
+use Rattle.misp_api.specs.Sending.{IsAnswered, read_form}
+use Rattle.misp_net.specs.Acts.{act, Administers, Asks}
 use Rattle.misp_net.specs.Prelude.{Effect, GroupData, Host, KeeperState, Output, Replied, Reply, Seen, Standing, Stop, Tell, group_form, grouped, host_at, host_of, hosts_of, meaning, nothing_held, seen_in, spelled, state_of, states_of}
 use Rattle.misp_net.specs.Prelude.{stop_in}
 use Rattle.misp_net.specs.Hosts.{nobody}
-use Rattle.misp_net.specs.Meaning.{request_in, asks, silent, turned_away, IsAsFormed}
+use Rattle.misp_net.specs.Meaning.{asks, silent, turned_away, IsAsFormed}
 use Rattle.misp_net.specs.Text.{output_text}
 use Rattle.misp_effects.specs.Effect as effects
-use Rattle.misp_script.specs.Step as commands
 use Rattle.misp_core.specs.Effects as core
 use Rattle.misp_net.specs.Running as lines
 
@@ -44,28 +45,21 @@ pub instance_act : (at : ℕ) (comes : Seen → Effect Reply) (old : List Standi
 instance_act at comes old new none reply lt did cause =
     shown_act seen_in spelled Replied stop_in (λ stop. refused_by (rule_told stop)) state_of at comes old new none reply lt did cause (never_there reply)
 
-abbrev pub step_at : ℕ → ℕ → RequestData → StepData
-step_at time word r = record { time = time; word = word; command = commands.Request r }
-
-abbrev pub group_step : ℕ → ℕ → GroupData → StepData
-group_step time word line = record { time = time; word = word; command = commands.Group line }
-
--- a request
-pub one_request : (time word : ℕ) (r : RequestData) (old : List Standing) (new none : Standing) (reply : Reply) → r.at < length old
-    → IfSome (get_or old r.at none).held (λ held. IsReplied (host_of (get_or old r.at none)) time (form_of (get_or old r.at none).admin (request_in word r)) held reply new.held)
-    → HasCause (get_or old r.at none).faults new.faults (core.stop_in reply ≡ by_keeper)
-    → lines.IsAct (hosts_of old) (Ok (step_at time word r)) (states_of old) (states_of (set old r.at new)) (Replied reply)
-one_request time word r old new none reply lt did cause =
-    let host : host_at r.at (hosts_of old) ≡ host_of (get_or old r.at none) = get_or-map host_of old r.at none nobody lt in
-    instance_act r.at (replied (host_at r.at (hosts_of old)) time (form_of (host_at r.at (hosts_of old)).admin (request_in word r))) old new none reply lt
-    (subst (λ (h : Host). IfSome (get_or old r.at none).held (λ held. IsReplied h time (form_of h.admin (request_in word r)) held reply new.held)) (sym host) did)
-    cause
+-- what was read
+pub one_read : (time word at : ℕ) (read : Read) (old : List Standing) (new none : Standing) (reply : Reply) → at < length old
+    → IsAnswered time word read (get_or old at none) new reply
+    → lines.IsAct (hosts_of old) (act time word (Asks at read)) (states_of old) (states_of (set old at new)) (Replied reply)
+one_read time word at read old new none reply lt answered =
+    let host : host_at at (hosts_of old) ≡ host_of (get_or old at none) = get_or-map host_of old at none nobody lt in
+    instance_act at (replied (host_at at (hosts_of old)) time (read_form (host_at at (hosts_of old)).admin word read)) old new none reply lt
+    (subst (λ (h : Host). IfSome (get_or old at none).held (λ held. IsReplied h time (read_form h.admin word read) held reply new.held)) (sym host) answered.replied)
+    answered.cause
 
 -- a line of a group
 pub one_group : (time word : ℕ) (line : GroupData) (old : List Standing) (new none : Standing) (reply : Reply) → line.at < length old
     → IfSome (get_or old line.at none).held (λ held. IsDone time line.org line.add (group_form line.body) held reply new.held)
     → HasCause (get_or old line.at none).faults new.faults (core.stop_in reply ≡ by_keeper)
-    → lines.IsAct (hosts_of old) (Ok (group_step time word line)) (states_of old) (states_of (set old line.at new)) (Replied reply)
+    → lines.IsAct (hosts_of old) (act time word (Administers line)) (states_of old) (states_of (set old line.at new)) (Replied reply)
 one_group time word line old new none reply lt did cause =
     instance_act line.at (λ here. grouped time line.org line.add (group_form line.body) here.groups) old new none reply lt did cause
 
@@ -74,13 +68,13 @@ pub turned_output : {A : Type 0} (form : Reading A) (old new : Standing) (reply 
 turned_output (Ok x) old new reply away = tt
 turned_output (Err refusal) old new reply away = elim away.just [ inl just ↦ inl (ap Replied just) | inr short ↦ inr (ap Replied short) ]
 
-pub request_formed : (time word : ℕ) (r : RequestData) (old : List Standing) (new none : Standing) (reply : Reply) → r.at < length old
-    → TurnsAway (form_of (get_or old r.at none).admin (request_in word r)) (get_or old r.at none) new reply
-    → IsAsFormed (meaning (hosts_of old) (Ok (step_at time word r))).formed (Replied reply)
-request_formed time word r old new none reply lt away =
-    let host : host_at r.at (hosts_of old) ≡ host_of (get_or old r.at none) = get_or-map host_of old r.at none nobody lt in
-    turned_output (form_of (host_at r.at (hosts_of old)).admin (request_in word r)) (get_or old r.at none) new reply
-    (subst (λ (h : Host). TurnsAway (form_of h.admin (request_in word r)) (get_or old r.at none) new reply) (sym host) away)
+pub read_formed : (time word at : ℕ) (read : Read) (old : List Standing) (new none : Standing) (reply : Reply) → at < length old
+    → IsAnswered time word read (get_or old at none) new reply
+    → IsAsFormed (meaning (hosts_of old) (act time word (Asks at read))).formed (Replied reply)
+read_formed time word at read old new none reply lt answered =
+    let host : host_at at (hosts_of old) ≡ host_of (get_or old at none) = get_or-map host_of old at none nobody lt in
+    turned_output (read_form (host_at at (hosts_of old)).admin word read) (get_or old at none) new reply
+    (subst (λ (h : Host). TurnsAway (read_form h.admin word read) (get_or old at none) new reply) (sym host) answered.formed)
 
 pub hosts_kept : (old : List Standing) (place : ℕ) (new none : Standing) → place < length old
     → new.name ≡ (get_or old place none).name → new.admin ≡ (get_or old place none).admin → hosts_of (set old place new) ≡ hosts_of old
@@ -90,7 +84,7 @@ hosts_kept (s ∷ old) (suc place) new none lt name admin = ap (λ hosts. host_o
 
 -- ---- no instance
 
--- a line that asks none puts out what it says, and leaves all as it was
+-- an act that asks none puts out what it says, and leaves all as it was
 pub silent_act : (output : Output) (old : List KeeperState) → stop_in output ≡ None → IsAct Seen Output seen_in spelled stop_in (silent output) old old output
 silent_act output old none = record {
   places = refl;

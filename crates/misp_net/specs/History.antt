@@ -1,4 +1,4 @@
--- The lines of a script as the acts of a network's history, and what that history says of them.
+-- What a script does as the acts of a network's history, and what that history says of them.
 use Rattle.std.specs.Prelude.{◌≡◌, ℕ, zero, suc, ◌<◌, Bool, true, false, ltb, List, [], ◌∷◌, map, length, Option, Some, None, Ok}
 use Rattle.misp_ids.specs.Same.{same_org}
 use Rattle.misp_outside.specs.Held.{nothing_held}
@@ -11,12 +11,12 @@ use Rattle.misp_erasure.specs.Kept.{start}
 use Rattle.misp_core.specs.Prelude.{Host, KeeperState, Keeps, OrgId, Outcome, Seen, Tell, Went, World, list_all, same_inst, tables}
 use Rattle.misp_net.specs.declared.line.Output.{Output}
 use Rattle.misp_net.specs.Hosts.{host_at}
-use Rattle.misp_net.specs.Lines.{Act}
+use Rattle.misp_net.specs.Acts.{Act}
 use Rattle.misp_net.specs.Meaning.{meaning, stop_in}
 use Rattle.misp_history.specs.Acts as model
 use Rattle.misp_history.specs.Outcomes as parts
 
--- ---- lines as acts
+-- ---- acts of the history
 
 abbrev pub act_in : List Host → Act → model.Act
 act_in hosts act = (meaning hosts act).act
@@ -35,18 +35,18 @@ applied Went = Whole
 applied (Stopped stop zero lost) = parts.Stopped false 0
 applied (Stopped stop (suc n) lost) = parts.Stopped true n
 
--- the state after the n-th line
+-- the state after the n-th act
 abbrev pub world_after : Outcome → ℕ → List Host → World → Act → World
 world_after outcome n hosts w act = step_partly no_links n w (act_in hosts act) (applied outcome)
 
--- the state after these lines, the first being the n-th
+-- the state after these acts, the first being the n-th
 abbrev pub world_left : ℕ → List Host → World → List Act → List Outcome → World
 world_left n hosts w [] outcomes = w
 world_left n hosts w (act ∷ acts) [] = w
 world_left n hosts w (act ∷ acts) (outcome ∷ outcomes) =
     world_left (suc n) hosts (world_after outcome n hosts w act) acts outcomes
 
--- ---- what the history says of a line: the same meaning, of what the history shows
+-- ---- what the history says of an act: the same meaning, of what the history shows
 
 -- at an instance it shows its groups, and all its rows
 abbrev pub seen_by : List Host → World → ℕ → Seen
@@ -55,7 +55,7 @@ seen_by hosts w place = record {
   rows = λ reach. Ok (tables w.log (host_at place hosts).name);
 }
 
--- what a line puts out
+-- what an act puts out
 abbrev pub told_output : Outcome → List Host → World → Act → Output
 told_output outcome hosts w act =
     (effect_of outcome (meaning hosts act).means (seen_by hosts w)).reply
@@ -95,7 +95,7 @@ pub record AreTold (hosts : List Host) (acts : List Act) (outputs : List Output)
   pub outputs_are : outputs ≡ told_outputs 0 hosts start acts outcomes
 
 -- The outputs are those of the history, and under the same outcomes each keeper holds the tables
--- and the groups of its instance after these lines, and nothing else.
+-- and the groups of its instance after these acts, and nothing else.
 pub record AreHeld (hosts : List Host) (acts : List Act)
     (outputs : List Output) (new : List KeeperState) : Type 0 where
   pub told : AreTold hosts acts outputs
@@ -103,12 +103,12 @@ pub record AreHeld (hosts : List Host) (acts : List Act)
   pub tables_are : Tell new tables
   pub history : IsHistory hosts (length acts) (world_left 0 hosts start acts told.outcomes) tables
 
--- ---- whose a line is
+-- ---- whose an act is
 
 abbrev pub is_asker : OrgId → Option OrgId → Bool
 is_asker o None = false
 is_asker o (Some org) = same_org org o
 
--- the line is a request with a key of the organisation
+-- the act is a request with a key of the organisation
 abbrev pub is_of : OrgId → List Host → Act → Bool
 is_of o hosts act = is_asker o (meaning hosts act).asker

@@ -1,3 +1,4 @@
+pub mod Acts
 pub mod History
 pub mod Hosts
 pub mod Lines

@@ -14,10 +14,11 @@ unfoldable pub use Rattle.misp_api.specs.Administering.{group_form}
 pub use Rattle.misp_api.specs.Prelude.{Effect, Host, OrgId, Reply, Standing, Stop, grouped, seen_in}
 pub use Rattle.misp_net.specs.History.{AreDistinct, no_links, told_output}
 pub use Rattle.misp_net.specs.Hosts.{described_host, described_hosts, host_at}
-pub use Rattle.misp_net.specs.Lines.{Act, AreAmong, IsAmong, acts_of}
+pub use Rattle.misp_net.specs.Acts.{Act, AreAmong, AreDone, Done, acts_of, outputs_of}
+pub use Rattle.misp_net.specs.Lines.{Line, lines_of}
 pub use Rattle.misp_net.specs.Meaning.{meaning, stop_in}
 pub use Rattle.misp_net.specs.Promise.{IsCut}
-pub use Rattle.misp_net.specs.Run.{HasRun, Ran}
+pub use Rattle.misp_net.specs.Run.{HasRun, IsDone, Ran}
 pub use Rattle.misp_net.specs.Running.{hosts_of, state_of, states_of}
 pub use Rattle.misp_net.specs.declared.line.Output.{Output}
-pub use Rattle.misp_net.specs.declared.line.Output.TheVariants.{Bad, Nothing, Replied}
+pub use Rattle.misp_net.specs.declared.line.Output.TheVariants.{Bad, Nothing, Replied, Unanswered}

@@ -1,16 +1,17 @@
--- The run of a script, given what stopped each of its lines: what is put out, and what is held in
--- the end. The words of misp_effects, of the meanings of the lines.
+-- The run of a script, given what stopped each of its acts: what is put out, and what is held in
+-- the end. The words of misp_effects, of the meanings of the acts.
 use Rattle.std.specs.Prelude.{◌≡◌, ℕ, List, length}
 use Rattle.misp_effects.specs.KeeperStates.{Tables}
 use Rattle.misp_core.specs.Prelude.{Host, KeeperState, Outcome, Seen, seen_in, spelled}
 use Rattle.misp_net.specs.declared.line.Output.{Output}
-use Rattle.misp_net.specs.Lines.{Act, AreAmong}
+use Rattle.misp_net.specs.Acts.{Act, AreAmong, AreDone, Done, acts_done, acts_of, outputs_done, outputs_of}
+use Rattle.misp_net.specs.Lines.{Line}
 use Rattle.misp_net.specs.Meaning.{meaning, meanings_of, stop_in, AreAsFormed}
 use Rattle.misp_net.specs.Text.{text_from}
 use Rattle.misp_effects.specs.Run as runs
 use Rattle.misp_effects.specs.Course as courses
 
--- what a line puts out
+-- what an act puts out
 abbrev pub output_of : Outcome → List Host → Act → Tables → Output
 output_of outcome hosts act tables =
     runs.output_of seen_in outcome (meaning hosts act).means tables
@@ -20,20 +21,27 @@ abbrev pub tables_after : Outcome → List Host → Act → Tables → Tables
 tables_after outcome hosts act tables =
     runs.tables_after seen_in spelled outcome (meaning hosts act).means tables
 
--- The lines took the keepers from old to new, and put this out, one output for each. They name the
+-- The acts took the keepers from old to new, and put this out, one output for each. They name the
 -- fault of a keeper no more often than this keeper's count rose; and where all keepers tell what
--- they hold, output and holdings are those of the lines, each under an outcome that its output
+-- they hold, output and holdings are those of the acts, each under an outcome that its output
 -- tells.
 abbrev pub Ran : List Host → List Act → List KeeperState → List KeeperState → List Output → Type 0
 Ran hosts acts old new outputs =
     courses.HasRun Seen Output seen_in spelled stop_in (meanings_of hosts acts) old new outputs
 
--- The lines ran so, each over one of the instances, and wrote this text: one line for each output.
--- Over every keeper a line whose form says what it puts out puts that out.
-pub record HasRun (hosts : List Host) (acts : List Act)
+-- It was done so, each act over one of the instances. Over every keeper an act whose form says what
+-- it puts out puts that out.
+pub record IsDone (hosts : List Host) (d : Done) (old new : List KeeperState) : Type 0 where
+  pub ran : Ran hosts (acts_done d) old new (outputs_done d)
+  pub formed : AreAsFormed hosts (acts_done d) (outputs_done d)
+  pub among : AreAmong (length hosts) (acts_done d)
+
+-- The lines ran so, each over one of the instances, and wrote this text.
+pub record HasRun (hosts : List Host) (lines : List Line)
     (old new : List KeeperState) (text : List ℕ) : Type 0 where
-  pub outputs : List Output
-  pub text_is : text ≡ text_from 1 outputs
-  pub ran : Ran hosts acts old new outputs
-  pub formed : AreAsFormed hosts acts outputs
-  pub among : AreAmong (length hosts) acts
+  pub dones : List Done
+  pub done : AreDone lines dones
+  pub text_is : text ≡ text_from 1 dones
+  pub ran : Ran hosts (acts_of dones) old new (outputs_of dones)
+  pub formed : AreAsFormed hosts (acts_of dones) (outputs_of dones)
+  pub among : AreAmong (length hosts) (acts_of dones)

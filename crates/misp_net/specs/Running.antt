@@ -1,12 +1,34 @@
--- The instances of a run, as its code has them, and one line that runs over them.
-use Rattle.std.specs.Prelude.{List, map}
+-- The instances of a run, as its code has them, and one act or line that runs over them.
+use Rattle.std.specs.Prelude.{◌≡◌, ◌≢◌, ◌⊎◌, ℕ, ◌∷◌, ◌++◌, false, List, [], map, Option, Some, Result, Ok, Err, IfSome}
+use Rattle.hex.specs.Hex.{encode_lower}
 use Rattle.misp_outside.specs.KeeperState.{state}
+use Rattle.misp_outside.specs.Causes.{HasCause}
+use Rattle.misp_script.specs.Step.{GroupData, RawData, RequestData}
+use Rattle.misp_http.specs.Reading.{IsConclusive, IsRead}
+use Rattle.misp_http.specs.Texts.{request_text}
+use Rattle.misp_http.specs.declared.request.Read.{Read}
+use Rattle.misp_http.specs.declared.request.ReadEnd.{ReadEnd}
 use Rattle.misp_store.specs.declared.fault.LoadFault.{LoadFault}
 use Rattle.misp_core.specs.Prelude.{Host, KeeperState, Seen, Standing, host_of, seen_in, spelled}
-use Rattle.misp_net.specs.declared.line.Output.{Output}
-use Rattle.misp_net.specs.Lines.{Act}
+use Rattle.misp_core.specs.Effects.{by_keeper}
+use Rattle.misp_core.specs.declared.reply.Reply.{Reply}
+use Rattle.misp_api.specs.Sending.{IsAnswered}
+use Rattle.misp_api.specs.Administering.{group_form}
+use Rattle.misp_api.specs.Refusing.{TurnsAway}
+use Rattle.misp_api.specs.Session.{Session, end_name, end_of}
+use Rattle.misp_api.specs.declared.sessions.End.{End}
+use Rattle.misp_api.specs.declared.sessions.SessionEnd.{SessionEnd}
+use Rattle.misp_effects.specs.KeeperStates.{AreKept}
+use Rattle.misp_net.specs.Acts.{Act, Does, Done}
+use Rattle.misp_net.specs.Lines.{Line}
 use Rattle.misp_net.specs.Meaning.{meaning, stop_in}
+use Rattle.misp_net.specs.Run.{IsDone}
+use Rattle.misp_net.specs.Text.{done_text}
+use Rattle.misp_net.specs.declared.line.Output.{Output}
+use Rattle.misp_net.specs.declared.line.Output.TheVariants.{Replied, Unanswered}
 use Rattle.misp_net.specs.declared.places.NetFault.{NetFault}
+use Rattle.misp_core.specs.Effects as replies
+use Rattle.misp_api.specs.Administering as groups
 use Rattle.misp_effects.specs.Course as courses
 
 abbrev pub hosts_of : List Standing → List Host
@@ -18,10 +40,58 @@ state_of i = state i.held i.faults
 abbrev pub states_of : List Standing → List KeeperState
 states_of instances = map state_of instances
 
--- A line took the keepers from old to new, and put this out.
+-- An act took the keepers from old to new, and put this out.
 abbrev pub IsAct : List Host → Act → List KeeperState → List KeeperState → Output → Type 0
 IsAct hosts act old new output =
     courses.IsAct Seen Output seen_in spelled stop_in (meaning hosts act).means old new output
+
+-- ---- requests
+
+-- what was read was answered so, or there was nothing to answer
+abbrev pub IsAsked : ℕ → ℕ → Result Read ReadEnd → Standing → Standing → Output → Type 0
+IsAsked now word (Ok read) old new output =
+    (reply : Reply) × (output ≡ Replied reply) × IsAnswered now word read old new reply
+IsAsked now word (Err end) old new output = (output ≡ Unanswered (end_of end)) × (new ≡ old)
+
+-- a request of a line was read from its bytes, and came to this
+abbrev pub IsRequested : ℕ → ℕ → RequestData → Standing → Standing → Output → Type 0
+IsRequested now word r old new output =
+    (read : Result Read ReadEnd) × (left : Option (List ℕ)) × IsConclusive read
+    × IsRead (request_text r.method r.target r.key r.body false) read left
+    × IsAsked now word read old new output
+
+-- the group of a line was administered so
+abbrev pub IsAdministered : ℕ → GroupData → Standing → Standing → Output → Type 0
+IsAdministered now line old new output =
+    (reply : Reply) × (output ≡ Replied reply)
+    × IfSome old.held
+    (λ held. groups.IsDone now line.org line.add (group_form line.body) held reply new.held)
+    × TurnsAway (group_form line.body) old new reply
+    × HasCause old.faults new.faults (replies.stop_in reply ≡ by_keeper)
+
+-- ---- sessions
+
+-- the session of a line went so, over ends that never fail, and this was written of it
+abbrev pub HasSession : ℕ → ℕ → RawData → Standing → Standing → (List ℕ → Type 0) → Type 0
+HasSession now word r old new Wrote =
+    (end : SessionEnd) × (left : Option (List ℕ)) × (next : Option ℕ) × (written : List ℕ)
+    × Session now (record { bytes = r.bytes; instance = old; word = word; written = [] })
+    end left new next (Some written)
+    × (end.end ≢ End.ReadFault) × (end.end ≢ End.WriteFault)
+    × Wrote (end_name end.end ++ 32 ∷ encode_lower written)
+
+-- ---- lines
+
+-- a line was run over the instances, and wrote this behind what was there
+abbrev pub RanLine : List Host → Line → List KeeperState → List KeeperState
+    → List ℕ → List ℕ → Type 0
+RanLine hosts line old new before after =
+    (d : Done) × Does line d × IsDone hosts d old new × (after ≡ before ++ done_text d)
+
+-- memory ran out: it did nothing, or all that it does, and is not written
+abbrev pub CutLine : List Host → Line → List KeeperState → List KeeperState → Type 0
+CutLine hosts line old new =
+    AreKept old new ⊎ ((d : Done) × Does line d × IsDone hosts d old new)
 
 -- why the instances do not open, by why one of them does not
 abbrev pub fault_of : LoadFault → NetFault

@@ -1,20 +1,43 @@
 -- What is written for the lines of a script.
-use Rattle.std.specs.Prelude.{ℕ, ◌+◌, List, [], ◌∷◌, ◌++◌, codes, decimal}
+use Rattle.std.specs.Prelude.{ℕ, suc, ◌+◌, ◌||◌, List, [], ◌∷◌, ◌++◌, codes, decimal}
+use Rattle.hex.specs.Hex.{encode_lower}
+use Rattle.misp_http.specs.declared.request.Read.{Read}
+use Rattle.misp_core.specs.declared.reply.Reply.{Reply}
+use Rattle.misp_api.specs.Sending.{http_text}
+use Rattle.misp_api.specs.Session.{end_name, is_last}
 use Rattle.misp_api.specs.Text.{reply_text}
+use Rattle.misp_api.specs.Turn.{closes}
+use Rattle.misp_net.specs.Acts.{Done, One, Session}
 use Rattle.misp_net.specs.declared.line.Output.{Output}
-use Rattle.misp_net.specs.declared.line.Output.TheVariants.{Bad, Nothing, Replied}
+use Rattle.misp_net.specs.declared.line.Output.TheVariants.{Bad, Nothing, Replied, Unanswered}
 
--- `bad` and the place of the first faulty field, `-` where nothing was asked, or the reply
+-- `bad` and the place of the first faulty field, `-` where nothing was asked, the reply, or how the
+-- session ended where there was none
 abbrev pub output_text : Output → List ℕ
 output_text (Bad place) = codes "bad " ++ decimal place
 output_text Nothing = codes "-"
 output_text (Replied reply) = reply_text reply
+output_text (Unanswered end) = end_name end
 
--- a line: its number, a space, the output and LF
-abbrev pub line_of : ℕ → Output → List ℕ
-line_of number output = decimal number ++ 32 ∷ output_text output ++ 10 ∷ []
+-- the bytes of replies to these requests, after so many
+abbrev pub replies_text : ℕ → List Read → List Reply → List ℕ
+replies_text n [] replies = []
+replies_text n (read ∷ reads) [] = []
+replies_text n (read ∷ reads) (reply ∷ replies) =
+    http_text reply (closes read || is_last n) ++ replies_text (suc n) reads replies
+
+-- what a line puts out: of a session how it ended, a space, and the bytes of its replies in
+-- hexadecimal digits
+abbrev pub done_text : Done → List ℕ
+done_text (One a output) = output_text output
+done_text (Session time word at reads replies end) =
+    end_name end ++ 32 ∷ encode_lower (replies_text 0 reads replies)
+
+-- a line: its number, a space, what it puts out and LF
+abbrev pub line_of : ℕ → Done → List ℕ
+line_of number d = decimal number ++ 32 ∷ done_text d ++ 10 ∷ []
 
 -- the lines, numbered from there
-abbrev pub text_from : ℕ → List Output → List ℕ
+abbrev pub text_from : ℕ → List Done → List ℕ
 text_from number [] = []
-text_from number (output ∷ outputs) = line_of number output ++ text_from (number + 1) outputs
+text_from number (d ∷ dones) = line_of number d ++ text_from (number + 1) dones

@@ -4,6 +4,8 @@
 mod line;
 mod net;
 mod places;
+mod requesting;
+mod sessions;
 
 pub use line::Output;
 pub use net::run_net;

@@ -1,9 +1,11 @@
 //! Writes what the lines of a script come to.
 
 ghost use Rattle.std.specs.Prelude.{◌≡◌, ◌<◌, [], ◌∷◌, ◌++◌, IfOk, OnOk, codes, decimal, string_bytes, vec_len, vec_capacity};
+ghost use Rattle.hex.specs.Hex.{encode_lower};
+ghost use Rattle.misp_api.specs.Session.{end_name};
 ghost use Rattle.misp_net.specs.Text.{output_text};
 
-use misp_api::{put_number, put_text};
+use misp_api::{End, put_number, put_text};
 use misp_core::Reply;
 use misp_ids::NoMemory;
 use std::alloc::Global;
@@ -16,11 +18,12 @@ pub enum Output {
     /// Nothing was asked.
     Nothing,
     Replied(Reply),
+    /// The bytes of a request ended within it.
+    Unanswered(End),
 }
 
 /// Writes that a line is none, with room for one byte after it.
-pub(crate) fn put_bad(lines: &mut Vec<u8>, alloc: Global, place: usize) -> Result<Output, NoMemory>
-    ensures output { IfOk result (λ output. output ≡ Output.Bad place) }
+pub(crate) fn put_bad(lines: &mut Vec<u8>, alloc: Global, place: usize) -> Result<(), NoMemory>
     ensures text { OnOk result
         (lines.new.items ≡ lines.old.items ++ output_text (Output.Bad place)) }
     ensures room { OnOk result (vec_len lines.new < vec_capacity lines.new) }
@@ -28,18 +31,48 @@ pub(crate) fn put_bad(lines: &mut Vec<u8>, alloc: Global, place: usize) -> Resul
     put_text(lines, "bad ")?;
     put_number(lines, alloc, place)?;
     lines.reserve(1)?;
-    Ok(Output::Bad(place))
+    Ok(())
 }
 
 /// Writes that nothing was asked, with room for one byte after it.
-pub(crate) fn put_nothing(lines: &mut Vec<u8>) -> Result<Output, NoMemory>
-    ensures output { IfOk result (λ output. output ≡ Output.Nothing) }
+pub(crate) fn put_nothing(lines: &mut Vec<u8>) -> Result<(), NoMemory>
     ensures text { OnOk result (lines.new.items ≡ lines.old.items ++ output_text Output.Nothing) }
     ensures room { OnOk result (vec_len lines.new < vec_capacity lines.new) }
 {
     put_text(lines, "-")?;
     lines.reserve(1)?;
-    Ok(Output::Nothing)
+    Ok(())
+}
+
+/// Writes how a session ended that had no reply, with room for one byte after it.
+pub(crate) fn put_unanswered(lines: &mut Vec<u8>, end: End) -> Result<Output, NoMemory>
+    ensures output { IfOk result (λ output. output ≡ Output.Unanswered end) }
+    ensures text { OnOk result
+        (lines.new.items ≡ lines.old.items ++ output_text (Output.Unanswered end)) }
+    ensures room { OnOk result (vec_len lines.new < vec_capacity lines.new) }
+{
+    put_text(lines, end.name())?;
+    lines.reserve(1)?;
+    Ok(Output::Unanswered(end))
+}
+
+/// Writes how a session ended, and the bytes of its replies in hexadecimal digits, with room for
+/// one byte after them.
+pub(crate) fn put_session(
+    lines: &mut Vec<u8>,
+    alloc: Global,
+    end: End,
+    bytes: &[u8],
+) -> Result<(), NoMemory>
+    ensures text { OnOk result
+        (lines.new.items ≡ lines.old.items ++ end_name end ++ 32 ∷ encode_lower bytes.now) }
+    ensures room { OnOk result (vec_len lines.new < vec_capacity lines.new) }
+{
+    put_text(lines, end.name())?;
+    put_text(lines, " ")?;
+    put_text(lines, hex::encode(alloc, bytes)?.as_str())?;
+    lines.reserve(1)?;
+    Ok(())
 }
 
 /// Writes the number of a line, and a space.

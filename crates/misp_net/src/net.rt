@@ -4,42 +4,28 @@ ghost use Rattle.std.specs.Prelude.{◌≡◌, ◌<◌, ◌≤◌, ◌++◌, tru
 ghost use Rattle.misp_script.specs.Directory.{directory_of};
 ghost use Rattle.misp_script.specs.Step.{IsPlaced, command_data, step_data, step_of};
 ghost use Rattle.misp_script.specs.Step as commands;
-ghost use Rattle.misp_api.specs.Request as requests;
-ghost use Rattle.misp_net.specs.Meaning.{meaning, request_in, IsAsFormed};
 ghost use Rattle.misp_effects.specs.KeeperStates.{told, AreKept, OneFailed};
 ghost use Rattle.misp_net.specs.Hosts.{described_hosts};
-ghost use Rattle.misp_net.specs.Running.{hosts_of, states_of, IsAct};
-ghost use Rattle.misp_net.specs.Lines.{acts_of, IsAmong};
+ghost use Rattle.misp_net.specs.Acts.{Does, Done};
+ghost use Rattle.misp_net.specs.Running.{hosts_of, states_of, CutLine, IsAdministered, RanLine};
+ghost use Rattle.misp_net.specs.Lines.{lines_of};
 ghost use Rattle.misp_store.specs.Sharing.{may_be_sound, may_be_unsound};
 ghost use Rattle.misp_net.specs.Opening.{IsUnopened};
-ghost use Rattle.misp_net.specs.Run.{HasRun};
+ghost use Rattle.misp_net.specs.Run.{HasRun, IsDone};
 ghost use Rattle.misp_net.specs.Text.{output_text, line_of};
 ghost use Rattle.misp_net.specs.Promise.{IsPrivate, AreReplied, AreNewest, IsCut};
 
 use crate::line::{Output, put_bad, put_front, put_nothing};
 use crate::places::{NetFault, close_all, open_all};
-use misp_api::{GroupRequest, Request, Routes, administer, answer};
+use crate::requesting::put_request;
+use crate::sessions::put_raw;
+use misp_api::{GroupRequest, Routes, administer};
 use misp_core::Instance;
 use misp_format::a_group_is_read_from_its_text;
-use misp_ids::NoMemory;
+use misp_ids::{NoMemory, Stamp};
 use misp_outside::Keeper;
-use misp_script::{
-    Command, Description, Directory, GroupLine, RequestLine, Step, read_line, split_line,
-};
+use misp_script::{Command, Description, Directory, GroupLine, Step, read_line, split_line};
 use std::alloc::Global;
-
-// The request of a line, with the word of its step.
-fn request_in<'a>(word: u128, line: &RequestLine<'a>) -> Request<'a>
-    ensures { requests.request_data result ≡ request_in word (commands.request_data line.now) }
-{
-    Request {
-        key: line.key,
-        method: line.method,
-        target: line.target,
-        body: line.body,
-        word,
-    }
-}
 
 // The adding or editing of a group by a line.
 fn group_in<'a>(line: &GroupLine<'a>) -> GroupRequest<'a>
@@ -54,46 +40,70 @@ fn group_in<'a>(line: &GroupLine<'a>) -> GroupRequest<'a>
     }
 }
 
-// Runs one step, and writes its output, with room for one byte after it. The text is written
-// before anything is put.
+// Administers the group of a line, and writes the reply, with room for one byte after it.
+fn put_group<K: Keeper>(
+    lines: &mut Vec<u8>,
+    alloc: Global,
+    instance: &mut Instance<K>,
+    now: Stamp,
+    line: &GroupLine<'_>,
+) -> Result<Output, NoMemory>
+    ensures text { IfOk result (λ output.
+        lines.new.items ≡ lines.old.items ++ output_text output) }
+    ensures room { OnOk result (vec_len lines.new < vec_capacity lines.new) }
+    ensures administered { IfOk result
+        (IsAdministered now (commands.group_data line.now) instance.old instance.new) }
+    ensures kept { OnErr result (instance.new.held ≡ instance.old.held) }
+    ensures later { instance.old.faults ≤ instance.new.faults }
+    ensures name { instance.new.name ≡ instance.old.name }
+    ensures admin { instance.new.admin ≡ instance.old.admin }
+{
+    let group = group_in(line);
+    let reply = administer(lines, alloc, instance, now, &group)?;
+    Ok(Output::Replied(reply))
+}
+
+// Runs one step, and writes what it puts out, with room for one byte after it.
 fn run_step<K: Keeper>(
     lines: &mut Vec<u8>,
     alloc: Global,
     routes: &Routes,
     instances: &mut Vec<Instance<K>>,
     step: &Step<'_>,
-) -> Result<Output, NoMemory>
+) -> Result<(), NoMemory>
     requires { IsPlaced (vec_len instances.old) (command_data step.now.command) }
-    ensures text { IfOk result (λ output.
-        lines.new.items ≡ lines.old.items ++ output_text output) }
+    ensures ran { OnOk result
+        (RanLine (hosts_of instances.old.items) (Ok (step_data step.now))
+        (states_of instances.old.items) (states_of instances.new.items)
+        lines.old.items lines.new.items) }
     ensures room { OnOk result (vec_len lines.new < vec_capacity lines.new) }
-    ensures act { IfOk result (λ output.
-        IsAct (hosts_of instances.old.items) (Ok (step_data step.now))
-        (states_of instances.old.items) (states_of instances.new.items) output) }
-    ensures formed { IfOk result (λ output. IsAsFormed
-        (meaning (hosts_of instances.old.items) (Ok (step_data step.now))).formed output) }
-    ensures kept { OnErr result
-        (AreKept (states_of instances.old.items) (states_of instances.new.items)) }
+    ensures cut { OnErr result
+        (CutLine (hosts_of instances.old.items) (Ok (step_data step.now))
+        (states_of instances.old.items) (states_of instances.new.items)) }
     ensures hosts { hosts_of instances.new.items ≡ hosts_of instances.old.items }
 {
     match step.command {
         Command::Nothing => put_nothing(lines),
         Command::Request(request) => {
             let instance = &mut instances[request.at];
-            let request = request_in(step.word, &request);
-            let reply = answer(lines, alloc, routes, instance, step.time, &request)?;
-            Ok(Output::Replied(reply))
+            put_request(
+                lines, alloc, routes, instance, step.time, step.word, &request,
+            )?;
+            Ok(())
+        }
+        Command::Raw(raw) => {
+            let instance = &mut instances[raw.at];
+            put_raw(lines, alloc, routes, instance, step.time, step.word, &raw)
         }
         Command::Group(group) => {
             let instance = &mut instances[group.at];
-            let group = group_in(&group);
-            let reply = administer(lines, alloc, instance, step.time, &group)?;
-            Ok(Output::Replied(reply))
+            put_group(lines, alloc, instance, step.time, &group)?;
+            Ok(())
         }
     }
 }
 
-// Runs one line, and writes its output, as `run_step` does.
+// Runs one line, as `run_step` does a step.
 fn run_line<K: Keeper>(
     lines: &mut Vec<u8>,
     alloc: Global,
@@ -101,19 +111,16 @@ fn run_line<K: Keeper>(
     directory: &Directory,
     instances: &mut Vec<Instance<K>>,
     line: &[u8],
-) -> Result<Output, NoMemory>
+) -> Result<(), NoMemory>
     requires { length directory.now ≡ vec_len instances.old }
-    ensures text { IfOk result (λ output.
-        lines.new.items ≡ lines.old.items ++ output_text output) }
+    ensures ran { OnOk result
+        (RanLine (hosts_of instances.old.items) (step_of directory.now line.now)
+        (states_of instances.old.items) (states_of instances.new.items)
+        lines.old.items lines.new.items) }
     ensures room { OnOk result (vec_len lines.new < vec_capacity lines.new) }
-    ensures act { IfOk result (λ output.
-        IsAct (hosts_of instances.old.items) (step_of directory.now line.now)
-        (states_of instances.old.items) (states_of instances.new.items) output) }
-    ensures formed { IfOk result (λ output. IsAsFormed
-        (meaning (hosts_of instances.old.items) (step_of directory.now line.now)).formed output) }
-    ensures kept { OnErr result
-        (AreKept (states_of instances.old.items) (states_of instances.new.items)) }
-    ensures among { IsAmong (length directory.now) (step_of directory.now line.now) }
+    ensures cut { OnErr result
+        (CutLine (hosts_of instances.old.items) (step_of directory.now line.now)
+        (states_of instances.old.items) (states_of instances.new.items)) }
     ensures hosts { hosts_of instances.new.items ≡ hosts_of instances.old.items }
 {
     match read_line(line, directory) {
@@ -122,8 +129,7 @@ fn run_line<K: Keeper>(
     }
 }
 
-// Runs one line, and writes the line of this number. Where memory runs out, no keeper holds
-// anything else than before.
+// Runs one line, and writes the line of this number.
 fn put_line<K: Keeper>(
     lines: &mut Vec<u8>,
     alloc: Global,
@@ -132,25 +138,21 @@ fn put_line<K: Keeper>(
     instances: &mut Vec<Instance<K>>,
     number: usize,
     line: &[u8],
-) -> Result<Output, NoMemory>
+) -> Result<(), NoMemory>
     requires { length directory.now ≡ vec_len instances.old }
-    ensures text { IfOk result (λ output.
-        lines.new.items ≡ lines.old.items ++ line_of number output) }
-    ensures act { IfOk result (λ output.
-        IsAct (hosts_of instances.old.items) (step_of directory.now line.now)
-        (states_of instances.old.items) (states_of instances.new.items) output) }
-    ensures formed { IfOk result (λ output. IsAsFormed
-        (meaning (hosts_of instances.old.items) (step_of directory.now line.now)).formed output) }
-    ensures among { OnOk result (IsAmong (length (hosts_of instances.old.items))
-        (step_of directory.now line.now)) }
-    ensures kept { OnErr result
-        (AreKept (states_of instances.old.items) (states_of instances.new.items)) }
+    ensures ran { OnOk result ((d : Done) × Does (step_of directory.now line.now) d
+        × IsDone (hosts_of instances.old.items) d (states_of instances.old.items)
+        (states_of instances.new.items)
+        × (lines.new.items ≡ lines.old.items ++ line_of number d)) }
+    ensures cut { OnErr result
+        (CutLine (hosts_of instances.old.items) (step_of directory.now line.now)
+        (states_of instances.old.items) (states_of instances.new.items)) }
     ensures hosts { hosts_of instances.new.items ≡ hosts_of instances.old.items }
 {
     put_front(lines, alloc, number)?;
-    let output = run_line(lines, alloc, routes, directory, instances, line)?;
+    run_line(lines, alloc, routes, directory, instances, line)?;
     lines.push(b'\n').unwrap();
-    Ok(output)
+    Ok(())
 }
 
 // Runs a script, one line after another.
@@ -164,10 +166,10 @@ fn run_lines<K: Keeper>(
     requires { length directory.now ≡ vec_len instances.old }
     ensures places { vec_len instances.new ≡ vec_len instances.old }
     ensures ran { IfOk result (λ lines.
-        HasRun (hosts_of instances.old.items) (acts_of directory.now script.now)
+        HasRun (hosts_of instances.old.items) (lines_of directory.now script.now)
         (states_of instances.old.items) (states_of instances.new.items) lines.items) }
     ensures cut { OnErr result
-        (IsCut (hosts_of instances.old.items) (acts_of directory.now script.now)
+        (IsCut (hosts_of instances.old.items) (lines_of directory.now script.now)
         (states_of instances.old.items) (states_of instances.new.items)) }
 {
     let mut lines = Vec::new(alloc);
@@ -175,10 +177,9 @@ fn run_lines<K: Keeper>(
     let mut rest = script;
     while !rest.is_empty() {
         let (line, after) = split_line(rest);
-        let output = put_line(
+        put_line(
             &mut lines, alloc, routes, directory, instances, number, line,
         )?;
-        drop(output);
         rest = after;
         number += 1;
     }
@@ -197,19 +198,19 @@ pub fn run_net<K: Keeper>(
 
     // What an organisation was never granted changes none of its replies.
     ensures private { IfOk result (λ lines.
-        IsPrivate (described_hosts net) (acts_of (directory_of net) script.now)
+        IsPrivate (described_hosts net) (lines_of (directory_of net) script.now)
         (take (length net.instances) (map K.state keepers.old.items))
         (take (length net.instances) (map K.state keepers.new.items)) lines.items) }
 
     // Each reply is the stated function of its line, of what is held, and of what stopped the line.
     ensures replied { IfOk result (λ lines.
-        AreReplied (described_hosts net) (acts_of (directory_of net) script.now)
+        AreReplied (described_hosts net) (lines_of (directory_of net) script.now)
         (take (length net.instances) (map K.state keepers.old.items))
         (take (length net.instances) (map K.state keepers.new.items)) lines.items) }
 
     // Each keeper holds exactly the newest versions of what its instance was given.
     ensures newest { IfOk result (λ lines.
-        AreNewest (described_hosts net) (acts_of (directory_of net) script.now)
+        AreNewest (described_hosts net) (lines_of (directory_of net) script.now)
         (take (length net.instances) (map K.state keepers.old.items))
         (take (length net.instances) (map K.state keepers.new.items)) lines.items) }
 
@@ -228,7 +229,7 @@ pub fn run_net<K: Keeper>(
 
     // Where memory runs out, some first lines were run, and no other did anything.
     ensures cut { result ≡ Err NetFault.NoMemory →
-        IsCut (described_hosts net) (acts_of (directory_of net) script.now)
+        IsCut (described_hosts net) (lines_of (directory_of net) script.now)
         (take (length net.instances) (map K.state keepers.old.items))
         (take (length net.instances) (map K.state keepers.new.items)) }
 

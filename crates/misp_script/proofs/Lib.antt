@@ -2,6 +2,7 @@ mod Cutting
 mod Digits
 mod Distinct
 mod Documents
+mod HexDigits
 mod Lookups
 mod Marks
 mod Parts

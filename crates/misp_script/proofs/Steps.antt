@@ -1,5 +1,5 @@
 -- What holds of what is read in the end.
-use Rattle.std.proofs.Common.{◌≡◌, ℕ, ◌+◌, Bool, true, false, List, [], ◌∷◌, ◌++◌, Option, Some, None, Ok, Err, refl, ap}
+use Rattle.std.proofs.Common.{◌≡◌, ℕ, ◌+◌, Bool, true, false, List, [], ◌∷◌, ◌++◌, Option, Some, None, Ok, refl, ap}
 use Rattle.std.specs.Prelude.{⊤}
 use Rattle.toml.specs.Data.{Data, get, as_str}
 pub use Rattle.misp_lists.proofs.Prelude.{bind_keeps}

@@ -1,6 +1,8 @@
 -- What a line says.
-use Rattle.std.specs.Prelude.{ℕ, ◌<◌, ◌&&◌, Bool, nat_le, nat_lt, List, [], length, codes, bytes_eq, Option, Some, None, option_map, unwrap_or, Ok, true, false, if◌then◌else◌, option_and_then}
+use Rattle.std.specs.Prelude.{ℕ, ◌<◌, ◌&&◌, ◌||◌, Bool, nat_le, nat_lt, List, [], length, codes, bytes_eq, Option, Some, None, option_map, unwrap_or, Ok, true, false, if◌then◌else◌, option_and_then}
 use Rattle.std.specs.List.{list_all}
+use Rattle.std.specs.Result.{result_ok}
+use Rattle.hex.specs.Hex.{decode_of}
 use Rattle.misp_ids.specs.declared.uid.Uid.{Uid}
 use Rattle.misp_ids.specs.declared.uid.OrgId.{OrgId}
 use Rattle.misp_ids.specs.Uid.{read_uid}
@@ -9,6 +11,7 @@ use Rattle.misp_script.specs.declared.step.Step.{Step}
 use Rattle.misp_script.specs.declared.step.Command.{Command}
 use Rattle.misp_script.specs.declared.step.RequestLine.{RequestLine}
 use Rattle.misp_script.specs.declared.step.GroupLine.{GroupLine}
+use Rattle.misp_script.specs.declared.step.RawLine.{RawLine}
 use Rattle.misp_script.specs.Directory.{Roster, roster_names, place_of, knows}
 use Rattle.misp_script.specs.Fields.{Reading, ◌>>=◌, field_in, next_field, kept, no_field}
 use Rattle.misp_script.specs.Numbers.{time_of, word_of}
@@ -23,6 +26,11 @@ pub record RequestData : Type 0 where
   pub target : List ℕ
   pub body : List ℕ
 
+-- the bytes of a connection: the place of the instance, and the bytes
+pub record RawData : Type 0 where
+  pub at : ℕ
+  pub bytes : List ℕ
+
 -- a sharing group that an organisation administers: the place of the instance, the organisation,
 -- whether the group is added there (else it is edited), and the text of the group
 pub record GroupData : Type 0 where
@@ -34,6 +42,7 @@ pub record GroupData : Type 0 where
 pub data CommandData : Type 0 where
   Nothing : CommandData
   Request : RequestData → CommandData
+  Raw : RawData → CommandData
   Group : GroupData → CommandData
 
 -- a step: its moment, its word and its command
@@ -52,12 +61,20 @@ request_data r =
       body = r.body.now;
     }
 
+-- the bytes that hexadecimal digits are
+abbrev pub bytes_of : List ℕ → List ℕ
+bytes_of hex = unwrap_or (result_ok (decode_of hex)) []
+
+abbrev pub raw_data : RawLine → RawData
+raw_data r = record { at = r.at; bytes = bytes_of r.hex.now }
+
 abbrev pub group_data : GroupLine → GroupData
 group_data g = record { at = g.at; org = g.org; add = g.add; body = g.body.now }
 
 abbrev pub command_data : Command → CommandData
 command_data Command.Nothing = Nothing
 command_data (Command.Request request) = Request (request_data request)
+command_data (Command.Raw raw) = Raw (raw_data raw)
 command_data (Command.Group group) = Group (group_data group)
 
 abbrev pub step_data : Step → StepData
@@ -67,6 +84,7 @@ step_data step = record { time = step.time; word = step.word; command = command_
 abbrev pub IsPlaced : ℕ → CommandData → Type 0
 IsPlaced count Nothing = Unit {0}
 IsPlaced count (Request request) = request.at < count
+IsPlaced count (Raw raw) = raw.at < count
 IsPlaced count (Group group) = group.at < count
 
 -- ---- fields
@@ -75,6 +93,7 @@ abbrev pub verb_of : List ℕ → Option Verb
 verb_of text =
     if bytes_eq text (codes "none") then Some Verb.Nothing
     else if bytes_eq text (codes "req") then Some Verb.Request
+    else if bytes_eq text (codes "raw") then Some Verb.Raw
     else if bytes_eq text (codes "group-add") then Some Verb.AddGroup
     else if bytes_eq text (codes "group-edit") then Some Verb.EditGroup
     else None
@@ -94,6 +113,13 @@ key_of text = if bytes_eq text (codes "-") then None else Some text
 -- the rest of the line, which may be absent
 abbrev pub body_of : Option (List ℕ) → List ℕ
 body_of left = unwrap_or left []
+
+abbrev pub is_lower_digit : ℕ → Bool
+is_lower_digit byte = (nat_le 48 byte && nat_le byte 57) || (nat_le 97 byte && nat_le byte 102)
+
+-- the bytes that an even number of lower-case hexadecimal digits are
+abbrev pub hex_bytes : List ℕ → Option (List ℕ)
+hex_bytes text = if list_all is_lower_digit text then result_ok (decode_of text) else None
 
 -- the organisation of a uuid, if it is known at the instance of this place
 abbrev pub known_org : List Roster → ℕ → Uid → Option OrgId
@@ -128,6 +154,14 @@ request_of rosters line left = do
     body = body_of target.rest;
   })
 
+unfoldable pub raw_of : List Roster → List ℕ → Option (List ℕ) → Reading RawData
+raw_of rosters line left = do
+  inst ← next_field line left
+  at ← kept inst.place (place_of (roster_names rosters) inst.text)
+  digits ← next_field line inst.rest
+  bytes ← kept digits.place (hex_bytes digits.text)
+  no_field line digits.rest >>= λ done. Ok (record { at = at; bytes = bytes })
+
 unfoldable pub group_of : List Roster → List ℕ → Bool → Option (List ℕ) → Reading GroupData
 group_of rosters line add left = do
   inst ← next_field line left
@@ -141,6 +175,7 @@ abbrev pub command_of : List Roster → List ℕ → Verb → Option (List ℕ) 
 command_of rosters line Verb.Nothing left = no_field line left >>= λ done. Ok Nothing
 command_of rosters line Verb.Request left =
     request_of rosters line left >>= λ request. Ok (Request request)
+command_of rosters line Verb.Raw left = raw_of rosters line left >>= λ raw. Ok (Raw raw)
 command_of rosters line Verb.AddGroup left =
     group_of rosters line true left >>= λ group. Ok (Group group)
 command_of rosters line Verb.EditGroup left =

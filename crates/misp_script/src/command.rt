@@ -5,11 +5,11 @@ ghost use Rattle.std.specs.List.{list_all};
 ghost use Rattle.misp_ids.specs.Uid.{read_uid};
 ghost use Rattle.misp_script.specs.Fields.{Shows, kept};
 ghost use Rattle.misp_script.specs.Seen.{field_of};
-ghost use Rattle.misp_script.specs.Step.{IsPlaced, verb_of, is_visible, visible_of, org_of, key_of, body_of, rest_of, request_data, request_of, group_data, group_of, command_data, command_of};
+ghost use Rattle.misp_script.specs.Step.{IsPlaced, verb_of, is_visible, visible_of, is_lower_digit, bytes_of, hex_bytes, org_of, key_of, body_of, rest_of, request_data, request_of, raw_data, raw_of, group_data, group_of, command_data, command_of};
 
 use crate::directory::Directory;
 use crate::field::{BadLine, Field, kept, next_field, no_field};
-use crate::step::{Command, GroupLine, RequestLine};
+use crate::step::{Command, GroupLine, RawLine, RequestLine};
 use misp_ids::{OrgId, Uid};
 use std::str;
 
@@ -18,6 +18,7 @@ use std::str;
 pub(crate) enum Verb {
     Nothing,
     Request,
+    Raw,
     AddGroup,
     EditGroup,
 }
@@ -29,6 +30,8 @@ pub(crate) fn read_verb(text: &[u8]) -> Option<Verb>
         Some(Verb::Nothing)
     } else if text == b"req".as_slice() {
         Some(Verb::Request)
+    } else if text == b"raw".as_slice() {
+        Some(Verb::Raw)
     } else if text == b"group-add".as_slice() {
         Some(Verb::AddGroup)
     } else if text == b"group-edit".as_slice() {
@@ -100,6 +103,29 @@ fn body<'a>(before: &Field<'a>) -> &'a [u8]
     }
 }
 
+fn is_lower_digit(byte: u8) -> bool
+    ensures { result ≡ is_lower_digit byte }
+{
+    matches!(byte, b'0'..=b'9' | b'a'..=b'f')
+}
+
+fn are_lower_digits(text: &[u8]) -> bool
+    ensures { result ≡ list_all is_lower_digit text.now }
+{
+    text.iter().all(|byte| is_lower_digit(*byte))
+}
+
+/// Bytes in hexadecimal digits, of which there is an even number.
+fn hex(text: &[u8]) -> Option<&[u8]>
+    ensures { option_map (λ hex. bytes_of hex.now) result ≡ hex_bytes text.now }
+{
+    if text.len() % 2 == 0 && are_lower_digits(text) {
+        Some(text)
+    } else {
+        None
+    }
+}
+
 /// The rest of a line after a field.
 fn rest<'a>(line: &[u8], before: &Field<'a>) -> Result<&'a [u8], BadLine>
     ensures { Shows (λ rest. rest.now) result (rest_of line.now (field_of before.now).rest) }
@@ -116,6 +142,16 @@ fn visible_field<'a>(field: &Field<'a>) -> Result<&'a str, BadLine>
 {
     match visible(field.text) {
         Some(text) => Ok(text),
+        None => Err(BadLine { place: field.place }),
+    }
+}
+
+fn hex_field<'a>(field: &Field<'a>) -> Result<&'a [u8], BadLine>
+    ensures { Shows (λ hex. bytes_of hex.now) result
+        (kept (field_of field.now).place (hex_bytes (field_of field.now).text)) }
+{
+    match hex(field.text) {
+        Some(hex) => Ok(hex),
         None => Err(BadLine { place: field.place }),
     }
 }
@@ -145,6 +181,20 @@ fn request<'a>(
         target,
         body: body(&target_field),
     })
+}
+
+#[tactic(auto, unfolding(crate::specs::Step::raw_of))]
+fn raw<'a>(line: &[u8], directory: &Directory, before: &Field<'a>) -> Result<RawLine<'a>, BadLine>
+    ensures raw { Shows raw_data result
+        (raw_of directory.now line.now (field_of before.now).rest) }
+    ensures placed { IfOk result (λ raw. raw.at < length directory.now) }
+{
+    let inst = next_field(line, before)?;
+    let at = kept(inst.place, directory.place_of(inst.text))?;
+    let digits = next_field(line, &inst)?;
+    let hex = hex_field(&digits)?;
+    no_field(line, &digits)?;
+    Ok(RawLine { at, hex })
 }
 
 #[tactic(auto, unfolding(crate::specs::Step::group_of))]
@@ -186,6 +236,10 @@ pub(crate) fn command<'a>(
         Verb::Request => {
             let request = request(line, directory, before)?;
             Ok(Command::Request(request))
+        }
+        Verb::Raw => {
+            let raw = raw(line, directory, before)?;
+            Ok(Command::Raw(raw))
         }
         Verb::AddGroup => {
             let group = group(line, directory, true, before)?;

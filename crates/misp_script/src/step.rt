@@ -17,6 +17,7 @@ pub struct Step<'a> {
 pub enum Command<'a> {
     Nothing,
     Request(RequestLine<'a>),
+    Raw(RawLine<'a>),
     Group(GroupLine<'a>),
 }
 
@@ -30,6 +31,15 @@ pub struct RequestLine<'a> {
     pub method: &'a str,
     pub target: &'a str,
     pub body: &'a [u8],
+}
+
+/// The bytes of a connection to an instance.
+#[derive(Clone, Copy, Debug, PartialEq, Eq)]
+pub struct RawLine<'a> {
+    /// The place of the instance in the description, from 0.
+    pub at: usize,
+    /// The bytes, as an even number of lower-case hexadecimal digits.
+    pub hex: &'a [u8],
 }
 
 /// The administration of a sharing group at an instance.

@@ -38,7 +38,8 @@ fn read(alloc: Global, bytes: &[u8], piece: usize) -> Result<String, Fail> {
     let mut rest = Vec::new(alloc);
     match read_request(alloc, &mut source, &mut rest) {
         Ok(Read::Request(request)) => request_line(alloc, &request),
-        Ok(Read::Refused(refusal)) => {
+        Ok(Read::Refused(fault)) => {
+            let refusal = fault.refusal(alloc).map_err(|_| Fail::from("memory"))?;
             let rule = refusal.rule();
             let place = refusal.place.as_str();
             Ok(format!(in alloc; "{rule} {place}")?)

@@ -17,3 +17,5 @@ mod outside;
 mod script;
 #[cfg(test)]
 mod types;
+#[cfg(test)]
+mod words;

@@ -4,8 +4,8 @@ mod limits;
 
 use misp_samples::filled;
 use misp_script::{
-    Command, DescFault, Directory, GroupLine, RequestLine, read_description, read_line, split_line,
-    split_source,
+    Command, DescFault, Directory, GroupLine, RawLine, RequestLine, read_description, read_line,
+    split_line, split_source,
 };
 use std::alloc::Global;
 use std::fmt::Write;
@@ -194,6 +194,13 @@ fn request_shown(alloc: Global, request: &RequestLine<'_>) -> Result<String, Fai
     Ok(format!(in alloc; "{at} {key} {method} {target} [{body}]")?)
 }
 
+/// The bytes of a connection, as a test shows them.
+fn raw_shown(alloc: Global, raw: &RawLine<'_>) -> Result<String, Fail> {
+    let at = raw.at;
+    let hex = std::str::from_utf8(raw.hex)?;
+    Ok(format!(in alloc; "{at} raw [{hex}]")?)
+}
+
 /// The administration of a group, as a test shows it.
 fn group_shown(alloc: Global, group: &GroupLine<'_>) -> Result<String, Fail> {
     let at = group.at;
@@ -212,6 +219,7 @@ fn step_shown(alloc: Global, line: &str, directory: &Directory) -> Result<String
             let command = match &step.command {
                 Command::Nothing => String::from_str(alloc, "none")?,
                 Command::Request(request) => request_shown(alloc, request)?,
+                Command::Raw(raw) => raw_shown(alloc, raw)?,
                 Command::Group(group) => group_shown(alloc, group)?,
             };
             Ok(format!(in alloc; "{time} {command}")?)
@@ -232,7 +240,7 @@ const WORDS: [(&str, &str); 5] = [
 ];
 
 /// Lines of a script, and what each is read as.
-const LINES: [(&str, &str); 31] = [
+const LINES: [(&str, &str); 40] = [
     ("x", "bad 0"),
     ("", "bad 0"),
     ("1700000000", "bad 10"),
@@ -255,6 +263,15 @@ const LINES: [(&str, &str); 31] = [
     ("1 {word} req one - GET /\u{e9}", "bad 49"),
     ("1 {word} req one - GET /", "1 0 none GET / []"),
     ("1 {word} req one k POST /a  b c", "1 0 k POST /a [ b c]"),
+    ("1 {word} raw", "bad 38"),
+    ("1 {word} raw one", "bad 42"),
+    ("1 {word} raw two 00", "bad 39"),
+    ("1 {word} raw one 0", "bad 43"),
+    ("1 {word} raw one 0G", "bad 43"),
+    ("1 {word} raw one 0A", "bad 43"),
+    ("1 {word} raw one 0a ", "bad 46"),
+    ("1 {word} raw one ", "1 0 raw []"),
+    ("1 {word} raw one 00ff", "1 0 raw [00ff]"),
     ("1 {word} group-add", "bad 44"),
     ("1 {word} group-add two {a} {}", "bad 45"),
     ("1 {word} group-add one", "bad 48"),

@@ -1,34 +1,39 @@
-use Rattle.std.proofs.Common.{◌≡◌, subst, IfOk, OnErr}
+use Rattle.std.proofs.Common.{◌≡◌, ◌∙◌, subst, IfOk}
 use Rattle.misp_core.specs.Effects.{IsRefused}
 use Rattle.misp_api.specs.Request.{request_data}
 use Rattle.misp_api.proofs.Replying.{refused_by_form, no_keeper}
-use Rattle.misp_api.proofs.Turning.{turned_unread}
+use Rattle.misp_api.proofs.Turning.{out_of_memory, turned_unread}
 use Rattle.misp_api.proofs.Ordering.{order_by_fault}
-use Rattle.misp_api.proofs.Told.{replied_told, ordered_told, of_told, text_told, turned_told, cause_told, no_cause}
+use Rattle.misp_api.proofs.Told.{replied_told, ordered_told, of_told, text_told, turned_told, unformed_told, where_short, cause_told, no_cause}
 use Rattle.misp_api.proofs.answering.answer.Goals as goal
 
 -- ---- what was read
 
 pub returns-in-Ok-clause-replied : goal.returns-in-Ok-clause-replied
 returns-in-Ok-clause-replied g c =
-    replied_told c.tell.result c.args.instance.now c.args.now (request_data c.args.request.now) _ c.plan-planned.result _ _
+    replied_told c.tell.result c.args.instance.now c.args.now (request_data c.args.word c.args.request.now) _ c.plan-planned.result _ _
     c.in-Ok.ensures.read c.plan-planned.ensures.held c.plan-planned.ensures.planned c.tell.ensures.done
 
 pub returns-in-Ok-clause-order : goal.returns-in-Ok-clause-order
 returns-in-Ok-clause-order g c =
-    ordered_told c.tell.result c.args.instance.now c.args.now (request_data c.args.request.now) _ c.plan-planned.result _ _
+    ordered_told c.tell.result c.args.instance.now c.args.now (request_data c.args.word c.args.request.now) _ c.plan-planned.result _ _
     c.in-Ok.ensures.read c.in-Ok.ensures.built c.plan-planned.ensures.held c.plan-planned.ensures.planned c.tell.ensures.done
 
 pub returns-in-Ok-clause-formed : goal.returns-in-Ok-clause-formed
 returns-in-Ok-clause-formed g c =
-    turned_told c.tell.result c.args.instance.now _ _ (request_data c.args.request.now) _ c.plan-planned.result c.in-Ok.ensures.read
+    turned_told c.tell.result c.args.instance.now _ _ (request_data c.args.word c.args.request.now) _ c.plan-planned.result c.in-Ok.ensures.read
     c.plan-planned.ensures.forbidden c.tell.ensures.unplanned c.tell.ensures.still
+
+pub returns-in-Ok-clause-unformed : goal.returns-in-Ok-clause-unformed
+returns-in-Ok-clause-unformed g c =
+    unformed_told c.tell.result c.args.instance.now _ _ (request_data c.args.word c.args.request.now) _ c.plan-planned.result c.in-Ok.ensures.read
+    c.plan-planned.ensures.forbidden c.tell.ensures.still
 
 pub returns-in-Ok-clause-cause : goal.returns-in-Ok-clause-cause
 returns-in-Ok-clause-cause g c = cause_told c.tell.result c.plan-planned.result _ _ _ c.plan-planned.ensures.cause c.tell.ensures.later c.tell.ensures.rose
 
 pub returns-in-Ok-clause-kept : goal.returns-in-Ok-clause-kept
-returns-in-Ok-clause-kept g c = subst (λ held. OnErr c.tell.result (c.tell.new.instance.held ≡ held)) c.plan-planned.ensures.held c.tell.ensures.kept
+returns-in-Ok-clause-kept g c = λ long. c.tell.ensures.kept long ∙ c.plan-planned.ensures.held
 
 pub returns-in-Ok-clause-refused : goal.returns-in-Ok-clause-refused
 returns-in-Ok-clause-refused g c =
@@ -43,20 +48,23 @@ pub returns-in-Err-clause-order : goal.returns-in-Err-clause-order
 returns-in-Err-clause-order g c =
     of_told c.told.result c.refused.result _ c.told.ensures.reply
     (rw (c.refused.ensures)
-    (order_by_fault c.args.instance.now c.args.now (request_data c.args.request.now) c.in-Err.fault c.args.instance.now.held c.in-Err.ensures.read))
+    (order_by_fault c.args.instance.now c.args.now (request_data c.args.word c.args.request.now) c.in-Err.fault c.args.instance.now.held c.in-Err.ensures.read))
 
 pub returns-in-Err-clause-replied : goal.returns-in-Err-clause-replied
 returns-in-Err-clause-replied g c =
     of_told c.told.result c.refused.result _ c.told.ensures.reply
     (rw (c.refused.ensures)
-    (refused_by_form c.args.instance.now c.args.now (request_data c.args.request.now) c.in-Err.fault c.args.instance.now.held c.in-Err.ensures.read))
+    (refused_by_form c.args.instance.now c.args.now (request_data c.args.word c.args.request.now) c.in-Err.fault c.args.instance.now.held c.in-Err.ensures.read))
 
 pub returns-in-Err-clause-cause : goal.returns-in-Err-clause-cause
 returns-in-Err-clause-cause g c =
     no_cause c.told.result c.refused.result _ c.told.ensures.reply
-    (rw (c.refused.ensures) (no_keeper c.args.instance.now.admin (request_data c.args.request.now) c.in-Err.fault c.in-Err.ensures.read))
+    (rw (c.refused.ensures) (no_keeper c.args.instance.now.admin (request_data c.args.word c.args.request.now) c.in-Err.fault c.in-Err.ensures.read))
 
 pub returns-in-Err-clause-formed : goal.returns-in-Err-clause-formed
 returns-in-Err-clause-formed g c =
     of_told c.told.result c.refused.result _ c.told.ensures.reply
-    (rw (c.refused.ensures) (turned_unread c.args.instance.now (request_data c.args.request.now) c.in-Err.fault c.in-Err.ensures.read))
+    (rw (c.refused.ensures) (turned_unread c.args.instance.now (request_data c.args.word c.args.request.now) c.in-Err.fault c.in-Err.ensures.read))
+
+pub returns-in-Err-clause-unformed : goal.returns-in-Err-clause-unformed
+returns-in-Err-clause-unformed g c = where_short c.told.result (out_of_memory c.args.instance.now _)

@@ -1,4 +1,4 @@
-use Rattle.std.proofs.Common.{◌≡◌, sym, subst}
+use Rattle.std.proofs.Common.{◌≡◌, arith, sym, subst}
 use Rattle.misp_outside.specs.declared.fault.KeeperFault.{KeeperFault}
 use Rattle.misp_core.proofs.Carried.{DidThere, settled_did, stopped_did}
 use Rattle.misp_core.specs.Effects.{stop_in, by_keeper}
@@ -15,6 +15,9 @@ returns-in-Ok-clause-done g c = λ p e same some plans.
 
 pub returns-in-Ok-clause-refused : goal.returns-in-Ok-clause-refused
 returns-in-Ok-clause-refused g c = λ refused. absurd (c.requires.answer refused)
+
+pub returns-in-Ok-clause-long : goal.returns-in-Ok-clause-long
+returns-in-Ok-clause-long g c = λ long. absurd (omega (arith, long, c.requires.short))
 
 pub returns-in-Ok-clause-cause : goal.returns-in-Ok-clause-cause
 returns-in-Ok-clause-cause g c = record {

@@ -1,5 +1,5 @@
-use Rattle.std.proofs.Common.{◌∙◌, Ok, sym, subst, refl}
-use Rattle.misp_core.specs.Planning.{IsPlanned, unplanned}
+use Rattle.std.proofs.Common.{◌∙◌, sym, subst, refl}
+use Rattle.misp_core.specs.Planning.{IsPlanned}
 use Rattle.misp_core.specs.declared.reply.Reply.{Reply}
 use Rattle.misp_core.proofs.Carried.{refused_did, DidThere}
 use Rattle.misp_api.proofs.Told.{of_told, text_told, nothing_did}

@@ -1,6 +1,7 @@
 use Rattle.std.proofs.Common.{◌≡◌, ◌≤◌, ◌++◌, take, length, arith, sym, ◌∙◌, ap, subst}
 use Rattle.misp_api.specs.Prelude.{IsRefused, Reply}
 use Rattle.misp_api.specs.Text.{reply_text}
+use Rattle.misp_api.specs.declared.TheConstants.{CHANGE_TEXT}
 use Rattle.misp_api.proofs.Told.{text_before, start_within}
 use Rattle.misp_api.proofs.telling.told_and_put.Goals as goal
 
@@ -34,3 +35,9 @@ returns-clause-later g c = c.settled.ensures.cause.later
 
 pub returns-clause-rose : goal.returns-clause-rose
 returns-clause-rose g c = c.settled.ensures.cause.rose
+
+pub settled-requires-clause-short : goal.settled-requires-clause-short
+settled-requires-clause-short g c = subst (λ reply. length (reply_text reply) ≤ CHANGE_TEXT) (sym c.in_ok-written.ensures.reply) c.in_ok-written.ensures.short
+
+pub returns-clause-kept : goal.returns-clause-kept
+returns-clause-kept g c = c.settled.ensures.long

@@ -11,11 +11,8 @@ pub returns-in-Err-read_body-clause-read : goal.returns-in-Err-read_body-clause-
 returns-in-Err-read_body-clause-read g c =
     end_then _ _ _ _ c.in-Ok-Ok.head _ c.in-Ok-Ok.is c.in-Ok-Ok.field-0-is _ c.in-Err-read_body.end c.in-Err-read_body.is c.read_head.ensures.found c.in-Ok-Ok.ensures.keeps c.read_body.ensures.read
 
-pub returns-in_err-refusal-in-Ok-Err-clause-unasked : goal.returns-in_err-refusal-in-Ok-Err-clause-unasked
-returns-in_err-refusal-in-Ok-Err-clause-unasked g c = λ whole. (c.read_head.ensures.unasked whole.head whole.framed.head).0
-
-pub returns-in_ok-refusal-in-Ok-Err-clause-unasked : goal.returns-in_ok-refusal-in-Ok-Err-clause-unasked
-returns-in_ok-refusal-in-Ok-Err-clause-unasked g c = λ whole. (c.read_head.ensures.unasked whole.head whole.framed.head).0
+pub returns-in-Ok-Err-clause-unasked : goal.returns-in-Ok-Err-clause-unasked
+returns-in-Ok-Err-clause-unasked g c = λ whole. (c.read_head.ensures.unasked whole.head whole.framed.head).0
 
 pub returns-in-Err-clause-unasked : goal.returns-in-Err-clause-unasked
 returns-in-Err-clause-unasked g c = λ whole. (c.read_head.ensures.unasked whole.head whole.framed.head).0

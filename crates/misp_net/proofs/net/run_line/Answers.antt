@@ -1,9 +1,7 @@
-use Rattle.std.proofs.Common.{length, refl, sym, subst}
+use Rattle.std.proofs.Common.{subst}
 use Rattle.misp_script.specs.Step.{IsPlaced, command_data}
-use Rattle.misp_effects.proofs.KeeperStates.{all_kept}
-use Rattle.misp_net.specs.Prelude.{Bad, IsAmong, states_of}
-use Rattle.misp_net.proofs.Steps.{silent_act, of_put, text_put}
-use Rattle.misp_net.proofs.Openings.{if_err}
+use Rattle.misp_net.specs.Prelude.{hosts_of, states_of, step_of}
+use Rattle.misp_net.proofs.Doing.{always_err, bad_ran, cut_first, on_ok}
 use Rattle.misp_net.proofs.net.run_line.Goals as goal
 
 -- ---- a step
@@ -11,26 +9,18 @@ use Rattle.misp_net.proofs.net.run_line.Goals as goal
 pub run_step-requires : goal.run_step-requires
 run_step-requires g c = subst (λ count. IsPlaced count (command_data c.in-Ok.step.command)) c.requires c.in-Ok.ensures.placed
 
-pub returns-in-Ok-clause-act : goal.returns-in-Ok-clause-act
-returns-in-Ok-clause-act g c = rw c.in-Ok.ensures.step c.run_step.ensures.act
+pub returns-in-Ok-clause-ran : goal.returns-in-Ok-clause-ran
+returns-in-Ok-clause-ran g c = rw c.in-Ok.ensures.step c.run_step.ensures.ran
 
-pub returns-in-Ok-clause-formed : goal.returns-in-Ok-clause-formed
-returns-in-Ok-clause-formed g c = rw c.in-Ok.ensures.step c.run_step.ensures.formed
-
-pub returns-in-Ok-clause-among : goal.returns-in-Ok-clause-among
-returns-in-Ok-clause-among g c = subst (IsAmong (length c.args.directory.now)) (sym c.in-Ok.ensures.step) c.in-Ok.ensures.placed
+pub returns-in-Ok-clause-cut : goal.returns-in-Ok-clause-cut
+returns-in-Ok-clause-cut g c = rw c.in-Ok.ensures.step c.run_step.ensures.cut
 
 -- ---- the line is none
 
-pub returns-in-Err-clause-text : goal.returns-in-Err-clause-text
-returns-in-Err-clause-text g c = text_put c.put_bad.result (Bad c.in-Err.bad.place) _ _ c.put_bad.ensures.output c.put_bad.ensures.text
+pub returns-in-Err-clause-ran : goal.returns-in-Err-clause-ran
+returns-in-Err-clause-ran g c =
+    rw c.in-Err.ensures.step
+    (on_ok c.put_bad.result (bad_ran c.in-Err.bad.place (hosts_of c.args.instances.now.items) (states_of c.args.instances.now.items) _ _) c.put_bad.ensures.text)
 
-pub returns-in-Err-clause-act : goal.returns-in-Err-clause-act
-returns-in-Err-clause-act g c =
-    of_put c.put_bad.result (Bad c.in-Err.bad.place) _ c.put_bad.ensures.output (rw c.in-Err.ensures.step (silent_act (Bad c.in-Err.bad.place) (states_of c.args.instances.now.items) refl))
-
-pub returns-in-Err-clause-formed : goal.returns-in-Err-clause-formed
-returns-in-Err-clause-formed g c = of_put c.put_bad.result (Bad c.in-Err.bad.place) _ c.put_bad.ensures.output (rw c.in-Err.ensures.step refl)
-
-pub returns-in-Err-clause-kept : goal.returns-in-Err-clause-kept
-returns-in-Err-clause-kept g c = if_err c.put_bad.result (λ fault. all_kept _)
+pub returns-in-Err-clause-cut : goal.returns-in-Err-clause-cut
+returns-in-Err-clause-cut g c = always_err c.put_bad.result (cut_first (hosts_of c.args.instances.now.items) (step_of c.args.directory.now c.args.line.now) (states_of c.args.instances.now.items))

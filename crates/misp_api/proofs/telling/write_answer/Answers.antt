@@ -1,0 +1,10 @@
+use Rattle.std.proofs.Common.{ap, arith, length-append, length}
+use Rattle.misp_api.specs.Prelude.{Reply}
+use Rattle.misp_api.specs.Text.{reply_text}
+use Rattle.misp_api.proofs.telling.write_answer.Goals as goal
+
+-- what was written is the text of the answer, and it is short
+pub returns-clause-short : goal.returns-clause-short
+returns-clause-short c =
+    let text = ap length c.in_ok-reply.ensures.text in
+    omega (arith, text, length-append c.args.text.now.items (reply_text (Reply.Ok c.args.answer)))

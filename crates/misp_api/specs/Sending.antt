@@ -1,0 +1,61 @@
+-- What a request of a connection is replied, or bytes that are none, and the bytes of the reply.
+use Rattle.std.specs.Prelude.{◌≡◌, ◌⊎◌, ℕ, ◌<◌, Bool, true, false, List, length, codes, Result, Ok, Err, IfOk, IfSome}
+use Rattle.misp_ids.specs.Refusal.{rule_status}
+use Rattle.misp_outside.specs.Causes.{HasCause}
+use Rattle.misp_http.specs.Faults.{fault_refusal}
+use Rattle.misp_http.specs.declared.kind.BodyKind.TheVariants.{Json}
+use Rattle.misp_http.specs.declared.request.Read.{Read}
+use Rattle.misp_http.specs.declared.request.Read.TheVariants as reads
+use Rattle.misp_core.specs.Prelude.{Admin, Asked, Standing, host_of, stop_in}
+use Rattle.misp_core.specs.Effects.{by_keeper}
+use Rattle.misp_core.specs.declared.reply.Reply.{Reply}
+use Rattle.misp_api.specs.Answering.{form_of, IsReplied}
+use Rattle.misp_api.specs.Refusing.{TurnsAway}
+use Rattle.misp_api.specs.Request.{Reading, request_data}
+use Rattle.misp_api.specs.Text.{body_text}
+use Rattle.misp_api.specs.declared.TheConstants.{REPLY_ROOM}
+use Rattle.misp_http.specs.Texts as http
+
+-- ---- what is replied
+
+-- what bytes ask that were read so, as a request of this word; bytes that are none are refused
+abbrev pub read_form : Admin → ℕ → Read → Reading Asked
+read_form admin word (reads.Request request) = form_of admin (request_data word request)
+read_form admin word (reads.Refused fault) = Err (fault_refusal fault)
+
+-- it was replied so at this moment, and the instance is left so
+pub record IsAnswered (now word : ℕ) (read : Read) (old new : Standing) (reply : Reply)
+    : Type 0 where
+  -- where the keeper tells, reply and rows are the stated functions of what was read and is held
+  pub replied : IfSome old.held
+      (λ held. IsReplied (host_of old) now (read_form old.admin word read) held reply new.held)
+  -- what its form refuses is refused just so, and the instance stands as it stood
+  pub formed : TurnsAway (read_form old.admin word read) old new reply
+  pub cause : HasCause old.faults new.faults (stop_in reply ≡ by_keeper)
+  pub name : new.name ≡ old.name
+  pub admin : new.admin ≡ old.admin
+
+-- ---- its bytes
+
+abbrev pub status_of : Reply → ℕ
+status_of (Reply.Ok answer) = 200
+status_of (Reply.Refused refusal) = rule_status refusal.name
+
+-- as HTTP has it, where the connection is closed after it or not
+abbrev pub http_text : Reply → Bool → List ℕ
+http_text reply close = http.reply_text (status_of reply) Json (body_text reply) close
+
+-- the same of want of memory, as one text
+unfoldable pub no_memory_text : Bool → List ℕ
+no_memory_text true =
+    codes "HTTP/1.1 507 Insufficient Storage\r\nContent-Type: application/json\r\nContent-Length: 40\r\nConnection: close\r\n\r\n{\"name\":\"NoMemory\",\"place\":\"\",\"rule\":27}"
+no_memory_text false =
+    codes "HTTP/1.1 507 Insufficient Storage\r\nContent-Type: application/json\r\nContent-Length: 40\r\n\r\n{\"name\":\"NoMemory\",\"place\":\"\",\"rule\":27}"
+
+-- the bytes that go out for what was answered: its own, or those of want of memory, where memory
+-- ran out or its own are more than the room that was made
+abbrev pub GoOut : {E : Type 0} → Result Reply E → Bool → List ℕ → Type 0
+GoOut answered close bytes =
+    ((reply : Reply) × (answered ≡ Ok reply) × (bytes ≡ http_text reply close))
+    ⊎ ((bytes ≡ no_memory_text close)
+    × IfOk answered (λ reply. REPLY_ROOM < length (http_text reply close)))

@@ -1,0 +1,149 @@
+-- What a line did, by what came of it at its instance.
+use Rattle.std.proofs.Common.{◌≡◌, ◌⊎◌, ℕ, ◌<◌, [], ◌∷◌, ◌++◌, List, length, map, get_or, set, Some, None, Result, Ok, Err, OnOk, OnErr, inl, inr, refl, sym, ◌∙◌, ap, subst, arith}
+use Rattle.std.specs.Prelude.{⊤}
+use Rattle.std.proofs.lemmas.List.{length-map, set-get_or}
+use Rattle.misp_script.specs.Step.{GroupData, RawData, RequestData}
+use Rattle.misp_api.specs.Administering.{group_form}
+use Rattle.hex.specs.Hex.{encode_lower}
+use Rattle.misp_api.specs.Session.{end_name, end_of}
+use Rattle.misp_api.specs.Turn.{Point}
+use Rattle.misp_effects.proofs.KeeperStates.{all_kept}
+use Rattle.misp_net.proofs.Appending.{one_ran}
+use Rattle.misp_net.specs.Prelude.{Act, AreKept, Bad, Done, Host, IsDone, KeeperState, Line, Nothing, Output, Ran, Replied, Seen, Standing, Unanswered, host_of, hosts_of, meaning, seen_in, spelled, states_of, stop_in}
+use Rattle.misp_net.specs.Acts.{Administers, Asks, Does, Idle, IsPlaced, One, Session, act, asks_from}
+use Rattle.misp_net.specs.Meaning.{IsAsFormed}
+use Rattle.misp_net.specs.Running.{CutLine, HasSession, IsAct, IsAdministered, IsRequested, RanLine}
+use Rattle.misp_net.specs.Text.{done_text, output_text}
+use Rattle.misp_net.proofs.Turns.{hosts_here, session_done}
+use Rattle.misp_net.proofs.Steps.{one_group, one_read, read_formed, silent_act, turned_output}
+use Rattle.misp_script.specs.Step as commands
+
+-- ---- where a call ended
+
+pub on_ok : {A E P Q : Type 0} (r : Result A E) → (P → Q) → OnOk r P → OnOk r Q
+on_ok (Ok x) follows holds = follows holds
+on_ok (Err e) follows holds = tt
+
+pub on_err : {A E P Q : Type 0} (r : Result A E) → (P → Q) → OnErr r P → OnErr r Q
+on_err (Ok x) follows holds = tt
+on_err (Err e) follows holds = follows holds
+
+-- what holds of all errors
+pub always_err : {A E P : Type 0} (r : Result A E) → P → OnErr r P
+always_err (Ok x) holds = tt
+always_err (Err e) holds = holds
+
+-- what follows both ways
+pub both_ways : {A E P Q R : Type 0} (r : Result A E) → OnOk r P → OnErr r Q → (P → R) → (Q → R) → R
+both_ways (Ok x) good bad from_good from_bad = from_good good
+both_ways (Err e) good bad from_good from_bad = from_bad bad
+
+-- ---- one act
+
+one_done : (hosts : List Host) (a : Act) (old new : List KeeperState) (output : Output) → IsAct hosts a old new output → IsAsFormed (meaning hosts a).formed output
+    → IsPlaced (length hosts) a.deed → IsDone hosts (One a output) old new
+one_done hosts a old new output is formed placed = record {
+  ran = one_ran Seen Output seen_in spelled stop_in (meaning hosts a).means old new output is;
+  formed = (formed, tt);
+  among = (placed, tt);
+}
+
+-- where nothing is asked
+idle_done : (hosts : List Host) (time word : ℕ) (output : Output) (old : List KeeperState) → stop_in output ≡ None → IsAsFormed (Some output) output
+    → IsDone hosts (One (act time word (Idle output)) output) old old
+idle_done hosts time word output old none formed = one_done hosts (act time word (Idle output)) old old output (silent_act output old none) formed tt
+
+pub nothing_ran : (time word : ℕ) (hosts : List Host) (old : List KeeperState) (before after : List ℕ) → after ≡ before ++ output_text Nothing
+    → RanLine hosts (Ok (record { time = time; word = word; command = commands.Nothing })) old old before after
+nothing_ran time word hosts old before after text =
+    (One (act time word (Idle Nothing)) Nothing, (Nothing, refl), idle_done hosts time word Nothing old refl refl, text)
+
+pub bad_ran : (place : ℕ) (hosts : List Host) (old : List KeeperState) (before after : List ℕ) → after ≡ before ++ output_text (Bad place)
+    → RanLine hosts (Err (record { place = place })) old old before after
+bad_ran place hosts old before after text =
+    (One (act 0 0 (Idle (Bad place))) (Bad place), (Bad place, refl), idle_done hosts 0 0 (Bad place) old refl refl, text)
+
+-- memory ran out before anything was done
+pub cut_kept : (hosts : List Host) (line : Line) (old new : List KeeperState) → AreKept old new → CutLine hosts line old new
+cut_kept hosts line old new kept = inl kept
+
+pub cut_first : (hosts : List Host) (line : Line) (old : List KeeperState) → CutLine hosts line old old
+cut_first hosts line old = inl (all_kept old)
+
+-- ---- at one of the instances
+
+-- it stands as it stood
+as_it_was : (old : List Standing) (at : ℕ) (none new : Standing) → new ≡ get_or old at none → set old at new ≡ old
+as_it_was old at none new same = ap (set old at) same ∙ set-get_or old at none
+
+pub still_kept : (old : List Standing) (at : ℕ) (none new : Standing) → new ≡ get_or old at none → AreKept (states_of old) (states_of (set old at new))
+still_kept old at none new same = subst (λ all. AreKept (states_of old) (states_of all)) (sym (as_it_was old at none new same)) (all_kept (states_of old))
+
+placed : (old : List Standing) (at : ℕ) → at < length old → at < length (hosts_of old)
+placed old at lt = omega (arith, lt, length-map old host_of)
+
+module _ (old : List Standing) (none new : Standing) (now word : ℕ) where
+  -- a request of a line
+  pub request_ran : (r : RequestData) → r.at < length old → (output : Output) (before after : List ℕ) → IsRequested now word r (get_or old r.at none) new output
+      → after ≡ before ++ output_text output → RanLine (hosts_of old) (Ok (record { time = now; word = word; command = commands.Request r })) (states_of old) (states_of (set old r.at new)) before after
+  request_ran r lt output before after (Ok read, left, whole, is, (reply, output_is, answered)) text = (
+    One (act now word (Asks r.at read)) (Replied reply),
+    (Ok read, left, whole, is, (Replied reply, refl)),
+    one_done (hosts_of old) (act now word (Asks r.at read)) (states_of old) (states_of (set old r.at new)) (Replied reply)
+        (one_read now word r.at read old new none reply lt answered) (read_formed now word r.at read old new none reply lt answered) (placed old r.at lt),
+    text ∙ ap (λ o. before ++ output_text o) output_is,
+  )
+  request_ran r lt output before after (Err end, left, whole, is, (output_is, new_is)) text =
+      let out : Output = Unanswered (end_of end) in (
+        One (act now word (Idle out)) out,
+        (Err end, left, whole, is, (out, refl)),
+        subst (λ all. IsDone (hosts_of old) (One (act now word (Idle out)) out) (states_of old) (states_of all)) (sym (as_it_was old r.at none new new_is))
+            (idle_done (hosts_of old) now word out (states_of old) refl refl),
+        text ∙ ap (λ o. before ++ output_text o) output_is,
+      )
+
+  -- a group of a line
+  pub group_ran : (line : GroupData) → line.at < length old → (output : Output) (before after : List ℕ) → IsAdministered now line (get_or old line.at none) new output
+      → after ≡ before ++ output_text output → RanLine (hosts_of old) (Ok (record { time = now; word = word; command = commands.Group line })) (states_of old) (states_of (set old line.at new)) before after
+  group_ran line lt output before after (reply, output_is, did, away, cause) text = (
+    One (act now word (Administers line)) (Replied reply),
+    (Replied reply, refl),
+    one_done (hosts_of old) (act now word (Administers line)) (states_of old) (states_of (set old line.at new)) (Replied reply)
+        (one_group now word line old new none reply lt did cause) (turned_output (group_form line.body) (get_or old line.at none) new reply away) (placed old line.at lt),
+    text ∙ ap (λ o. before ++ output_text o) output_is,
+  )
+
+  -- a session of a line
+  module _ (r : RawData) (lt : r.at < length old) where
+    pub session_ran : (Wrote : List ℕ → Type 0) → HasSession now word r (get_or old r.at none) new Wrote
+        → (d : Done) × Does (Ok (record { time = now; word = word; command = commands.Raw r })) d
+        × IsDone (hosts_of old) d (states_of old) (states_of (set old r.at new)) × Wrote (done_text d)
+    session_ran Wrote (end, left, next, written, session, no_read, no_write, wrote) =
+        let p : Point = record { bytes = r.bytes; instance = get_or old r.at none; word = word; written = [] } in
+        let is = session_done now r.at old none lt p (refl, refl) end left new next written session no_read no_write in (
+          Session now word r.at is.reads is.replies end.end,
+          (is.reads, is.replies, end.end, is.read, refl),
+          record {
+            ran = subst (λ all. Ran (hosts_of old) (asks_from now word r.at is.reads) (states_of all) (states_of (set old r.at new)) (map Replied is.replies))
+                (set-get_or old r.at none) is.ran;
+            formed = is.formed;
+            among = is.among;
+          },
+          subst (λ text. Wrote (end_name end.end ++ 32 ∷ encode_lower text)) is.wrote wrote,
+        )
+
+    pub session_hosts : (Wrote : List ℕ → Type 0) → HasSession now word r (get_or old r.at none) new Wrote → hosts_of (set old r.at new) ≡ hosts_of old
+    session_hosts Wrote (end, left, next, written, session, no_read, no_write, wrote) =
+        let p : Point = record { bytes = r.bytes; instance = get_or old r.at none; word = word; written = [] } in
+        let is = session_done now r.at old none lt p (refl, refl) end left new next written session no_read no_write in
+        hosts_here now r.at old none lt new is.it
+
+    -- it was cut short before it began, or after it had ended
+    pub session_cut : ((new ≡ get_or old r.at none) ⊎ HasSession now word r (get_or old r.at none) new (λ _. ⊤))
+        → CutLine (hosts_of old) (Ok (record { time = now; word = word; command = commands.Raw r })) (states_of old) (states_of (set old r.at new))
+    session_cut (inl same) = inl (still_kept old r.at none new same)
+    session_cut (inr went) = let (d, does, is, wrote) = session_ran (λ text. ⊤) went in inr (d, does, is)
+
+    pub cut_hosts : ((new ≡ get_or old r.at none) ⊎ HasSession now word r (get_or old r.at none) new (λ _. ⊤)) → hosts_of (set old r.at new) ≡ hosts_of old
+    cut_hosts (inl same) = ap hosts_of (as_it_was old r.at none new same)
+    cut_hosts (inr went) = session_hosts (λ text. ⊤) went

@@ -1,0 +1,93 @@
+//! What the words ask for.
+
+ghost use Rattle.std.specs.Prelude.{◌≡◌, map, option_map, string_bytes};
+ghost use Rattle.misp_words.specs.Words.{begins_with_dash, command_data, serve_data, serve_words, command_named, command_with, command_of};
+
+use crate::count::read_count;
+use misp_ids::InstId;
+
+/// What the program is to do.
+#[derive(Clone, Copy, Debug, PartialEq, Eq)]
+pub enum Command<'a> {
+    /// Runs the script of a source.
+    Net,
+    /// Tells whether the description of a source has a fault.
+    Check,
+    /// Serves an instance of the description of a source.
+    Serve(ServeWords<'a>),
+}
+
+/// The words after `serve`.
+#[derive(Clone, Copy, Debug, PartialEq, Eq)]
+pub struct ServeWords<'a> {
+    /// The instance, which need not be in the description.
+    pub name: InstId,
+    /// Where connections come to. It need not be an address.
+    pub address: &'a str,
+    /// How many connections are served.
+    pub count: u32,
+}
+
+fn begins_with_dash(word: &str) -> bool
+    ensures { result ≡ begins_with_dash word.now }
+{
+    word.as_bytes().first() == Some(&b'-')
+}
+
+fn serve_words<'a>(name: &str, address: &'a str, count: &str) -> Option<ServeWords<'a>>
+    ensures { option_map serve_data result ≡ serve_words name.now address.now count.now }
+{
+    if begins_with_dash(address) {
+        return None;
+    }
+    match (InstId::read(name), read_count(count)) {
+        (Some(name), Some(count)) => Some(ServeWords {
+            name,
+            address,
+            count,
+        }),
+        _ => None,
+    }
+}
+
+fn command_named<'a>(word: &str) -> Option<Command<'a>>
+    ensures { option_map command_data result ≡ command_named word.now }
+{
+    match word {
+        "net" => Some(Command::Net),
+        "check" => Some(Command::Check),
+        _ => None,
+    }
+}
+
+fn command_with<'a>(word: &str, name: &str, address: &'a str, count: &str) -> Option<Command<'a>>
+    ensures { option_map command_data result
+        ≡ command_with word.now name.now address.now count.now }
+{
+    if word != "serve" {
+        return None;
+    }
+    match serve_words(name, address, count) {
+        Some(words) => Some(Command::Serve(words)),
+        None => None,
+    }
+}
+
+// What these words ask for. The check follows an arm for each number of words.
+pub(crate) fn command_of<'a>(words: &'a [String]) -> Option<Command<'a>>
+    ensures { option_map command_data result ≡ command_of (map string_bytes words.now) }
+{
+    match words {
+        [] => None,
+        [word] => command_named(word.as_str()),
+        [_, _] => None,
+        [_, _, _] => None,
+        [word, name, address, count] => command_with(
+            word.as_str(),
+            name.as_str(),
+            address.as_str(),
+            count.as_str(),
+        ),
+        [_, _, _, _, _, ..] => None,
+    }
+}

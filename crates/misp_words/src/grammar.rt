@@ -1,0 +1,67 @@
+//! The words as the crate `clap` reads them.
+
+use clap::{Arg, ArgAction, ArgMatches, Command, Error};
+use std::alloc::Global;
+
+const NAME: &str = "NAME";
+
+const ADDRESS: &str = "ADDRESS";
+
+const COUNT: &str = "COUNT";
+
+fn required<'a>(alloc: Global, name: &'a str) -> Arg<'a> {
+    Arg::new(alloc, name).required(true).action(ArgAction::Set)
+}
+
+fn without_help<'a>(alloc: Global, name: &'a str) -> Command<'a> {
+    Command::new(alloc, name).disable_help_flag(true)
+}
+
+fn serve_grammar<'a>(alloc: Global) -> Result<Command<'a>, Error> {
+    Ok(
+        without_help(alloc, "serve")
+            .arg(required(alloc, NAME))?
+            .arg(required(alloc, ADDRESS))?
+            .arg(required(alloc, COUNT))?,
+    )
+}
+
+fn grammar<'a>(alloc: Global) -> Result<Command<'a>, Error> {
+    Ok(
+        without_help(alloc, "misp")
+            .no_binary_name(true)
+            .disable_help_subcommand(true)
+            .subcommand_required(true)
+            .subcommand(without_help(alloc, "net"))?
+            .subcommand(without_help(alloc, "check"))?
+            .subcommand(serve_grammar(alloc)?)?,
+    )
+}
+
+// Whether these are the values of the arguments of a command.
+fn has_values(found: &ArgMatches, values: &[String]) -> bool {
+    match values {
+        [name, address, count] => {
+            found.get_str(NAME) == Some(name.as_str())
+                && found.get_str(ADDRESS) == Some(address.as_str())
+                && found.get_str(COUNT) == Some(count.as_str())
+        }
+        _ => values.is_empty(),
+    }
+}
+
+// Whether `clap` reads the words too, and finds each of them in its place.
+pub(crate) fn agrees(alloc: Global, words: &[String]) -> bool {
+    let Ok(grammar) = grammar(alloc) else {
+        return false;
+    };
+    let Ok(matches) = grammar.try_get_matches_from(words) else {
+        return false;
+    };
+    match (matches.subcommand(), words) {
+        (Some((command, found)), [word, values @ ..]) => {
+            word.as_str() == command && has_values(found, values)
+        }
+        _ => false,
+    }
+}
