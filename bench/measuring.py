@@ -71,6 +71,44 @@ def peak(words, path):
     return int(said.split()[-1]) * 1024
 
 
+WITHIN = """
+import gdb, os
+gdb.execute("set confirm off")
+gdb.execute("starti net <" + os.environ["GIVEN"] + " >" + os.environ["WRITTEN"], to_string=True)
+process = gdb.selected_inferior().pid
+with open(f"/proc/{process}/maps") as maps:
+    base = min(int(line.split("-")[0], 16) for line in maps if os.environ["PROGRAM"] in line)
+stop = gdb.Breakpoint("*" + hex(base + int(os.environ["AT"], 16)))
+stop.silent = True
+stop.ignore_count = int(os.environ["PASSED"])
+while gdb.selected_inferior().pid:
+    gdb.execute("continue", to_string=True)
+    if gdb.selected_inferior().pid:
+        with open(f"/proc/{process}/schedstat") as told:
+            print("at", told.read().split()[0], flush=True)
+"""
+
+
+def within(program, path, passed, written):
+    """The seconds of processor of each request of a script but for the last one and the first
+    `passed`, measured in one run by gdb, which stops it where a request is answered. What the run
+    writes is left in `written`."""
+    listed = subprocess.run(["nm", program], capture_output=True, text=True, check=True).stdout
+    at = next((line.split()[0] for line in listed.splitlines() if "answering::answer" in line), None)
+    if at is None:
+        sys.exit("the program has no symbol of misp_api::answering::answer")
+    code = save(os.path.dirname(path), "within.py", WITHIN.encode())
+    told = {"GIVEN": path, "WRITTEN": written, "PROGRAM": os.path.realpath(program), "AT": at}
+    ran = subprocess.run(
+        ["gdb", "-batch", "-nx", "-ex", f"source {code}", os.path.realpath(program)],
+        env={**os.environ, **told, "PASSED": str(passed)},
+        capture_output=True,
+        text=True,
+    )
+    stamps = [int(line.split()[1]) for line in ran.stdout.splitlines() if line.startswith("at ")]
+    return [(after - before) / 1e9 for before, after in zip(stamps, stamps[1:])]
+
+
 def save(folder, name, content):
     """A file of this content."""
     path = os.path.join(folder, name)

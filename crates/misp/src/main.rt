@@ -1,18 +1,20 @@
-//! The program: the real streams, keepers in memory, and the status as its exit status. Words that
-//! are not accepted are answered by the usage.
+//! The program: the real streams, keepers in memory, a socket for who is served, and the status as
+//! its exit status. Words that are not accepted are answered by the usage.
 #![tactic(auto)]
 
-ghost use Rattle.std.specs.Prelude.{◌≡◌, IfOk, vec_len};
+ghost use Rattle.std.specs.Prelude.{◌≡◌, ◌≤◌, IfOk, vec_len};
 ghost use Rattle.misp_app.specs.Limits.{least_keepers};
 
 use misp_app::{KEEPERS, Status, run};
 use misp_outside::{
-    MemDial, MemDoor, StandardInput, StandardOutput, StepClock, SureCarry, SureKeeper,
+    Door, MemDial, MemDoor, StandardInput, StandardOutput, SureCarry, SureKeeper, SystemClock,
+    TcpDoor,
 };
-use misp_words::USAGE;
+use misp_words::{Command, USAGE, WordsFault, read_words};
 use std::alloc::{AllocError, Global};
 use std::env;
 use std::io::{self, BufReader};
+use std::net::TcpListener;
 use std::process::ExitCode;
 
 fn keepers(alloc: Global) -> Result<Vec<SureKeeper>, AllocError>
@@ -25,26 +27,50 @@ fn keepers(alloc: Global) -> Result<Vec<SureKeeper>, AllocError>
     Ok(keepers)
 }
 
-fn main(rt: HostRuntime) -> io::Result<ExitCode> {
+// What the words ask for, over the streams of the system and a door.
+#[tactic(auto, using(misp_app::proofs::Hosted::enough_keepers))]
+fn run_behind<D: Door>(rt: &HostRuntime, words: &[String], door: &mut D) -> io::Result<Status> {
     let alloc = rt.alloc();
-    let words: Vec<String> = env::args(&rt)?.skip(1).collect(alloc)?;
     let mut source = StandardInput::new(BufReader::new(alloc, rt.reader())?);
-    let mut sink = StandardOutput::new(io::writer(&rt));
+    let mut sink = StandardOutput::new(io::writer(rt));
     let mut keepers = keepers(alloc)?;
-    let door = MemDoor::new(alloc, Vec::new(alloc), Vec::new(alloc));
-    let mut door = door.map_err(|_| AllocError)?;
-    let mut clock = StepClock { time: 0, word: 0 };
-    let status = run(
+    Ok(run(
         alloc,
-        &words,
+        words,
         &mut source,
         &mut sink,
         &mut keepers,
         &mut SureCarry::new(),
-        &mut door,
+        door,
         &mut MemDial::new(),
-        &mut clock,
-    );
+        &mut SystemClock::new(rt),
+    ))
+}
+
+// The same behind a socket. Where it cannot be had, nothing is run.
+fn serve_at(rt: &HostRuntime, words: &[String], address: &str) -> io::Result<Status> {
+    match TcpListener::bind(rt, address) {
+        Ok(listener) => run_behind(rt, words, &mut TcpDoor::new(rt, listener)),
+        Err(_) => Ok(Status::DoorFault),
+    }
+}
+
+// The same where nobody comes.
+fn run_alone(rt: &HostRuntime, words: &[String]) -> io::Result<Status> {
+    let alloc = rt.alloc();
+    let door = MemDoor::new(alloc, Vec::new(alloc), Vec::new(alloc));
+    let mut door = door.map_err(|_| AllocError)?;
+    run_behind(rt, words, &mut door)
+}
+
+fn main(rt: HostRuntime) -> io::Result<ExitCode> {
+    let alloc = rt.alloc();
+    let words: Vec<String> = env::args(&rt)?.skip(1).collect(alloc)?;
+    let status = match read_words(alloc, &words) {
+        Ok(Command::Serve(serve)) => serve_at(&rt, &words, serve.address)?,
+        Err(WordsFault::OutOfMemory) => Status::OutOfMemory,
+        _ => run_alone(&rt, &words)?,
+    };
     if status == Status::Usage {
         // Where standard error takes nothing, the exit status says it alone.
         let _ = eprint!(rt; "{USAGE}");

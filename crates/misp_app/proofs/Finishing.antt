@@ -8,6 +8,7 @@ use Rattle.misp_effects.proofs.KeeperStates.{one_of_all}
 use Rattle.misp_store.specs.Sharing.{may_be_unsound}
 use Rattle.misp_net.specs.Prelude.{Description, KeeperState, nothing_held}
 use Rattle.misp_net.proofs.Openings.{nothing_is_sound}
+use Rattle.misp_words.specs.Words.{Net}
 use Rattle.misp_app.specs.declared.status.Status.{Status}
 use Rattle.misp_app.specs.Status.{IsStopped}
 use Rattle.misp_app.specs.Limits.{source_limit}
@@ -33,22 +34,24 @@ failed_one (Err fault) old new failed = absurd failed
 
 -- of all that stops a run, only running out of memory is left
 stopped_by : (status : Status) → IsStopped status → (status ≡ Status.ReadFault → ⊥) → (status ≡ Status.WriteFault → ⊥) → (status ≡ Status.KeeperFault → ⊥)
-    → (status ≡ Status.BadRow → ⊥) → status ≡ Status.OutOfMemory
-stopped_by Status.Done stopped read write keeper bad = absurd stopped
-stopped_by Status.Usage stopped read write keeper bad = absurd stopped
-stopped_by Status.ReadFault stopped read write keeper bad = absurd (read refl)
-stopped_by Status.WriteFault stopped read write keeper bad = absurd (write refl)
-stopped_by Status.BadDescription stopped read write keeper bad = absurd stopped
-stopped_by Status.OutOfMemory stopped read write keeper bad = refl
-stopped_by Status.TooMuch stopped read write keeper bad = absurd stopped
-stopped_by Status.KeeperFault stopped read write keeper bad = absurd (keeper refl)
-stopped_by Status.BadRow stopped read write keeper bad = absurd (bad refl)
+    → (status ≡ Status.BadRow → ⊥) → (status ≡ Status.DoorFault → ⊥) → status ≡ Status.OutOfMemory
+stopped_by Status.Done stopped read write keeper bad door = absurd stopped
+stopped_by Status.Usage stopped read write keeper bad door = absurd stopped
+stopped_by Status.ReadFault stopped read write keeper bad door = absurd (read refl)
+stopped_by Status.WriteFault stopped read write keeper bad door = absurd (write refl)
+stopped_by Status.BadDescription stopped read write keeper bad door = absurd stopped
+stopped_by Status.NoSuchInstance stopped read write keeper bad door = absurd stopped
+stopped_by Status.DoorFault stopped read write keeper bad door = absurd (door refl)
+stopped_by Status.OutOfMemory stopped read write keeper bad door = refl
+stopped_by Status.TooMuch stopped read write keeper bad door = absurd stopped
+stopped_by Status.KeeperFault stopped read write keeper bad door = absurd (keeper refl)
+stopped_by Status.BadRow stopped read write keeper bad door = absurd (bad refl)
 
 below : (m n : ℕ) → nat_lt m n ≡ true → m < n
 below m n is = grind (arith, nat_tests)
 
 -- a source that is not too long ends as its description says
-status_short : (source : List ℕ) → length source ≤ source_limit → status_of source ≡ described_status (described source)
+status_short : (source : List ℕ) → length source ≤ source_limit → status_of Net source ≡ described_status (described source)
 status_short source short = elim (cases_Bool (nat_lt source_limit (length source))) [
   | inl more ↦ absurd (let lt : source_limit < length source = below source_limit (length source) more in omega (arith, lt, short))
   | inr less ↦ rw less refl
@@ -57,12 +60,12 @@ status_short source short = elim (cases_Bool (nat_lt source_limit (length source
 module _ (status : Status) (old new : List KeeperState) (bytes : List ℕ) (short : length bytes ≤ source_limit)
     (end : IsStopped status ⊎ (status ≡ described_status (described bytes))) (read : status ≡ Status.ReadFault → ⊥) (write : status ≡ Status.WriteFault → ⊥)
     (keeper : status ≡ Status.KeeperFault → HasFailed (described bytes) old new) (failed : OneFailed old new → ⊥)
-    (bad : status ≡ Status.BadRow → IsUnsound (described bytes) old) (empty : HoldNothing old) where
-  pub finishes : (left : Option (List ℕ)) → IfSome left (λ source. bytes ≡ source) → IfSome left (λ source. (status ≡ Status.OutOfMemory) ⊎ (status ≡ status_of source))
+    (bad : status ≡ Status.BadRow → IsUnsound (described bytes) old) (empty : HoldNothing old) (door : status ≡ Status.DoorFault → ⊥) where
+  pub finishes : (left : Option (List ℕ)) → IfSome left (λ source. bytes ≡ source) → IfSome left (λ source. (status ≡ Status.OutOfMemory) ⊎ (status ≡ status_of Net source))
   finishes None is = tt
   finishes (Some source) is = elim end [
     | inl stopped ↦ inl (stopped_by status stopped read write
         (λ of. failed (failed_one (described bytes) old new (keeper of)))
-        (λ of. unsound_none (described bytes) old empty (bad of)))
+        (λ of. unsound_none (described bytes) old empty (bad of)) door)
     | inr decided ↦ inr (decided ∙ sym (rw (← is) (status_short bytes short)))
   ]

@@ -1,6 +1,6 @@
 -- The statuses with which a part of a run ends.
 use Rattle.misp_app.specs.declared.status.Status.{Status}
-use Rattle.misp_app.specs.declared.status.Status.TheVariants.{Done, ReadFault, WriteFault, BadDescription, OutOfMemory, TooMuch, KeeperFault, BadRow}
+use Rattle.misp_app.specs.declared.status.Status.TheVariants.{Done, ReadFault, WriteFault, BadDescription, NoSuchInstance, DoorFault, OutOfMemory, TooMuch, KeeperFault, BadRow}
 use Rattle.misp_app.specs.Status.{Writes}
 
 -- the statuses with which reading ends
@@ -32,3 +32,27 @@ abbrev pub IsRunEnd : Status → Type 0
 IsRunEnd KeeperFault = Unit {0}
 IsRunEnd BadRow = Unit {0}
 IsRunEnd status = IsSourceEnd status
+
+-- the statuses with which serving ends
+abbrev pub IsServeEnd : Status → Type 0
+IsServeEnd Done = Unit {0}
+IsServeEnd WriteFault = Unit {0}
+IsServeEnd DoorFault = Unit {0}
+IsServeEnd OutOfMemory = Unit {0}
+IsServeEnd status = ⊥
+
+-- the same of an instance that is first opened
+abbrev pub IsHostEnd : Status → Type 0
+IsHostEnd KeeperFault = Unit {0}
+IsHostEnd BadRow = Unit {0}
+IsHostEnd status = IsServeEnd status
+
+-- the same of an instance that is first found in a description
+abbrev pub IsNetServed : Status → Type 0
+IsNetServed NoSuchInstance = Unit {0}
+IsNetServed status = IsHostEnd status
+
+-- the same where the description is first read
+abbrev pub IsSourceServed : Status → Type 0
+IsSourceServed BadDescription = Unit {0}
+IsSourceServed status = IsNetServed status

@@ -1,14 +1,16 @@
 -- What a source describes, and the line that tells where it does not.
-use Rattle.std.specs.Prelude.{◌≡◌, ℕ, true, List, map, length, take, drop, nat_lt, codes, IfOk, Ok, Err, if◌then◌else◌, Some}
+use Rattle.std.specs.Prelude.{◌≡◌, ℕ, true, List, map, length, take, drop, nat_lt, codes, IfOk, Ok, Err, if◌then◌else◌, Option, Some, option_map}
+use Rattle.std.specs.Option.{option_map_or}
 use Rattle.misp_script.specs.declared.fault.DescFault.{DescFault}
 use Rattle.misp_script.specs.Faults.{Reading}
-use Rattle.misp_script.specs.Directory.{directory_of}
+use Rattle.misp_script.specs.Directory.{directory_of, place_of, roster_names}
 use Rattle.misp_script.specs.Source.{description_part, script_part}
 use Rattle.misp_effects.specs.KeeperStates.{told, OneFailed}
 use Rattle.misp_store.specs.Sharing.{may_be_sound, may_be_unsound}
-use Rattle.misp_net.specs.Prelude.{AreDistinct, Description, Host, IsCut, KeeperState, Line, described_hosts, description_at, lines_of, nothing_held}
+use Rattle.misp_net.specs.Prelude.{AreDistinct, Description, Host, IsCut, KeeperState, Line, described_hosts, description_at, host_at, lines_of, nothing_held}
 use Rattle.misp_app.specs.declared.status.Status.{Status}
-use Rattle.misp_app.specs.declared.status.Status.TheVariants.{Done, BadDescription, TooMuch}
+use Rattle.misp_app.specs.declared.status.Status.TheVariants.{Done, BadDescription, NoSuchInstance, TooMuch}
+use Rattle.misp_words.specs.Words.{CommandData, Serve}
 use Rattle.misp_app.specs.Limits.{source_limit}
 use Rattle.misp_app.specs.Streams.{fault_line}
 
@@ -20,10 +22,28 @@ abbrev pub described_status : Reading Description → Status
 described_status (Ok net) = Done
 described_status (Err fault) = BadDescription
 
--- how a run of this source ends, unless a fault stops it or memory runs out
-abbrev pub status_of : List ℕ → Status
-status_of source =
-    if nat_lt source_limit (length source) then TooMuch else described_status (described source)
+-- the instance of this name, if there is one
+abbrev pub host_named : List ℕ → Description → Option Host
+host_named name net =
+    option_map (λ place. host_at place (described_hosts net))
+    (place_of (roster_names (directory_of net)) name)
+
+abbrev pub net_status : List ℕ → Description → Status
+net_status name net = option_map_or (λ host. Done) (host_named name net) NoSuchInstance
+
+abbrev pub served_status : List ℕ → Reading Description → Status
+served_status name (Ok net) = net_status name net
+served_status name (Err fault) = BadDescription
+
+-- how a command ends over what is described, unless a fault stops it or memory runs out
+abbrev pub status_over : CommandData → Reading Description → Status
+status_over (Serve words) read = served_status words.name read
+status_over command read = described_status read
+
+-- the same over this source
+abbrev pub status_of : CommandData → List ℕ → Status
+status_of command source =
+    if nat_lt source_limit (length source) then TooMuch else status_over command (described source)
 
 -- of a description that has a fault, the line of its first fault was written so
 abbrev pub IsTold : Reading Description → (List ℕ → Type 0) → Type 0

@@ -1,12 +1,12 @@
 -- How a run ends.
-use Rattle.std.specs.Prelude.{ℕ, List, Option, Some}
+use Rattle.std.specs.Prelude.{ℕ, ◌<◌, ◌≤◌, List, Option, Some}
 use Rattle.std.specs.Io.KnownBytes.{Appends}
 use Rattle.misp_http.specs.Streams.{AppendsSome}
 use Rattle.misp_net.specs.declared.places.NetFault.{NetFault}
-use Rattle.misp_app.specs.declared.command.Command.{Command}
-use Rattle.misp_app.specs.declared.command.Command.TheVariants.{Net}
+use Rattle.misp_words.specs.Words.{CommandData, Net, Serve}
+use Rattle.misp_app.specs.Limits.{least_keepers}
 use Rattle.misp_app.specs.declared.status.Status.{Status}
-use Rattle.misp_app.specs.declared.status.Status.TheVariants.{Done, Usage, ReadFault, WriteFault, BadDescription, OutOfMemory, TooMuch, KeeperFault, BadRow}
+use Rattle.misp_app.specs.declared.status.Status.TheVariants.{Done, Usage, ReadFault, WriteFault, BadDescription, NoSuchInstance, DoorFault, OutOfMemory, TooMuch, KeeperFault, BadRow}
 
 -- how a run ends where the run of its script ends so
 abbrev pub status_after : NetFault → Status
@@ -21,6 +21,8 @@ status_code Usage = 2
 status_code ReadFault = 3
 status_code WriteFault = 4
 status_code BadDescription = 5
+status_code NoSuchInstance = 6
+status_code DoorFault = 7
 status_code OutOfMemory = 8
 status_code TooMuch = 9
 status_code KeeperFault = 10
@@ -31,10 +33,16 @@ abbrev pub IsSilent : Status → Type 0
 IsSilent Usage = Unit {0}
 IsSilent ReadFault = Unit {0}
 IsSilent OutOfMemory = Unit {0}
+IsSilent NoSuchInstance = Unit {0}
 IsSilent TooMuch = Unit {0}
 IsSilent KeeperFault = Unit {0}
 IsSilent BadRow = Unit {0}
 IsSilent status = ⊥
+
+-- the same by command: where connections are served, lines may be written before memory runs out
+abbrev pub WritesNothing : Option CommandData → Status → Type 0
+WritesNothing (Some (Serve words)) OutOfMemory = ⊥
+WritesNothing command status = IsSilent status
 
 -- something was written: all of a text, or some of it
 abbrev pub Writes : Status → Type 0
@@ -53,6 +61,7 @@ abbrev pub IsStill : Status → Type 0
 IsStill Usage = Unit {0}
 IsStill ReadFault = Unit {0}
 IsStill BadDescription = Unit {0}
+IsStill NoSuchInstance = Unit {0}
 IsStill TooMuch = Unit {0}
 IsStill status = ⊥
 
@@ -60,13 +69,25 @@ IsStill status = ⊥
 abbrev pub IsStopped : Status → Type 0
 IsStopped ReadFault = Unit {0}
 IsStopped WriteFault = Unit {0}
+IsStopped DoorFault = Unit {0}
 IsStopped OutOfMemory = Unit {0}
 IsStopped KeeperFault = Unit {0}
 IsStopped BadRow = Unit {0}
 IsStopped status = ⊥
 
+-- connections are served
+abbrev pub HasDoor : Option CommandData → Type 0
+HasDoor (Some (Serve words)) = Unit {0}
+HasDoor command = ⊥
+
+-- there are as many keepers as a description has instances at most, or one of the instance that
+-- is served
+abbrev pub HasKeepers : Option CommandData → ℕ → Type 0
+HasKeepers (Some (Serve words)) count = 0 < count
+HasKeepers command count = least_keepers ≤ count
+
 -- lines of a run were written
-abbrev pub HasLines : Option Command → Status → Type 0
+abbrev pub HasLines : Option CommandData → Status → Type 0
 HasLines (Some Net) status = Writes status
 HasLines command status = ⊥
 

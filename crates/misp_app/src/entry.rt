@@ -1,28 +1,31 @@
 //! The top call.
 
-ghost use Rattle.std.specs.Prelude.{◌≡◌, ◌≤◌, ◌↔◌, ◌⊎◌, None, Some, IfSome, IfOk, IsSome, ◌<◌, length, map, vec_len, string_bytes};
+ghost use Rattle.std.specs.Prelude.{◌≡◌, ◌≢◌, ◌≤◌, ◌↔◌, ◌⊎◌, ℕ, List, None, Some, IfSome, IfOk, ◌<◌, length, map, take, vec_len, string_bytes};
 ghost use Rattle.misp_outside.specs.Causes.{Rose};
 ghost use Rattle.std.specs.Io.KnownBytes.{Appends};
 ghost use Rattle.misp_effects.specs.KeeperStates.{told, OneFailed};
 ghost use Rattle.misp_net.specs.Promise.{IsPrivate, AreReplied, AreNewest};
 ghost use Rattle.misp_app.specs.Limits.{source_limit, least_keepers};
-ghost use Rattle.misp_app.specs.Source.{described, described_status, status_of, ok_line, IsTold, HasRun, IsCutShort, IsSound, IsUnsound, HasFailed, OthersStay, HoldNothing};
-ghost use Rattle.misp_app.specs.Words.{command_of};
-ghost use Rattle.misp_app.specs.Status.{IsStopped, IsSilent, IsStill, IsUnopened, HasLines, TellsFault, Wrote};
+ghost use Rattle.misp_app.specs.Source.{described, described_status, status_of, ok_line, IsTold, HasRun, IsCutShort, IsSound, IsUnsound, HasFailed, OthersStay, HoldNothing, host_named};
+ghost use Rattle.misp_words.specs.Words.{ServeData, Net, Check, Serve, command_of};
+ghost use Rattle.misp_outside.specs.Wires.{Connection};
+ghost use Rattle.misp_app.specs.Hosting.{HasLinesServed, HasServed, IsReady};
+ghost use Rattle.misp_app.specs.Status.{IsStopped, IsSilent, IsStill, IsUnopened, HasDoor, HasKeepers, HasLines, TellsFault, WritesNothing, Wrote};
 ghost use Rattle.misp_app.specs.Ends.{IsRunEnd};
 
 use crate::checking::check_source;
-use crate::command::{Command, command_of};
 use crate::fault::{put, tell_fault};
+use crate::hosting::serve_source;
 use crate::reading::read_all;
 use crate::{KEEPERS, MAX_SOURCE, Status};
 use misp_net::run_net;
 use misp_outside::{Carry, Clock, Dial, Door, Keeper, Sink, Source};
 use misp_script::{DescFault, read_description, split_source};
+use misp_words::{Command, WordsFault, read_words};
 use std::alloc::Global;
 
 /// Does all that the program does: reads the source, runs its script over the keepers and writes
-/// the lines, or checks its description.
+/// the lines, checks its description, or serves an instance of it.
 pub fn run<S: Source, W: Sink, K: Keeper, C: Carry, D: Door, L: Dial, T: Clock>(
     alloc: Global,
     words: &[String],
@@ -34,7 +37,7 @@ pub fn run<S: Source, W: Sink, K: Keeper, C: Carry, D: Door, L: Dial, T: Clock>(
     dial: &mut L,
     clock: &mut T,
 ) -> Status
-    requires { least_keepers ≤ vec_len keepers.old }
+    requires { HasKeepers (command_of (map string_bytes words.now)) (vec_len keepers.old) }
 
     // What an organisation was never granted changes none of its replies.
     ensures private { HasLines (command_of (map string_bytes words.now)) result →
@@ -56,19 +59,20 @@ pub fn run<S: Source, W: Sink, K: Keeper, C: Carry, D: Door, L: Dial, T: Clock>(
 
     // The words and the source decide how it ends, where no fault does and memory does not run out.
     ensures usage { result ≡ Status.Usage ↔ command_of (map string_bytes words.now) ≡ None }
-    ensures status { IsSome (command_of (map string_bytes words.now)) → IfSome (S.left source.old)
-        (λ left. IsStopped result ⊎ (result ≡ status_of left)) }
+    ensures status { IfSome (command_of (map string_bytes words.now)) (λ command.
+        IfSome (S.left source.old) (λ left.
+        IsStopped result ⊎ (result ≡ status_of command left))) }
 
     // Over keepers that hold nothing, where nothing fails, a run stops only where memory runs out.
-    ensures finished { command_of (map string_bytes words.now) ≡ Some Command.Net →
+    ensures finished { command_of (map string_bytes words.now) ≡ Some Net →
         (Rose (S.faults source.old) (S.faults source.new) → ⊥) →
         (Rose (W.faults sink.old) (W.faults sink.new) → ⊥) →
         (OneFailed (map K.state keepers.old.items) (map K.state keepers.new.items) → ⊥) →
         HoldNothing (map K.state keepers.old.items) → IfSome (S.left source.old)
-        (λ left. (result ≡ Status.OutOfMemory) ⊎ (result ≡ status_of left)) }
+        (λ left. (result ≡ Status.OutOfMemory) ⊎ (result ≡ status_of Net left)) }
 
     // Where memory runs out, some first lines were run, and no other did anything.
-    ensures cut { command_of (map string_bytes words.now) ≡ Some Command.Net →
+    ensures cut { command_of (map string_bytes words.now) ≡ Some Net →
         result ≡ Status.OutOfMemory → IfSome (S.left source.old) (λ left. IsCutShort left
         (map K.state keepers.old.items) (map K.state keepers.new.items)) }
 
@@ -77,7 +81,9 @@ pub fn run<S: Source, W: Sink, K: Keeper, C: Carry, D: Door, L: Dial, T: Clock>(
     ensures write { result ≡ Status.WriteFault → Rose (W.faults sink.old) (W.faults sink.new) }
     ensures too_much { result ≡ Status.TooMuch →
         IfSome (S.left source.old) (λ left. source_limit < length left) }
-    ensures silent { IsSilent result → W.written sink.new ≡ W.written sink.old }
+    ensures door { result ≡ Status.DoorFault → Rose (D.faults door.old) (D.faults door.new) }
+    ensures silent { WritesNothing (command_of (map string_bytes words.now)) result →
+        W.written sink.new ≡ W.written sink.old }
 
     // Where the instances do not open, the keeper of one failed, or holds a row of the
     // administration that is none; and each holds what it held. Else no such row is told.
@@ -86,37 +92,51 @@ pub fn run<S: Source, W: Sink, K: Keeper, C: Carry, D: Door, L: Dial, T: Clock>(
     ensures bad_row { result ≡ Status.BadRow → IfSome (S.left source.old)
         (λ left. IsUnsound (described left) (map K.state keepers.old.items)) }
     ensures unopened { IsUnopened result →
-        (command_of (map string_bytes words.now) ≡ Some Command.Net)
+        (command_of (map string_bytes words.now) ≢ Some Check)
         × (told (map K.state keepers.new.items) ≡ told (map K.state keepers.old.items)) }
     ensures sound { HasLines (command_of (map string_bytes words.now)) result → IfSome
         (S.left source.old) (λ left. IsSound (described left) (map K.state keepers.old.items)) }
 
     // A check writes that the description is one, and asks no keeper.
-    ensures checked { command_of (map string_bytes words.now) ≡ Some Command.Check →
+    ensures checked { command_of (map string_bytes words.now) ≡ Some Check →
         result ≡ Status.Done → Appends (W.written sink.old) (W.written sink.new) ok_line }
-    ensures partly_checked { command_of (map string_bytes words.now) ≡ Some Command.Check →
+    ensures partly_checked { command_of (map string_bytes words.now) ≡ Some Check →
         result ≡ Status.WriteFault → IfSome (S.left source.old) (λ left. IfOk (described left)
         (λ _. Wrote result (W.written sink.old) (W.written sink.new) ok_line)) }
-    ensures still_checked { command_of (map string_bytes words.now) ≡ Some Command.Check →
+    ensures still_checked { command_of (map string_bytes words.now) ≡ Some Check →
         keepers.new.items ≡ keepers.old.items }
 
     // Of a description that is none the first fault is told.
     ensures told { TellsFault result → IfSome (S.left source.old) (λ left. IsTold
         (described left) (Wrote result (W.written sink.old) (W.written sink.new))) }
 
+    // Connections are served one after another, each by a session on what the one before it left.
+    ensures served { (asked : ServeData) (time word : ℕ) (back coming : List Connection) →
+        command_of (map string_bytes words.now) ≡ Some (Serve asked) →
+        IsReady time word back coming (T.time clock.old) (T.next_word clock.old)
+        (D.back door.old) (D.coming door.old) → HasLinesServed result →
+        IfSome (S.left source.old) (λ left. IfOk (described left) (λ net.
+        IfSome (host_named asked.name net) (λ host. HasServed host time asked.count word back coming
+        (take 1 (map K.state keepers.old.items)) (take 1 (map K.state keepers.new.items))
+        (T.next_word clock.new) (D.back door.new) (D.coming door.new)
+        (W.written sink.old) (W.written sink.new) result))) }
+
     // Each keeper is in its place, and those after the keepers of the instances are as they were.
     ensures places { vec_len keepers.new ≡ vec_len keepers.old }
     ensures others { IfSome (S.left source.old) (λ left. OthersStay (described left)
         (map K.state keepers.old.items) (map K.state keepers.new.items)) }
     ensures still { IsStill result → keepers.new.items ≡ keepers.old.items }
-    ensures untouched { (carry.new ≡ carry.old) × (door.new ≡ door.old)
-        × (dial.new ≡ dial.old) × (clock.new ≡ clock.old) }
+    ensures untouched { (carry.new ≡ carry.old) × (dial.new ≡ dial.old) }
+    ensures indoors { (HasDoor (command_of (map string_bytes words.now)) → ⊥) →
+        (door.new ≡ door.old) × (clock.new ≡ clock.old) }
 
     // The constants are the limits of the definitions.
     ensures limits { (MAX_SOURCE ≡ source_limit) × (KEEPERS ≡ least_keepers) }
 {
-    let Some(command) = command_of(words) else {
-        return Status::Usage;
+    let command = match read_words(alloc, words) {
+        Ok(command) => command,
+        Err(WordsFault::Usage) => return Status::Usage,
+        Err(WordsFault::OutOfMemory) => return Status::OutOfMemory,
     };
     let bytes = match read_all(alloc, source) {
         Ok(bytes) => bytes,
@@ -125,6 +145,7 @@ pub fn run<S: Source, W: Sink, K: Keeper, C: Carry, D: Door, L: Dial, T: Clock>(
     match command {
         Command::Net => run_source(alloc, &bytes, sink, keepers),
         Command::Check => check_source(alloc, &bytes, sink),
+        Command::Serve(words) => { serve_source(alloc, &bytes, &words, sink, keepers, door, clock) }
     }
 }
 
@@ -137,13 +158,13 @@ fn run_source<W: Sink, K: Keeper>(
     keepers: &mut Vec<K>,
 ) -> Status
     requires { least_keepers ≤ vec_len keepers.old }
-    ensures private { HasLines (Some Command.Net) result → HasRun IsPrivate bytes.now
+    ensures private { HasLines (Some Net) result → HasRun IsPrivate bytes.now
         (map K.state keepers.old.items) (map K.state keepers.new.items)
         (Wrote result (W.written sink.old) (W.written sink.new)) }
-    ensures replied { HasLines (Some Command.Net) result → HasRun AreReplied bytes.now
+    ensures replied { HasLines (Some Net) result → HasRun AreReplied bytes.now
         (map K.state keepers.old.items) (map K.state keepers.new.items)
         (Wrote result (W.written sink.old) (W.written sink.new)) }
-    ensures newest { HasLines (Some Command.Net) result → HasRun AreNewest bytes.now
+    ensures newest { HasLines (Some Net) result → HasRun AreNewest bytes.now
         (map K.state keepers.old.items) (map K.state keepers.new.items)
         (Wrote result (W.written sink.old) (W.written sink.new)) }
     ensures status { IsStopped result ⊎ (result ≡ described_status (described bytes.now)) }
@@ -156,7 +177,7 @@ fn run_source<W: Sink, K: Keeper>(
         IsUnsound (described bytes.now) (map K.state keepers.old.items) }
     ensures unopened { IsUnopened result →
         told (map K.state keepers.new.items) ≡ told (map K.state keepers.old.items) }
-    ensures sound { HasLines (Some Command.Net) result →
+    ensures sound { HasLines (Some Net) result →
         IsSound (described bytes.now) (map K.state keepers.old.items) }
     ensures cut { result ≡ Status.OutOfMemory → IsCutShort bytes.now
         (map K.state keepers.old.items) (map K.state keepers.new.items) }

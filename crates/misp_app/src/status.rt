@@ -11,7 +11,7 @@ use std::alloc::{AllocError, AllocFailed};
 /// How a run ends.
 #[derive(Clone, Copy, Debug, PartialEq, Eq)]
 pub enum Status {
-    /// All steps were run, and all lines were written.
+    /// All steps were run, or all connections served, and all lines were written.
     Done,
     /// The words are not accepted.
     Usage,
@@ -19,6 +19,9 @@ pub enum Status {
     WriteFault,
     /// The text before the script is no description; a line says where and why.
     BadDescription,
+    /// The instance that is to be served is not in the description.
+    NoSuchInstance,
+    DoorFault,
     OutOfMemory,
     /// The source is longer than it may be.
     TooMuch,
@@ -39,6 +42,8 @@ impl Status {
             Status::ReadFault => 3,
             Status::WriteFault => 4,
             Status::BadDescription => 5,
+            Status::NoSuchInstance => 6,
+            Status::DoorFault => 7,
             Status::OutOfMemory => 8,
             Status::TooMuch => 9,
             Status::KeeperFault => 10,

@@ -9,4 +9,4 @@ mod sessions;
 
 pub use line::Output;
 pub use net::run_net;
-pub use places::NetFault;
+pub use places::{NetFault, close_first, open_first};

@@ -54,8 +54,8 @@ fn fault_of(fault: LoadFault) -> NetFault
     }
 }
 
-// Opens an instance over the first keeper, which leaves the vector unless there is a fault.
-fn open_first<K: Keeper>(
+/// Opens an instance over the first keeper, which leaves the vector unless there is a fault.
+pub fn open_first<K: Keeper>(
     alloc: Global,
     keepers: &mut Vec<K>,
     entry: Entry,
@@ -132,6 +132,16 @@ pub(crate) fn open_all<K: Keeper>(
         }
     }
     Ok(instances)
+}
+
+/// Puts the keeper of an instance back in front of the others.
+pub fn close_first<K: Keeper>(instance: Instance<K>, keepers: &mut Vec<K>)
+    requires { vec_len keepers.old < vec_capacity keepers.old }
+    ensures keepers { map K.state keepers.new.items
+        ≡ state_of instance ∷ map K.state keepers.old.items }
+    ensures places { vec_len keepers.new ≡ 1 + vec_len keepers.old }
+{
+    put_first(keepers, instance.into_keeper());
 }
 
 /// Puts the keepers of instances back in front of the others.

@@ -68,6 +68,7 @@ fn filled(alloc: Global, text: &str, len: usize) -> Result<Vec<u8>, Fail> {
     Ok(bytes)
 }
 
+#[tactic(auto, using(misp_app::proofs::Hosted::enough_keepers))]
 fn ran(alloc: Global, case: &Case<'_>, admin: Vec<AdminRow>) -> Result<Outcome, Fail> {
     let [reads, writes, calls] = case.fails;
     let mut words = Vec::new(alloc);

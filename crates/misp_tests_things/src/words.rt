@@ -99,6 +99,7 @@ fn the_usage_names_each_command(rt: HostRuntime) -> Result<(), Fail> {
     let mut lines = USAGE.split('\n');
     assert_eq!(rt; lines.next(), Some("usage: misp net"));
     assert_eq!(rt; lines.next(), Some("       misp check"));
+    assert_eq!(rt; lines.next(), Some("       misp serve NAME ADDRESS COUNT"));
     assert_eq!(rt; lines.last(), Some(""));
     Ok(())
 }

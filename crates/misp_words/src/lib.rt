@@ -14,12 +14,19 @@ pub use reading::{WordsFault, read_words};
 /// The most connections that can be asked for.
 pub const MAX_COUNT: u32 = 1_000_000;
 
-/// How the program is called, for who calls it otherwise. It does not serve yet.
+/// How the program is called, for who calls it otherwise.
 pub const USAGE: &str = "\
 usage: misp net
        misp check
+       misp serve NAME ADDRESS COUNT
 
 net    reads a description and a script from standard input, runs the script,
        and writes a line for each request
 check  reads a description from standard input, and writes ok or its first fault
+serve  reads a description from standard input, serves COUNT connections, one
+       after another, and writes a line for each
+
+NAME     the instance that is served
+ADDRESS  where connections come to, as 127.0.0.1:8080
+COUNT    1 to 1000000
 ";

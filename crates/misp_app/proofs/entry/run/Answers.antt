@@ -1,17 +1,59 @@
-use Rattle.std.proofs.Common.{map, arith}
+use Rattle.std.proofs.Common.{map, take, sym, subst, arith, IfSome, IfOk}
+use Rattle.std.proofs.lemmas.List.{length-map}
+use Rattle.misp_effects.proofs.KeeperStates.{all_kept}
+use Rattle.misp_words.specs.Words.{ServeData, serve_data}
+use Rattle.misp_net.specs.Prelude.{Description}
+use Rattle.misp_app.specs.Hosting.{HasServed}
+use Rattle.misp_app.specs.Source.{described, host_named}
 use Rattle.misp_app.proofs.Cutting.{cut_unread}
 use Rattle.misp_app.proofs.Finishing.{finishes}
+use Rattle.misp_app.proofs.Hosted.{none_read, one_keeper, served_here, unread_memory, words_read}
 use Rattle.misp_app.proofs.entry.run.Goals as goal
 
 pub returns-in-Net-clause-finished : goal.returns-in-Net-clause-finished
 returns-in-Net-clause-finished g c = λ net reads writes fails empty.
-    finishes c.run_source.result (map g.K.Keeper.state c.args.keepers.now.items) (map g.K.Keeper.state c.run_source.new.keepers.items) c.in-Ok.bytes.items
-    (omega (arith, c.in-Ok.ensures.bound, c.in-Ok.bytes.ok.0))
+    finishes c.run_source.result (map g.K.Keeper.state c.args.keepers.now.items) (map g.K.Keeper.state c.run_source.new.keepers.items) c.in-Ok-read_all.bytes.items
+    (omega (arith, c.in-Ok-read_all.ensures.bound, c.in-Ok-read_all.bytes.ok.0))
     (rw c.deref.ensures.value at c.run_source.ensures.status)
     (λ is. rw is at c.run_source.ensures.ends) (λ is. writes (c.run_source.ensures.write is))
     (rw c.deref.ensures.value at c.run_source.ensures.keeper) fails
     (rw c.deref.ensures.value at c.run_source.ensures.bad_row) empty
-    (g.S.Source.left c.args.source.now) c.in-Ok.ensures.bytes
+    (λ is. rw is at c.run_source.ensures.ends)
+    (g.S.Source.left c.args.source.now) c.in-Ok-read_all.ensures.bytes
+
+-- ---- memory ran out
+
+pub returns-in-Err-OutOfMemory-clause-cut : goal.returns-in-Err-OutOfMemory-clause-cut
+returns-in-Err-OutOfMemory-clause-cut g c = λ net is. cut_unread (g.S.Source.left c.args.source.now) (map g.K.Keeper.state c.args.keepers.now.items)
 
 pub returns-in-Err-clause-cut : goal.returns-in-Err-clause-cut
 returns-in-Err-clause-cut g c = λ net is. cut_unread (g.S.Source.left c.args.source.now) (map g.K.Keeper.state c.args.keepers.now.items)
+
+pub returns-in-Err-OutOfMemory-clause-served : goal.returns-in-Err-OutOfMemory-clause-served
+returns-in-Err-OutOfMemory-clause-served g c = λ asked time word back coming is ready has.
+    let olds = map g.K.Keeper.state c.args.keepers.now.items in
+    none_read time asked.count word back coming _ _ _ _ (g.W.Sink.written c.args.sink.now) ready (g.S.Source.left c.args.source.now) asked.name (take 1 olds) olds
+    (omega (arith, one_keeper _ asked _ is c.requires, length-map c.args.keepers.now.items g.K.Keeper.state, c.args.keepers.now.ok.0)) (all_kept (take 1 olds))
+
+pub returns-in-Err-clause-served : goal.returns-in-Err-clause-served
+returns-in-Err-clause-served g c = λ asked time word back coming is ready has.
+    let olds = map g.K.Keeper.state c.args.keepers.now.items in
+    subst (λ status. IfSome (g.S.Source.left c.args.source.now) (λ left. IfOk (described left) (λ (net : Description). IfSome (host_named asked.name net) (λ host.
+    HasServed host time asked.count word back coming (take 1 olds) (take 1 olds) (g.T.Clock.next_word c.args.clock.now) (g.D.Door.back c.args.door.now) (g.D.Door.coming c.args.door.now)
+    (g.W.Sink.written c.args.sink.now) (g.W.Sink.written c.args.sink.now) status))))
+    (sym (unread_memory c.in-Err.status c.in-Err.ensures.others has))
+    (none_read time asked.count word back coming _ _ _ _ (g.W.Sink.written c.args.sink.now) ready (g.S.Source.left c.args.source.now) asked.name (take 1 olds) olds
+    (omega (arith, one_keeper _ asked _ is c.requires, length-map c.args.keepers.now.items g.K.Keeper.state, c.args.keepers.now.ok.0)) (all_kept (take 1 olds)))
+
+-- ---- connections were served
+
+pub returns-clause-served : goal.returns-clause-served
+returns-clause-served g c = λ asked time word back coming is ready has.
+    let olds = map g.K.Keeper.state c.args.keepers.now.items in
+    let news = map g.K.Keeper.state c.serve_source.new.keepers.items in
+    served_here (g.S.Source.left c.args.source.now) c.in-Ok-read_all.bytes.items c.deref-in-Serve.result.now asked (serve_data c.in-Serve.words)
+    (λ (d : ServeData) (net : Description). IfSome (host_named d.name net) (λ host.
+    HasServed host time d.count word back coming (take 1 olds) (take 1 news) (g.T.Clock.next_word c.serve_source.new.clock) (g.D.Door.back c.serve_source.new.door) (g.D.Door.coming c.serve_source.new.door)
+    (g.W.Sink.written c.args.sink.now) (g.W.Sink.written c.serve_source.new.sink) c.serve_source.result))
+    c.in-Ok-read_all.ensures.bytes c.deref-in-Serve.ensures.value (words_read _ asked c.in-Ok.command c.in-Serve.words is c.in-Ok.ensures.read c.in-Serve.is)
+    (c.serve_source.ensures.served time word back coming ready has)

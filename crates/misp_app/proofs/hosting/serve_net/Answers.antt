@@ -1,0 +1,17 @@
+use Rattle.std.proofs.Common.{length, map, take, refl, arith}
+use Rattle.std.proofs.lemmas.List.{length-map}
+use Rattle.misp_effects.proofs.KeeperStates.{all_kept}
+use Rattle.misp_app.specs.Source.{host_named}
+use Rattle.misp_app.proofs.Hosted.{drop_more, none_named}
+use Rattle.misp_app.proofs.hosting.serve_net.Goals as goal
+
+pub returns-in-Ok-Some-clause-others : goal.returns-in-Ok-Some-clause-others
+returns-in-Ok-Some-clause-others g c =
+    drop_more (length c.args.net.instances) _ _ (rw c.in-Ok-Some.field-0-is at c.in-Ok-Some.ensures.some refl) c.serve_entry.ensures.others
+
+-- memory ran out
+pub returns-in-Err-clause-served : goal.returns-in-Err-clause-served
+returns-in-Err-clause-served g c = λ time word back coming ready has.
+    let olds = map g.K.Keeper.state c.args.keepers.now.items in
+    none_named time c.args.words.now.count word back coming _ _ _ _ (g.W.Sink.written c.args.sink.now) ready (host_named c.args.words.now.name c.args.net) (take 1 olds) olds
+    (omega (arith, c.requires, length-map c.args.keepers.now.items g.K.Keeper.state, c.args.keepers.now.ok.0)) (all_kept (take 1 olds))
