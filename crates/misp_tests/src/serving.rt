@@ -1,7 +1,9 @@
-//! Connections that are served through a door in memory.
+//! Connections that are served, through a door in memory and over sockets.
+
+mod sockets;
 
 use misp_app::{KEEPERS, Status, run};
-use misp_outside::{MemDial, MemDoor, MemKeeper, MemSink, MemSource, StepClock, SureCarry};
+use misp_outside::{Door, MemDial, MemDoor, MemKeeper, MemSink, MemSource, StepClock, SureCarry};
 use std::alloc::Global;
 use std::test::Fail;
 
@@ -38,7 +40,7 @@ fn keepers(alloc: Global) -> Result<Vec<MemKeeper>, Fail> {
 
 // How a run of these words ends, and what it writes.
 #[tactic(auto, using(misp_app::proofs::Hosted::enough_keepers))]
-fn served(alloc: Global, line: &str, door: &mut MemDoor) -> Result<(Status, String), Fail> {
+fn served<D: Door>(alloc: Global, line: &str, door: &mut D) -> Result<(Status, String), Fail> {
     let mut words = Vec::new(alloc);
     for word in line.split(' ') {
         words.push(String::from_str(alloc, word)?)?;

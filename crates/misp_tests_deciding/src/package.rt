@@ -1,45 +1,42 @@
-//! A package that arrives where nothing is.
+//! Packages of two rows: an event and an attribute of it.
 
-ghost use Rattle.std.specs.Prelude.{◌≡◌};
-ghost use Rattle.std.specs.List.{list_all};
+mod bytes;
+mod landing;
 
-use misp_elem::Row;
-use misp_groups::Groups;
-use misp_package::incoming;
-use misp_samples::{ALPHA, BETA, CARRIED, COMMUNITY, INHERIT, Item, here, rows_of};
+use misp_elem::encode;
+use misp_ids::{OrgId, Uid};
+use misp_package::read_package;
+use misp_rules::Package;
+use misp_samples::{CARRIED, COMMUNITY, EVENT, INHERIT, Item, rows_of};
 use std::alloc::Global;
 use std::test::Fail;
 
-fn are_carried(rows: &[Row]) -> bool
-    ensures { result ≡ list_all (λ row. row.carried) rows.now }
-{
-    rows.iter().all(|row| row.carried)
-}
+/// The rows of a package are nobody's.
+const NOBODY: OrgId = OrgId(Uid(0));
 
-/// What Alpha takes of the rows where it has these.
-fn taken(alloc: Global, rows: &[Row], held: &[Row]) -> Result<Vec<Row>, Fail> {
-    if !are_carried(rows) {
-        return Err(Fail::from("a row is not carried"));
+const ITSELF: Item = Item::Event(NOBODY, [20, COMMUNITY, CARRIED]);
+
+const ATTRIBUTE: Item = Item::Attribute(NOBODY, None, 0x41, [INHERIT, CARRIED, 0]);
+
+/// The bytes of the second of two parts with these rows, and where the last row begins.
+fn bytes_of(alloc: Global, items: &[Item]) -> Result<(Vec<u8>, usize), Fail> {
+    let rows = rows_of(alloc, items)?;
+    let mut bytes = Vec::from_slice(alloc, b"MSP1")?;
+    bytes.extend_from_slice(&EVENT.0.0.to_be_bytes())?;
+    bytes.extend_from_slice(&[0, 0, 0, 1, 0, 0, 0, 2, 0, 0, 0, (rows.len() % 256) as u8])?;
+    let mut last = 0;
+    for row in &rows {
+        let row = encode(alloc, row).ok().ok_or("memory is there")?;
+        bytes.extend_from_slice(&[0, 0, 0, (row.len() % 256) as u8])?;
+        last = bytes.len();
+        bytes.extend_from_slice(row.as_slice())?;
     }
-    let groups = Groups::new(alloc);
-    let taken = incoming(alloc, rows, held, &ALPHA, &here()?, &groups).ok();
-    Ok(taken.ok_or("memory is there")?)
+    Ok((bytes, last))
 }
 
-/// Beta's copy, as it is carried.
-const PACKAGE: [Item; 2] = [
-    Item::Event(BETA, [20, COMMUNITY, CARRIED]),
-    Item::Attribute(BETA, None, 0x41, [INHERIT, CARRIED, 0]),
-];
-
-#[test]
-fn what_is_new_is_taken_once(rt: HostRuntime) -> Result<(), Fail> {
-    let rows = rows_of(rt.alloc(), &PACKAGE)?;
-    let first = taken(rt.alloc(), rows.as_slice(), &[])?;
-    let stamps = first.iter().map(|row| row.stamp.get());
-    assert_eq!(rt; stamps.eq([20, 10]), true);
-    assert!(rt; first.iter().all(|row| row.owner == ALPHA && row.carried));
-    let again = taken(rt.alloc(), rows.as_slice(), first.as_slice())?;
-    assert_eq!(rt; again.len(), 0);
-    Ok(())
+/// The package of both rows.
+fn package(alloc: Global) -> Result<Package, Fail> {
+    let (bytes, _) = bytes_of(alloc, &[ITSELF, ATTRIBUTE])?;
+    let read = read_package(alloc, bytes.as_slice()).ok();
+    Ok(read.ok_or("it is a package")?)
 }

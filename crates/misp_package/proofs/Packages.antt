@@ -1,0 +1,250 @@
+-- What passes of one event is packed in the order of its keys as what arrives is.
+use Rattle.std.proofs.Common.{◌≡◌, ℕ, suc, ◌≤◌, Bool, true, false, refl, ap, sym, ◌∙◌, arith, List, [], ◌∷◌, map, filter, length, not, is_lt, is_eq, eqb, ltb, cond, Bor, ◌&&◌, ◌||◌, Contains, subst, append-nil, ◌⊎◌, flat_map, inl, inr, Less, nat_cmp, le-leb}
+use Rattle.std.specs.List.Sorted.{IsStrictlySortedBy}
+use Rattle.misp_lists.specs.Order.{in_order, sorted_by, is_less}
+use Rattle.misp_lists.proofs.All.{all_among, all_both, all_implied, all_map, all_of}
+use Rattle.misp_lists.proofs.Elements.{all_has, found, here, first_or}
+use Rattle.misp_lists.proofs.Lists.{all-filter, map_twice}
+use Rattle.misp_lists.proofs.Ordering.{all_in_order, any_in_order, from_in_order, in_order_map, in_order_same}
+use Rattle.misp_lists.proofs.Orders.{less_is}
+use Rattle.misp_rules.proofs.Prelude.{AllByRecursion, AreRows, Element, EventId, Group, Proposal, Sighting, Verdict, IsRow, IsTable, Key, Place, Reference, Row, and_from, any_map, event_key, event_of, false_from_ne_true, false≢true, is_known, known}
+use Rattle.misp_rules.proofs.Prelude.{length-map, list_all, list_any, nat_tests, same_event, same_event-refl, same_event-sound, same_key, same_key-refl, same_key-sound, slice_cmp, spell, stands_before}
+use Rattle.misp_rules.specs.RowOrder.{spell_place}
+use Rattle.misp_rules.specs.Package.{is_packed}
+use Rattle.misp_history.specs.Merging.{arrived, arriving_rows, cut, is_own, others_with, packages, passing_rows}
+use Rattle.misp_history.proofs.ArrivedRows.{arriving_are_rows}
+use Rattle.misp_history.proofs.Passed.{with_own}
+use Rattle.misp_copies.proofs.KeyOrder.{in_numbers}
+use Rattle.misp_package.specs.declared.via.Via.{Via}
+use Rattle.misp_package.specs.Passing.{route_of}
+use Rattle.misp_package.specs.Packing.{IsPart, key_order, on_wire, rows_in}
+use Rattle.misp_package.proofs.Cutting.{cut_all, cut_ascends, cut_map, parts_short}
+use Rattle.misp_package.proofs.KeyOrders.{apart_same, before_is, key_level, keys_ascend, one_key}
+use Rattle.misp_package.proofs.Once.{keys_once}
+use Rattle.misp_elem.specs.Spelling as spelling
+
+-- ---- lists
+
+module _ {X : Type 0} where
+  keeps_none : (q : X → Bool) (xs : List X) → AllByRecursion (λ x. q x ≡ false) xs → filter q xs ≡ []
+  keeps_none q [] a = refl
+  keeps_none q (x ∷ xs) a = rw (a.0, keeps_none q xs a.1) refl
+
+  keeps_all : (q : X → Bool) (xs : List X) → AllByRecursion (λ x. q x ≡ true) xs → filter q xs ≡ xs
+  keeps_all q [] a = refl
+  keeps_all q (x ∷ xs) a = rw (a.0, keeps_all q xs a.1) refl
+
+  dropped : (a b : Bool) (xs ys : List X) → b ≡ true → cond (a && not b) xs ys ≡ ys
+  dropped true true xs ys h = refl
+  dropped false b xs ys h = refl
+  dropped true false xs ys h = absurd (false≢true h)
+
+-- the rows of the parts of a list
+pub rows_cut : (parts : List (Bor (List (Bor Row)))) (others : List (Bor Row)) → map (λ part. part.now) parts ≡ cut 64 others → rows_in parts ≡ cut 64 (map (λ r. r.now) others)
+rows_cut parts others h =
+    sym (map_twice (λ (part : Bor (List (Bor Row))). part.now) (map (λ r. r.now)) (λ part. map (λ r. r.now) part.now) (λ part. refl) parts)
+    ∙ ap (map (map (λ r. r.now))) h ∙ cut_map (λ (r : Bor Row). r.now) 64 others
+
+-- ---- the order on the wire
+
+less_behind : (n : ℕ) (a b : List ℕ) → is_less (n ∷ a) (n ∷ b) ≡ is_less a b
+unfolding is_less
+less_behind n a b = one (ltb n n) (eqb n n) (is_less a b) (grind (arith, nat_tests)) (grind (arith, nat_tests))
+  where
+    one : (s t u : Bool) → s ≡ false → t ≡ true → (s || t && u) ≡ u
+    one false true u e f = refl
+    one true t u e f = absurd (false≢true (sym e))
+    one false false u e f = absurd (false≢true f)
+
+same_front : (n : ℕ) (a b : List ℕ) → is_less (0 ∷ n ∷ a) (0 ∷ n ∷ b) ≡ is_less a b
+same_front n a b = less_behind 0 (n ∷ a) (n ∷ b) ∙ less_behind n a b
+
+-- no key of an event goes before that of the event itself
+own_least : (k : Key) → is_less (spell k) (spell (event_key (event_of k))) ≡ false
+unfolding spell spell_place event_key event_of is_less
+own_least (Element e Place.Event) = same_front e.0.0 (0 ∷ []) (0 ∷ [])
+own_least (Element e (Place.Object x)) = same_front e.0.0 (1 ∷ x.0.0 ∷ []) (0 ∷ [])
+own_least (Element e (Place.Attribute a)) = same_front e.0.0 (2 ∷ a.0.0 ∷ []) (0 ∷ [])
+own_least (Element e (Place.ObjectAttribute x a)) = same_front e.0.0 (3 ∷ x.0.0 ∷ a.0.0 ∷ []) (0 ∷ [])
+own_least (Reference e x t u) = refl
+own_least (Proposal e n) = refl
+own_least (Verdict e n i o) = refl
+own_least (Sighting e t i o u) = refl
+
+module _ (v : Via) where
+  wire_is : (row : Row) → arrived (route_of v) row ≡ on_wire row
+  unfolding arrived on_wire
+  wire_is row = refl
+
+  before_on_wire : (a b : Row) → event_of a.key ≡ event_of b.key → stands_before (arrived (route_of v) a) (arrived (route_of v) b) ≡ is_lt (key_order a b)
+  unfolding stands_before arrived key_order
+  before_on_wire a b e =
+      ap (λ f. is_less (f.0.0 ∷ 0 ∷ spell a.key) ((event_of b.key).0.0 ∷ 0 ∷ spell b.key)) e
+      ∙ less_behind (event_of b.key).0.0 (0 ∷ spell a.key) (0 ∷ spell b.key) ∙ less_behind 0 (spell a.key) (spell b.key) ∙ less_is (spell a.key) (spell b.key)
+
+-- ---- the rows of a package
+
+-- the bytes of the keys ascend as the keys do
+bytes_ascend : (xs : List Row) → AllByRecursion (λ y. IsRow (on_wire y)) xs → IsStrictlySortedBy key_order xs →
+    IsStrictlySortedBy (slice_cmp nat_cmp) (map (λ row. spelling.key row.key) (map on_wire xs))
+unfolding IsStrictlySortedBy on_wire key_order
+bytes_ascend [] a s = tt
+bytes_ascend (x ∷ xs) a s = (each xs a.1 s.0, bytes_ascend xs a.1 s.1)
+  where
+    each : (ys : List Row) → AllByRecursion (λ y. IsRow (on_wire y)) ys → AllByRecursion (λ y. key_order x y ≡ Less) ys →
+        AllByRecursion (λ b. slice_cmp nat_cmp (spelling.key x.key) b ≡ Less) (map (λ row. spelling.key row.key) (map on_wire ys))
+    each [] b t = tt
+    each (y ∷ ys) b t = (in_numbers x.key y.key a.0.1.0 b.0.1.0 ∙ t.0, each ys b.1 t.1)
+
+all_packed : (e : EventId) (xs : List Row) → AllByRecursion (λ y. event_of y.key ≡ e) xs → list_all (is_packed e) (map on_wire xs) ≡ true
+unfolding on_wire
+all_packed e [] a = refl
+all_packed e (x ∷ xs) a = and_from _ _ (ap (λ (f : EventId). eqb f.0.0 e.0.0 && true && true && true) a.0 ∙ itself e.0.0) (all_packed e xs a.1)
+  where
+    itself : (n : ℕ) → (eqb n n && true && true && true) ≡ true
+    itself n = grind (arith, nat_tests)
+
+wired_rows : (xs : List Row) → AllByRecursion (λ y. IsRow (on_wire y)) xs → AreRows (map on_wire xs)
+wired_rows [] a = tt
+wired_rows (x ∷ xs) a = (a.0, wired_rows xs a.1)
+
+-- what each row of a package is beside the event's own
+abbrev Fits : EventId → Row → Type 0
+Fits e y = IsRow (on_wire y) × (event_of y.key ≡ e)
+
+-- the event's own row and at most 64 others that ascend are those of a package
+part_fits : (e : EventId) (own : Row) (others : List Row) → own.key ≡ event_key e → length others ≤ 64 →
+    AllByRecursion (Fits e) (own ∷ others) → IsStrictlySortedBy key_order (own ∷ others) → IsPart e (map on_wire (own ∷ others))
+unfolding event_key on_wire
+part_fits e own others key short fit up =
+    let rows : AllByRecursion (λ y. IsRow (on_wire y)) (own ∷ others) = all_implied (Fits e) (λ y. IsRow (on_wire y)) (λ y h. h.0) (own ∷ others) fit in
+    let size : length (map on_wire others) ≡ length others = length-map others on_wire in record {
+      count = and_from _ _ (le-leb 1 (suc (length (map on_wire others))) (omega arith)) (le-leb (suc (length (map on_wire others))) 65 (omega arith));
+      first = key;
+      packed = all_packed e (own ∷ others) (all_implied (Fits e) (λ y. event_of y.key ≡ e) (λ y h. h.1) (own ∷ others) fit);
+      ascend = bytes_ascend (own ∷ others) rows up;
+      rows = wired_rows (own ∷ others) rows;
+    }
+
+-- ---- all packages
+
+are_all : (xs : List Row) → AreRows (map on_wire xs) → AllByRecursion (λ y. IsRow (on_wire y)) xs
+are_all [] a = tt
+are_all (x ∷ xs) a = (a.0, are_all xs a.1)
+
+module _ (rows : List Row) (groups : List Group) (v : Via) (e : EventId) (table : IsTable rows) (are : AreRows rows) (ours : list_all (λ row. same_event (event_of row.key) e) rows ≡ true) where
+  -- what passes, in the order in which it was found and by its keys
+  abbrev loose : List Row
+  loose = passing_rows rows groups (route_of v)
+
+  abbrev sorted : List Row
+  sorted = sorted_by key_order loose
+
+  loose_of : list_all (λ row. same_event (event_of row.key) e) loose ≡ true
+  unfolding passing_rows known
+  loose_of = all-filter (λ row. same_event (event_of row.key) e) _ _ (all-filter (λ row. same_event (event_of row.key) e) (is_known rows groups v.here v.org) rows ours)
+
+  on_wire_sorted : in_order stands_before (arriving_rows rows groups (route_of v)) ≡ map on_wire sorted
+  unfolding arriving_rows
+  on_wire_sorted =
+      sym (in_order_map (arrived (route_of v)) stands_before loose)
+      ∙ ap (map (arrived (route_of v)))
+      (in_order_same (λ a b. stands_before (arrived (route_of v) a) (arrived (route_of v) b)) (λ a b. is_lt (key_order a b)) (λ row. same_event (event_of row.key) e)
+      (λ a b h k. before_on_wire v a b (same_event-sound (event_of a.key) e h ∙ sym (same_event-sound (event_of b.key) e k))) loose loose_of
+      ∙ apart_same one_key (λ a b. is_lt (key_order a b)) (λ a b. not (is_lt (key_order b a))) before_is loose (keys_once rows groups (route_of v) table))
+      ∙ ap (λ (f : Row → Row). map f sorted) (λ i row. wire_is v row i)
+
+  fits_all : AllByRecursion (Fits e) sorted
+  unfolding arriving_rows
+  fits_all =
+      all_in_order (Fits e) (λ a b. not (is_lt (key_order b a))) loose
+      (all_both (λ y. IsRow (on_wire y)) (λ y. event_of y.key ≡ e) loose
+      (are_all loose (subst AreRows (ap (λ (f : Row → Row). map f loose) (λ i row. wire_is v row i)) (arriving_are_rows rows groups (route_of v) table are (omega arith))))
+      (all_among (λ y. event_of y.key ≡ e) loose (λ y m. same_event-sound (event_of y.key) e (all_has (λ row. same_event (event_of row.key) e) loose y loose_of m))))
+
+  -- where nothing passes there is no package
+  pub none_packed : sorted ≡ [] → packages (arriving_rows rows groups (route_of v)) ≡ []
+  unfolding packages
+  none_packed h = ap (λ s. flat_map (λ x. map (λ c. x ∷ c) (cut 64 (others_with s x))) (filter is_own s)) (on_wire_sorted ∙ ap (map on_wire) h)
+
+  module _ (own : Row) (others : List Row) (first : sorted ≡ own ∷ others) where
+    ascends : IsStrictlySortedBy key_order (own ∷ others)
+    ascends = subst (IsStrictlySortedBy key_order) first (keys_ascend loose (keys_once rows groups (route_of v) table))
+
+    fit : AllByRecursion (Fits e) (own ∷ others)
+    fit = subst (AllByRecursion (Fits e)) first fits_all
+
+    behind : AllByRecursion (λ y. key_order own y ≡ Less) others
+    unfolding IsStrictlySortedBy
+    behind = ascends.0
+
+    -- the event's own row comes, and no key goes before its
+    own_key : own.key ≡ event_key e
+    unfolding arriving_rows on_wire key_order
+    own_key =
+        let coming : List Row = arriving_rows rows groups (route_of v) in
+        let came : in_order stands_before coming ≡ map on_wire (own ∷ others) = on_wire_sorted ∙ ap (map on_wire) first in
+        let is_its : Row → Bool = λ r. same_key r.key (event_key (event_of own.key)) in
+        let comes : Contains coming (on_wire own) = from_in_order stands_before coming (on_wire own) (subst (λ l. Contains l (on_wire own)) (sym came) (here (on_wire own) (map on_wire others))) in
+        let there_is : list_any is_its (map on_wire (own ∷ others)) ≡ true =
+        ap (list_any is_its) (sym came) ∙ any_in_order stands_before is_its coming ∙ with_own rows groups (route_of v) (on_wire own) comes in
+        let f = found is_its (own ∷ others) (sym (any_map on_wire is_its (own ∷ others)) ∙ there_is) in
+        one f.0 (same_key-sound f.0.key (event_key (event_of own.key)) f.1.1) (first_or own others f.0 f.1.0)
+      where
+        one : (y : Row) → y.key ≡ event_key (event_of own.key) → (own ≡ y) ⊎ Contains others y → own.key ≡ event_key e
+        one y k (inl h) = ap (λ (r : Row). r.key) h ∙ k ∙ ap event_key fit.0.1
+        one y k (inr m) =
+            absurd
+            (false≢true (sym (own_least own.key) ∙ ap (λ j. is_less (spell own.key) (spell j)) (sym k) ∙ less_is (spell own.key) (spell y.key)
+            ∙ ap is_lt (all_of (λ y. key_order own y ≡ Less) others y behind m)))
+
+    is_first : is_own (on_wire own) ≡ true
+    unfolding is_own on_wire event_of event_key
+    is_first = ap (λ k. same_key k (event_key (event_of k))) own_key ∙ same_key-refl (event_key e)
+
+    others_not : AllByRecursion (λ y. is_own (on_wire y) ≡ false) others
+    unfolding is_own on_wire
+    others_not = all_implied (λ y. (key_order own y ≡ Less) × Fits e y) (λ y. same_key y.key (event_key (event_of y.key)) ≡ false)
+        (λ y h. false_from_ne_true _ (λ g. false≢true (sym (ap is_eq h.0) ∙ sym (key_level own y)
+        ∙ ap (λ k. same_key k y.key) (own_key ∙ ap event_key (sym h.1.1) ∙ sym (same_key-sound y.key (event_key (event_of y.key)) g)) ∙ same_key-refl y.key))) others
+        (all_both (λ y. key_order own y ≡ Less) (Fits e) others behind fit.1)
+
+    own_rows : filter is_own (map on_wire (own ∷ others)) ≡ on_wire own ∷ []
+    own_rows = rw (is_first, keeps_none is_own (map on_wire others) (all_map on_wire (λ y. is_own (on_wire y) ≡ false) (λ y. is_own y ≡ false) (λ y h. h) others others_not)) refl
+
+    other_rows : others_with (map on_wire (own ∷ others)) (on_wire own) ≡ map on_wire others
+    unfolding others_with on_wire
+    other_rows =
+        dropped (same_event (event_of own.key) (event_of own.key)) (is_own (on_wire own)) _ _ is_first
+        ∙ keeps_all (λ r. same_event (event_of r.key) (event_of own.key) && not (is_own r)) (map on_wire others)
+        (all_map on_wire (λ y. (is_own (on_wire y) ≡ false) × Fits e y) (λ r. (same_event (event_of r.key) (event_of own.key) && not (is_own r)) ≡ true)
+        (λ y h. and_from _ _ ((λ i. same_event (h.1.1 i) (fit.0.1 i)) ∙ same_event-refl e) (ap not h.0)) others (all_both _ _ others others_not fit.1))
+
+    pub packed_are : packages (arriving_rows rows groups (route_of v)) ≡ map (λ part. map on_wire (own ∷ part)) (cut 64 others)
+    unfolding packages
+    packed_are =
+        ap (λ s. flat_map (λ x. map (λ c. x ∷ c) (cut 64 (others_with s x))) (filter is_own s)) (on_wire_sorted ∙ ap (map on_wire) first)
+        ∙ ap (flat_map (λ x. map (λ c. x ∷ c) (cut 64 (others_with (map on_wire (own ∷ others)) x)))) own_rows
+        ∙ append-nil (map (λ c. on_wire own ∷ c) (cut 64 (others_with (map on_wire (own ∷ others)) (on_wire own))))
+        ∙ ap (λ l. map (λ c. on_wire own ∷ c) (cut 64 l)) other_rows
+        ∙ ap (map (λ c. on_wire own ∷ c)) (sym (cut_map on_wire 64 others))
+        ∙ map_twice (map on_wire) (λ c. on_wire own ∷ c) (λ part. map on_wire (own ∷ part)) (λ c. refl) (cut 64 others)
+
+    pub parts_fit : AllByRecursion (λ part. IsPart e (map on_wire (own ∷ part))) (cut 64 others)
+    unfolding IsStrictlySortedBy
+    parts_fit =
+        all_implied (λ c. ((length c ≤ 64) × AllByRecursion (Fits e) c) × (AllByRecursion (λ y. key_order own y ≡ Less) c × IsStrictlySortedBy key_order c)) (λ c. IsPart e (map on_wire (own ∷ c)))
+        (λ c h. part_fits e own c own_key h.0.0 (fit.0, h.0.1) (h.1.0, h.1.1)) (cut 64 others)
+        (all_both _ _ (cut 64 others) (all_both _ _ (cut 64 others) (parts_short others) (cut_all (Fits e) 64 others fit.1))
+        (all_both _ _ (cut 64 others) (cut_all (λ y. key_order own y ≡ Less) 64 others behind) (cut_ascends key_order 64 others ascends.1)))
+
+-- ---- from lists of references
+
+-- the rows that were sorted are those that pass, by their keys
+pub by_keys_is : (rows : List Row) (groups : List Group) (v : Via) (list found : List (Bor Row)) → map (λ r. r.now) found ≡ passing_rows rows groups (route_of v) →
+    map (λ r. r.now) list ≡ sorted_by key_order (map (λ r. r.now) found) → sorted_by key_order (passing_rows rows groups (route_of v)) ≡ map (λ r. r.now) list
+by_keys_is rows groups v list found h k = sym (k ∙ ap (sorted_by key_order) h)
+
+pub nothing_left : (list : List (Bor Row)) → length list ≡ 0 → map (λ r. r.now) list ≡ []
+nothing_left [] e = refl
+nothing_left (x ∷ xs) e = absurd (omega arith)

@@ -1,0 +1,44 @@
+//! What a synchronisation carries of an event.
+
+ghost use Rattle.std.specs.Prelude.{◌≡◌, true, map, IfOk};
+ghost use Rattle.std.specs.List.{list_all};
+ghost use Rattle.misp_elem.specs.Parents.{event_of};
+ghost use Rattle.misp_ids.specs.Same.{same_event};
+ghost use Rattle.misp_rules.specs.View.{IsTable};
+ghost use Rattle.misp_history.specs.Merging.{arriving_rows, packages};
+ghost use Rattle.misp_package.specs.Packing.{AreNumbered};
+ghost use Rattle.misp_package.specs.Passing.{route_of};
+
+use crate::key_order::by_keys;
+use crate::packing::{packed, parts_of};
+use crate::passing::passing;
+use crate::via::Via;
+use misp_elem::Row;
+use misp_ids::{EventId, NoMemory};
+use misp_rules::Package;
+use std::alloc::Global;
+
+/// The packages in which a synchronisation carries what passes of an event, where these are all of
+/// its rows at the sender. There is none where nothing passes. More of them than a `u32` counts are
+/// not made: the answer is `NoMemory`.
+pub fn outgoing(
+    alloc: Global,
+    rows: &[Row],
+    event: &EventId,
+    via: &Via,
+) -> Result<Vec<Package>, NoMemory>
+    requires table { IsTable rows.now }
+    requires event { list_all (λ row. same_event (event_of row.key) event.now) rows.now ≡ true }
+    ensures packed { IfOk result (λ ps. map (λ p. p.rows) ps.items
+        ≡ packages (arriving_rows rows.now via.now.groups.now (route_of via.now))) }
+    ensures numbered { IfOk result (λ ps. AreNumbered event.now ps.items) }
+{
+    let list = passing(alloc, rows, event, via)?;
+    let list = by_keys(list)?;
+    let Some((own, others)) = list.as_slice().split_first() else {
+        return Ok(Vec::new(alloc));
+    };
+    let parts = parts_of(alloc, others)?;
+    let packages = packed(alloc, event, own, parts.as_slice())?;
+    Ok(packages)
+}

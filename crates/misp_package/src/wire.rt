@@ -1,0 +1,84 @@
+//! A row on the wire.
+
+ghost use Rattle.std.specs.Prelude.{◌≡◌, IfOk};
+ghost use Rattle.misp_elem.specs.Row.{IsRow};
+ghost use Rattle.misp_history.specs.History.{exportable, without_local_tags};
+ghost use Rattle.misp_package.specs.Packing.{on_wire};
+
+use misp_elem::{AttributeBody, Content, EventBody, Row, Tag};
+use misp_ids::{Items, NoMemory, OrgId, Uid};
+use misp_levels::down;
+
+// Those of the tags that are exportable.
+#[tactic(auto, unfolding(misp_history::specs::History::exportable))]
+fn exportable(tags: Items<Tag>) -> Items<Tag>
+    ensures { result ≡ exportable tags }
+{
+    let mut tags = tags.into_vec();
+    tags.retain(|tag| tag.exportable);
+    Items::of(tags)
+}
+
+// The event without the tags that are not.
+fn event_without(body: &EventBody) -> Result<EventBody, NoMemory>
+    ensures { IfOk result (λ kept. kept ≡ record body.now { tags = exportable body.now.tags }) }
+{
+    let copy = body.clone()?;
+    Ok(EventBody {
+        info: copy.info,
+        date: copy.date,
+        threat_level_id: copy.threat_level_id,
+        analysis: copy.analysis,
+        publish_stamp: copy.publish_stamp,
+        extends_uuid: copy.extends_uuid,
+        orgc: copy.orgc,
+        orgc_name: copy.orgc_name,
+        tags: exportable(copy.tags),
+    })
+}
+
+// The attribute without the tags that are not.
+fn attribute_without(body: &AttributeBody) -> Result<AttributeBody, NoMemory>
+    ensures { IfOk result (λ kept. kept ≡ record body.now { tags = exportable body.now.tags }) }
+{
+    let copy = body.clone()?;
+    Ok(AttributeBody {
+        kind: copy.kind,
+        category: copy.category,
+        to_ids: copy.to_ids,
+        comment: copy.comment,
+        deleted: copy.deleted,
+        value: copy.value,
+        tags: exportable(copy.tags),
+    })
+}
+
+// The content without the tags that are not exportable.
+#[tactic(auto, unfolding(misp_history::specs::History::without_local_tags))]
+fn without_local_tags(content: &Content) -> Result<Content, NoMemory>
+    ensures { IfOk result (λ kept. kept ≡ without_local_tags content.now) }
+{
+    match content {
+        Content::Event(body) => Ok(Content::Event(event_without(body)?)),
+        Content::Attribute(body) => Ok(Content::Attribute(attribute_without(body)?)),
+        _ => Ok(content.clone()?),
+    }
+}
+
+/// The row as it arrives at nobody.
+#[tactic(auto, unfolding(crate::specs::Packing::on_wire))]
+pub(crate) fn on_wire(row: &Row) -> Result<Row, NoMemory>
+    requires { IsRow (on_wire row.now) }
+    ensures { IfOk result (λ r. r ≡ on_wire row.now) }
+{
+    let content = without_local_tags(&row.content)?;
+    Ok(Row {
+        owner: OrgId(Uid(0)),
+        key: row.key,
+        stamp: row.stamp,
+        label: down(&row.label, 1),
+        held: false,
+        carried: true,
+        content,
+    })
+}
