@@ -1,9 +1,9 @@
 -- The surroundings of a request.
-use Rattle.std.specs.Prelude.{ℕ, List}
+use Rattle.std.specs.Prelude.{ℕ, List, None}
 use Rattle.misp_rules.specs.Prelude.{Group, Inst, OrgId, Row, Scene, Stamp}
 use Rattle.misp_copies.specs.declared.viewer.Viewer.{Viewer}
 
--- the surroundings of a request
+-- the surroundings of a request, without a partner
 abbrev pub scene_of :
     ℕ → Inst → OrgId → List ℕ → Stamp → List ℕ → List Group → List Row → Scene
 scene_of act at by by_name now today groups rows =
@@ -12,6 +12,7 @@ scene_of act at by by_name now today groups rows =
       at = at;
       by = by;
       by_name = by_name;
+      partner = None;
       now = now;
       today = today;
       rows = rows;

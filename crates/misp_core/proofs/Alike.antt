@@ -1,16 +1,16 @@
--- Two scenes in which an ask comes to the same: over the rows within its reach and over all, and whatever the number of its act.
-use Rattle.std.proofs.Common.{◌≡◌, ℕ, List, [], ◌∷◌, refl, ap, ◌∙◌, map, cond, arith}
+-- Two scenes in which an ask comes to the same: over the rows within its reach and over all, and whatever the number of its act and the partner of its caller's key.
+use Rattle.std.proofs.Common.{◌≡◌, ℕ, List, [], ◌∷◌, false, Option, refl, ap, ◌∙◌, map, cond, arith}
 use Rattle.misp_outside.specs.Held.{rows_named}
 use Rattle.misp_effects.specs.Effect.{effect}
 use Rattle.misp_rules.proofs.Prelude.{event_rows, length-map, map-map, ok_answer, uid}
 use Rattle.misp_rules.specs.Answers.{concerning}
-use Rattle.misp_rules.specs.Machine.{event_asked, event_changed}
+use Rattle.misp_rules.specs.Machine.{event_asked, event_changed, pulls}
 use Rattle.misp_rules.specs.Numbers.{scene_as, version_as, versions_as, reply_as}
 use Rattle.misp_rules.proofs.OneEventChanges.{ask_of_event}
-use Rattle.misp_rules.proofs.Numbers.{accepted_as}
-use Rattle.misp_history.proofs.Prelude.{AddEvent, AreRows, Ask, EventId, OrgId, Row, Scene, Version, View, answer, ask_rules, brings, fresh_row, is_accepted, same_event}
-use Rattle.misp_history.proofs.NumberedWrites.{answer_as, fresh_as}
-use Rattle.misp_edit.proofs.RuleLemmas.{refusal_as}
+use Rattle.misp_rules.proofs.Numbers.{accepted_alike, accepted_as}
+use Rattle.misp_history.proofs.Prelude.{AddEvent, AreRows, Ask, EventId, Inst, OrgId, Row, Scene, Version, View, answer, ask_rules, brings, fresh_row, is_accepted, same_event}
+use Rattle.misp_history.proofs.NumberedWrites.{answer_alike, answer_as, fresh_alike, fresh_as}
+use Rattle.misp_edit.proofs.RuleLemmas.{refusal_alike, refusal_as}
 use Rattle.misp_edit.proofs.OwnCopy.{named_rows, IsAlike, add_named}
 use Rattle.misp_edit.proofs.OneEventRefusals.{change_of_event}
 use Rattle.misp_store.specs.Raw.{raw_row}
@@ -95,3 +95,33 @@ module _ (n : ℕ) (s : Scene) (admin : Admin) (ask : Ask) where
   asked_as = λ i.
       effect ((ap (reply_of admin (scene_as n s) ask) (answer_as n s ask) ∙ reply_same (answer s ask)) i)
       (row_batches (cond (accepted_as n s ask i) (fresh_as n s ask i) []))
+
+-- ---- the partner of the caller's key
+
+-- no ask that is built is one of a pull
+pub built_plain : (ask : Ask) → IsBuilt ask → pulls ask ≡ false
+unfolding pulls
+built_plain Ask.SyncGroups built = absurd built
+built_plain Ask.SyncEvents built = absurd built
+built_plain (Ask.SyncPart e n) built = absurd built
+built_plain ask built = refl
+
+module _ (n : ℕ) (partner : Option Inst) (s : Scene) (admin : Admin) (ask : Ask) (plain : pulls ask ≡ false) where
+  abbrev partnered : Scene
+  partnered = record s { act = n; partner = partner }
+
+  reply_by : (r : model.Reply) → reply_of admin partnered ask (reply_as n r) ≡ reply_of admin s ask r
+  unfolding reply_as
+  reply_by (model.Refused rule) = ap Reply.Refused (refusal_alike n partner s ask rule)
+  reply_by (model.Saved vs) = saved_as n (reach_of s.by ask) vs
+  reply_by r = refl
+
+  asked_by : asked admin partnered ask ≡ asked admin s ask
+  unfolding reply_in writes_in
+  asked_by = λ i.
+      effect ((ap (reply_of admin partnered ask) (answer_alike n partner s ask plain) ∙ reply_by (answer s ask)) i)
+      (row_batches (cond (accepted_alike n partner s ask plain i) (fresh_alike n partner s ask i) []))
+
+-- what is asked comes to the same with another partner
+pub partner_asked : (partner : Option Inst) (s : Scene) (admin : Admin) (ask : Ask) → pulls ask ≡ false → asked admin (record s { partner = partner }) ask ≡ asked admin s ask
+partner_asked partner s admin ask plain = asked_by s.act partner s admin ask plain

@@ -24,10 +24,13 @@ use Rattle.misp_rules.specs.Answers as model
 abbrev pub IsAdded : Submission → Type 0
 IsAdded b = is_some b.body ≡ true
 
--- the asks that are built: all but the index and packages
+-- the asks that are built: all but the index, packages and those of a pull
 abbrev pub IsBuilt : Ask → Type 0
 IsBuilt Ask.Index = ⊥
 IsBuilt (Ask.TakePart part) = ⊥
+IsBuilt Ask.SyncGroups = ⊥
+IsBuilt Ask.SyncEvents = ⊥
+IsBuilt (Ask.SyncPart event part) = ⊥
 IsBuilt (Ask.Change (AddEvent b)) = IsAdded b
 IsBuilt ask = Unit {0}
 
@@ -41,11 +44,16 @@ Asked = Caller × Ask
 abbrev pub name_in : Admin → OrgId → List ℕ
 name_in admin org = unwrap_or (name_of admin.orgs org) []
 
--- the scene of a request of this caller at this moment, with these groups, before a row is read;
--- the number of its act changes nothing, and is 0 here
+-- the scene of a request of this caller at this moment, with these groups, before a row is read and
+-- without a partner; the number of its act changes nothing, and is 0 here
+abbrev pub bare_scene : Host → ℕ → Caller → List Group → Scene
+bare_scene host now caller groups =
+    scene_of 0 host.name caller.org (name_in host.admin caller.org) now (date_of now) groups []
+
+-- the same with the partner of the caller's key
 abbrev pub scene_at : Host → ℕ → Caller → List Group → Scene
 scene_at host now caller groups =
-    scene_of 0 host.name caller.org (name_in host.admin caller.org) now (date_of now) groups []
+    record (bare_scene host now caller groups) { partner = caller.partner }
 
 -- ---- refusals
 

@@ -1,18 +1,19 @@
 -- What the code of an instance hands on: scenes, and rows that are not read.
 use Rattle.std.specs.Prelude.{◌≡◌, List}
 use Rattle.misp_store.specs.declared.fault.LoadFault.{LoadFault}
-use Rattle.misp_core.specs.Prelude.{Effect, Reply, Row, Scene, refused, scene_at}
+use Rattle.misp_core.specs.Prelude.{Effect, Reply, Row, Scene, refused}
 use Rattle.misp_core.specs.declared.site.Site.{Site}
-use Rattle.misp_core.specs.Answers.{bad_row}
+use Rattle.misp_core.specs.Answers.{bad_row, bare_scene}
 
 -- the scene over these rows, which its caller knows
 abbrev pub knowing : Scene → List Row → Scene
 knowing s rows = record s { rows = rows }
 
--- the scene that the code hands on
+-- the scene that the code hands on; no ask that is built looks at a partner
 abbrev pub scene_in : Site → Scene
 scene_in s =
-    scene_at (record { name = s.here.now; admin = s.admin.now }) s.moment s.caller.now s.groups.now
+    bare_scene (record { name = s.here.now; admin = s.admin.now }) s.moment s.caller.now
+    s.groups.now
 
 -- the effect is that of rows which are not read: a row that does not decode is refused
 abbrev pub IsUnread : LoadFault → Effect Reply → Type 0

@@ -10,9 +10,11 @@ use Rattle.misp_core.specs.Answers.{Asked, name_in}
 use Rattle.misp_core.specs.Standing.{Host}
 use Rattle.misp_history.specs.Acts as model
 
--- who asks, with the name by which an instance of this administration knows the organisation
+-- who asks, with the name by which an instance of this administration knows the organisation and
+-- the partner of the key
 abbrev pub caller_at : Admin → Caller → model.Caller
-caller_at admin caller = record { org = caller.org; name = name_in admin caller.org }
+caller_at admin caller =
+    record { org = caller.org; name = name_in admin caller.org; partner = caller.partner }
 
 -- a request there, as an act
 abbrev pub act_at : Host → ℕ → Asked → model.Act

@@ -4,10 +4,10 @@ use Rattle.misp_ids.specs.Uid.{text_of}
 use Rattle.misp_lists.proofs.Lists.{any_found, any_map, find_by}
 use Rattle.misp_ids.specs.declared.refusal.Refusal.{Refusal}
 use Rattle.misp_groups.specs.Prelude.{RuleName, bare}
-use Rattle.misp_rules.specs.Prelude.{ElementExists, ElemId, GroupId, GroupNotUsable, Label, Place, Rule, Scene, Submission, change_rules, clashes, first_rule, has_copy, has_gone, has_unusable, holds_copy}
+use Rattle.misp_rules.specs.Prelude.{ElementExists, ElemId, GroupId, GroupNotUsable, Inst, Label, Place, Rule, Scene, Submission, change_rules, clashes, first_rule, has_copy, has_gone, has_unusable, holds_copy}
 use Rattle.misp_rules.specs.Prelude.{holds_tombstone, in_order, is_taken, is_usable, list_any, scene_as, target_in_copy}
 use Rattle.misp_rules.specs.Adding.{target_of, has_target, are_distinct}
-use Rattle.misp_rules.proofs.Numbers.{usable_as}
+use Rattle.misp_rules.proofs.Numbers.{usable_alike}
 use Rattle.misp_history.proofs.Prelude.{AddEvent, AddParts, Ask}
 use Rattle.misp_edit.specs.declared.fault.AddFault.{AddFault}
 use Rattle.misp_edit.specs.declared.fault.AddFault.TheVariants.{Refused, NoMemory}
@@ -128,9 +128,12 @@ module _ (s : Scene) (b : Submission) where
       refused (Refused refusal) t = ap (option_map (refusal_of s (Ask.Change (AddEvent b)))) looked_at ∙ t
       refused NoMemory t = tt
 
--- a refusal does not depend on the number of its act
-pub refusal_as : (n : ℕ) (s : Scene) (a : Ask) (rule : Rule) → refusal_of (scene_as n s) a rule ≡ refusal_of s a rule
+-- a refusal depends on neither the number of its act nor the partner of its caller's key
+pub refusal_alike : (n : ℕ) (partner : Option Inst) (s : Scene) (a : Ask) (rule : Rule) → refusal_of (record s { act = n; partner = partner }) a rule ≡ refusal_of s a rule
 unfolding first_clash read_uuids numbered_uuids is_clash is_taken has_target target_of target_in_copy first_unusable
-refusal_as n s (Ask.Change (AddEvent b)) rule = λ i. record { name = named rule; place = added_place (first_clash s b) (find (λ l. not (usable_as n s l i)) (labels_of b)) rule }
-refusal_as n s (Ask.Change (AddParts e b)) rule = λ i. record { name = named rule; place = added_place (first_clash s b) (find (λ l. not (usable_as n s l i)) (labels_of b)) rule }
-refusal_as n s a rule = refl
+refusal_alike n partner s (Ask.Change (AddEvent b)) rule = λ i. record { name = named rule; place = added_place (first_clash s b) (find (λ l. not (usable_alike n partner s l i)) (labels_of b)) rule }
+refusal_alike n partner s (Ask.Change (AddParts e b)) rule = λ i. record { name = named rule; place = added_place (first_clash s b) (find (λ l. not (usable_alike n partner s l i)) (labels_of b)) rule }
+refusal_alike n partner s a rule = refl
+
+pub refusal_as : (n : ℕ) (s : Scene) (a : Ask) (rule : Rule) → refusal_of (scene_as n s) a rule ≡ refusal_of s a rule
+refusal_as n s = refusal_alike n s.partner s

@@ -4,7 +4,7 @@ use Rattle.misp_history.proofs.Prelude.{Act, AddEvent, Administers, Ask, Asks, C
 use Rattle.misp_history.proofs.Prelude.{Reply, Route, Rule, Saved, Seen, Submission, Syncs, Taken, is_less, label_kind, same_inst, tables}
 use Rattle.misp_ids.specs.declared.label.Way.TheVariants.{Pull, Push}
 use Rattle.misp_rules.specs.Prelude.{ElementExists, ElementFull, EventExists, EventGone, GroupNotUsable, NotGranted, NotOwner, ProposalExists, TimeLimit, VisibleAttribute, VisibleObject, Way}
-use Rattle.misp_rules.specs.Answers.{Shares}
+use Rattle.misp_rules.specs.Answers.{Packed, Parts, Shares}
 use Rattle.misp_rules.specs.Scene.{LockedCopy, OlderTime, ProposalClosed}
 use Rattle.misp_rules.specs.Shown.{order_of}
 use Rattle.misp_history.specs.Outcomes.{Stopped, Whole, run_partly}
@@ -32,6 +32,7 @@ use Rattle.misp_rules.specs.Arrival
 use Rattle.misp_rules.specs.Changing
 use Rattle.misp_rules.specs.Closed
 use Rattle.misp_rules.specs.Edits
+use Rattle.misp_rules.specs.Pulling
 use Rattle.misp_rules.specs.RowOrder
 use Rattle.misp_rules.specs.Scene
 use Rattle.misp_rules.specs.Shown
@@ -74,7 +75,7 @@ no_links : Net
 no_links way i link groups = None
 
 asks : ℕ → ℕ → Ask → Act
-asks o time a = record { at = 97 ∷ []; now = time; command = Asks (record { org = org o; name = [] }) a }
+asks o time a = record { at = 97 ∷ []; now = time; command = Asks (record { org = org o; name = []; partner = None }) a }
 
 script : List Act
 script =
@@ -120,7 +121,11 @@ syncs : Way → Inst → Inst → Act
 syncs way i link = record { at = i; now = 0; command = Syncs way link }
 
 asks_at : Inst → ℕ → ℕ → Ask → Act
-asks_at i o time x = record { at = i; now = time; command = Asks (record { org = org o; name = [] }) x }
+asks_at i o time x = record { at = i; now = time; command = Asks (record { org = org o; name = []; partner = None }) x }
+
+-- with a key for a partner
+asks_for : Inst → Inst → ℕ → ℕ → Ask → Act
+asks_for partner i o time x = record { at = i; now = time; command = Asks (record { org = org o; name = []; partner = Some partner }) x }
 
 -- the number of a rule
 rule_number : Rule → ℕ
@@ -137,7 +142,8 @@ rule_number ProposalExists = 19
 rule_number ProposalClosed = 20
 rule_number ElementFull = 39
 
--- 1000 and the rule; 2000 and the rows written; 3000, and 100 for each attribute, and the event's level
+-- 1000 and the rule; 2000 and the rows written; 3000, and 100 for each attribute, and the event's level; 4000 and what is listed; 7000, and 100 for each package of the event, and the rows of
+-- this one
 tell : Option Reply → ℕ
 tell None = 0
 tell (Some (Refused r)) = 1000 + rule_number r
@@ -145,6 +151,8 @@ tell (Some (Saved vs)) = 2000 + length vs
 tell (Some (Seen v)) = 3000 + 100 * length v.attributes + label_kind v.row.label
 tell (Some (Listed vs)) = 4000 + length vs
 tell (Some (Shares gs)) = 4000 + length gs
+tell (Some (Parts es)) = 4000 + length es
+tell (Some (Packed p)) = 7000 + 100 * p.parts + length p.rows
 tell (Some (Taken n)) = 5000 + n
 tell (Some Other) = 6000
 
@@ -201,6 +209,8 @@ inside (Some (Refused r)) = 1
 inside (Some (Saved vs)) = 2
 inside (Some (Listed vs)) = 3
 inside (Some (Shares gs)) = 3
+inside (Some (Parts es)) = 3
+inside (Some (Packed p)) = 3
 inside (Some (Taken n)) = 4
 inside (Some Other) = 5
 
@@ -255,12 +265,13 @@ unfolding Outcomes.coming Outcomes.arriving Outcomes.takes Outcomes.first_brough
     Kept.with_parents Kept.with_made Kept.with_acceptances Kept.with_proposals Kept.kept_keys Kept.kept Kept.start Kept.erased Kept.replies Same.same_inst Same.same_org Same.same_event
     Same.same_elem Same.same_group SameKey.same_place SameKey.same_name SameKey.same_key Parents.event_of Parents.event_key Parents.above Parents.up_to Parents.parents SameKey.is_among
     Order.put Order.in_order Order.is_less Passing.lets_out Passing.sent_copy Passing.is_sent_owner Passing.element_passes Passing.passes_at Passing.passes_by Passing.passes
-    Passing.known_there Passing.passing Shown.order_of Shown.sorted Shown.is_shown Shown.shown_at Shown.is_plain_attribute Shown.is_attribute_of Shown.is_object Shown.is_reference_of
+    Passing.known_there Passing.passing Pulling.pulled_groups Pulling.pulled_rows Pulling.pulled_events Pulling.pulled_part
+    Shown.order_of Shown.sorted Shown.is_shown Shown.shown_at Shown.is_plain_attribute Shown.is_attribute_of Shown.is_object Shown.is_reference_of
     Shown.is_proposal_on Shown.is_sighting_on Shown.is_verdict_on Shown.is_closed Shown.proposals_on Shown.sightings_on Shown.shown_attribute Shown.object_of Shown.shown_object Shown.creator
     Shown.form_of Shown.event_row Shown.shown Shown.is_chosen Shown.index View.is_row_of RowFacts.is_tombstone RowFacts.is_deleted View.has_copy View.has_home View.has_gone View.row_is_open
     View.has_open View.element_granted View.granted_somewhere View.granted_by View.granted View.is_known View.known View.is_live View.is_before View.first_of_all View.chosen View.is_least
     count script asks no_links event_with event_of_two elem_id event org attribute add_one a b c route links syncs asks_at rule_number tell view publish stamps comment relabel propose accept
-    first_references first_sightings inside group administers in_group add_levels
+    first_references first_sightings inside group administers in_group add_levels asks_for
 everything = tt
 
 -- Beta sees one attribute of the first event, Gamma and Alpha see what is theirs
@@ -400,3 +411,14 @@ stopped =
 stopped_pull : map (λ row. row.stamp) (tables (run_partly links 0 start stopped (Whole ∷ Whole ∷ Whole ∷ Whole ∷ Whole ∷ Whole ∷ Whole ∷ Stopped true 1 ∷ [])).log b) ≡ 110 ∷ 100 ∷ 160 ∷ 150 ∷ []
 unfolding everything stopped
 stopped_pull = refl
+
+-- a pull is answered with the event that is published, in one package of two rows; a held event is in no answer
+pulled : List Act
+pulled =
+    asks_at a 1 100 (add_one 11 Label.All) ∷ asks_at a 1 110 (publish 11) ∷ asks_at a 1 120 (add_one 12 Label.All)
+    ∷ asks_for b a 2 130 Ask.SyncEvents ∷ asks_for b a 2 130 (Ask.SyncPart (event 11) 0) ∷ asks_for b a 2 130 (Ask.SyncPart (event 11) 1)
+    ∷ asks_for b a 2 130 (Ask.SyncPart (event 12) 0) ∷ asks_at a 2 130 Ask.SyncEvents ∷ asks_for b a 2 130 Ask.SyncGroups ∷ []
+
+a_pull_is_answered : map tell (replies (org 2) links pulled) ≡ 0 ∷ 0 ∷ 0 ∷ 4001 ∷ 7102 ∷ 1009 ∷ 1009 ∷ 4000 ∷ 4000 ∷ []
+unfolding everything pulled
+a_pull_is_answered = refl

@@ -18,6 +18,7 @@ pub mod Packing
 pub mod Passed
 pub mod Prelude
 pub mod Publishing
+pub mod Pulled
 pub mod Puts
 pub mod Putting
 pub mod Released

@@ -1,4 +1,4 @@
--- What a request writes and is answered bears the number of its act in the versions that it writes, and nowhere else.
+-- What a request writes and is answered bears the number of its act in the versions that it writes, and nowhere else; the partner of the caller's key counts for pulls alone.
 use Rattle.std.proofs.Common.{◌≡◌, List, Bool, true, false, refl, map, cond, [], ◌∷◌, ap, ◌++◌, ◌∙◌, sym, ℕ, length, Option, Some, None, option_map, ◌&&◌, ◌||◌, not, leb, option_to_list, filter_map, filter}
 use Rattle.misp_history.proofs.Prelude.{Act, AddEvent, AddParts, Ask, Caller, Change, Content, Draft, Element, EventId, Group, Index, Judge, Key, Label, Listed, Other, ProposalBody, ProposalName, Publish, ReferenceDraft}
 use Rattle.misp_history.proofs.Prelude.{Refused, Reply, Row, Rule, Saved, Scene, Seen, Submission, TakePart, Taken, Verdict, Version, View, VisibleEvent, World, acceptance, accepted, answer, any_map, as_deleted, as_published, ask_rules}
@@ -9,7 +9,12 @@ use Rattle.misp_history.proofs.Prelude.{scene, scene_as, shown, sight_writes, si
 use Rattle.misp_rules.specs.Numbers.{version_as, versions_as, reply_as}
 use Rattle.misp_rules.specs.declared.change.Change.TheVariants.{DeleteReference}
 use Rattle.misp_rules.specs.Statements.{proposal_row}
-use Rattle.misp_rules.proofs.Numbers.{index_as, rules_as, shown_as}
+use Rattle.misp_rules.proofs.Numbers.{index_alike, rules_alike, rules_as, shown_alike}
+use Rattle.misp_rules.specs.Answers.{Packed}
+use Rattle.misp_rules.specs.Machine.{pulls}
+use Rattle.misp_rules.specs.Pulling.{pulled_events, pulled_groups, pulled_part, pulled_rows}
+use Rattle.misp_rules.specs.declared.package.PackageFields.{PackageFields as Package}
+use Rattle.misp_history.proofs.Prelude.{Groups, Inst, Propose, Sight, SyncEvents, SyncGroups, SyncPart, false≢true}
 
 -- ---- lists
 map_cond : {X Y : Type 0} (f : X → Y) (b : Bool) (xs ys : List X) → cond b (map f xs) (map f ys) ≡ map f (cond b xs ys)
@@ -32,9 +37,9 @@ pub scene_is : (m n : ℕ) (w : World) (act : Act) (c : Caller) → scene n w ac
 unfolding scene
 scene_is m n w act c = refl
 
-module _ (n : ℕ) (s : Scene) where
+module _ (n : ℕ) (partner : Option Inst) (s : Scene) where
   abbrev other : Scene
-  other = scene_as n s
+  other = record s { act = n; partner = partner }
 
   -- ---- a body
   reference_as : (e : EventId) (parts : List Draft) (r : ReferenceDraft) → reference_version other e parts r ≡ option_map (version_as n) (reference_version s e parts r)
@@ -131,31 +136,35 @@ module _ (n : ℕ) (s : Scene) where
 
   -- ---- any request
   -- the versions are the same but for their number
-  pub brings_as : (a : Ask) → brings other a ≡ versions_as n (brings s a)
+  pub brings_alike : (a : Ask) → brings other a ≡ versions_as n (brings s a)
   unfolding brings propose_writes proposal_key sight_writes sighting_key written
-  brings_as (Ask.Change c) = change_as c
-  brings_as (Judge e m accept) = judge_as e m accept
-  brings_as (TakePart p) = taken_as p.rows
-  brings_as _ = refl
+  brings_alike (Ask.Change c) = change_as c
+  brings_alike (Judge e m accept) = judge_as e m accept
+  brings_alike (TakePart p) = taken_as p.rows
+  brings_alike _ = refl
 
   -- and so the rows are the same
-  pub fresh_as : (a : Ask) → map fresh_row (brings other a) ≡ map fresh_row (brings s a)
+  pub fresh_alike : (a : Ask) → map fresh_row (brings other a) ≡ map fresh_row (brings s a)
   unfolding fresh_row
-  fresh_as a = ap (map fresh_row) (brings_as a) ∙ map-map fresh_row (version_as n) (brings s a)
+  fresh_alike a = ap (map fresh_row) (brings_alike a) ∙ map-map fresh_row (version_as n) (brings s a)
 
   view_as : (o : Option VisibleEvent) → elim o as (λ x. Reply) [ None ↦ Other | Some v ↦ Seen v ] ≡ reply_as n (elim o as (λ x. Reply) [ None ↦ Other | Some v ↦ Seen v ])
   unfolding reply_as
   view_as None = refl
   view_as (Some v) = refl
 
-  ok_as : (a : Ask) → ok_answer other a ≡ reply_as n (ok_answer s a)
-  unfolding ok_answer reply_as concerning propose_writes proposal_key sight_writes sighting_key written
-  ok_as (View e owner) = (λ i. elim (shown_as n s e owner i) as (λ x. Reply) [ None ↦ Other | Some v ↦ Seen v ]) ∙ view_as (shown s e owner)
-  ok_as (Ask.Change c) = ap Saved (change_as c)
-  ok_as (Judge e m accept) = ap Saved (judge_as e m accept)
-  ok_as Index = ap Listed (index_as n s)
-  ok_as (TakePart p) = ap Taken (ap (λ vs. length (newer other vs)) (taken_as p.rows) ∙ ap length (newer_as (taken_rows s p.rows)) ∙ length-map (newer s (taken_rows s p.rows)) (version_as n))
-  ok_as _ = refl
+  -- where it is no pull, what was asked for is the same
+  ok_alike : (a : Ask) → pulls a ≡ false → ok_answer other a ≡ reply_as n (ok_answer s a)
+  unfolding ok_answer reply_as concerning propose_writes proposal_key sight_writes sighting_key written pulls
+  ok_alike (View e owner) h = (λ i. elim (shown_alike n partner s e owner i) as (λ x. Reply) [ None ↦ Other | Some v ↦ Seen v ]) ∙ view_as (shown s e owner)
+  ok_alike (Ask.Change c) h = ap Saved (change_as c)
+  ok_alike (Judge e m accept) h = ap Saved (judge_as e m accept)
+  ok_alike (Propose d) h = refl
+  ok_alike (Sight e p d) h = refl
+  ok_alike Index h = ap Listed (index_alike n partner s)
+  ok_alike Groups h = refl
+  ok_alike (TakePart p) h = ap Taken (ap (λ vs. length (newer other vs)) (taken_as p.rows) ∙ ap length (newer_as (taken_rows s p.rows)) ∙ length-map (newer s (taken_rows s p.rows)) (version_as n))
+  ok_alike _ h = absurd (false≢true (sym h))
 
   decided_as : (o : Option Rule) (r : Reply) → elim o as (λ x. Reply) [ None ↦ reply_as n r | Some rule ↦ Refused rule ] ≡ reply_as n (elim o as (λ x. Reply) [ None ↦ r | Some rule ↦ Refused rule ])
   unfolding reply_as
@@ -163,8 +172,34 @@ module _ (n : ℕ) (s : Scene) where
   decided_as (Some rule) r = refl
 
   -- the reply is the same but for the number of the versions that were saved
-  pub answer_as : (a : Ask) → answer other a ≡ reply_as n (answer s a)
+  pub answer_alike : (a : Ask) → pulls a ≡ false → answer other a ≡ reply_as n (answer s a)
+  unfolding answer
+  answer_alike a h =
+      (λ i. elim (first_rule (rules_alike n partner s a h i)) as (λ x. Reply) [ None ↦ ok_alike a h i | Some rule ↦ Refused rule ])
+      ∙ decided_as (first_rule (ask_rules s a)) (ok_answer s a)
+
+-- ---- with another number alone
+module _ (n : ℕ) (s : Scene) where
+  pub brings_as : (a : Ask) → brings (scene_as n s) a ≡ versions_as n (brings s a)
+  brings_as = brings_alike n s.partner s
+
+  pub fresh_as : (a : Ask) → map fresh_row (brings (scene_as n s) a) ≡ map fresh_row (brings s a)
+  fresh_as = fresh_alike n s.partner s
+
+  part_as : (o : Option Package) → elim o as (λ x. Reply) [ None ↦ Other | Some p ↦ Packed p ] ≡ reply_as n (elim o as (λ x. Reply) [ None ↦ Other | Some p ↦ Packed p ])
+  unfolding reply_as
+  part_as None = refl
+  part_as (Some p) = refl
+
+  ok_as : (a : Ask) → ok_answer (scene_as n s) a ≡ reply_as n (ok_answer s a)
+  unfolding ok_answer reply_as pulled_groups pulled_events pulled_rows pulled_part pulls
+  ok_as SyncGroups = refl
+  ok_as SyncEvents = refl
+  ok_as (SyncPart e m) = part_as (pulled_part s e m)
+  ok_as a = ok_alike n s.partner s a refl
+
+  pub answer_as : (a : Ask) → answer (scene_as n s) a ≡ reply_as n (answer s a)
   unfolding answer
   answer_as a =
       (λ i. elim (first_rule (rules_as n s a i)) as (λ x. Reply) [ None ↦ ok_as a i | Some rule ↦ Refused rule ])
-      ∙ decided_as (first_rule (ask_rules s a)) (ok_answer s a)
+      ∙ decided_as n s.partner s (first_rule (ask_rules s a)) (ok_answer s a)

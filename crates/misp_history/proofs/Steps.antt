@@ -1,7 +1,8 @@
 -- What an act does to the state: an accepted request adds what it brings, and a refused one, a view and an act without effect leave it.
 use Rattle.std.proofs.Common.{◌≡◌, List, [], ◌++◌, Bool, ◌∙◌, true, refl, false, ℕ, append-nil, Option, inl, inr}
 use Rattle.misp_history.proofs.Prelude.{Act, Administers, Ask, Asks, Caller, Change, EventId, Group, Groups, Index, Inst, Misfits, Net, Nothing, OrgId, Scene, View, World, asked, brings, cases_Bool, change_writes, is_accepted, same_inst}
-use Rattle.misp_history.proofs.Prelude.{same_inst-refl, scene, step, with_groups}
+use Rattle.misp_history.proofs.Prelude.{SyncEvents, SyncGroups, SyncPart, false≢true, same_inst-refl, scene, step, with_groups}
+use Rattle.misp_rules.specs.Machine.{pulls}
 use Rattle.misp_groups.specs.Changes.{administered}
 
 asked_accepted : (w : World) (s : Scene) (a : Ask) → is_accepted s a ≡ true → asked w s a ≡ record w { log = w.log ++ brings s a }
@@ -15,6 +16,14 @@ asked_refused w s a h = rw (h, append-nil) refl
 -- what brings nothing changes nothing, accepted or not
 asked_nothing : (w : World) (s : Scene) (a : Ask) → brings s a ≡ [] → asked w s a ≡ w
 asked_nothing w s a e = elim (cases_Bool (is_accepted s a)) [ inl h ↦ asked_accepted w s a h ∙ rw (e, append-nil) refl | inr h ↦ asked_refused w s a h ]
+
+-- a pull brings nothing
+pull_brings_none : (s : Scene) (a : Ask) → pulls a ≡ true → brings s a ≡ []
+unfolding pulls brings
+pull_brings_none s SyncGroups h = refl
+pull_brings_none s SyncEvents h = refl
+pull_brings_none s (SyncPart e n) h = refl
+pull_brings_none s _ h = absurd (false≢true h)
 
 -- the groups of the instance are the new ones, and those of every other are as before
 pub with_groups_here : (groups : Inst → List Group) (i : Inst) (new : List Group) → with_groups groups i new i ≡ new
@@ -50,6 +59,10 @@ module _ (net : Net) (n : ℕ) (w : World) (act : Act) where
   pub step_groups : (c : Caller) → act.command ≡ Asks c Groups → step net n w act ≡ w
   unfolding step brings scene
   step_groups c h = rw h (asked_nothing w (scene n w act c) Groups refl)
+
+  pub step_pull : (c : Caller) (a : Ask) → pulls a ≡ true → act.command ≡ Asks c a → step net n w act ≡ w
+  unfolding step scene
+  step_pull c a p h = rw h (asked_nothing w (scene n w act c) a (pull_brings_none (scene n w act c) a p))
 
   pub step_administers : (by : OrgId) (add : Bool) (g : Group) → act.command ≡ Administers by add g →
       step net n w act ≡ record w { groups = with_groups w.groups act.at (administered act.now by add g (w.groups act.at)) }

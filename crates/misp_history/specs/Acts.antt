@@ -8,10 +8,11 @@ use Rattle.misp_rules.specs.Answers.{Taken, Other}
 use Rattle.misp_history.specs.Passing.{Route, passing, moved}
 use Rattle.misp_history.specs.History.{tables}
 
--- who asks
+-- who asks, and the instance that the key is for
 pub record Caller : Type 0 where
   pub org : OrgId
   pub name : List ℕ
+  pub partner : Option Inst
 
 -- what an act does
 pub data Command : Type 0 where
@@ -50,6 +51,7 @@ scene n w act c =
       at = act.at;
       by = c.org;
       by_name = c.name;
+      partner = c.partner;
       now = act.now;
       today = date_of act.now;
       rows = known_at w act.at c.org;

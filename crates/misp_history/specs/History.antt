@@ -1,22 +1,8 @@
 -- The history: every version that ever counted, the tables as its newest, and what is released.
-use Rattle.std.specs.Prelude.{List, filter, cond, Bool, ◌&&◌, not, ltb, ◌||◌, false, leb, [], ◌∷◌, map}
-use Rattle.misp_rules.specs.Prelude.{Content, Inst, Row, Tag, Version, event_key, event_of, in_order, is_gone, is_statement, list_any, same_inst, same_key, same_org, stands_before}
+use Rattle.std.specs.Prelude.{List, cond, Bool, ◌&&◌, not, ltb, ◌||◌, false, leb, [], ◌∷◌, map}
+use Rattle.misp_rules.specs.Prelude.{Content, Inst, Row, Version, event_key, event_of, in_order, is_gone, is_statement, list_any, same_inst, same_key, same_org, stands_before}
 use Rattle.misp_rules.specs.Version.{has_path, is_published, is_handed_in, label_now}
-
--- the exportable of these tags
-unfoldable pub exportable : List Tag → List Tag
-exportable tags = filter (λ t. t.exportable) tags
-
--- the content without the tags that are not exportable
-unfoldable pub without_local_tags : Content → Content
-without_local_tags (Content.Event b) = Content.Event (record b { tags = exportable b.tags })
-without_local_tags (Content.Attribute b) = Content.Attribute (record b { tags = exportable b.tags })
-without_local_tags (Content.Object b) = Content.Object b
-without_local_tags (Content.Reference b) = Content.Reference b
-without_local_tags (Content.Proposal b) = Content.Proposal b
-without_local_tags (Content.Verdict b) = Content.Verdict b
-without_local_tags (Content.Sighting b) = Content.Sighting b
-without_local_tags Content.Gone = Content.Gone
+unfoldable pub use Rattle.misp_rules.specs.Packing.{exportable, without_local_tags}
 
 -- the content that it has now: that of its origin, without local tags once it has moved
 unfoldable pub content_now : Version → Content

@@ -1,4 +1,5 @@
 pub mod Acts
+pub mod Answered
 pub mod History
 pub mod Merging
 pub mod Outcomes

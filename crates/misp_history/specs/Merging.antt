@@ -1,26 +1,11 @@
--- What a synchronisation does to tables, told by rows alone: which rows pass and as what they
-use Rattle.std.specs.Prelude.{true, false, List, filter, map, Bool, not, ◌&&◌, ◌||◌, leb, ◌≡◌, [], ◌∷◌, ◌++◌, ℕ, suc, zero, Contains, flat_map}
-use Rattle.misp_levels.specs.Levels.{down}
+-- What a synchronisation does to tables, told by rows alone: which rows pass, and which are taken.
+use Rattle.std.specs.Prelude.{true, false, List, filter, map, Bool, not, ◌&&◌, ◌||◌, leb, ◌≡◌, [], ◌∷◌, ◌++◌, ℕ, suc, zero, Contains}
 use Rattle.misp_groups.specs.Audience.{label_is_known}
-use Rattle.misp_rules.specs.Prelude.{Group, Inst, IsTable, OrgId, Row, event_key, event_of, has_copy, has_gone, has_home, in_order, is_made_at, is_row_of, is_statement, is_tombstone, known, list_any, same_event, same_key, same_org}
-use Rattle.misp_rules.specs.Prelude.{stands_before}
+use Rattle.misp_rules.specs.Prelude.{Group, Inst, IsTable, OrgId, Row, event_key, event_of, has_copy, has_gone, has_home, is_made_at, is_row_of, is_statement, is_tombstone, known, list_any, same_key, same_org}
 use Rattle.misp_rules.specs.Machine.{put_all}
-use Rattle.misp_history.specs.History.{without_local_tags}
 use Rattle.misp_history.specs.Passing.{Route, passes}
-
--- a row as it arrives at the end of a route: the holder's, carried and not held, its label one step
--- down, without the tags that are not exportable
-unfoldable pub arrived : Route → Row → Row
-arrived route row =
-    record {
-      owner = route.holder;
-      key = row.key;
-      stamp = row.stamp;
-      label = down row.label 1;
-      held = false;
-      carried = true;
-      content = without_local_tags row.content;
-    }
+unfoldable pub use Rattle.misp_rules.specs.Packing.{arrived, cut, is_own, others_with, packages}
+pub use Rattle.misp_rules.specs.Packing.{onto}
 
 -- a row as it is handed in: the owner's, carried and not held
 unfoldable pub handed : OrgId → Row → Row
@@ -123,33 +108,3 @@ bringing zero test so ps = []
 bringing (suc n) test so [] = []
 bringing (suc n) test so (p ∷ ps) =
     p ∷ bringing (fewer_where (fresh test so p) n) test (so ++ fresh test so p) ps
-
--- ---- how what passes is packed
-
--- the row is of the event itself
-unfoldable pub is_own : Row → Bool
-is_own row = same_key row.key (event_key (event_of row.key))
-
--- one more in front of the first
-abbrev pub onto : {A : Type 0} → A → List (List A) → List (List A)
-onto x [] = (x ∷ []) ∷ []
-onto x (c ∷ cs) = (x ∷ c) ∷ cs
-
--- a list cut into parts of 64, where there is room for so many in the first; there is one part at
--- least
-unfoldable pub cut : {A : Type 0} → ℕ → List A → List (List A)
-cut room [] = [] ∷ []
-cut zero (x ∷ xs) = [] ∷ onto x (cut 63 xs)
-cut (suc room) (x ∷ xs) = onto x (cut room xs)
-
--- of these the rows of its event but the event's own
-unfoldable pub others_with : List Row → Row → List Row
-others_with rows row =
-    filter (λ r. same_event (event_of r.key) (event_of row.key) && not (is_own r)) rows
-
--- the packages of rows of one owner: for each event its own row with at most 64 others in each, in
--- the order of events and keys
-unfoldable pub packages : List Row → List (List Row)
-packages rows =
-    flat_map (λ x. map (λ c. x ∷ c) (cut 64 (others_with (in_order stands_before rows) x)))
-    (filter is_own (in_order stands_before rows))

@@ -20,7 +20,7 @@ ghost use Rattle.misp_rules.specs.Version.{Version, Written, is_published, is_ev
 ghost use Rattle.misp_elem.specs.RowFacts.{is_gone};
 ghost use Rattle.misp_history.specs.History.{has_come, same_cell, row_of, fresh_row, newest, tables};
 ghost use Rattle.misp_rules.specs.RowOrder.{stands_before};
-ghost use Rattle.misp_rules.specs.Machine.{put_row, put_all, let_go, published_row, hands_in};
+ghost use Rattle.misp_rules.specs.Machine.{put_row, put_all, let_go, published_row, hands_in, pulls};
 ghost use Rattle.misp_rules.specs.Scene.{Scene, own_row};
 ghost use Rattle.misp_rules.specs.Changing.{change_writes};
 ghost use Rattle.misp_rules.specs.Numbers.{scene_as, versions_as, reply_as};
@@ -84,9 +84,9 @@ pub fn a_copy_is_as_its_event_came()
 {}
 
 /// An accepted request adds to the history what it brings. A refused one, a view, the index, the
-/// groups, a request refused by its form and an act that does nothing leave the state as it is. An
-/// administration changes the groups of its instance, and nothing else. After each act the history
-/// has no number of a later one.
+/// groups, what a pull asks, a request refused by its form and an act that does nothing leave the
+/// state as it is. An administration changes the groups of its instance, and nothing else. After
+/// each act the history has no number of a later one.
 pub fn what_an_act_leaves()
     ensures accepted { (net : Net) (n : ℕ) (w : World) (act : Act) (c : Caller) (a : Ask) →
         act.command ≡ Asks c a → is_accepted (scene n w act c) a ≡ true →
@@ -103,6 +103,8 @@ pub fn what_an_act_leaves()
         act.command ≡ Asks c Index → step net n w act ≡ w }
     ensures groups { (net : Net) (n : ℕ) (w : World) (act : Act) (c : Caller) →
         act.command ≡ Asks c Groups → step net n w act ≡ w }
+    ensures pull { (net : Net) (n : ℕ) (w : World) (act : Act) (c : Caller) (a : Ask) →
+        pulls a ≡ true → act.command ≡ Asks c a → step net n w act ≡ w }
     ensures administers { (net : Net) (n : ℕ) (w : World) (act : Act)
         (by : OrgId) (add : Bool) (g : Group) →
         act.command ≡ Administers by add g →
@@ -133,4 +135,17 @@ pub fn a_request_is_decided_without_its_number()
         brings (scene_as n s) a ≡ versions_as n (brings s a) }
     ensures rows { (n : ℕ) (s : Scene) (a : Ask) →
         map fresh_row (brings (scene_as n s) a) ≡ map fresh_row (brings s a) }
+{}
+
+/// The partner of the caller's key counts for what a pull asks, and for nothing else: any other
+/// request with another partner is refused, accepted and answered alike, and writes the same.
+pub fn a_partner_counts_for_pulls_alone()
+    ensures rules { (p : Option Inst) (s : Scene) (a : Ask) → pulls a ≡ false →
+        ask_rules (record s { partner = p }) a ≡ ask_rules s a }
+    ensures accepted { (p : Option Inst) (s : Scene) (a : Ask) → pulls a ≡ false →
+        is_accepted (record s { partner = p }) a ≡ is_accepted s a }
+    ensures answer { (p : Option Inst) (s : Scene) (a : Ask) → pulls a ≡ false →
+        answer (record s { partner = p }) a ≡ answer s a }
+    ensures versions { (p : Option Inst) (s : Scene) (a : Ask) →
+        brings (record s { partner = p }) a ≡ brings s a }
 {}

@@ -7,12 +7,13 @@ mod synchronising;
 mod table;
 
 pub use laws::{
-    a_copy_is_as_its_event_came, a_publishing_clears_the_holds_of_its_copy,
-    a_request_is_decided_without_its_number, an_accepted_request_is_put_row_by_row,
-    one_version_more, what_an_act_leaves,
+    a_copy_is_as_its_event_came, a_partner_counts_for_pulls_alone,
+    a_publishing_clears_the_holds_of_its_copy, a_request_is_decided_without_its_number,
+    an_accepted_request_is_put_row_by_row, one_version_more, what_an_act_leaves,
 };
 pub use synchronising::{
-    a_package_is_handed_in, a_second_synchronisation, a_synchronisation_by_packages,
-    one_synchronisation, packages_are_merged_one_by_one, what_passes_is_granted,
+    a_package_is_handed_in, a_part_is_the_one_asked_for, a_pull_is_answered_by_packages,
+    a_second_synchronisation, a_synchronisation_by_packages, one_synchronisation,
+    packages_are_merged_one_by_one, what_passes_is_granted,
 };
 pub use table::tables_have_one_row_for_each_key;

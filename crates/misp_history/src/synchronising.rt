@@ -1,7 +1,7 @@
 //! What a synchronisation does to the tables.
 
-ghost use Rattle.std.specs.Prelude.{◌≡◌, ℕ, Bool, true, false, List, [], ◌++◌, cond, filter, length, map, take};
-ghost use Rattle.std.specs.List.{list_all, AllByRecursion, Contains};
+ghost use Rattle.std.specs.Prelude.{◌≡◌, ℕ, Bool, true, false, List, [], ◌++◌, None, Some, cond, filter, length, map, take};
+ghost use Rattle.std.specs.List.{list_all, slice_get, AllByRecursion, Contains};
 ghost use Rattle.misp_ids.specs.Uid.{IsUid};
 ghost use Rattle.misp_ids.specs.declared.uid.OrgId.{OrgId};
 ghost use Rattle.misp_ids.specs.declared.uid.EventId.{EventId};
@@ -9,7 +9,7 @@ ghost use Rattle.misp_elem.specs.declared.row.RowFields.{RowFields as Row};
 ghost use Rattle.misp_elem.specs.Row.{AreRows};
 ghost use Rattle.misp_groups.specs.declared.group.GroupFields.{GroupFields as Group};
 ghost use Rattle.misp_rules.specs.declared.package.PackageFields.{PackageFields as Package};
-ghost use Rattle.misp_rules.specs.declared.ask.Ask.TheVariants.{TakePart};
+ghost use Rattle.misp_rules.specs.declared.ask.Ask.TheVariants.{SyncGroups, SyncPart, TakePart};
 ghost use Rattle.misp_ids.specs.Same.{Inst, same_inst};
 ghost use Rattle.misp_groups.specs.Audience.{carries};
 ghost use Rattle.misp_rules.specs.Version.{Version};
@@ -18,8 +18,11 @@ ghost use Rattle.misp_rules.specs.View.{IsTable, granted};
 ghost use Rattle.misp_rules.specs.Machine.{event_rows, put_all};
 ghost use Rattle.misp_history.specs.Passing.{Route};
 ghost use Rattle.misp_history.specs.Acts.{Act, Caller, World, scene, synced, synced_groups};
-ghost use Rattle.misp_rules.specs.Answers.{Taken, brings, ok_answer};
+ghost use Rattle.misp_rules.specs.Answers.{Packed, Refused, Shares, Taken, answer, brings, ok_answer};
+ghost use Rattle.misp_rules.specs.Pulling.{pulled_packages, pulled_rows};
+ghost use Rattle.misp_rules.specs.Scene.{NotGranted, Scene};
 ghost use Rattle.misp_groups.specs.Changes.{count_taken};
+ghost use Rattle.misp_history.specs.Answered.{PullsBy, packages_answered, to_nobody};
 ghost use Rattle.misp_history.specs.Outcomes.{arriving, synced_partly, takes};
 ghost use Rattle.misp_history.specs.Merging.{IsPackageOf, arrives, arriving_rows, brought, count_bringing, fresh, handed, is_taken, merged, merged_by, packages, passing_rows, rows_taken};
 
@@ -121,4 +124,35 @@ pub fn a_synchronisation_by_packages()
     ensures elsewhere { (n p : ℕ) (w : World) (r : Route) (g : Bool) (j : Inst) →
         same_inst r.into j ≡ false →
         tables (synced_partly n w r g p).log j ≡ tables w.log j }
+{}
+
+/// What a synchronising key is answered is what a pull by its partner brings: the groups that
+/// carry, and of all that arrives the packages, one event after another and one part after another.
+pub fn a_pull_is_answered_by_packages()
+    ensures groups { (n : ℕ) (w : World) (act : Act) (c : Caller) (r : Route) →
+        PullsBy r (scene n w act c) →
+        answer (scene n w act c) SyncGroups
+        ≡ Shares (filter (λ g. carries g r.«for» r.dest) (w.groups r.from)) }
+    ensures rows { (n : ℕ) (w : World) (act : Act) (c : Caller) (r : Route) →
+        PullsBy r (scene n w act c) →
+        pulled_rows (scene n w act c)
+        ≡ arriving_rows (tables w.log r.from) (w.groups r.from) (to_nobody r) }
+    ensures packages { (n : ℕ) (w : World) (act : Act) (c : Caller) (r : Route) →
+        PullsBy r (scene n w act c) →
+        packages_answered (scene n w act c)
+        ≡ packages (arriving_rows (tables w.log r.from) (w.groups r.from) (to_nobody r)) }
+{}
+
+/// A part that is answered is the one that was asked for, and one that is not there is refused.
+pub fn a_part_is_the_one_asked_for()
+    ensures event { (s : Scene) (e : EventId) (n : ℕ) (p : Package) →
+        answer s (SyncPart e n) ≡ Packed p → p.event ≡ e }
+    ensures part { (s : Scene) (e : EventId) (n : ℕ) (p : Package) →
+        answer s (SyncPart e n) ≡ Packed p → p.part ≡ n }
+    ensures parts { (s : Scene) (e : EventId) (n : ℕ) (p : Package) →
+        answer s (SyncPart e n) ≡ Packed p → p.parts ≡ length (pulled_packages s e) }
+    ensures rows { (s : Scene) (e : EventId) (n : ℕ) (p : Package) →
+        answer s (SyncPart e n) ≡ Packed p → slice_get (pulled_packages s e) n ≡ Some p.rows }
+    ensures absent { (s : Scene) (e : EventId) (n : ℕ) →
+        slice_get (pulled_packages s e) n ≡ None → answer s (SyncPart e n) ≡ Refused NotGranted }
 {}

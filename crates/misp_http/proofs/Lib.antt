@@ -1,5 +1,4 @@
 pub mod Bodies
-pub mod Digits
 pub mod Ends
 pub mod Growing
 pub mod Heads

@@ -1,17 +1,15 @@
 //! What the headers of a head say.
 
-ghost use Rattle.std.specs.Prelude.{◌≡◌, ◌≤◌, [], ◌∷◌, Some, true, codes, length, option_map, IfOk, MatchOption};
-ghost use Rattle.std.specs.Char.{is_ascii_digit};
-ghost use Rattle.std.specs.List.{AllByRecursion, list_all};
+ghost use Rattle.std.specs.Prelude.{◌≡◌, [], ◌∷◌, Some, codes, length, option_map, IfOk, MatchOption};
+ghost use Rattle.std.specs.List.{AllByRecursion};
 ghost use Rattle.std.specs.Str.{str_eq_ignore_ascii_case};
-ghost use Rattle.std.specs.Str.Parse.{digits_value};
 ghost use Rattle.httparse.specs.Spans.{IsHeaderWithin};
 ghost use Rattle.misp_http.specs.Headers.{headers_at, values_of, first_of, length_in, content_length, body_length, text_in, key_of, asks_to_close, only_content_length};
 
 use crate::fault::HeadFault;
 use crate::{MAX_BODY, MAX_HEADERS};
 use httparse::spans::HeaderSpan;
-use misp_ids::{NoMemory, Text};
+use misp_ids::{NoMemory, Text, are_digits, decimal_value};
 use std::alloc::Global;
 
 // Names are compared without case (RFC 9110, section 5.1).
@@ -57,31 +55,13 @@ fn first_value<'a>(bytes: &'a [u8], spans: &[HeaderSpan], name: &[u8]) -> Option
     }
 }
 
-fn are_digits(text: &[u8]) -> bool
-    ensures { result ≡ list_all is_ascii_digit text.now }
-{
-    text.iter().all(|byte| byte.is_ascii_digit())
-}
-
-fn decimal_value(digits: &[u8]) -> usize
-    requires digits { list_all is_ascii_digit digits.now ≡ true }
-    requires few { length digits.now ≤ 19 }
-    ensures { result ≡ digits_value 10 digits.now }
-{
-    let mut value = 0;
-    for digit in digits {
-        value = 10 * value + usize::from(*digit - b'0');
-    }
-    value
-}
-
 fn read_length(value: &[u8]) -> Result<usize, HeadFault>
     ensures { result ≡ length_in value.now }
 {
     if value.is_empty() || value.len() >= 20 || !are_digits(value) {
         return Err(HeadFault::Length);
     }
-    Ok(decimal_value(value))
+    Ok(decimal_value(value) as usize)
 }
 
 // By RFC 9112, section 6.3, a request that does not say a length has no body.

@@ -1,13 +1,16 @@
 -- Rows in the order of their keys.
-use Rattle.std.proofs.Common.{◌≡◌, Bool, false, refl, ap, sym, ◌∙◌, List, [], ◌∷◌, map, Bor, not, is_lt, is_eq, IsSortedBy, Ordering, Less, Equal, Greater}
+use Rattle.std.proofs.Common.{◌≡◌, ◌↔◌, subst, ◌+◌, ◌<◌, ℕ, zero, suc, arith, length, slice_index_or, Bool, true, false, refl, ap, sym, ◌∙◌, List, [], ◌∷◌, map, Bor, not, is_lt, is_eq, IsSortedBy, Ordering, Less, Equal, Greater}
 use Rattle.std.specs.Cmp.{IsTotalOrder, IsStrictWeakOrder}
+use Rattle.std.specs.List.{AllAdjacentBelow, IsAllAdjacentAnswer}
 use Rattle.std.specs.List.Sorted.{IsStableBy, IsStrictlySortedBy}
 use Rattle.std.proofs.lemmas.Cmp.{nat_list_cmp_total, on_total}
 use Rattle.std.proofs.lemmas.List.Sorted.{ranks_by}
 use Rattle.misp_lists.specs.Order.{sorted_by, in_order, put}
+use Rattle.misp_lists.proofs.All.{all_implied}
 use Rattle.misp_lists.proofs.Ordering.{all_in_order, in_order_map}
+use Rattle.misp_lists.proofs.Orders.{less_of}
 use Rattle.misp_lists.proofs.Sorting.{sorted_in_order, ascend_sorted}
-use Rattle.misp_rules.proofs.Prelude.{AllByRecursion, IsDistinct, Row, ordering_reverse, same_key, spell}
+use Rattle.misp_rules.proofs.Prelude.{AllByRecursion, IsDistinct, Row, false≢true, ordering_reverse, same_key, spell}
 use Rattle.misp_copies.proofs.KeyOrder.{level_is}
 use Rattle.misp_package.specs.Packing.{key_order}
 
@@ -58,3 +61,29 @@ before_is a b h = ap (λ o. is_lt o) (key_total.antisymm a b) ∙ one (key_order
     one Less e = refl
     one Equal e = absurd cc
     one Greater e = refl
+
+-- ---- whether they ascend
+
+next : (k : ℕ) → suc k + 1 ≡ suc (k + 1)
+next k = omega arith
+
+up : (xs : List (Bor Row)) → AllAdjacentBelow (λ x y. true ≡ goes_ahead x y) xs (length xs) → IsStrictlySortedBy key_order (map (λ r. r.now) xs)
+unfolding IsStrictlySortedBy
+up [] h = tt
+up (x ∷ []) h = (tt, tt)
+up (x ∷ y ∷ ys) h =
+    let rest : IsStrictlySortedBy key_order (map (λ r. r.now) (y ∷ ys)) =
+    up (y ∷ ys) (λ k d lt. subst (λ n. true ≡ goes_ahead (slice_index_or (y ∷ ys) k d) (slice_index_or (x ∷ y ∷ ys) n d)) (next k) (h (suc k) d (omega arith))) in
+    let first : key_order x.now y.now ≡ Less = less_of _ (sym (h 0 x (omega arith))) in
+    ((first, all_implied (λ z. key_order y.now z ≡ Less) (λ z. key_order x.now z ≡ Less) (λ z e. key_total.trans x.now y.now z first e) (map (λ r. r.now) ys) rest.0), rest)
+
+not_down : (xs : List (Bor Row)) (k : ℕ) → IsStrictlySortedBy key_order (map (λ r. r.now) xs) → k + 1 < length xs → ((d : Bor Row) → false ≡ goes_ahead (slice_index_or xs k d) (slice_index_or xs (k + 1) d)) → ⊥
+unfolding IsStrictlySortedBy
+not_down [] k s lt h = absurd (omega arith)
+not_down (x ∷ []) k s lt h = absurd (omega arith)
+not_down (x ∷ y ∷ ys) zero s lt h = false≢true (h x ∙ ap is_lt s.0.0)
+not_down (x ∷ y ∷ ys) (suc k) s lt h = not_down (y ∷ ys) k s.1 (omega arith) (λ d. subst (λ n. false ≡ goes_ahead (slice_index_or (y ∷ ys) k d) (slice_index_or (x ∷ y ∷ ys) n d)) (next k) (h d))
+
+pub ascend_where : (xs : List (Bor Row)) (r : Bool) → IsAllAdjacentAnswer (λ x y b. b ≡ goes_ahead x y) xs r → (r ≡ true) ↔ IsStrictlySortedBy key_order (map (λ r. r.now) xs)
+ascend_where xs true h = (λ e. up xs h, λ s. refl)
+ascend_where xs false h = (λ e. absurd (false≢true e), λ s. absurd (not_down xs h.0 s h.1 h.2))

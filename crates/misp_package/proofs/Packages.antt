@@ -1,23 +1,25 @@
 -- What passes of one event is packed in the order of its keys as what arrives is.
-use Rattle.std.proofs.Common.{◌≡◌, ℕ, suc, ◌≤◌, Bool, true, false, refl, ap, sym, ◌∙◌, arith, List, [], ◌∷◌, map, filter, length, not, is_lt, is_eq, eqb, ltb, cond, Bor, ◌&&◌, ◌||◌, Contains, subst, append-nil, ◌⊎◌, flat_map, inl, inr, Less, nat_cmp, le-leb}
+use Rattle.std.proofs.Common.{◌≡◌, ◌↔◌, ℕ, suc, ◌≤◌, get_or, Bool, true, false, refl, ap, sym, ◌∙◌, arith, List, [], ◌∷◌, map, filter, length, not, is_lt, is_eq, eqb, ltb, cond, Bor, ◌&&◌, ◌||◌, Contains, subst, append-nil, ◌⊎◌, flat_map, inl, inr, Less, nat_cmp, le-leb}
 use Rattle.std.specs.List.Sorted.{IsStrictlySortedBy}
 use Rattle.misp_lists.specs.Order.{in_order, sorted_by, is_less}
-use Rattle.misp_lists.proofs.All.{all_among, all_both, all_implied, all_map, all_of}
-use Rattle.misp_lists.proofs.Elements.{all_has, found, here, first_or}
-use Rattle.misp_lists.proofs.Lists.{all-filter, map_twice}
-use Rattle.misp_lists.proofs.Ordering.{all_in_order, any_in_order, from_in_order, in_order_map, in_order_same}
+use Rattle.misp_lists.proofs.All.{all_among, all_both, all_implied, all_map, all_of, all_true}
+use Rattle.misp_lists.proofs.Elements.{all_has, found, here, first_or, of_part}
+use Rattle.misp_lists.proofs.Lists.{all-filter, all_implies, map_twice}
+use Rattle.misp_lists.proofs.Ordering.{any_in_order, from_in_order, in_order_map, in_order_same, tests_in_order}
 use Rattle.misp_lists.proofs.Orders.{less_is}
-use Rattle.misp_rules.proofs.Prelude.{AllByRecursion, AreRows, Element, EventId, Group, Proposal, Sighting, Verdict, IsRow, IsTable, Key, Place, Reference, Row, and_from, any_map, event_key, event_of, false_from_ne_true, false≢true, is_known, known}
+use Rattle.misp_elem.specs.Fields.{IsBetween}
+use Rattle.misp_elem.specs.Key.{IsKey}
+use Rattle.misp_rules.proofs.Prelude.{AllByRecursion, AreRows, Element, EventId, Group, Proposal, Sighting, Verdict, IsRow, IsTable, Key, Place, Reference, Row, and_from, and_parts, any_map, event_key, event_of, false_from_ne_true, false≢true, is_known, known}
 use Rattle.misp_rules.proofs.Prelude.{length-map, list_all, list_any, nat_tests, same_event, same_event-refl, same_event-sound, same_key, same_key-refl, same_key-sound, slice_cmp, spell, stands_before}
 use Rattle.misp_rules.specs.RowOrder.{spell_place}
-use Rattle.misp_rules.specs.Package.{is_packed}
+use Rattle.misp_rules.specs.Package.{BeginsWith, is_packed}
 use Rattle.misp_history.specs.Merging.{arrived, arriving_rows, cut, is_own, others_with, packages, passing_rows}
-use Rattle.misp_history.proofs.ArrivedRows.{arriving_are_rows}
-use Rattle.misp_history.proofs.Passed.{with_own}
+use Rattle.misp_history.specs.Passing.{passes}
+use Rattle.misp_history.proofs.Passed.{no_tombstone_passes, with_own}
 use Rattle.misp_copies.proofs.KeyOrder.{in_numbers}
 use Rattle.misp_package.specs.declared.via.Via.{Via}
 use Rattle.misp_package.specs.Passing.{route_of}
-use Rattle.misp_package.specs.Packing.{IsPart, key_order, on_wire, rows_in}
+use Rattle.misp_package.specs.Packing.{ArePackable, IsPart, is_packable, is_whole, key_order, on_wire, rows_in}
 use Rattle.misp_package.proofs.Cutting.{cut_all, cut_ascends, cut_map, parts_short}
 use Rattle.misp_package.proofs.KeyOrders.{apart_same, before_is, key_level, keys_ascend, one_key}
 use Rattle.misp_package.proofs.Once.{keys_once}
@@ -84,15 +86,16 @@ module _ (v : Via) where
 
 -- ---- the rows of a package
 
--- the bytes of the keys ascend as the keys do
-bytes_ascend : (xs : List Row) → AllByRecursion (λ y. IsRow (on_wire y)) xs → IsStrictlySortedBy key_order xs →
-    IsStrictlySortedBy (slice_cmp nat_cmp) (map (λ row. spelling.key row.key) (map on_wire xs))
+wired_key : (row : Row) → IsRow (on_wire row) → IsKey row.key
+unfolding on_wire
+wired_key row i = i.1.0
+
+bytes_ascend : (xs : List Row) → AllByRecursion (λ y. IsRow (on_wire y)) xs → IsStrictlySortedBy key_order xs → IsStrictlySortedBy (slice_cmp nat_cmp) (map (λ row. spelling.key row.key) (map on_wire xs))
 unfolding IsStrictlySortedBy on_wire key_order
 bytes_ascend [] a s = tt
 bytes_ascend (x ∷ xs) a s = (each xs a.1 s.0, bytes_ascend xs a.1 s.1)
   where
-    each : (ys : List Row) → AllByRecursion (λ y. IsRow (on_wire y)) ys → AllByRecursion (λ y. key_order x y ≡ Less) ys →
-        AllByRecursion (λ b. slice_cmp nat_cmp (spelling.key x.key) b ≡ Less) (map (λ row. spelling.key row.key) (map on_wire ys))
+    each : (ys : List Row) → AllByRecursion (λ y. IsRow (on_wire y)) ys → AllByRecursion (λ y. key_order x y ≡ Less) ys → AllByRecursion (λ b. slice_cmp nat_cmp (spelling.key x.key) b ≡ Less) (map (λ row. spelling.key row.key) (map on_wire ys))
     each [] b t = tt
     each (y ∷ ys) b t = (in_numbers x.key y.key a.0.1.0 b.0.1.0 ∙ t.0, each ys b.1 t.1)
 
@@ -108,29 +111,60 @@ wired_rows : (xs : List Row) → AllByRecursion (λ y. IsRow (on_wire y)) xs →
 wired_rows [] a = tt
 wired_rows (x ∷ xs) a = (a.0, wired_rows xs a.1)
 
--- what each row of a package is beside the event's own
-abbrev Fits : EventId → Row → Type 0
-Fits e y = IsRow (on_wire y) × (event_of y.key ≡ e)
-
--- the event's own row and at most 64 others that ascend are those of a package
-part_fits : (e : EventId) (own : Row) (others : List Row) → own.key ≡ event_key e → length others ≤ 64 →
-    AllByRecursion (Fits e) (own ∷ others) → IsStrictlySortedBy key_order (own ∷ others) → IsPart e (map on_wire (own ∷ others))
-unfolding event_key on_wire
-part_fits e own others key short fit up =
-    let rows : AllByRecursion (λ y. IsRow (on_wire y)) (own ∷ others) = all_implied (Fits e) (λ y. IsRow (on_wire y)) (λ y h. h.0) (own ∷ others) fit in
-    let size : length (map on_wire others) ≡ length others = length-map others on_wire in record {
-      count = and_from _ _ (le-leb 1 (suc (length (map on_wire others))) (omega arith)) (le-leb (suc (length (map on_wire others))) 65 (omega arith));
-      first = key;
-      packed = all_packed e (own ∷ others) (all_implied (Fits e) (λ y. event_of y.key ≡ e) (λ y h. h.1) (own ∷ others) fit);
-      ascend = bytes_ascend (own ∷ others) rows up;
-      rows = wired_rows (own ∷ others) rows;
-    }
-
--- ---- all packages
-
 are_all : (xs : List Row) → AreRows (map on_wire xs) → AllByRecursion (λ y. IsRow (on_wire y)) xs
 are_all [] a = tt
 are_all (x ∷ xs) a = (a.0, are_all xs a.1)
+
+-- what can go into a package is of its event
+of_event : (e : EventId) (xs : List Row) → list_all (is_packable e) xs ≡ true → AllByRecursion (λ y. event_of y.key ≡ e) xs
+unfolding is_packable
+of_event e xs h = all_among (λ y. event_of y.key ≡ e) xs (λ y m. same_event-sound (event_of y.key) e (and_parts _ _ (all_has (is_packable e) xs y h m)).0)
+
+-- what the rows of a package are on the wire
+pub record IsWired (e : EventId) (rows : List Row) : Type 0 where
+  pub count : IsBetween 1 65 (length rows)
+  pub first : BeginsWith e rows
+  pub packed : list_all (is_packed e) rows ≡ true
+  pub ascend : IsStrictlySortedBy (slice_cmp nat_cmp) (map (λ row. spelling.key row.key) rows)
+
+pub part_wired : (e : EventId) (own : Row) (others : List Row) → IsPart e (own ∷ others) → AreRows (map on_wire (own ∷ others)) → IsWired e (map on_wire (own ∷ others))
+unfolding on_wire
+part_wired e own others part are = record {
+  count = subst (λ n. IsBetween 1 65 n) (sym (length-map (own ∷ others) on_wire)) part.count;
+  first = part.packable.first;
+  packed = all_packed e (own ∷ others) (of_event e (own ∷ others) part.packable.each);
+  ascend = bytes_ascend (own ∷ others) (are_all (own ∷ others) are) part.packable.ascend;
+}
+
+-- the packages of what can go into packages
+pub parts_fit : (e : EventId) (own : Row) (others : List Row) → ArePackable e (own ∷ others) → AllByRecursion (λ part. IsPart e (own ∷ part)) (cut 64 others)
+unfolding IsStrictlySortedBy
+parts_fit e own others packable =
+    let each = and_parts (is_packable e own) (list_all (is_packable e) others) packable.each in
+    all_implied (λ c. ((length c ≤ 64) × AllByRecursion (λ y. is_packable e y ≡ true) c) × (AllByRecursion (λ y. key_order own y ≡ Less) c × IsStrictlySortedBy key_order c)) (λ c. IsPart e (own ∷ c))
+    (λ c h. record {
+      count = and_from _ _ (le-leb 1 (suc (length c)) (omega arith)) (le-leb (suc (length c)) 65 (omega (arith, h.0.0)));
+      packable = record { first = packable.first; each = and_from _ _ each.0 (all_true (is_packable e) c h.0.1); ascend = h.1 };
+    }) (cut 64 others)
+    (all_both _ _ (cut 64 others)
+    (all_both _ _ (cut 64 others) (parts_short others) (cut_all (λ y. is_packable e y ≡ true) 64 others (all_among (λ y. is_packable e y ≡ true) others (λ y m. all_has (is_packable e) others y each.1 m))))
+    (all_both _ _ (cut 64 others) (cut_all (λ y. key_order own y ≡ Less) 64 others packable.ascend.0) (cut_ascends key_order 64 others packable.ascend.1)))
+
+-- the event's own row goes first where the first row is
+pub own_where : (e : EventId) (rows : List (Bor Row)) (own : Bor Row) (r : Bool) → 1 ≤ length rows → own ≡ get_or rows 0 own → r ≡ same_key own.now.key (event_key e) → (r ≡ true) ↔ BeginsWith e (map (λ r. r.now) rows)
+unfolding event_key
+own_where e [] own r le is h = absurd (omega arith)
+own_where e (x ∷ xs) own r le is h = (
+  λ t. sym (ap (λ (b : Bor Row). b.now.key) is) ∙ same_key-sound own.now.key (event_key e) (sym h ∙ t),
+  λ k. h ∙ ap (λ j. same_key j (event_key e)) (ap (λ (b : Bor Row). b.now.key) is ∙ k) ∙ same_key-refl (event_key e),
+)
+
+-- what can go into a package is no tombstone
+pub whole_rows : (e : EventId) (xs : List Row) → list_all (is_packable e) xs ≡ true → list_all is_whole xs ≡ true
+unfolding is_packable
+whole_rows e xs h = all_implies (is_packable e) is_whole (λ x g. (and_parts _ _ g).1) xs h
+
+-- ---- all packages
 
 module _ (rows : List Row) (groups : List Group) (v : Via) (e : EventId) (table : IsTable rows) (are : AreRows rows) (ours : list_all (λ row. same_event (event_of row.key) e) rows ≡ true) where
   -- what passes, in the order in which it was found and by its keys
@@ -154,13 +188,15 @@ module _ (rows : List Row) (groups : List Group) (v : Via) (e : EventId) (table 
       ∙ apart_same one_key (λ a b. is_lt (key_order a b)) (λ a b. not (is_lt (key_order b a))) before_is loose (keys_once rows groups (route_of v) table))
       ∙ ap (λ (f : Row → Row). map f sorted) (λ i row. wire_is v row i)
 
-  fits_all : AllByRecursion (Fits e) sorted
-  unfolding arriving_rows
-  fits_all =
-      all_in_order (Fits e) (λ a b. not (is_lt (key_order b a))) loose
-      (all_both (λ y. IsRow (on_wire y)) (λ y. event_of y.key ≡ e) loose
-      (are_all loose (subst AreRows (ap (λ (f : Row → Row). map f loose) (λ i row. wire_is v row i)) (arriving_are_rows rows groups (route_of v) table are (omega arith))))
-      (all_among (λ y. event_of y.key ≡ e) loose (λ y m. same_event-sound (event_of y.key) e (all_has (λ row. same_event (event_of row.key) e) loose y loose_of m))))
+  packable : (x : Row) → Contains loose x → is_packable e x ≡ true
+  unfolding is_packable is_whole passing_rows known
+  packable x m =
+      let goes = of_part (passes (known rows groups v.here v.org) groups (route_of v)) (known rows groups v.here v.org) x m in
+      let seen = of_part (is_known rows groups v.here v.org) rows x goes.1 in
+      and_from _ _ (all_has (λ row. same_event (event_of row.key) e) loose x loose_of m) (ap not (no_tombstone_passes rows groups (route_of v) table are x seen.1 goes.0))
+
+  packable_all : list_all (is_packable e) sorted ≡ true
+  packable_all = tests_in_order (λ a b. not (is_lt (key_order b a))) (is_packable e) loose (all_true (is_packable e) loose (all_among (λ x. is_packable e x ≡ true) loose packable))
 
   -- where nothing passes there is no package
   pub none_packed : sorted ≡ [] → packages (arriving_rows rows groups (route_of v)) ≡ []
@@ -171,8 +207,11 @@ module _ (rows : List Row) (groups : List Group) (v : Via) (e : EventId) (table 
     ascends : IsStrictlySortedBy key_order (own ∷ others)
     ascends = subst (IsStrictlySortedBy key_order) first (keys_ascend loose (keys_once rows groups (route_of v) table))
 
-    fit : AllByRecursion (Fits e) (own ∷ others)
-    fit = subst (AllByRecursion (Fits e)) first fits_all
+    each : list_all (is_packable e) (own ∷ others) ≡ true
+    each = ap (list_all (is_packable e)) (sym first) ∙ packable_all
+
+    fit : AllByRecursion (λ y. event_of y.key ≡ e) (own ∷ others)
+    fit = of_event e (own ∷ others) each
 
     behind : AllByRecursion (λ y. key_order own y ≡ Less) others
     unfolding IsStrictlySortedBy
@@ -182,21 +221,17 @@ module _ (rows : List Row) (groups : List Group) (v : Via) (e : EventId) (table 
     own_key : own.key ≡ event_key e
     unfolding arriving_rows on_wire key_order
     own_key =
-        let coming : List Row = arriving_rows rows groups (route_of v) in
-        let came : in_order stands_before coming ≡ map on_wire (own ∷ others) = on_wire_sorted ∙ ap (map on_wire) first in
-        let is_its : Row → Bool = λ r. same_key r.key (event_key (event_of own.key)) in
-        let comes : Contains coming (on_wire own) = from_in_order stands_before coming (on_wire own) (subst (λ l. Contains l (on_wire own)) (sym came) (here (on_wire own) (map on_wire others))) in
-        let there_is : list_any is_its (map on_wire (own ∷ others)) ≡ true =
-        ap (list_any is_its) (sym came) ∙ any_in_order stands_before is_its coming ∙ with_own rows groups (route_of v) (on_wire own) comes in
-        let f = found is_its (own ∷ others) (sym (any_map on_wire is_its (own ∷ others)) ∙ there_is) in
+        let came : in_order stands_before (arriving_rows rows groups (route_of v)) ≡ map on_wire (own ∷ others) = on_wire_sorted ∙ ap (map on_wire) first in
+        let there_is : list_any (λ r. same_key r.key (event_key (event_of own.key))) (map on_wire (own ∷ others)) ≡ true =
+        ap (list_any (λ r. same_key r.key (event_key (event_of own.key)))) (sym came) ∙ any_in_order stands_before (λ r. same_key r.key (event_key (event_of own.key))) (arriving_rows rows groups (route_of v))
+        ∙ with_own rows groups (route_of v) (on_wire own) (from_in_order stands_before (arriving_rows rows groups (route_of v)) (on_wire own) (subst (λ l. Contains l (on_wire own)) (sym came) (here (on_wire own) (map on_wire others)))) in
+        let f = found (λ r. same_key r.key (event_key (event_of own.key))) (own ∷ others) (sym (any_map on_wire (λ r. same_key r.key (event_key (event_of own.key))) (own ∷ others)) ∙ there_is) in
         one f.0 (same_key-sound f.0.key (event_key (event_of own.key)) f.1.1) (first_or own others f.0 f.1.0)
       where
         one : (y : Row) → y.key ≡ event_key (event_of own.key) → (own ≡ y) ⊎ Contains others y → own.key ≡ event_key e
-        one y k (inl h) = ap (λ (r : Row). r.key) h ∙ k ∙ ap event_key fit.0.1
+        one y k (inl h) = ap (λ (r : Row). r.key) h ∙ k ∙ ap event_key fit.0
         one y k (inr m) =
-            absurd
-            (false≢true (sym (own_least own.key) ∙ ap (λ j. is_less (spell own.key) (spell j)) (sym k) ∙ less_is (spell own.key) (spell y.key)
-            ∙ ap is_lt (all_of (λ y. key_order own y ≡ Less) others y behind m)))
+            absurd (false≢true (sym (own_least own.key) ∙ ap (λ j. is_less (spell own.key) (spell j)) (sym k) ∙ less_is (spell own.key) (spell y.key) ∙ ap is_lt (all_of (λ y. key_order own y ≡ Less) others y behind m)))
 
     is_first : is_own (on_wire own) ≡ true
     unfolding is_own on_wire event_of event_key
@@ -204,10 +239,10 @@ module _ (rows : List Row) (groups : List Group) (v : Via) (e : EventId) (table 
 
     others_not : AllByRecursion (λ y. is_own (on_wire y) ≡ false) others
     unfolding is_own on_wire
-    others_not = all_implied (λ y. (key_order own y ≡ Less) × Fits e y) (λ y. same_key y.key (event_key (event_of y.key)) ≡ false)
+    others_not = all_implied (λ y. (key_order own y ≡ Less) × (event_of y.key ≡ e)) (λ y. same_key y.key (event_key (event_of y.key)) ≡ false)
         (λ y h. false_from_ne_true _ (λ g. false≢true (sym (ap is_eq h.0) ∙ sym (key_level own y)
-        ∙ ap (λ k. same_key k y.key) (own_key ∙ ap event_key (sym h.1.1) ∙ sym (same_key-sound y.key (event_key (event_of y.key)) g)) ∙ same_key-refl y.key))) others
-        (all_both (λ y. key_order own y ≡ Less) (Fits e) others behind fit.1)
+        ∙ ap (λ k. same_key k y.key) (own_key ∙ ap event_key (sym h.1) ∙ sym (same_key-sound y.key (event_key (event_of y.key)) g)) ∙ same_key-refl y.key))) others
+        (all_both (λ y. key_order own y ≡ Less) (λ y. event_of y.key ≡ e) others behind fit.1)
 
     own_rows : filter is_own (map on_wire (own ∷ others)) ≡ on_wire own ∷ []
     own_rows = rw (is_first, keeps_none is_own (map on_wire others) (all_map on_wire (λ y. is_own (on_wire y) ≡ false) (λ y. is_own y ≡ false) (λ y h. h) others others_not)) refl
@@ -217,8 +252,8 @@ module _ (rows : List Row) (groups : List Group) (v : Via) (e : EventId) (table 
     other_rows =
         dropped (same_event (event_of own.key) (event_of own.key)) (is_own (on_wire own)) _ _ is_first
         ∙ keeps_all (λ r. same_event (event_of r.key) (event_of own.key) && not (is_own r)) (map on_wire others)
-        (all_map on_wire (λ y. (is_own (on_wire y) ≡ false) × Fits e y) (λ r. (same_event (event_of r.key) (event_of own.key) && not (is_own r)) ≡ true)
-        (λ y h. and_from _ _ ((λ i. same_event (h.1.1 i) (fit.0.1 i)) ∙ same_event-refl e) (ap not h.0)) others (all_both _ _ others others_not fit.1))
+        (all_map on_wire (λ y. (is_own (on_wire y) ≡ false) × (event_of y.key ≡ e)) (λ r. (same_event (event_of r.key) (event_of own.key) && not (is_own r)) ≡ true)
+        (λ y h. and_from _ _ ((λ i. same_event (h.1 i) (fit.0 i)) ∙ same_event-refl e) (ap not h.0)) others (all_both _ _ others others_not fit.1))
 
     pub packed_are : packages (arriving_rows rows groups (route_of v)) ≡ map (λ part. map on_wire (own ∷ part)) (cut 64 others)
     unfolding packages
@@ -230,19 +265,21 @@ module _ (rows : List Row) (groups : List Group) (v : Via) (e : EventId) (table 
         ∙ ap (map (λ c. on_wire own ∷ c)) (sym (cut_map on_wire 64 others))
         ∙ map_twice (map on_wire) (λ c. on_wire own ∷ c) (λ part. map on_wire (own ∷ part)) (λ c. refl) (cut 64 others)
 
-    pub parts_fit : AllByRecursion (λ part. IsPart e (map on_wire (own ∷ part))) (cut 64 others)
-    unfolding IsStrictlySortedBy
-    parts_fit =
-        all_implied (λ c. ((length c ≤ 64) × AllByRecursion (Fits e) c) × (AllByRecursion (λ y. key_order own y ≡ Less) c × IsStrictlySortedBy key_order c)) (λ c. IsPart e (map on_wire (own ∷ c)))
-        (λ c h. part_fits e own c own_key h.0.0 (fit.0, h.0.1) (h.1.0, h.1.1)) (cut 64 others)
-        (all_both _ _ (cut 64 others) (all_both _ _ (cut 64 others) (parts_short others) (cut_all (Fits e) 64 others fit.1))
-        (all_both _ _ (cut 64 others) (cut_all (λ y. key_order own y ≡ Less) 64 others behind) (cut_ascends key_order 64 others ascends.1)))
+    -- and what passes can go into packages
+    pub packable_here : ArePackable e (own ∷ others)
+    unfolding event_key
+    packable_here = record { first = own_key; each = each; ascend = ascends }
+
+  -- where it cannot, nothing passes
+  pub not_packed : (list : List Row) (r : Bool) → sorted ≡ list → (r ≡ true) ↔ ArePackable e list → r ≡ false → packages (arriving_rows rows groups (route_of v)) ≡ []
+  not_packed [] r is where_ never = none_packed is
+  not_packed (own ∷ others) r is where_ never = absurd (false≢true (sym never ∙ where_.1 (packable_here own others is)))
 
 -- ---- from lists of references
 
 -- the rows that were sorted are those that pass, by their keys
-pub by_keys_is : (rows : List Row) (groups : List Group) (v : Via) (list found : List (Bor Row)) → map (λ r. r.now) found ≡ passing_rows rows groups (route_of v) →
-    map (λ r. r.now) list ≡ sorted_by key_order (map (λ r. r.now) found) → sorted_by key_order (passing_rows rows groups (route_of v)) ≡ map (λ r. r.now) list
+pub by_keys_is : (rows : List Row) (groups : List Group) (v : Via) (list found : List (Bor Row)) → map (λ r. r.now) found ≡ passing_rows rows groups (route_of v) → map (λ r. r.now) list ≡ sorted_by key_order (map (λ r. r.now) found)
+    → sorted_by key_order (passing_rows rows groups (route_of v)) ≡ map (λ r. r.now) list
 by_keys_is rows groups v list found h k = sym (k ∙ ap (sorted_by key_order) h)
 
 pub nothing_left : (list : List (Bor Row)) → length list ≡ 0 → map (λ r. r.now) list ≡ []

@@ -1,16 +1,15 @@
 -- Rows on the wire, and in packages.
-use Rattle.std.specs.Prelude.{◌≡◌, true, false, List, [], ◌∷◌, ℕ, suc, length, map}
+use Rattle.std.specs.Prelude.{◌≡◌, Bool, true, false, not, ◌&&◌, List, [], ◌∷◌, ℕ, suc, length, map}
 use Rattle.std.specs.List.Sorted.{IsStrictlySortedBy}
 use Rattle.misp_levels.specs.Levels.{down}
 use Rattle.misp_elem.specs.Fields.{IsBetween}
-use Rattle.misp_elem.specs.Row.{AreRows}
-use Rattle.misp_rules.specs.Prelude.{Bor, EventId, Ordering, Row, list_all, nat_cmp, slice_cmp}
+use Rattle.misp_elem.specs.RowFacts.{is_tombstone}
+use Rattle.misp_rules.specs.Prelude.{Bor, EventId, Ordering, Row, event_of, list_all, same_event}
 use Rattle.misp_rules.specs.declared.package.PackageFields.{PackageFields as Package}
-use Rattle.misp_rules.specs.Package.{BeginsWith, is_packed}
+use Rattle.misp_rules.specs.Package.{BeginsWith}
 use Rattle.misp_history.specs.History.{without_local_tags}
 use Rattle.misp_copies.specs.Keys.{key_cmp}
 use Rattle.misp_package.specs.Passing.{nobody}
-use Rattle.misp_elem.specs.Spelling as spelling
 
 -- the row as it arrives at nobody
 unfoldable pub on_wire : Row → Row
@@ -33,13 +32,25 @@ key_order a b = key_cmp a.key b.key
 abbrev pub rows_in : List (Bor (List (Bor Row))) → List (List Row)
 rows_in parts = map (λ part. map (λ r. r.now) part.now) parts
 
--- the rows of a package of the event
+-- the row is no tombstone
+unfoldable pub is_whole : Row → Bool
+is_whole row = not (is_tombstone row)
+
+-- the row can go into a package of the event
+unfoldable pub is_packable : EventId → Row → Bool
+is_packable e row = same_event (event_of row.key) e && is_whole row
+
+-- the rows can go into packages of the event: its own row goes before the others, and they ascend
+-- by their keys
+pub record ArePackable (e : EventId) (rows : List Row) : Type 0 where
+  pub first : BeginsWith e rows
+  pub each : list_all (is_packable e) rows ≡ true
+  pub ascend : IsStrictlySortedBy key_order rows
+
+-- the rows of one package of the event
 pub record IsPart (e : EventId) (part : List Row) : Type 0 where
   pub count : IsBetween 1 65 (length part)
-  pub first : BeginsWith e part
-  pub packed : list_all (is_packed e) part ≡ true
-  pub ascend : IsStrictlySortedBy (slice_cmp nat_cmp) (map (λ row. spelling.key row.key) part)
-  pub rows : AreRows part
+  pub packable : ArePackable e part
 
 -- the packages are of the event, so many in all, and are numbered from this number on
 unfoldable pub AreNumberedFrom : ℕ → EventId → ℕ → List Package → Type 0

@@ -9,6 +9,7 @@ ghost use Rattle.misp_history.specs.Merging.{arriving_rows, packages};
 ghost use Rattle.misp_package.specs.Packing.{AreNumbered};
 ghost use Rattle.misp_package.specs.Passing.{route_of};
 
+use crate::fitting::are_packable;
 use crate::key_order::by_keys;
 use crate::packing::{packed, parts_of};
 use crate::passing::passing;
@@ -27,14 +28,17 @@ pub fn outgoing(
     event: &EventId,
     via: &Via,
 ) -> Result<Vec<Package>, NoMemory>
-    requires table { IsTable rows.now }
-    requires event { list_all (λ row. same_event (event_of row.key) event.now) rows.now ≡ true }
-    ensures packed { IfOk result (λ ps. map (λ p. p.rows) ps.items
+    ensures packed { IsTable rows.now →
+        list_all (λ row. same_event (event_of row.key) event.now) rows.now ≡ true →
+        IfOk result (λ ps. map (λ p. p.rows) ps.items
         ≡ packages (arriving_rows rows.now via.now.groups.now (route_of via.now))) }
     ensures numbered { IfOk result (λ ps. AreNumbered event.now ps.items) }
 {
     let list = passing(alloc, rows, event, via)?;
     let list = by_keys(list)?;
+    if !are_packable(list.as_slice(), event) {
+        return Ok(Vec::new(alloc));
+    }
     let Some((own, others)) = list.as_slice().split_first() else {
         return Ok(Vec::new(alloc));
     };

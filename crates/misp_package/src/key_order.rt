@@ -9,8 +9,8 @@ use misp_elem::{Row, compare_keys};
 use misp_ids::NoMemory;
 use std::cmp::Ordering;
 
-// How the key of the first stands to that of the second.
-fn compare(a: &Row, b: &Row) -> Ordering
+/// How the key of the first stands to that of the second.
+pub(crate) fn compare(a: &Row, b: &Row) -> Ordering
     ensures { result ≡ key_order a.now b.now }
 {
     compare_keys(&a.key, &b.key)

@@ -1,10 +1,10 @@
 //! Rows in packages.
 
-ghost use Rattle.std.specs.Prelude.{◌≡◌, ◌<◌, ◌∷◌, length, map, IfOk};
-ghost use Rattle.std.specs.List.{AllByRecursion};
+ghost use Rattle.std.specs.Prelude.{◌≡◌, ◌<◌, ◌∷◌, true, length, map, IfOk, OnOk};
+ghost use Rattle.std.specs.List.{AllByRecursion, list_all};
 ghost use Rattle.misp_elem.specs.Row.{AreRows};
 ghost use Rattle.misp_history.specs.Merging.{cut};
-ghost use Rattle.misp_package.specs.Packing.{AreNumbered, IsPart, on_wire, rows_in};
+ghost use Rattle.misp_package.specs.Packing.{AreNumbered, IsPart, is_whole, on_wire, rows_in};
 
 use crate::wire::on_wire;
 use misp_elem::Row;
@@ -36,9 +36,10 @@ pub(crate) fn parts_of<'a, 'b>(
 
 // The event's own row and others as they are on the wire.
 fn all_on_wire(alloc: Global, own: &Row, others: &[&Row]) -> Result<Vec<Row>, NoMemory>
-    requires { AreRows (map on_wire (own.now ∷ map (λ r. r.now) others.now)) }
-    ensures { IfOk result (λ rows. rows.items
+    requires { list_all is_whole (own.now ∷ map (λ r. r.now) others.now) ≡ true }
+    ensures wired { IfOk result (λ rows. rows.items
         ≡ map on_wire (own.now ∷ map (λ r. r.now) others.now)) }
+    ensures rows { OnOk result (AreRows (map on_wire (own.now ∷ map (λ r. r.now) others.now))) }
 {
     let mut rows = Vec::new(alloc);
     rows.push(on_wire(own)?)?;
@@ -57,7 +58,7 @@ fn package(
     part: u32,
     parts: u32,
 ) -> Result<Package, NoMemory>
-    requires part { IsPart event.now (map on_wire (own.now ∷ map (λ r. r.now) others.now)) }
+    requires part { IsPart event.now (own.now ∷ map (λ r. r.now) others.now) }
     requires number { part < parts }
     ensures { IfOk result (λ p. p ≡ record {
       event = event.now;
@@ -83,8 +84,7 @@ pub(crate) fn packed(
     own: &Row,
     parts: &[&[&Row]],
 ) -> Result<Vec<Package>, NoMemory>
-    requires { AllByRecursion (λ part. IsPart event.now (map on_wire (own.now ∷ part)))
-        (rows_in parts.now) }
+    requires { AllByRecursion (λ part. IsPart event.now (own.now ∷ part)) (rows_in parts.now) }
     ensures packed { IfOk result (λ packages. map (λ p. p.rows) packages.items
         ≡ map (λ part. map on_wire (own.now ∷ part)) (rows_in parts.now)) }
     ensures numbered { IfOk result (λ packages. AreNumbered event.now packages.items) }

@@ -1,9 +1,9 @@
 //! A row on the wire.
 
-ghost use Rattle.std.specs.Prelude.{◌≡◌, IfOk};
+ghost use Rattle.std.specs.Prelude.{◌≡◌, true, IfOk};
 ghost use Rattle.misp_elem.specs.Row.{IsRow};
 ghost use Rattle.misp_history.specs.History.{exportable, without_local_tags};
-ghost use Rattle.misp_package.specs.Packing.{on_wire};
+ghost use Rattle.misp_package.specs.Packing.{is_whole, on_wire};
 
 use misp_elem::{AttributeBody, Content, EventBody, Row, Tag};
 use misp_ids::{Items, NoMemory, OrgId, Uid};
@@ -68,8 +68,9 @@ fn without_local_tags(content: &Content) -> Result<Content, NoMemory>
 /// The row as it arrives at nobody.
 #[tactic(auto, unfolding(crate::specs::Packing::on_wire))]
 pub(crate) fn on_wire(row: &Row) -> Result<Row, NoMemory>
-    requires { IsRow (on_wire row.now) }
-    ensures { IfOk result (λ r. r ≡ on_wire row.now) }
+    requires { is_whole row.now ≡ true }
+    ensures wired { IfOk result (λ r. r ≡ on_wire row.now) }
+    ensures row { IsRow (on_wire row.now) }
 {
     let content = without_local_tags(&row.content)?;
     Ok(Row {

@@ -11,6 +11,7 @@ pub mod OneEvent
 pub mod OneEventChanges
 pub mod OneRow
 pub mod Owners
+pub mod Passing
 pub mod Plain_requests
 pub mod Prelude
 pub mod Scenes

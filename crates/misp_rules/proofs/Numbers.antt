@@ -1,7 +1,11 @@
--- What a request is refused by does not depend on the number of its act.
-use Rattle.std.proofs.Common.{◌≡◌, ℕ, List, [], ◌∷◌, ◌++◌, Bool, true, false, refl, ap, map, ◌&&◌, ◌||◌, not, Option, Some, None, option_map, filter}
+-- What a request is refused by does not depend on the number of its act, nor, where it is no pull, on the partner of the caller's key.
+use Rattle.std.proofs.Common.{◌≡◌, ℕ, List, [], ◌∷◌, ◌++◌, Bool, true, false, refl, ap, sym, map, ◌&&◌, ◌||◌, not, Option, Some, None, option_map, filter}
 use Rattle.misp_rules.specs.Prelude.{AddEvent, AddParts, Ask, Change, Content, Delete, DeleteEvent, DeleteReference, EditAttribute, EditEvent, EditObject, Element, ElementExists, ElementFull, ElemId, EventExists, EventGone, EventId}
 use Rattle.misp_rules.specs.Prelude.{GroupNotUsable, Groups, Index, Judge, Key, Label, NotGranted, OrgId, Place, Proposal, ProposalDraft, ProposalExists, ProposalName, Propose, Publish, Reference, Row, Scene, Sight, Sighting}
+use Rattle.misp_rules.specs.Prelude.{Inst, SyncEvents, SyncGroups, SyncPart}
+use Rattle.misp_rules.specs.Machine.{pulls}
+use Rattle.misp_rules.specs.Pulling.{pulled_part, pulled_rows}
+use Rattle.misp_lists.proofs.Prelude.{false≢true}
 use Rattle.misp_rules.specs.Prelude.{SightingDraft, Stamp, Submission, TakePart, TimeLimit, Verdict, View, as_deleted, ask_rules, at_attribute, at_event, at_object, at_tags, bars, body_seen, change_rules, clashes, edit_rules, edited}
 use Rattle.misp_rules.specs.Prelude.{edited_event, edited_object, event_key, event_of, first_rule, fits_parts, has_unusable, holds_copy, holds_home, holds_tombstone, is_accepted, is_at_limit, is_newer_than, is_row_of, is_taken}
 use Rattle.misp_rules.specs.Prelude.{is_too_long, is_usable, judge_rules, list_all, list_any, own_live, own_reference, own_row, own_row_is, proposal_key, propose_rules, scene_as, sees, sight_rules, sighting_key, tagged, target_in_copy}
@@ -11,9 +15,9 @@ use Rattle.misp_rules.specs.Scene.{OlderTime, sees_live}
 use Rattle.misp_rules.specs.Adding.{target_of, has_target, object_is_there, part_fits, reference_fits}
 use Rattle.misp_rules.specs.Statements.{sees_target, proposal_row, can_judge}
 
-module _ (n : ℕ) (s : Scene) where
+module _ (n : ℕ) (partner : Option Inst) (s : Scene) where
   abbrev other : Scene
-  other = scene_as n s
+  other = record s { act = n; partner = partner }
 
   -- ---- what is shown
   reference_as : (w : OrgId) (e : EventId) (y : ElemId) (k : Key) → is_reference_of other w e y k ≡ is_reference_of s w e y k
@@ -42,30 +46,30 @@ module _ (n : ℕ) (s : Scene) where
   event_row_as e (Some w) = refl
 
   -- an event is shown the same
-  pub shown_as : (e : EventId) (owner : Option OrgId) → shown other e owner ≡ shown s e owner
+  pub shown_alike : (e : EventId) (owner : Option OrgId) → shown other e owner ≡ shown s e owner
   unfolding shown
-  shown_as e owner = λ i. option_map (λ row. form_as e row i) (event_row_as e owner i)
+  shown_alike e owner = λ i. option_map (λ row. form_as e row i) (event_row_as e owner i)
 
   -- and so is the index
-  pub index_as : index other ≡ index s
+  pub index_alike : index other ≡ index s
   unfolding index is_chosen
-  index_as = λ i. map (λ row. form_as (event_of row.key) row i) (sorted (filter (is_chosen s) s.rows))
+  index_alike = λ i. map (λ row. form_as (event_of row.key) row i) (sorted (filter (is_chosen s) s.rows))
 
   -- ---- what refuses a change
   -- labels are usable by the groups alone
-  pub usable_as : (l : Label) → is_usable other l ≡ is_usable s l
+  pub usable_alike : (l : Label) → is_usable other l ≡ is_usable s l
   unfolding is_usable
-  usable_as (Label.Group g) = refl
-  usable_as Label.Own = refl
-  usable_as Label.Community = refl
-  usable_as Label.Connected = refl
-  usable_as Label.All = refl
-  usable_as Label.Inherit = refl
+  usable_alike (Label.Group g) = refl
+  usable_alike Label.Own = refl
+  usable_alike Label.Community = refl
+  usable_alike Label.Connected = refl
+  usable_alike Label.All = refl
+  usable_alike Label.Inherit = refl
 
   wants_as : (l : Option Label) → wants_unusable other l ≡ wants_unusable s l
   unfolding wants_unusable
   wants_as None = refl
-  wants_as (Some l) = ap not (usable_as l)
+  wants_as (Some l) = ap not (usable_alike l)
 
   bars_as : (e : EventId) (here fits : Bool) → here ≡ fits → bars other e here ≡ bars s e fits
   unfolding bars holds_copy holds_home sees
@@ -77,7 +81,7 @@ module _ (n : ℕ) (s : Scene) where
 
   unusable_as : (b : Submission) → has_unusable other b ≡ has_unusable s b
   unfolding has_unusable
-  unusable_as b = λ i. not (usable_as b.label i) || list_any (λ d. not (usable_as d.label i)) b.parts
+  unusable_as b = λ i. not (usable_alike b.label i) || list_any (λ d. not (usable_alike d.label i)) b.parts
 
   part_as : (b : Submission) (p : Place) → part_fits other b p ≡ part_fits s b p
   unfolding part_fits object_is_there own_live
@@ -162,19 +166,44 @@ module _ (n : ℕ) (s : Scene) where
   judge_as e m accept = refl
 
   -- ---- any request
+  -- where it is no pull the rules are the same
+  pub rules_alike : (a : Ask) → pulls a ≡ false → ask_rules other a ≡ ask_rules s a
+  unfolding ask_rules pulls
+  rules_alike (View e owner) h = λ i. (elim (shown_alike e owner i) as (λ x. Bool) [ None ↦ true | Some v ↦ false ], NotGranted) ∷ []
+  rules_alike (Ask.Change c) h = change_as c
+  rules_alike (Propose d) h = propose_as d
+  rules_alike (Judge e m accept) h = judge_as e m accept
+  rules_alike (Sight e p d) h = sight_as e p d
+  rules_alike Index h = refl
+  rules_alike Groups h = refl
+  rules_alike (TakePart p) h = refl
+  rules_alike _ h = absurd (false≢true (sym h))
+
+  -- and one is accepted where the other is
+  pub accepted_alike : (a : Ask) → pulls a ≡ false → is_accepted other a ≡ is_accepted s a
+  unfolding is_accepted
+  accepted_alike a h = λ i. elim (first_rule (rules_alike a h i)) as (λ x. Bool) [ None ↦ true | Some r ↦ false ]
+
+-- ---- with another number alone
+module _ (n : ℕ) (s : Scene) where
+  pub shown_as : (e : EventId) (owner : Option OrgId) → shown (scene_as n s) e owner ≡ shown s e owner
+  shown_as = shown_alike n s.partner s
+
+  pub index_as : index (scene_as n s) ≡ index s
+  index_as = index_alike n s.partner s
+
+  pub usable_as : (l : Label) → is_usable (scene_as n s) l ≡ is_usable s l
+  usable_as = usable_alike n s.partner s
+
   -- the rules are the same
-  pub rules_as : (a : Ask) → ask_rules other a ≡ ask_rules s a
-  unfolding ask_rules
-  rules_as (View e owner) = λ i. (elim (shown_as e owner i) as (λ x. Bool) [ None ↦ true | Some v ↦ false ], NotGranted) ∷ []
-  rules_as (Ask.Change c) = change_as c
-  rules_as (Propose d) = propose_as d
-  rules_as (Judge e m accept) = judge_as e m accept
-  rules_as (Sight e p d) = sight_as e p d
-  rules_as Index = refl
-  rules_as Groups = refl
-  rules_as (TakePart p) = refl
+  pub rules_as : (a : Ask) → ask_rules (scene_as n s) a ≡ ask_rules s a
+  unfolding ask_rules pulls pulled_part pulled_rows
+  rules_as SyncGroups = refl
+  rules_as SyncEvents = refl
+  rules_as (SyncPart e m) = refl
+  rules_as a = rules_alike n s.partner s a refl
 
   -- one is accepted where the other is
-  pub accepted_as : (a : Ask) → is_accepted other a ≡ is_accepted s a
+  pub accepted_as : (a : Ask) → is_accepted (scene_as n s) a ≡ is_accepted s a
   unfolding is_accepted
   accepted_as a = λ i. elim (first_rule (rules_as a i)) as (λ x. Bool) [ None ↦ true | Some r ↦ false ]

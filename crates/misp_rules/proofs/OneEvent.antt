@@ -1,6 +1,6 @@
 -- What is asked of one event is answered from the event's own rows, and writes the same.
-use Rattle.std.proofs.Common.{◌≡◌, Bool, true, false, [], ◌∷◌, refl, ◌++◌, ap, map, List, ◌∙◌, Some, None, Option, ◌&&◌, ◌||◌, not, option_map, option_to_list, filter, filter_map, find}
-use Rattle.misp_rules.specs.Prelude.{AddEvent, Ask, View, clashes, has_unusable, is_usable}
+use Rattle.std.proofs.Common.{◌≡◌, ℕ, Bool, true, false, [], ◌∷◌, refl, ◌++◌, ap, map, List, ◌∙◌, Some, None, Option, ◌&&◌, ◌||◌, not, option_map, option_to_list, filter, filter_map, find}
+use Rattle.misp_rules.specs.Prelude.{AddEvent, Ask, SyncPart, View, clashes, has_unusable, is_usable}
 use Rattle.misp_rules.proofs.Prelude.{Content, ElementExists, ElemId, EventExists, EventGone, EventId, Group, GroupNotUsable, Inst, Label, NotGranted, OrgId, Other, Place, Reference, ReferenceDraft, Refused, Reply, Row, Saved, Scene, Seen}
 use Rattle.misp_rules.proofs.Prelude.{Submission, and_parts, answer, are_distinct, ask_rules, brings, change_rules, change_writes, cut_rows, cut_scene, event_is_closed, event_key, event_of, event_rows, event_written, find_within}
 use Rattle.misp_rules.proofs.Prelude.{first_rule, has_target, is_accepted, is_live, is_live_cut, is_place_of, is_target_key, known, known_cut, list_any, new_event, of_event, ok_answer, part_version, parts_written, place_in, reference_key}
@@ -8,6 +8,8 @@ use Rattle.misp_rules.proofs.Prelude.{reference_version, same_event, same_org, s
 use Rattle.misp_rules.proofs.Scenes.{holds_copy_cut, holds_tombstone_cut, is_usable_cut}
 use Rattle.misp_rules.proofs.ShownHere.{shown_from_here, key_here}
 use Rattle.misp_rules.proofs.Local.{is_taken_here}
+use Rattle.misp_rules.proofs.Passing.{part_here}
+use Rattle.misp_rules.specs.Answers.{Packed}
 
 -- one answer, one set of rules, one set of versions
 pub record IsSame (s t : Scene) (a : Ask) : Type 0 where
@@ -39,6 +41,18 @@ module _ (e : EventId) (s : Scene) where
     where
       rules : ask_rules here (View e owner) ≡ ask_rules s (View e owner)
       rules = λ i. (elim (shown_from_here e s owner i) as (λ x. Bool) [ None ↦ true | Some v ↦ false ], NotGranted) ∷ []
+
+  pub sync_part_here : (n : ℕ) → IsSame here s (SyncPart e n)
+  unfolding ask_rules brings ok_answer
+  sync_part_here n = record {
+    rules = rules;
+    accepted = accepted_from here s (SyncPart e n) rules;
+    answers = from_rules here s (SyncPart e n) rules (λ i. elim (part_here e s n i) as (λ x. Reply) [ None ↦ Other | Some p ↦ Packed p ]);
+    brought = refl;
+  }
+    where
+      rules : ask_rules here (SyncPart e n) ≡ ask_rules s (SyncPart e n)
+      rules = λ i. (elim (part_here e s n i) as (λ x. Bool) [ None ↦ true | Some p ↦ false ], NotGranted) ∷ []
 
 module _ (b : Submission) (s : Scene) where
   abbrev event : EventId

@@ -2,6 +2,7 @@
 use Rattle.std.proofs.Common.{◌≡◌, true, ap, ◌∙◌, ℕ, List, [], ◌∷◌, ◌++◌, Bool, refl, map, cond, eqb, false, subst, ◌&&◌, not, Option, None, option_to_list, ◌||◌, Some, filter_map}
 use Rattle.misp_rules.specs.Prelude.{AddEvent, AddParts, Ask, Change, Content, Delete, DeleteEvent, DeleteReference, EditAttribute, EditEvent, EditObject, Element, ElementExists, ElementFull, ElemId, EventGone, EventId, GroupNotUsable}
 use Rattle.misp_rules.specs.Prelude.{Groups, Index, Judge, Key, Label, NotGranted, NotOwner, Place, ProposalDraft, ProposalExists, ProposalName, Propose, Publish, ReferenceDraft, Row, Saved, Scene, Sight, SightingDraft, Stamp, Submission}
+use Rattle.misp_rules.specs.Prelude.{SyncEvents, SyncGroups, SyncPart}
 use Rattle.misp_rules.specs.Prelude.{Tag, TakePart, TimeLimit, Verdict, View, as_deleted, as_published, ask_rules, at_attribute, at_event, at_object, at_publishing, at_tags, bars, body_seen, brings, change_rules, change_writes, changed}
 use Rattle.misp_rules.specs.Prelude.{changed_row, cut_rows, edit_rules, edited, edited_event, edited_object, event_key, event_of, fits_parts, has_tag, holds_copy, is_for_new, is_held_in, is_live, judge_rules, judge_writes, judged_place}
 use Rattle.misp_rules.specs.Prelude.{last_stamp, let_out, let_out_row, list_all, ok_answer, own_live, own_reference, part_version, parts_written, proposal_key, propose_rules, propose_writes, row_passes, same_event, same_org, sees}
@@ -17,7 +18,7 @@ use Rattle.misp_rules.proofs.Plain_requests.{edit_rules_cut, reference_event, ow
 use Rattle.misp_rules.proofs.Judging.{can_judge_cut, body_seen_cut, change_cut, too_long, too_long_cut}
 use Rattle.misp_rules.proofs.Local.{is_taken_here}
 use Rattle.misp_rules.proofs.ShownHere.{key_here}
-use Rattle.misp_rules.proofs.OneEvent.{IsSame, from_rules, accepted_from, has_target_same, clashes_same, unusable_same, reference_same, add_here, view_here, same_from, seeing_here}
+use Rattle.misp_rules.proofs.OneEvent.{IsSame, from_rules, accepted_from, has_target_same, clashes_same, unusable_same, reference_same, add_here, view_here, sync_part_here, same_from, seeing_here}
 use Rattle.misp_rules.specs.Adding.{object_is_there, brings_object, part_fits, reference_fits}
 use Rattle.misp_rules.specs.Machine.{event_changed, event_asked}
 use Rattle.misp_rules.proofs.Judging as judging
@@ -269,6 +270,9 @@ ask_here e s (Propose d) h = subst (λ x. IsSame (cut_scene (of_event x) s) s (P
 ask_here e s (Judge f n accept) h = subst (λ x. IsSame (cut_scene (of_event x) s) s (Judge f n accept)) (ap (some_is f) h) (judge_here f s n accept)
 ask_here e s (Sight f t d) h = subst (λ x. IsSame (cut_scene (of_event x) s) s (Sight f t d)) (ap (some_is f) h) (sight_here f s t d)
 ask_here e s Index h = absurd (false≢true (ap (λ (o : Option EventId). elim o [ None ↦ false | Some x ↦ true ]) h))
+ask_here e s (SyncPart f n) h = subst (λ x. IsSame (cut_scene (of_event x) s) s (SyncPart f n)) (ap (some_is f) h) (sync_part_here f s n)
+ask_here e s SyncGroups h = absurd (false≢true (ap (λ (o : Option EventId). elim o [ None ↦ false | Some x ↦ true ]) h))
+ask_here e s SyncEvents h = absurd (false≢true (ap (λ (o : Option EventId). elim o [ None ↦ false | Some x ↦ true ]) h))
 ask_here e s Groups h = absurd (false≢true (ap (λ (o : Option EventId). elim o [ None ↦ false | Some x ↦ true ]) h))
 ask_here e s (TakePart p) h = absurd (false≢true (ap (λ (o : Option EventId). elim o [ None ↦ false | Some x ↦ true ]) h))
 

@@ -4,15 +4,17 @@ use Rattle.misp_groups.specs.declared.group.GroupFields.{GroupFields as Group}
 use Rattle.misp_groups.specs.Audience.{allows}
 use Rattle.misp_elem.specs.declared.row.RowFields.{RowFields as Row}
 use Rattle.misp_elem.specs.declared.visible.VisibleEvent.{VisibleEvent}
-use Rattle.misp_elem.specs.Prelude.{Inst, OrgId, list_any, same_org}
+use Rattle.misp_elem.specs.Prelude.{EventId, Inst, OrgId, list_any, same_org}
+use Rattle.misp_rules.specs.declared.package.PackageFields.{PackageFields}
 use Rattle.misp_rules.specs.declared.ask.Ask.{Ask}
-use Rattle.misp_rules.specs.declared.ask.Ask.TheVariants.{View, Propose, Judge, Sight, Index, Groups, TakePart}
+use Rattle.misp_rules.specs.declared.ask.Ask.TheVariants.{View, Propose, Judge, Sight, Index, Groups, SyncGroups, SyncEvents, SyncPart, TakePart}
 use Rattle.misp_rules.specs.Scene.{Scene, Rule, NotGranted, first_rule}
 use Rattle.misp_rules.specs.Changing.{change_rules, change_writes}
 use Rattle.misp_rules.specs.Statements.{propose_rules, judge_rules, sight_rules, propose_writes, judge_writes, sight_writes}
 use Rattle.misp_rules.specs.Shown.{shown, index}
 use Rattle.misp_rules.specs.Version.{Version}
 use Rattle.misp_rules.specs.Arrival.{counted, handed_in}
+use Rattle.misp_rules.specs.Pulling.{pulled_events, pulled_groups, pulled_part}
 use Rattle.misp_rules.specs.View.{is_row_of}
 
 -- the rules that refuse a request
@@ -25,6 +27,10 @@ ask_rules s (Judge e n accept) = judge_rules s e n accept
 ask_rules s (Sight e t d) = sight_rules s e t d
 ask_rules s Index = []
 ask_rules s Groups = []
+ask_rules s SyncGroups = []
+ask_rules s SyncEvents = []
+ask_rules s (SyncPart e n) =
+    (elim (pulled_part s e n) [ None ↦ true | Some p ↦ false ], NotGranted) ∷ []
 ask_rules s (TakePart p) = []
 
 -- the versions that a package's rows come as, where they count
@@ -40,6 +46,9 @@ brings s (Judge e n accept) = judge_writes s e n accept
 brings s (Sight e t d) = sight_writes s e t d
 brings s Index = []
 brings s Groups = []
+brings s SyncGroups = []
+brings s SyncEvents = []
+brings s (SyncPart e n) = []
 brings s (TakePart p) = taken_rows s p.rows
 
 -- no rule refuses the request
@@ -51,6 +60,8 @@ pub data Reply : Type 0 where
   Seen : VisibleEvent → Reply
   Listed : List VisibleEvent → Reply
   Shares : List Group → Reply
+  Parts : List (EventId × ℕ) → Reply
+  Packed : PackageFields → Reply
   Saved : List Version → Reply
   Taken : ℕ → Reply
   Other : Reply
@@ -78,6 +89,9 @@ ok_answer s (Judge e n accept) = Saved (judge_writes s e n accept)
 ok_answer s (Sight e t d) = Saved (sight_writes s e t d)
 ok_answer s Index = Listed (index s)
 ok_answer s Groups = Shares (concerning s)
+ok_answer s SyncGroups = Shares (pulled_groups s)
+ok_answer s SyncEvents = Parts (pulled_events s)
+ok_answer s (SyncPart e n) = elim (pulled_part s e n) [ None ↦ Other | Some p ↦ Packed p ]
 ok_answer s (TakePart p) = Taken (length (newer s (taken_rows s p.rows)))
 
 -- what a request is answered

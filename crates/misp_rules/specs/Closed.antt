@@ -11,7 +11,7 @@ use Rattle.misp_rules.specs.Adding.{reference_key}
 use Rattle.misp_rules.specs.declared.ask.Ask.{Ask}
 use Rattle.misp_rules.specs.declared.change.Change.TheVariants.{AddEvent, AddParts, EditEvent, EditAttribute, EditObject, Delete, DeleteReference, DeleteEvent, Publish}
 use Rattle.misp_rules.specs.declared.change.Change.{Change}
-use Rattle.misp_rules.specs.declared.ask.Ask.TheVariants.{View, Propose, Judge, Sight, Index, Groups, TakePart}
+use Rattle.misp_rules.specs.declared.ask.Ask.TheVariants.{View, Propose, Judge, Sight, Index, Groups, SyncGroups, SyncEvents, SyncPart, TakePart}
 use Rattle.misp_rules.specs.Statements.{proposal_key, sighting_key, judged_place}
 use Rattle.misp_rules.specs.Changing.{own_reference, row_passes}
 use Rattle.misp_rules.specs.Answers.{is_accepted}
@@ -71,6 +71,9 @@ erased_ask keep s (Ask.Change (Change.Untag e p name)) =
 erased_ask keep s (Sight e t d) = where_kept (keep (sighting_key s e t d)) (Sight e t d)
 erased_ask keep s Index = None
 erased_ask keep s Groups = None
+erased_ask keep s SyncGroups = None
+erased_ask keep s SyncEvents = None
+erased_ask keep s (SyncPart e n) = None
 erased_ask keep s (Ask.Change (EditAttribute e p edit)) =
     where_kept (keep (Element e p)) (Ask.Change (EditAttribute e p edit))
 erased_ask keep s (Ask.Change (DeleteEvent e)) =
@@ -109,4 +112,7 @@ HasPair keep s (Propose d) = Unit {0}
 HasPair keep s (Sight e t d) = Unit {0}
 HasPair keep s Index = Unit {0}
 HasPair keep s Groups = Unit {0}
+HasPair keep s SyncGroups = Unit {0}
+HasPair keep s SyncEvents = Unit {0}
+HasPair keep s (SyncPart e n) = Unit {0}
 HasPair keep s (TakePart p) = Unit {0}

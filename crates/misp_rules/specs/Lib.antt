@@ -13,6 +13,9 @@ pub mod Closed
 pub mod Edits
 pub mod Machine
 pub mod Numbers
+pub mod Packing
+pub mod Passing
+pub mod Pulling
 pub mod RowOrder
 pub mod Scene
 pub mod Shown

@@ -4,7 +4,8 @@ use Rattle.std.specs.Ordering.{is_lt}
 use Rattle.misp_lists.specs.Order.{put}
 use Rattle.misp_ids.specs.Moments.{next_stamp}
 use Rattle.misp_elem.specs.Spelling.{uid, key}
-use Rattle.misp_rules.specs.Prelude.{AddEvent, AddParts, Ask, Change, Delete, DeleteEvent, DeleteReference, EditAttribute, EditEvent, EditObject, EventId, Groups, Index, Judge, OrgId, Propose, Publish, Row, Scene, Sight, Stamp, TakePart}
+use Rattle.misp_rules.specs.Prelude.{AddEvent, AddParts, Ask, Change, Delete, DeleteEvent, DeleteReference, EditAttribute, EditEvent, EditObject, EventId, Groups, Index, Judge, OrgId, Propose, Publish, Row, Scene, Sight, Stamp, SyncEvents, SyncGroups, SyncPart, TakePart}
+pub use Rattle.misp_rules.specs.Packing.{event_rows}
 use Rattle.misp_rules.specs.Prelude.{View, at_publishing, event_of, known, nat_cmp, same_event, same_key, same_org, slice_cmp, stands_before}
 
 -- the rows with one more, in the place of its owner's row of that key
@@ -52,10 +53,6 @@ name_bytes r = uid r.owner.0 ++ key r.key
 unfoldable pub raw_before : ℕ → List ℕ → ℕ → List ℕ → Bool
 raw_before e m f n = ltb e f || eqb e f && is_lt (slice_cmp nat_cmp m n)
 
--- the rows of one event
-abbrev pub event_rows : EventId → List Row → List Row
-event_rows e rows = filter (λ row. same_event (event_of row.key) e) rows
-
 -- the surroundings with what the caller knows of these rows
 abbrev pub seeing : Scene → List Row → Scene
 seeing s rows = record s { rows = known rows s.groups s.at s.by }
@@ -70,6 +67,23 @@ hands_in (Judge e n accept) = false
 hands_in (Sight e t d) = false
 hands_in Index = false
 hands_in Groups = false
+hands_in SyncGroups = false
+hands_in SyncEvents = false
+hands_in (SyncPart e n) = false
+
+-- the request is one of a pull: what it is answered hangs on the partner of the caller's key
+unfoldable pub pulls : Ask → Bool
+pulls SyncGroups = true
+pulls SyncEvents = true
+pulls (SyncPart e n) = true
+pulls (View e owner) = false
+pulls (Ask.Change c) = false
+pulls (Propose d) = false
+pulls (Judge e n accept) = false
+pulls (Sight e t d) = false
+pulls Index = false
+pulls Groups = false
+pulls (TakePart p) = false
 
 -- the event that a change is about
 unfoldable pub event_changed : Change → EventId
@@ -94,4 +108,7 @@ event_asked (Judge e n accept) = Some e
 event_asked (Sight e t d) = Some e
 event_asked Index = None
 event_asked Groups = None
+event_asked SyncGroups = None
+event_asked SyncEvents = None
+event_asked (SyncPart e n) = Some e
 event_asked (TakePart p) = None

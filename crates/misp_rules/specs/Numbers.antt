@@ -2,7 +2,7 @@
 use Rattle.std.specs.Prelude.{ℕ, List, map}
 use Rattle.misp_rules.specs.Scene.{Scene}
 use Rattle.misp_rules.specs.Version.{Version}
-use Rattle.misp_rules.specs.Answers.{Reply, Refused, Seen, Listed, Shares, Saved, Taken, Other}
+use Rattle.misp_rules.specs.Answers.{Reply, Refused, Seen, Listed, Shares, Parts, Packed, Saved, Taken, Other}
 
 -- the same surroundings of the n-th act
 abbrev pub scene_as : ℕ → Scene → Scene
@@ -22,5 +22,7 @@ reply_as n (Refused rule) = Refused rule
 reply_as n (Seen v) = Seen v
 reply_as n (Listed vs) = Listed vs
 reply_as n (Shares groups) = Shares groups
+reply_as n (Parts events) = Parts events
+reply_as n (Packed p) = Packed p
 reply_as n (Taken count) = Taken count
 reply_as n Other = Other

@@ -2,9 +2,13 @@
 use Rattle.std.specs.Prelude.{◌≡◌, ◌<◌, ◌^◌, ◌&&◌, not, eqb, Bool, true, List, [], ◌∷◌, length, map}
 use Rattle.std.specs.List.Sorted.{IsStrictlySortedBy}
 use Rattle.misp_ids.specs.Uid.{IsUid}
+use Rattle.misp_lists.specs.Prelude.{nat_cmp}
+use Rattle.misp_elem.specs.declared.key.Place.{Place}
+use Rattle.misp_elem.specs.declared.row.RowFields.{RowFields as Row}
 use Rattle.misp_elem.specs.Fields.{IsBetween}
+use Rattle.misp_elem.specs.declared.key.KeyForm.TheVariants.{Element}
+use Rattle.misp_elem.specs.Prelude.{EventId, OrgId, event_of, list_all, slice_cmp}
 use Rattle.misp_elem.specs.Row.{AreRows}
-use Rattle.misp_rules.specs.Prelude.{Element, EventId, OrgId, Place, Row, event_of, list_all, nat_cmp, slice_cmp}
 use Rattle.misp_rules.specs.declared.package.PackageFields.{PackageFields}
 use Rattle.misp_elem.specs.Spelling as spelling
 

@@ -30,6 +30,9 @@ permission_of (Ask.Change change) = change_permission change
 permission_of (Ask.Propose draft) = Perm.Propose
 permission_of (Ask.Judge event proposal accept) = Perm.Write
 permission_of (Ask.Sight event target draft) = Perm.Sight
+permission_of Ask.SyncGroups = Perm.Sync
+permission_of Ask.SyncEvents = Perm.Sync
+permission_of (Ask.SyncPart event part) = Perm.Sync
 permission_of (Ask.TakePart part) = Perm.Sync
 
 -- the role of the caller permits the ask

@@ -44,7 +44,7 @@ pub use Rattle.misp_rules.specs.Version.{Version}
 unfoldable pub use Rattle.misp_rules.specs.View.{element_granted, first_of_all, granted, granted_by, granted_somewhere, has_copy, has_gone, has_home, has_open, is_before, is_known, is_least, is_live, is_row_of, known, row_is_open}
 pub use Rattle.misp_rules.specs.View.{IsTable}
 pub use Rattle.misp_rules.specs.declared.ask.Ask.{Ask}
-pub use Rattle.misp_rules.specs.declared.ask.Ask.TheVariants.{Groups, Index, Judge, Propose, Sight, TakePart, View}
+pub use Rattle.misp_rules.specs.declared.ask.Ask.TheVariants.{Groups, Index, Judge, Propose, Sight, SyncEvents, SyncGroups, SyncPart, TakePart, View}
 pub use Rattle.misp_rules.specs.declared.change.Change.{Change}
 pub use Rattle.misp_rules.specs.declared.change.Change.TheVariants.{AddEvent, AddParts, Delete, DeleteEvent, DeleteReference, EditAttribute, EditEvent, EditObject, Publish}
 pub use Rattle.misp_rules.specs.declared.statement.ProposalDraftFields.{ProposalDraftFields as ProposalDraft}

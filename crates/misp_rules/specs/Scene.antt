@@ -10,13 +10,14 @@ use Rattle.misp_elem.specs.declared.content.Content.{Content}
 use Rattle.misp_rules.specs.View.{has_home, has_copy, has_gone, granted_somewhere, element_granted, is_live, is_row_of}
 use Rattle.misp_rules.specs.Version.{Version, Written}
 
--- a request's surroundings: its number, where and by whom, the moment and its date, and the rows
--- and groups that it can look at
+-- a request's surroundings: its number, where and by whom, the instance that the caller's key is
+-- for, the moment and its date, and the rows and groups that it can look at
 pub record Scene : Type 0 where
   pub act : ℕ
   pub at : Inst
   pub by : OrgId
   pub by_name : List ℕ
+  pub partner : Option Inst
   pub now : Stamp
   pub today : List ℕ
   pub rows : List Row

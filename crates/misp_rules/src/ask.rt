@@ -30,5 +30,15 @@ pub enum Ask {
     Index,
     /// Lists the sharing groups that the organisation created or that allow it.
     Groups,
+    /// Lists the sharing groups that carry to the partner of the caller's key.
+    SyncGroups,
+    /// Lists the events of which something passes to the partner, each with the number of its
+    /// packages.
+    SyncEvents,
+    /// Shows one package of an event, as it passes to the partner.
+    SyncPart {
+        event: EventId,
+        part: u32,
+    },
     TakePart(Package),
 }

@@ -33,7 +33,7 @@ pub fn permission_for(ask: &Ask) -> Perm
         Ask::Propose(_) => Perm::Propose,
         Ask::Judge { .. } => Perm::Write,
         Ask::Sight { .. } => Perm::Sight,
-        Ask::TakePart(_) => Perm::Sync,
+        Ask::SyncGroups | Ask::SyncEvents | Ask::SyncPart { .. } | Ask::TakePart(_) => Perm::Sync,
     }
 }
 

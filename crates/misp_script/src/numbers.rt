@@ -1,18 +1,12 @@
 //! The moments and words of lines.
 
 ghost use Rattle.std.specs.Prelude.{◌≡◌, ◌≤◌, length, true};
-ghost use Rattle.std.specs.Char.{is_ascii_digit, digit_value};
+ghost use Rattle.std.specs.Char.{digit_value};
 ghost use Rattle.std.specs.List.{list_all};
 ghost use Rattle.std.specs.Str.Parse.{digits_value};
 ghost use Rattle.misp_script.specs.Numbers.{is_numeral, is_lower_hex, time_of, word_of};
 
-use misp_ids::Stamp;
-
-fn are_digits(text: &[u8]) -> bool
-    ensures { result ≡ list_all is_ascii_digit text.now }
-{
-    text.iter().all(|byte| byte.is_ascii_digit())
-}
+use misp_ids::{Stamp, are_digits, decimal_value};
 
 fn is_numeral(text: &[u8]) -> bool
     ensures { result ≡ is_numeral text.now }
@@ -22,18 +16,6 @@ fn is_numeral(text: &[u8]) -> bool
         [b'0', _, ..] => false,
         [_, ..] => are_digits(text),
     }
-}
-
-fn decimal_value(digits: &[u8]) -> u64
-    requires digits { list_all is_ascii_digit digits.now ≡ true }
-    requires few { length digits.now ≤ 12 }
-    ensures { result ≡ digits_value 10 digits.now }
-{
-    let mut value = 0;
-    for digit in digits {
-        value = 10 * value + u64::from(*digit - b'0');
-    }
-    value
 }
 
 /// The moment that a field says.

@@ -22,4 +22,7 @@ reach_of by (Ask.Judge event proposal accept) = Reach.Event event
 reach_of by (Ask.Sight event target draft) = Reach.Event event
 reach_of by Ask.Index = Reach.All
 reach_of by Ask.Groups = Reach.Nothing
+reach_of by Ask.SyncGroups = Reach.Nothing
+reach_of by Ask.SyncEvents = Reach.All
+reach_of by (Ask.SyncPart event part) = Reach.Event event
 reach_of by (Ask.TakePart part) = Reach.Event part.event

@@ -56,10 +56,11 @@ impl Reach {
             Ask::View { event, .. } | Ask::Judge { event, .. } | Ask::Sight { event, .. } => {
                 Reach::Event(*event)
             }
+            Ask::SyncPart { event, .. } => Reach::Event(*event),
             Ask::Change(change) => change_reach(by, change),
             Ask::Propose(draft) => Reach::Event(draft.fields.event),
-            Ask::Index => Reach::All,
-            Ask::Groups => Reach::Nothing,
+            Ask::Index | Ask::SyncEvents => Reach::All,
+            Ask::Groups | Ask::SyncGroups => Reach::Nothing,
             Ask::TakePart(part) => Reach::Event(part.fields.event),
         }
     }

@@ -2,6 +2,7 @@
 
 mod bytes;
 mod landing;
+mod outgoing;
 
 use misp_elem::encode;
 use misp_ids::{OrgId, Uid};

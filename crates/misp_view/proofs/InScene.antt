@@ -6,7 +6,7 @@ use Rattle.misp_view.specs.View.{scene_of}
 
 -- the scene with another number, moment and names
 abbrev bare_scene : Scene → Scene
-bare_scene s = record { act = 0; at = s.at; by = s.by; by_name = []; now = 0; today = []; rows = s.rows; groups = s.groups }
+bare_scene s = record { act = 0; at = s.at; by = s.by; by_name = []; partner = None; now = 0; today = []; rows = s.rows; groups = s.groups }
 
 reference_same : (s : Scene) (w : OrgId) (e : EventId) (y : ElemId) (k : Key) → is_reference_of s w e y k ≡ is_reference_of (bare_scene s) w e y k
 unfolding is_reference_of is_shown

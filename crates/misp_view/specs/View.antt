@@ -10,6 +10,7 @@ scene_of groups at by rows =
       at = at;
       by = by;
       by_name = [];
+      partner = None;
       now = 0;
       today = [];
       rows = rows;

@@ -1,20 +1,12 @@
 //! Counts in decimal digits.
 
-ghost use Rattle.std.specs.Prelude.{◌≡◌, ◌≤◌, length, true};
-ghost use Rattle.std.specs.Char.{is_ascii_digit};
-ghost use Rattle.std.specs.List.{list_all};
-ghost use Rattle.std.specs.Str.Parse.{digits_value};
+ghost use Rattle.std.specs.Prelude.{◌≡◌};
 ghost use Rattle.misp_words.specs.Count.{is_numeral, count_of};
 
 use crate::MAX_COUNT;
+use misp_ids::{are_digits, decimal_value};
 
 const MAX_DIGITS: usize = 7;
-
-fn are_digits(text: &[u8]) -> bool
-    ensures { result ≡ list_all is_ascii_digit text.now }
-{
-    text.iter().all(|byte| byte.is_ascii_digit())
-}
 
 fn is_numeral(text: &[u8]) -> bool
     ensures { result ≡ is_numeral text.now }
@@ -26,18 +18,6 @@ fn is_numeral(text: &[u8]) -> bool
     }
 }
 
-fn decimal_value(digits: &[u8]) -> u32
-    requires digits { list_all is_ascii_digit digits.now ≡ true }
-    requires few { length digits.now ≤ 7 }
-    ensures { result ≡ digits_value 10 digits.now }
-{
-    let mut value = 0;
-    for digit in digits {
-        value = 10 * value + u32::from(*digit - b'0');
-    }
-    value
-}
-
 // A number from 1 to `MAX_COUNT`, in digits without a leading zero.
 pub(crate) fn read_count(text: &str) -> Option<u32>
     ensures { result ≡ count_of text.now }
@@ -46,7 +26,7 @@ pub(crate) fn read_count(text: &str) -> Option<u32>
     if digits.len() > MAX_DIGITS || !is_numeral(digits) {
         return None;
     }
-    let count = decimal_value(digits);
+    let count = u32::try_from(decimal_value(digits)).ok()?;
     if count > MAX_COUNT {
         return None;
     }

@@ -8,18 +8,28 @@ use std::io;
 use std::random::RandomSource;
 use std::time::SystemTime;
 
+/// How many words are had from the system at a time.
+const WORDS: usize = 16;
+
 /// The clock of the system, which tells neither its time nor its words. Its time is 0 where the
-/// system has none. Its words are random bytes of the system. Where there are none, a word is made
-/// of the time and a running number.
+/// system has none. Its words are random bytes of the system, each given out once. Where there are
+/// none, a word is made of the time and a running number.
 #[derive(Drop)]
 pub struct SystemClock<'a> {
     system: &'a HostRuntime,
-    words: u32,
+    random: [u8; 16 * WORDS],
+    left: usize,
+    counted: u32,
 }
 
 impl<'a> SystemClock<'a> {
     pub fn new(system: &'a HostRuntime) -> Self {
-        SystemClock { system, words: 0 }
+        SystemClock {
+            system,
+            random: [0; 16 * WORDS],
+            left: 0,
+            counted: 0,
+        }
     }
 
     fn seconds(&self) -> u64 {
@@ -32,16 +42,28 @@ impl<'a> SystemClock<'a> {
         }
     }
 
-    fn random(&self) -> io::Result<u128> {
+    // Has more random bytes from the system where none are left.
+    fn refill(&mut self) -> io::Result<()> {
+        if self.left == 0 {
+            self.system.fill_bytes(&mut self.random)?;
+            self.left = WORDS;
+        }
+        Ok(())
+    }
+
+    fn random(&mut self) -> io::Result<u128> {
+        self.refill()?;
+        self.left = self.left.saturating_sub(1);
+        let at = 16 * (self.left % WORDS);
         let mut bytes = [0u8; 16];
-        self.system.fill_bytes(&mut bytes)?;
+        bytes.copy_from_slice(&self.random[at..at + 16]);
         Ok(u128::from_be_bytes(bytes))
     }
 
     // The seconds and a running number of 30 bits, in bits that an identifier keeps.
     fn counted(&mut self) -> u128 {
-        self.words = self.words.wrapping_add(1);
-        let number = u128::from(self.words % 0x4000_0000);
+        self.counted = self.counted.wrapping_add(1);
+        let number = u128::from(self.counted % 0x4000_0000);
         u128::from(self.seconds()) << 80 | number << 32
     }
 }

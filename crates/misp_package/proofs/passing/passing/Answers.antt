@@ -8,11 +8,11 @@ use Rattle.misp_package.proofs.passing.passing.Goals as goal
 
 pub returns-clause-passing : goal.returns-clause-passing
 unfolding granted_to is_known_in
-returns-clause-passing c =
+returns-clause-passing c = λ table ours.
     let groups = c.args.via.now.groups.now in
     let route = route_of c.args.via.now in
     passing_is c.args.rows.now (map (λ r. r.now) c.in_ok-known.known.items) (map (λ r. r.now) c.in_ok-granted.granted.items) (map (λ r. r.now) c.in_ok-list.list.items)
-    groups route c.args.event.now c.in_ok-grants.grants c.in_ok-passage.passage c.requires.table c.requires.event c.in_ok-grants.ensures
+    groups route c.args.event.now c.in_ok-grants.grants c.in_ok-passage.passage table ours c.in_ok-grants.ensures
     c.in_ok-known.ensures.known
     (c.in_ok-granted.ensures ∙ ap (λ (l : List (Bor Row)). filter (granted_in c.in_ok-grants.grants groups route.from route.«for») (map (λ r. r.now) l)) c.as_slice.ensures.value)
     (subst (λ (two : List (Bor Row) × List (Bor Row)). IsPassage c.in_ok-passage.passage groups route c.args.event.now (map (λ r. r.now) two.0) (map (λ r. r.now) two.1))
