@@ -3,6 +3,8 @@ use Rattle.std.proofs.Common.{◌≡◌, ℕ, Bool, true, false, List, [], ◌�
 use Rattle.misp_effects.specs.Effect.{under, stop_of}
 use Rattle.misp_rules.proofs.Prelude.{IfSome_then, Rule, VisibleEvent, answer, first_rule, ok_answer, shown}
 use Rattle.misp_rules.specs.Machine.{event_changed}
+use Rattle.misp_rules.specs.Pulling.{pulled_part}
+use Rattle.misp_rules.specs.declared.package.PackageFields.{PackageFields}
 use Rattle.misp_edit.specs.Refusals.{named}
 use Rattle.misp_core.specs.Prelude.{Admin, Ask, Asked, Caller, Did, Effect, EventId, FormatFault, Group, Held, Host, IsBuilt, OrgId, Row, RuleName, Scene, Standing, View, ask_rules, asked_over, forbidden, groups_of, host_of, is_permitted}
 use Rattle.misp_core.specs.Prelude.{option_map_or, reach_of, refused, reply_in, requested, rule_number, scene_at, seeing, seen_in, stop_in}
@@ -36,6 +38,14 @@ unfolding first_ground first_rule
 by_seen admin s event owner None = refl
 by_seen admin s event owner (Some v) = refl
 
+by_part : (admin : Admin) (s : Scene) (event : EventId) (n : ℕ) (part : Option PackageFields)
+    → rule_of (reply_of admin s (Ask.SyncPart event n) (elim (first_rule ((elim part [ None ↦ true | Some x ↦ false ], asking.NotGranted) ∷ []))
+    [ None ↦ elim part [ None ↦ model.Other | Some x ↦ model.Packed x ] | Some r ↦ model.Refused r ]))
+    ≡ first_ground (map ground_of ((elim part [ None ↦ true | Some x ↦ false ], asking.NotGranted) ∷ []))
+unfolding first_ground first_rule
+by_part admin s event n None = refl
+by_part admin s event n (Some p) = refl
+
 by_rule : (admin : Admin) (s : Scene) (ask : Ask) (event : EventId) → IsOfEvent ask event → (rule : Option Rule)
     → rule_of (reply_of admin s ask (elim rule [ None ↦ ok_answer s ask | Some r ↦ model.Refused r ])) ≡ option_map named rule
 by_rule admin s ask event of None = ap rule_of (of_event admin s ask event of)
@@ -55,6 +65,9 @@ in_scene admin s (Ask.Propose d) built = by_rules admin s (Ask.Propose d) d.even
 in_scene admin s (Ask.Judge e n accept) built = by_rules admin s (Ask.Judge e n accept) e refl
 in_scene admin s (Ask.Sight e t d) built = by_rules admin s (Ask.Sight e t d) e refl
 in_scene admin s Ask.Groups built = refl
+in_scene admin s Ask.SyncGroups built = refl
+in_scene admin s Ask.SyncEvents built = refl
+in_scene admin s (Ask.SyncPart event n) built = by_part admin s event n (pulled_part s event n)
 in_scene admin s ask built = absurd built
 
 -- over what is read for it, by whether the role permits the ask

@@ -1,5 +1,6 @@
 pub mod Administering
 pub mod Answering
+pub mod EventList
 pub mod Limits
 pub mod Order
 pub mod Path

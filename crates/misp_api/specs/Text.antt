@@ -4,8 +4,10 @@ use Rattle.misp_ids.specs.Refusal.{rule_status}
 use Rattle.misp_format.specs.Prelude.{body_data, compact_text}
 use Rattle.misp_format.specs.Replies.{saved_data, taken_data, refusal_data}
 use Rattle.misp_format.specs.WholeGroup.{groups_text}
+use Rattle.misp_package.specs.Spelling.{spell_package}
 use Rattle.misp_core.specs.declared.reply.Answer.{Answer}
 use Rattle.misp_core.specs.declared.reply.Reply.{Reply}
+use Rattle.misp_api.specs.EventList.{event_list_text}
 
 -- the body of an answer
 abbrev pub answer_text : Answer → List ℕ
@@ -13,6 +15,8 @@ answer_text (Answer.Saved elements event stamp) = compact_text (saved_data eleme
 answer_text (Answer.Event event) = compact_text (body_data event)
 answer_text (Answer.Groups groups) = groups_text groups
 answer_text (Answer.Taken count) = compact_text (taken_data count)
+answer_text (Answer.Parts events) = event_list_text events
+answer_text (Answer.Part part) = spell_package part
 
 -- the body of a reply
 abbrev pub body_text : Reply → List ℕ

@@ -4,6 +4,7 @@
 mod administering;
 mod answering;
 mod asking;
+mod event_list;
 mod limits;
 mod path_ids;
 mod path_kind;

@@ -3,9 +3,11 @@
 ghost use Rattle.std.specs.Prelude.{◌≡◌, ◌++◌, OnOk, decimal, codes, string_bytes};
 ghost use Rattle.misp_api.specs.Text.{answer_text, reply_text};
 
+use crate::event_list::put_event_list;
 use misp_core::{Answer, Reply};
 use misp_format::{put_event, put_groups, write_refusal, write_saved, write_taken};
 use misp_ids::NoMemory;
+use misp_package::package_bytes;
 use std::alloc::Global;
 use std::fmt::Write;
 
@@ -37,6 +39,8 @@ fn put_answer(out: &mut Vec<u8>, alloc: Global, answer: &Answer) -> Result<(), N
         Answer::Event(event) => put_event(out, alloc, event),
         Answer::Groups(groups) => put_groups(out, alloc, groups.as_slice()),
         Answer::Taken(count) => Ok(out.extend_from_slice(&write_taken(alloc, *count)?)?),
+        Answer::Parts(events) => put_event_list(out, alloc, events.as_slice()),
+        Answer::Part(package) => Ok(out.extend_from_slice(&package_bytes(alloc, package)?)?),
     }
 }
 

@@ -4,6 +4,7 @@ use Rattle.misp_outside.specs.Held.{rows_named}
 use Rattle.misp_effects.specs.Effect.{effect}
 use Rattle.misp_rules.proofs.Prelude.{event_rows, length-map, map-map, ok_answer, uid}
 use Rattle.misp_rules.specs.Answers.{concerning}
+use Rattle.misp_rules.specs.Pulling.{pulled_groups}
 use Rattle.misp_rules.specs.Machine.{event_asked, event_changed, pulls}
 use Rattle.misp_rules.specs.Numbers.{scene_as, version_as, versions_as, reply_as}
 use Rattle.misp_rules.proofs.OneEventChanges.{ask_of_event}
@@ -57,6 +58,10 @@ groups_alike : (admin : Admin) (s : Scene) (rows others : List Row) → asked ad
 unfolding reply_in writes_in ask_rules is_accepted answer ok_answer brings concerning
 groups_alike admin s rows others = refl
 
+pulled_groups_alike : (admin : Admin) (s : Scene) (rows others : List Row) → asked admin (seeing s rows) Ask.SyncGroups ≡ asked admin (seeing s others) Ask.SyncGroups
+unfolding reply_in writes_in ask_rules is_accepted answer ok_answer brings pulled_groups
+pulled_groups_alike admin s rows others = refl
+
 -- what is asked comes to the same over the rows within its reach as over all
 pub own_alike : (admin : Admin) (rows : List Row) (s : Scene) (ask : Ask) → IsBuilt ask → asked admin (seeing s (table_within (reach_of s.by ask) rows)) ask ≡ asked admin (seeing s rows) ask
 unfolding event_asked
@@ -67,6 +72,9 @@ own_alike admin rows s (Ask.Propose d) built = asked_alike admin s (event_rows d
 own_alike admin rows s (Ask.Judge e n accept) built = asked_alike admin s (event_rows e rows) rows (Ask.Judge e n accept) (record { same = ask_of_event e rows s (Ask.Judge e n accept) refl; refusals = λ rule. refl })
 own_alike admin rows s (Ask.Sight e t d) built = asked_alike admin s (event_rows e rows) rows (Ask.Sight e t d) (record { same = ask_of_event e rows s (Ask.Sight e t d) refl; refusals = λ rule. refl })
 own_alike admin rows s Ask.Groups built = groups_alike admin s [] rows
+own_alike admin rows s Ask.SyncGroups built = pulled_groups_alike admin s [] rows
+own_alike admin rows s Ask.SyncEvents built = refl
+own_alike admin rows s (Ask.SyncPart e n) built = asked_alike admin s (event_rows e rows) rows (Ask.SyncPart e n) (record { same = ask_of_event e rows s (Ask.SyncPart e n) refl; refusals = λ rule. refl })
 own_alike admin rows s ask built = absurd built
 
 -- ---- the number of an act
@@ -97,14 +105,6 @@ module _ (n : ℕ) (s : Scene) (admin : Admin) (ask : Ask) where
       (row_batches (cond (accepted_as n s ask i) (fresh_as n s ask i) []))
 
 -- ---- the partner of the caller's key
-
--- no ask that is built is one of a pull
-pub built_plain : (ask : Ask) → IsBuilt ask → pulls ask ≡ false
-unfolding pulls
-built_plain Ask.SyncGroups built = absurd built
-built_plain Ask.SyncEvents built = absurd built
-built_plain (Ask.SyncPart e n) built = absurd built
-built_plain ask built = refl
 
 module _ (n : ℕ) (partner : Option Inst) (s : Scene) (admin : Admin) (ask : Ask) (plain : pulls ask ≡ false) where
   abbrev partnered : Scene

@@ -1,17 +1,18 @@
 -- What is planned for a request over a keeper that may not tell what it holds.
-use Rattle.std.proofs.Common.{◌≡◌, ℕ, List, Bool, true, false, if◌then◌else◌, refl, ap, sym, subst, inl, inr, ◌∙◌, Option, Some, None, Result, Ok, Err, IfSome}
+use Rattle.std.proofs.Common.{◌≡◌, ℕ, List, Bool, true, false, cond, if◌then◌else◌, refl, ap, sym, subst, inl, inr, ◌∙◌, Option, Some, None, Result, Ok, Err, IfSome}
 use Rattle.misp_rules.proofs.Prelude.{IfSome_then, IsTable}
 use Rattle.misp_store.specs.Loading.{NamesFault}
 use Rattle.misp_store.specs.Sharing.{HoldsGroups, or_none}
 use Rattle.misp_store.specs.declared.fault.LoadFault.{LoadFault}
 use Rattle.misp_core.specs.Prelude.{Ask, Asked, Effect, Group, Held, Host, IsPlanned, Plan, Plans, Refusal, Reply, Row, Seen, Standing, asked_over, asked_where, forbidden, is_permitted, reach_of, refused, requested, scene_at, seeing}
-use Rattle.misp_core.specs.Prelude.{IsBuilt, seen_in}
+use Rattle.misp_core.specs.Prelude.{Scene, seen_in}
 use Rattle.misp_core.specs.Answers.{bare_scene}
 use Rattle.misp_core.specs.Effects.{asked}
 use Rattle.misp_core.specs.Planning.{IsBarred}
 use Rattle.misp_core.specs.Handing.{IsUnread}
 use Rattle.misp_core.specs.declared.planning.NoPlan.{NoPlan}
-use Rattle.misp_core.proofs.Alike.{built_plain, partner_asked}
+use Rattle.misp_core.proofs.Alike.{partner_asked}
+use Rattle.misp_rules.specs.Machine.{pulls}
 use Rattle.misp_core.proofs.Carried.{is_planned}
 
 module _ (host : Host) (now : ℕ) (it : Asked) where
@@ -36,21 +37,26 @@ module _ (host : Host) (now : ℕ) (it : Asked) where
   unread_planned old fault why may names plans =
       IfSome_then old names (λ held named. plans (requested host now it (seen_in held)) (is_unread (seen_in held) fault may named))
 
-  -- what is planned without a partner is planned with that of the caller's key
-  with_partner : (groups : List Group) (rows : List Row) (planned : Result Plan NoPlan) → IsBuilt it.1 → Plans planned (asked host.admin (seeing (bare_scene host now it.0 groups) rows) it.1)
+  -- the scene for an ask, with the partner of the caller's key where it is one of a pull
+  abbrev scene_where : List Group → Bool → Scene
+  scene_where groups pull = cond pull (scene_at host now it.0 groups) (bare_scene host now it.0 groups)
+
+  -- what is planned there is planned with that partner
+  with_partner : (groups : List Group) (rows : List Row) (planned : Result Plan NoPlan) (pull : Bool) → pulls it.1 ≡ pull → Plans planned (asked host.admin (seeing (scene_where groups pull) rows) it.1)
       → Plans planned (asked host.admin (seeing (scene_at host now it.0 groups) rows) it.1)
-  with_partner groups rows planned built plans =
-      subst (λ (e : Effect Reply). Plans planned e) (sym (partner_asked it.0.partner (seeing (bare_scene host now it.0 groups) rows) host.admin it.1 (built_plain it.1 built))) plans
+  with_partner groups rows planned true is plans = plans
+  with_partner groups rows planned false is plans =
+      subst (λ (e : Effect Reply). Plans planned e) (sym (partner_asked it.0.partner (seeing (bare_scene host now it.0 groups) rows) host.admin it.1 is)) plans
 
   -- what is permitted is planned over the rows that it reads, with the groups that are held
-  pub asked_planned : (groups : List Group) (rows : List Row) (planned : Result Plan NoPlan) (old : Option Held) → IsBuilt it.1 → is_permitted it.0 it.1 ≡ true → HoldsGroups old groups
+  pub asked_planned : (groups : List Group) (rows : List Row) (planned : Result Plan NoPlan) (old : Option Held) → is_permitted it.0 it.1 ≡ true → HoldsGroups old groups
       → IfSome old (λ held. (seen_in held).rows (reach_of it.0.org it.1) ≡ Ok rows) → IfSome old (λ held. IsTable rows)
-      → (IsTable rows → Plans planned (asked host.admin (seeing (bare_scene host now it.0 groups) rows) it.1))
+      → (IsTable rows → Plans planned (asked host.admin (seeing (scene_where groups (pulls it.1)) rows) it.1))
       → IfSome old (λ held. IsPlanned planned (requested host now it (seen_in held)))
-  asked_planned groups rows planned None built may holds found table is = tt
-  asked_planned groups rows planned (Some held) built may holds found table is =
+  asked_planned groups rows planned None may holds found table is = tt
+  asked_planned groups rows planned (Some held) may holds found table is =
       is_planned planned (requested host now it (seen_in held))
-      (subst (λ (e : Effect Reply). Plans planned e) (sym (by_role (seen_in held) true may ∙ (λ i. asked_over host now it (ap or_none holds i) (found i)))) (with_partner groups rows planned built (is table)))
+      (subst (λ (e : Effect Reply). Plans planned e) (sym (by_role (seen_in held) true may ∙ (λ i. asked_over host now it (ap or_none holds i) (found i)))) (with_partner groups rows planned (pulls it.1) refl (is table)))
 
 -- nothing is both permitted and not
 pub not_both : {P : Type 0} (may : Bool) → may ≡ true → may ≡ false → P

@@ -6,7 +6,9 @@ use Rattle.misp_effects.specs.Effect.{effect}
 use Rattle.misp_rules.proofs.Prelude.{AreRows, Label, NotGranted, Other, Rule, Seen, Version, VisibleEvent, brings, change_writes, first_rule, is_accepted, length-map, map-map, ok_answer, shown}
 use Rattle.misp_rules.specs.Prelude.{judge_writes, propose_writes, sight_writes}
 use Rattle.misp_rules.specs.declared.change.Change.TheVariants.{AddEvent}
-use Rattle.misp_rules.specs.Answers.{concerns, concerning}
+use Rattle.misp_rules.specs.Answers.{Packed, concerns, concerning}
+use Rattle.misp_rules.specs.Pulling.{pulled_events, pulled_groups, pulled_part}
+use Rattle.misp_rules.specs.declared.package.PackageFields.{PackageFields as Package}
 use Rattle.misp_rules.proofs.Steps.{accepted_where, refused_where, answer_where, refusal_where}
 use Rattle.misp_rules.specs.declared.change.Change.{Change}
 use Rattle.misp_rules.specs.Machine.{event_changed}
@@ -17,7 +19,8 @@ use Rattle.misp_edit.specs.Refusals.{named, place_of, refusal_of, label_place, u
 use Rattle.misp_edit.specs.declared.fault.AddFault.{AddFault}
 use Rattle.misp_core.specs.Prelude.{Admin, Answer, Ask, Asked, Effect, EventId, Group, Host, IsBuilt, IsRefused, OrgId, Plan, Refusal, Reply, Row, RuleName, Scene, View, ask_rules, asked_over, asked_where, bare, fresh_row, reach_of}
 use Rattle.misp_core.specs.Prelude.{refused, reply_in, scene_at, seeing, writes_in}
-use Rattle.misp_core.specs.Answers.{reply_of, greatest, event_saved, named_event, saved}
+use Rattle.misp_core.specs.Answers.{reply_of, greatest, event_parts, event_saved, named_event, saved}
+use Rattle.misp_core.specs.declared.reply.EventParts.{EventParts}
 use Rattle.misp_core.specs.Changing.{NamesGroupOf}
 use Rattle.misp_core.specs.Saving.{IsOfEvent, NamesPlace, place_named}
 use Rattle.misp_statements.specs.Saving.{Saves}
@@ -93,6 +96,37 @@ pub listed : (admin : Admin) (s : Scene) (groups : List Group) → groups ≡ fi
 unfolding ask_rules first_rule ok_answer brings concerning
 listed admin s groups is =
     planned admin s Ask.Groups (record { answer = Answer.Groups groups; batch = None }) refl (ap (λ (gs : List Group). Reply.Ok (Answer.Groups gs)) (sym is)) refl tt
+
+-- ---- what a pull asks
+
+-- the groups are told
+pub groups_pulled : (admin : Admin) (s : Scene) (groups : List Group) → groups ≡ pulled_groups s → IsPlan (record { answer = Answer.Groups groups; batch = None }) (asked admin s Ask.SyncGroups)
+unfolding ask_rules first_rule ok_answer brings
+groups_pulled admin s groups is =
+    planned admin s Ask.SyncGroups (record { answer = Answer.Groups groups; batch = None }) refl (ap (λ (gs : List Group). Reply.Ok (Answer.Groups gs)) (sym is)) refl tt
+
+-- the events are listed
+pub events_listed : (admin : Admin) (s : Scene) (events : List EventParts) → events ≡ map event_parts (pulled_events s) → IsPlan (record { answer = Answer.Parts events; batch = None }) (asked admin s Ask.SyncEvents)
+unfolding ask_rules first_rule ok_answer brings
+events_listed admin s events is =
+    planned admin s Ask.SyncEvents (record { answer = Answer.Parts events; batch = None }) refl (ap (λ (es : List EventParts). Reply.Ok (Answer.Parts es)) (sym is)) refl tt
+
+module _ (admin : Admin) (s : Scene) (event : EventId) (n : ℕ) where
+  -- the package is shown
+  pub part_shown : (p : Package) → pulled_part s event n ≡ Some p → IsPlan (record { answer = Answer.Part p; batch = None }) (asked admin s (Ask.SyncPart event n))
+  unfolding ask_rules first_rule ok_answer brings
+  part_shown p found =
+      planned admin s (Ask.SyncPart event n) (record { answer = Answer.Part p; batch = None })
+      (ap (λ (o : Option Package). first_rule ((elim o [ None ↦ true | Some x ↦ false ], NotGranted) ∷ [])) found)
+      (ap (λ (o : Option Package). reply_of admin s (Ask.SyncPart event n) (elim o [ None ↦ Other | Some x ↦ Packed x ])) found)
+      refl tt
+
+  -- there is none
+  pub part_refused : pulled_part s event n ≡ None → Refuses (bare RuleName.NotGranted) (asked admin s (Ask.SyncPart event n))
+  unfolding ask_rules first_rule
+  part_refused none =
+      not_planned admin s (Ask.SyncPart event n) (bare RuleName.NotGranted)
+      (ap (λ (o : Option Package). option_map (refusal_of s (Ask.SyncPart event n)) (first_rule ((elim o [ None ↦ true | Some x ↦ false ], NotGranted) ∷ []))) none)
 
 -- ---- what writes rows of an event
 
@@ -210,6 +244,9 @@ refused_alone admin s (Ask.Propose d) built is = refused_of_event admin s (Ask.P
 refused_alone admin s (Ask.Judge e n accept) built is = refused_of_event admin s (Ask.Judge e n accept) e refl (first_rule (ask_rules s (Ask.Judge e n accept))) refl is
 refused_alone admin s (Ask.Sight e t d) built is = refused_of_event admin s (Ask.Sight e t d) e refl (first_rule (ask_rules s (Ask.Sight e t d))) refl is
 refused_alone admin s Ask.Groups built is = ap row_batches (writes_none admin s Ask.Groups refl)
+refused_alone admin s Ask.SyncGroups built is = ap row_batches (writes_none admin s Ask.SyncGroups refl)
+refused_alone admin s Ask.SyncEvents built is = ap row_batches (writes_none admin s Ask.SyncEvents refl)
+refused_alone admin s (Ask.SyncPart event n) built is = ap row_batches (writes_none admin s (Ask.SyncPart event n) refl)
 refused_alone admin s ask built is = absurd built
 
 -- the same over what is read

@@ -4,3 +4,8 @@ pub mod Answered
 pub mod Alike
 pub mod Keeping
 pub mod KeepingGroups
+pub mod Numbered
+pub mod Pulled
+pub mod PulledEvents
+pub mod OwnRows
+pub mod TakenRows

@@ -15,6 +15,7 @@ use Rattle.misp_store.specs.Prelude.{Admin, Refusal, RuleName, reach_of}
 use Rattle.misp_store.specs.declared.reach.Reach.{Reach}
 use Rattle.misp_core.specs.Standing.{Host}
 use Rattle.misp_core.specs.declared.reply.Answer.{Answer}
+use Rattle.misp_core.specs.declared.reply.EventParts.{EventParts}
 use Rattle.misp_core.specs.declared.reply.Reply.{Reply}
 use Rattle.misp_rules.specs.Answers as model
 
@@ -24,13 +25,10 @@ use Rattle.misp_rules.specs.Answers as model
 abbrev pub IsAdded : Submission → Type 0
 IsAdded b = is_some b.body ≡ true
 
--- the asks that are built: all but the index, packages and those of a pull
+-- the asks that are built: all but the index and packages that are handed in
 abbrev pub IsBuilt : Ask → Type 0
 IsBuilt Ask.Index = ⊥
 IsBuilt (Ask.TakePart part) = ⊥
-IsBuilt Ask.SyncGroups = ⊥
-IsBuilt Ask.SyncEvents = ⊥
-IsBuilt (Ask.SyncPart event part) = ⊥
 IsBuilt (Ask.Change (AddEvent b)) = IsAdded b
 IsBuilt ask = Unit {0}
 
@@ -83,12 +81,19 @@ abbrev pub named_event : Admin → List Group → VisibleEvent → VisibleEvent
 named_event admin groups v =
     record v { org_name = name_in admin v.row.owner; group_names = group_names groups v }
 
+-- an event with the number of its packages
+abbrev pub event_parts : EventId × ℕ → EventParts
+event_parts p = record { event = p.0; parts = p.1 }
+
 -- a reply of the definitions, as it is given
 abbrev pub reply_of : Admin → Scene → Ask → model.Reply → Reply
 reply_of admin s ask (model.Refused rule) = Reply.Refused (refusal_of s ask rule)
 reply_of admin s ask (model.Seen v) =
     Reply.Ok (Answer.Event (named_event admin s.groups v))
 reply_of admin s ask (model.Shares groups) = Reply.Ok (Answer.Groups groups)
+reply_of admin s ask (model.Parts events) =
+    Reply.Ok (Answer.Parts (map event_parts events))
+reply_of admin s ask (model.Packed p) = Reply.Ok (Answer.Part p)
 reply_of admin s ask (model.Saved vs) = saved (reach_of s.by ask) vs
 reply_of admin s ask _ = Reply.Refused (bare RuleName.NoRoute)
 

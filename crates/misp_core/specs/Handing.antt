@@ -1,5 +1,7 @@
 -- What the code of an instance hands on: scenes, and rows that are not read.
-use Rattle.std.specs.Prelude.{◌≡◌, List}
+use Rattle.std.specs.Prelude.{◌≡◌, List, cond}
+use Rattle.misp_rules.specs.Machine.{pulls}
+use Rattle.misp_rules.specs.declared.ask.Ask.{Ask}
 use Rattle.misp_store.specs.declared.fault.LoadFault.{LoadFault}
 use Rattle.misp_core.specs.Prelude.{Effect, Reply, Row, Scene, refused}
 use Rattle.misp_core.specs.declared.site.Site.{Site}
@@ -9,11 +11,19 @@ use Rattle.misp_core.specs.Answers.{bad_row, bare_scene}
 abbrev pub knowing : Scene → List Row → Scene
 knowing s rows = record s { rows = rows }
 
--- the scene that the code hands on; no ask that is built looks at a partner
+-- the scene that the code hands on where an ask looks at no partner
 abbrev pub scene_in : Site → Scene
 scene_in s =
     bare_scene (record { name = s.here.now; admin = s.admin.now }) s.moment s.caller.now
     s.groups.now
+
+-- the same with the partner of the caller's key, at which what a pull asks looks
+abbrev pub pull_scene : Site → Scene
+pull_scene s = record (scene_in s) { partner = s.caller.now.partner }
+
+-- the scene for an ask
+abbrev pub scene_for : Site → Ask → Scene
+scene_for s ask = cond (pulls ask) (pull_scene s) (scene_in s)
 
 -- the effect is that of rows which are not read: a row that does not decode is refused
 abbrev pub IsUnread : LoadFault → Effect Reply → Type 0

@@ -6,5 +6,7 @@ pub mod Handing
 pub mod Keeping
 pub mod Planning
 pub mod Prelude
+pub mod Pulling
 pub mod Saving
 pub mod Standing
+pub mod Taking

@@ -1,19 +1,20 @@
 //! What a request comes to over the rows of its event.
 
-ghost use Rattle.std.specs.Prelude.{◌≡◌, List, None, IfOk};
+ghost use Rattle.std.specs.Prelude.{◌≡◌, List, IfOk};
 ghost use Rattle.misp_elem.specs.declared.row.RowFields.{RowFields};
 ghost use Rattle.misp_rules.specs.View.{IsTable};
 ghost use Rattle.misp_rules.specs.Machine.{seeing};
 ghost use Rattle.misp_rules.specs.declared.ask.Ask.TheVariants.{View};
 ghost use Rattle.misp_rules.specs.declared.ask.Ask.TheVariants as asks;
 ghost use Rattle.misp_core.specs.Answers.{IsBuilt, named_event};
-ghost use Rattle.misp_core.specs.Handing.{scene_in, knowing};
+ghost use Rattle.misp_core.specs.Handing.{scene_in, scene_for, knowing};
 ghost use Rattle.misp_core.specs.Effects.{asked, by_keeper};
 ghost use Rattle.misp_core.specs.Planning.{Plans, stop_planned};
 
 use crate::changing::plan_change;
 use crate::naming::name_text;
-use crate::planning::{NoPlan, Plan};
+use crate::planning::{NoPlan, Plan, told};
+use crate::pulling::{plan_event_list, plan_part, plan_pulled_groups};
 use crate::reply::Answer;
 use crate::site::{Site, asker, known_at};
 use crate::stating::{plan_judgement, plan_proposal, plan_sighting};
@@ -24,16 +25,6 @@ use misp_orgs::Admin;
 use misp_rules::{Ask, Change};
 use misp_view::{concerning, group_names, shown};
 use std::alloc::Global;
-
-// An answer for which nothing is put.
-fn told(answer: Answer) -> Plan
-    ensures { result ≡ record { answer = answer; batch = None } }
-{
-    Plan {
-        answer,
-        batch: None,
-    }
-}
 
 fn holder(event: &VisibleEvent) -> OrgId
     ensures { result ≡ event.now.row.owner }
@@ -111,6 +102,7 @@ fn list(alloc: Global, site: &Site<'_>) -> Result<Plan, NoPlan>
 }
 
 /// What is planned for a request, over the rows that are read for it.
+#[tactic(auto, unfolding(misp_rules::specs::Machine::pulls))]
 pub(crate) fn plan_request(
     alloc: Global,
     site: &Site<'_>,
@@ -119,7 +111,7 @@ pub(crate) fn plan_request(
 ) -> Result<Plan, NoPlan>
     requires { IsBuilt ask }
     ensures plan { IsTable rows.items → Plans result (asked site.now.admin.now
-        (seeing (scene_in site.now) rows.items) ask) }
+        (seeing (scene_for site.now ask) rows.items) ask) }
     ensures no_fault { stop_planned result ≡ by_keeper → ⊥ }
 {
     match ask {
@@ -137,6 +129,9 @@ pub(crate) fn plan_request(
             target,
             draft,
         } => plan_sighting(alloc, site, &event, &target, &draft, rows),
+        Ask::SyncGroups => plan_pulled_groups(alloc, site),
+        Ask::SyncEvents => plan_event_list(alloc, site, rows),
+        Ask::SyncPart { event, part } => plan_part(alloc, site, &event, part, rows),
         _ => unreachable!(),
     }
 }

@@ -1,6 +1,6 @@
 //! An instance over a keeper.
 
-ghost use Rattle.std.specs.Prelude.{◌≡◌, ◌≤◌, false, Err, IfOk, IfErr, IfSome, OnOk, OnErr, IsOk, option_map};
+ghost use Rattle.std.specs.Prelude.{◌≡◌, ◌≤◌, false, Err, length, List, IfOk, IfErr, IfSome, OnOk, OnErr, IsOk, option_map};
 ghost use Rattle.misp_outside.specs.Causes.{HasCause};
 ghost use Rattle.misp_outside.specs.Held.{with_batch};
 ghost use Rattle.misp_store.specs.Sharing.{groups_in, groups_of, AreStorable};
@@ -13,6 +13,12 @@ ghost use Rattle.misp_rules.specs.Permission.{is_permitted, forbidden};
 ghost use Rattle.misp_core.specs.Effects.{requested, by_keeper};
 ghost use Rattle.misp_core.specs.Planning.{Plans, IsPlanned, batch_of, stop_planned, IsBarred};
 ghost use Rattle.misp_core.specs.Administering.{administered};
+ghost use Rattle.misp_core.specs.Taking.{IsLandingAt, handed_rows, package_taken, with_package};
+ghost use Rattle.misp_ids.specs.declared.uid.OrgId.{OrgId as Owner};
+ghost use Rattle.misp_elem.specs.declared.row.RowFields.{RowFields};
+ghost use Rattle.misp_history.specs.Merging.{merged};
+ghost use Rattle.misp_package.specs.Landing.{IsLanding};
+ghost use Rattle.misp_store.specs.declared.reach.Reach.TheVariants as reach;
 ghost use Rattle.misp_store.specs.declared.fault.LoadFault.TheVariants as faults;
 ghost use Rattle.misp_orgs.specs.Admin.{who_of, link_of};
 
@@ -22,11 +28,13 @@ use crate::decide::plan_request;
 use crate::planning::{Batch, NoPlan, Plan};
 use crate::settling::settle;
 use crate::site::Site;
+use crate::taking::{Landed, load_landing, take_package};
 use misp_groups::{Group, Groups};
-use misp_ids::{ApiKey, InstId, OrgId, Stamp};
+use misp_ids::{ApiKey, EventId, InstId, OrgId, Stamp};
 use misp_orgs::{Admin, Caller, Link, may};
 use misp_outside::{Keeper, KeeperFault};
-use misp_rules::{Ask, permission_for};
+use misp_package::Landing;
+use misp_rules::{Ask, Package, permission_for};
 use misp_store::{LoadFault, Reach, load, load_groups};
 use std::alloc::Global;
 use std::marker::Model;
@@ -185,5 +193,65 @@ impl<K: Keeper> Instance<K> {
         ensures admin { self.new.admin ≡ self.old.admin }
     {
         settle(&mut self.keeper, &mut self.groups, alloc, put)
+    }
+
+    /// What an organisation has of an event here, as far as it decides what is taken of packages.
+    /// Its own rows of the event are read once.
+    pub fn landing(
+        &mut self,
+        alloc: Global,
+        owner: &OrgId,
+        event: &EventId,
+    ) -> Result<Landing, LoadFault>
+        // Where all rows of the event decode, it is the landing of all of them.
+        ensures landing { IfOk result (λ landing. IfSome self.old.held
+            (IsLandingAt landing self.old.name owner.now event.now)) }
+
+        // Of the rows that are read, it names the first that does not decode.
+        ensures bad { IfErr result (λ fault. IfSome self.old.held (λ held.
+            NamesFault ((seen_in held).rows (reach.Own owner.now event.now)) fault)) }
+        ensures held { self.new.held ≡ self.old.held }
+        ensures cause { HasCause self.old.faults self.new.faults
+            (result ≡ Err faults.KeeperFault) }
+        ensures name { self.new.name ≡ self.old.name }
+        ensures admin { self.new.admin ≡ self.old.admin }
+    {
+        load_landing(&mut self.keeper, alloc, owner, event, &self.name)
+    }
+
+    /// Takes what is new of a package to the owner of the landing, in one batch. All memory is taken
+    /// before it is put. The landing comes back with what is taken, and not at all after a fault,
+    /// since it may be ahead of what is held then.
+    pub fn take_package(
+        &mut self,
+        alloc: Global,
+        landing: Landing,
+        coming: &Package,
+    ) -> Result<Landed, KeeperFault>
+        // Over any rows of which it is the landing, those of the package are taken that are new.
+        ensures count { IfOk result (λ landed. IfSome self.old.held (λ held.
+            (w : Owner) (rows : List RowFields) →
+            IsLanding landing self.old.name w coming.now.event rows → landed.rows
+            ≡ length (package_taken self.old.name rows (groups_of held) w coming.now))) }
+        ensures put { OnOk result ((w : Owner) (rows : List RowFields) →
+            IsLanding landing self.old.name w coming.now.event rows → self.new.held
+            ≡ option_map (with_package self.old.name rows w coming.now) self.old.held) }
+
+        // What comes back is the landing of these rows with those that are taken.
+        ensures landing { IfOk result (λ landed. IfSome self.old.held (λ held.
+            (w : Owner) (rows : List RowFields) →
+            IsLanding landing self.old.name w coming.now.event rows →
+            IsLanding landed.landing self.old.name w coming.now.event
+            (merged self.old.name rows (groups_of held) (handed_rows w coming.now)))) }
+
+        // Where nothing is taken no keeper is asked.
+        ensures none { IfOk result (λ landed. landed.rows ≡ 0 → self.new ≡ self.old) }
+        ensures err { OnErr result (self.new.held ≡ self.old.held) }
+        ensures cause { HasCause self.old.faults self.new.faults
+            (result ≡ Err KeeperFault.Failed) }
+        ensures name { self.new.name ≡ self.old.name }
+        ensures admin { self.new.admin ≡ self.old.admin }
+    {
+        take_package(&mut self.keeper, &mut self.groups, alloc, landing, coming)
     }
 }

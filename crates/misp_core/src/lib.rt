@@ -4,17 +4,20 @@
 
 mod administering;
 mod answering;
+mod by_event;
 mod changing;
 mod decide;
 mod instance;
 mod laws;
 mod naming;
 mod planning;
+mod pulling;
 mod reply;
 mod saving;
 mod settling;
 mod site;
 mod stating;
+mod taking;
 
 pub use instance::Instance;
 pub use laws::{
@@ -23,4 +26,5 @@ pub use laws::{
 };
 pub use misp_store::LoadFault;
 pub use planning::{Batch, NoPlan, Plan};
-pub use reply::{Answer, Reply};
+pub use reply::{Answer, EventParts, Reply};
+pub use taking::Landed;

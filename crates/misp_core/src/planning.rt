@@ -1,6 +1,6 @@
 //! What a command is planned to do.
 
-ghost use Rattle.std.specs.Prelude.{◌≡◌};
+ghost use Rattle.std.specs.Prelude.{◌≡◌, None};
 
 use crate::reply::Answer;
 use misp_elem::{NoMemory, Row};
@@ -30,6 +30,16 @@ impl Plan {
     {
         let Plan { answer, batch } = self;
         (answer, batch)
+    }
+}
+
+/// An answer for which nothing is put.
+pub(crate) fn told(answer: Answer) -> Plan
+    ensures { result ≡ record { answer = answer; batch = None } }
+{
+    Plan {
+        answer,
+        batch: None,
     }
 }
 

@@ -9,7 +9,15 @@ use misp_elem::VisibleEvent;
 use misp_groups::Group;
 use misp_ids::{EventId, Items, Refusal, RuleName, Stamp};
 use misp_outside::KeeperFault;
+use misp_rules::Package;
 use std::alloc::Global;
+
+/// An event of which a pull brings something, with the number of its packages.
+#[derive(Clone, Copy, Debug, PartialEq, Eq)]
+pub struct EventParts {
+    pub event: EventId,
+    pub parts: u32,
+}
 
 /// What an accepted request is answered.
 #[derive(Debug, Drop)]
@@ -21,10 +29,14 @@ pub enum Answer {
         stamp: Stamp,
     },
     Event(VisibleEvent),
-    /// The groups that concern the caller.
+    /// The groups that concern the caller, or that a pull brings.
     Groups(Items<Group>),
     /// So many groups were taken.
     Taken(u64),
+    /// The events of which a pull brings something, in their order.
+    Parts(Items<EventParts>),
+    /// A package that a pull brings.
+    Part(Package),
 }
 
 #[derive(Debug, Drop)]

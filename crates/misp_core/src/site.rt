@@ -27,6 +27,13 @@ pub(crate) fn asker(caller: &Caller) -> OrgId
     caller.org
 }
 
+/// The partner of the key that asks.
+pub(crate) fn partner(caller: &Caller) -> Option<InstId>
+    ensures { result ≡ caller.now.partner }
+{
+    caller.partner
+}
+
 /// Who looks, where a request is answered.
 pub(crate) fn viewer<'a>(site: &Site<'a>) -> Viewer<'a>
     ensures groups { result.groups.now ≡ site.now.groups.now }

@@ -19,3 +19,6 @@ returns-in-Judge-clause-no_fault c = asks_none c.plan_judgement.result _ c.plan_
 
 pub returns-in-Sight-clause-no_fault : goal.returns-in-Sight-clause-no_fault
 returns-in-Sight-clause-no_fault c = asks_none c.plan_sighting.result _ c.plan_sighting.ensures
+
+pub returns-in-SyncGroups-clause-no_fault : goal.returns-in-SyncGroups-clause-no_fault
+returns-in-SyncGroups-clause-no_fault c = asks_none c.plan_pulled_groups.result _ (c.plan_pulled_groups.ensures [])

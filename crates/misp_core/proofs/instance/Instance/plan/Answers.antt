@@ -35,7 +35,7 @@ returns-in-Err-clause-cause g c =
 pub returns-clause-planned : goal.returns-clause-planned
 returns-clause-planned g c =
     rw (← c.self.view_is)
-    (asked_planned (record { name = c.self.inside.name; admin = c.self.inside.admin }) c.args.now (c.args.caller.now, c.args.ask) c.self.inside.groups c.in-Ok.rows.items c.plan_request.result _ c.requires
+    (asked_planned (record { name = c.self.inside.name; admin = c.self.inside.admin }) c.args.now (c.args.caller.now, c.args.ask) c.self.inside.groups c.in-Ok.rows.items c.plan_request.result _
     (rw (← c.caller.view_is, ← c.permission_for-perm.ensures) (sym c.if-not-may.ensures)) c.self.invariant
     (rw (← c.caller.view_is, ← c.of.ensures) c.in-Ok.ensures.found) c.in-Ok.ensures.table c.plan_request.ensures.plan)
 

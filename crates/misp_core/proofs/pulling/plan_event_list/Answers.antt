@@ -1,0 +1,12 @@
+use Rattle.std.proofs.Common.{subst, sym}
+use Rattle.misp_rules.specs.Machine.{seeing}
+use Rattle.misp_core.specs.Handing.{pull_scene}
+use Rattle.misp_core.specs.Pulling.{IsByEvent}
+use Rattle.misp_core.proofs.Decisions.{events_listed}
+use Rattle.misp_core.proofs.pulling.plan_event_list.Goals as goal
+
+pub returns-clause-plan : goal.returns-clause-plan
+returns-clause-plan c = λ table.
+    rw (c.told.ensures, c.of.ensures)
+    (events_listed c.args.site.now.admin.now (seeing (pull_scene c.args.site.now) c.args.rows.items) c.in_ok-events.events.items
+    (c.in_ok-events.ensures c.args.rows.items table (subst (λ l. IsByEvent l c.args.rows.items) (sym c.deref.ensures.value) c.in_ok-list.ensures)))

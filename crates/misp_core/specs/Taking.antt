@@ -1,0 +1,35 @@
+-- What arrives by a synchronisation, and what of it an instance takes.
+use Rattle.std.specs.Prelude.{List, [], map, IfOk}
+use Rattle.misp_outside.specs.Held.{with_batch}
+use Rattle.misp_rules.specs.declared.package.PackageFields.{PackageFields as Package}
+use Rattle.misp_history.specs.Merging.{handed, rows_taken}
+use Rattle.misp_effects.specs.Batches.{batch}
+use Rattle.misp_store.specs.declared.reach.Reach.{Reach}
+use Rattle.misp_package.specs.Landing.{IsLanding}
+use Rattle.misp_package.specs.declared.landing.Landing.{Landing}
+use Rattle.misp_core.specs.Prelude.{EventId, Group, Held, Inst, OrgId, Row, groups_of, seen_in, spelled}
+
+-- ---- packages
+
+-- where every row of the event decodes, it is the landing of all of them, whosever they are
+abbrev pub IsLandingAt : Landing → Inst → OrgId → EventId → Held → Type 0
+IsLandingAt landing here owner event held =
+    IfOk ((seen_in held).rows (Reach.Event event)) (IsLanding landing here owner event)
+
+-- the rows of a package as they are handed in for an owner
+abbrev pub handed_rows : OrgId → Package → List Row
+handed_rows owner coming = map (handed owner) coming.rows
+
+-- the rows of a package that an owner takes over these rows
+abbrev pub package_taken : Inst → List Row → List Group → OrgId → Package → List Row
+package_taken here rows groups owner coming =
+    rows_taken here rows groups (handed_rows owner coming)
+
+-- what is held once these rows are put
+abbrev pub with_rows : List Row → Held → Held
+with_rows rows = with_batch (spelled (batch rows []))
+
+-- what is held once an owner has taken of a package over these rows, by the groups that are held
+abbrev pub with_package : Inst → List Row → OrgId → Package → Held → Held
+with_package here rows owner coming held =
+    with_rows (package_taken here rows (groups_of held) owner coming) held

@@ -1,0 +1,198 @@
+//! What a pull by the partner of the caller's key brings.
+
+ghost use Rattle.std.specs.Prelude.{◌≡◌, ◌++◌, List, true, filter, length, map, option_to_list, IfOk, OnOk};
+ghost use Rattle.std.specs.List.{list_all, slice_get};
+ghost use Rattle.misp_elem.specs.declared.row.RowFields.{RowFields};
+ghost use Rattle.misp_elem.specs.Parents.{event_of};
+ghost use Rattle.misp_ids.specs.Same.{same_event};
+ghost use Rattle.misp_rules.specs.declared.ask.Ask.TheVariants as asks;
+ghost use Rattle.misp_rules.specs.Machine.{seeing};
+ghost use Rattle.misp_rules.specs.Packing.{packages};
+ghost use Rattle.misp_rules.specs.Pulling.{pull_route, pulled_events, pulled_groups, pulled_rows};
+ghost use Rattle.misp_rules.specs.View.{IsTable};
+ghost use Rattle.misp_package.specs.Packing.{AreNumbered};
+ghost use Rattle.misp_package.specs.Passing.{route_of};
+ghost use Rattle.misp_core.specs.Answers.{event_parts};
+ghost use Rattle.misp_core.specs.Effects.{asked, by_keeper};
+ghost use Rattle.misp_core.specs.Handing.{knowing, pull_scene};
+ghost use Rattle.misp_core.specs.Planning.{Plans, stop_planned};
+ghost use Rattle.misp_core.specs.Pulling.{IsByEvent, carries_to, parts_where};
+
+use crate::by_event::{by_event, events_of, of_event, part};
+use crate::planning::{NoPlan, Plan, told};
+use crate::reply::{Answer, EventParts};
+use crate::site::{Site, asker, partner};
+use misp_elem::{NoMemory, Row};
+use misp_groups::{Group, Groups, carries};
+use misp_ids::{EventId, InstId, Items, OrgId, Refusal, RuleName, Uid, Way};
+use misp_package::{Via, outgoing};
+use misp_rules::Package;
+use std::alloc::Global;
+
+// Those of the groups that carry what the organisation takes to the instance, in their order.
+fn carrying(
+    alloc: Global,
+    groups: &Groups,
+    org: &OrgId,
+    dest: &InstId,
+) -> Result<Vec<Group>, NoMemory>
+    ensures { IfOk result (λ some. some.items
+        ≡ filter (carries_to org.now dest.now) groups.now) }
+{
+    let mut some = Vec::new(alloc);
+    for group in groups.as_slice() {
+        if carries(group, org, dest) {
+            some.push(group.copied()?)?;
+        }
+    }
+    Ok(some)
+}
+
+// The groups that a pull brings.
+#[tactic(auto, unfolding(misp_rules::specs::Pulling::pulled_groups))]
+fn pulled_groups(alloc: Global, site: &Site<'_>) -> Result<Vec<Group>, NoMemory>
+    ensures { IfOk result (λ groups. groups.items ≡ pulled_groups (pull_scene site.now)) }
+{
+    match partner(site.caller) {
+        Some(dest) => carrying(alloc, site.groups, &asker(site.caller), &dest),
+        None => Ok(Vec::new(alloc)),
+    }
+}
+
+/// Tells the groups that a pull brings.
+pub(crate) fn plan_pulled_groups(alloc: Global, site: &Site<'_>) -> Result<Plan, NoPlan>
+    ensures { (rows : List RowFields) → Plans result (asked site.now.admin.now
+        (knowing (pull_scene site.now) rows) asks.SyncGroups) }
+{
+    let groups = pulled_groups(alloc, site)?;
+    Ok(told(Answer::Groups(Items::of(groups))))
+}
+
+// The way of a pull to this instance.
+fn way_to<'a>(site: &Site<'a>, dest: InstId) -> Via<'a>
+    ensures groups { result.groups.now ≡ site.now.groups.now }
+    ensures route { route_of result ≡ pull_route (pull_scene site.now) dest }
+{
+    Via {
+        way: Way::Pull,
+        groups: site.groups,
+        here: *site.here,
+        org: asker(site.caller),
+        dest,
+    }
+}
+
+// The packages of an event that a pull brings, where these are its rows here.
+fn pulled_packages(
+    alloc: Global,
+    site: &Site<'_>,
+    event: &EventId,
+    rows: &[Row],
+) -> Result<Vec<Package>, NoMemory>
+    ensures packed { IsTable rows.now →
+        list_all (λ row. same_event (event_of row.key) event.now) rows.now ≡ true →
+        IfOk result (λ ps. map (λ p. p.rows) ps.items
+        ≡ packages (pulled_rows (seeing (pull_scene site.now) rows.now))) }
+    ensures numbered { IfOk result (λ ps. AreNumbered event.now ps.items) }
+{
+    match partner(site.caller) {
+        Some(dest) => outgoing(alloc, rows, event, &way_to(site, dest)),
+        None => Ok(Vec::new(alloc)),
+    }
+}
+
+// The package of this number, where there are so many.
+fn part_at(packages: Vec<Package>, number: u32) -> Option<Package>
+    ensures { result ≡ slice_get packages.items number }
+{
+    packages.into_iter().nth(number as usize)
+}
+
+/// Shows one package of an event, as a pull brings it, over all rows that are read.
+pub(crate) fn plan_part(
+    alloc: Global,
+    site: &Site<'_>,
+    event: &EventId,
+    number: u32,
+    rows: Vec<Row>,
+) -> Result<Plan, NoPlan>
+    ensures plan { IsTable rows.items → Plans result (asked site.now.admin.now
+        (seeing (pull_scene site.now) rows.items) (asks.SyncPart event.now number)) }
+    ensures no_fault { stop_planned result ≡ by_keeper → ⊥ }
+{
+    let rows = of_event(rows, event);
+    let packages = pulled_packages(alloc, site, event, &rows)?;
+    match part_at(packages, number) {
+        Some(package) => Ok(told(Answer::Part(package))),
+        None => {
+            let refusal = Refusal::bare(alloc, RuleName::NotGranted);
+            Err(NoPlan::Refused(refusal))
+        }
+    }
+}
+
+// An event with the number of its packages, where there is one and these are its rows here.
+fn event_parts(
+    alloc: Global,
+    site: &Site<'_>,
+    event: EventId,
+    rows: &[Row],
+) -> Result<Option<EventParts>, NoMemory>
+    ensures { IsTable rows.now →
+        list_all (λ row. same_event (event_of row.key) event) rows.now ≡ true →
+        IfOk result (λ parts. parts ≡ parts_where event
+        (length (packages (pulled_rows (seeing (pull_scene site.now) rows.now))))) }
+{
+    let packages = pulled_packages(alloc, site, &event, rows)?;
+    match packages.as_slice() {
+        [first, ..] => Ok(Some(EventParts {
+            event,
+            parts: first.get().parts,
+        })),
+        [] => Ok(None),
+    }
+}
+
+// Adds an event, where there is one.
+fn put(events: &mut Vec<EventParts>, more: Option<EventParts>) -> Result<(), NoMemory>
+    ensures { OnOk result (events.new.items ≡ events.old.items ++ option_to_list more) }
+{
+    if let Some(parts) = more {
+        events.push(parts)?;
+    }
+    Ok(())
+}
+
+// The events of which a pull brings something, over a list of rows by events.
+fn pulled_events(alloc: Global, site: &Site<'_>, list: &[Row]) -> Result<Vec<EventParts>, NoMemory>
+    ensures { (rows : List RowFields) → IsTable rows → IsByEvent list.now rows →
+        IfOk result (λ events. events.items
+        ≡ map event_parts (pulled_events (seeing (pull_scene site.now) rows))) }
+{
+    let numbers = events_of(alloc, list)?;
+    let mut events = Vec::new(alloc);
+    for number in numbers.as_slice() {
+        let event = EventId(Uid(*number));
+        put(
+            &mut events,
+            event_parts(alloc, site, event, part(list, &event))?,
+        )?;
+    }
+    Ok(events)
+}
+
+/// Lists the events of which a pull brings something, each with the number of its packages, over
+/// all rows that are read.
+pub(crate) fn plan_event_list(
+    alloc: Global,
+    site: &Site<'_>,
+    rows: Vec<Row>,
+) -> Result<Plan, NoPlan>
+    ensures plan { IsTable rows.items → Plans result (asked site.now.admin.now
+        (seeing (pull_scene site.now) rows.items) asks.SyncEvents) }
+    ensures no_fault { stop_planned result ≡ by_keeper → ⊥ }
+{
+    let list = by_event(rows)?;
+    let events = pulled_events(alloc, site, &list)?;
+    Ok(told(Answer::Parts(Items::of(events))))
+}
