@@ -67,3 +67,6 @@ ask_is P said read (Route.Propose event target) body word = read (proposal_in ev
 ask_is P said read (Route.Judge event accept) body word = read (judgement_in event accept body) (made_built (λ name. Ask.Judge event name accept) judgement_at (λ d x h. tt) body)
 ask_is P said read (Route.Sight event target) body word = read (sighting_in event target body word) (made_built (Ask.Sight event target) (sighting_at word) (λ d x h. tt) body)
 ask_is P said read Route.Groups body word = said Ask.Groups tt
+ask_is P said read Route.SyncGroups body word = said Ask.SyncGroups tt
+ask_is P said read Route.SyncEvents body word = said Ask.SyncEvents tt
+ask_is P said read (Route.SyncPart event part) body word = said (Ask.SyncPart event part) tt

@@ -10,11 +10,12 @@ use Rattle.misp_ids.specs.declared.refusal.RuleName.{RuleName}
 use Rattle.misp_http.specs.Texts.{IsReplyStatus, is_reply_status, reason_of, connection_line}
 use Rattle.misp_core.specs.Effects.{refused_by}
 use Rattle.misp_core.specs.declared.reply.Reply.{Reply}
-use Rattle.misp_api.specs.Sending.{http_text, no_memory_text, status_of}
+use Rattle.misp_api.specs.Sending.{http_text, kind_of, no_memory_text, status_of}
 use Rattle.misp_api.specs.Text.{body_text, reply_text}
 use Rattle.misp_api.specs.declared.TheConstants.{CHANGE_TEXT, REPLY_ROOM}
 use Rattle.misp_http.specs.Texts as http
-use Rattle.misp_http.specs.declared.kind.BodyKind.TheVariants.{Json}
+use Rattle.misp_http.specs.declared.kind.BodyKind.{BodyKind}
+use Rattle.misp_http.specs.declared.kind.BodyKind.TheVariants.{Json, Octets}
 
 -- ---- statuses
 
@@ -120,6 +121,10 @@ close_short : (close : Bool) → length (connection_line close) ≤ 19
 close_short true = omega arith
 close_short false = omega arith
 
+kind_short : (kind : BodyKind) → length (http.content_type_line kind) ≤ 40
+kind_short Json = omega arith
+kind_short Octets = omega arith
+
 -- what needs more than the room has a text that is longer than that of any change
 pub long_text : (reply : Reply) (close : Bool) → length (body_text reply) < 2 ^ 64 → REPLY_ROOM < length (http_text reply close) → CHANGE_TEXT < length (reply_text reply)
 unfolding http.reply_text
@@ -133,7 +138,7 @@ long_text reply close small long =
     let line : List ℕ = phrased ++ http.crlf in
     let named : List ℕ = codes "Content-Length: " ++ count in
     let counted : List ℕ = named ++ http.crlf in
-    let kind : List ℕ = line ++ http.content_type_line Json in
+    let kind : List ℕ = line ++ http.content_type_line (kind_of reply) in
     let sized : List ℕ = kind ++ counted in
     let shut : List ℕ = sized ++ connection_line close in
     let head : List ℕ = shut ++ http.crlf in
@@ -145,6 +150,7 @@ long_text reply close small long =
       phrase n (status_is reply),
       length-decimal-le_succ (length body) small,
       close_short close,
+      kind_short (kind_of reply),
       text_long reply,
       length-append (codes "HTTP/1.1 ") (decimal n),
       length-append version (codes " "),
@@ -152,7 +158,7 @@ long_text reply close small long =
       length-append phrased http.crlf,
       length-append (codes "Content-Length: ") count,
       length-append named http.crlf,
-      length-append line (http.content_type_line Json),
+      length-append line (http.content_type_line (kind_of reply)),
       length-append kind counted,
       length-append sized (connection_line close),
       length-append shut http.crlf,

@@ -5,7 +5,7 @@ use Rattle.misp_outside.specs.Causes.{HasCause}
 use Rattle.misp_outside.specs.declared.fault.KeeperFault.{KeeperFault}
 use Rattle.misp_http.specs.Faults.{fault_refusal}
 use Rattle.misp_http.specs.Texts as http
-use Rattle.misp_http.specs.declared.kind.BodyKind.TheVariants.{Json}
+use Rattle.misp_http.specs.declared.kind.BodyKind.{BodyKind}
 use Rattle.misp_http.specs.declared.fault.Fault.{Fault}
 use Rattle.misp_http.specs.declared.fault.HeadFault.{HeadFault}
 use Rattle.misp_http.specs.declared.request.Request.{Request}
@@ -18,7 +18,7 @@ use Rattle.misp_api.specs.Prelude.{Reading, Reply, RuleName, Standing, by_keeper
 use Rattle.misp_api.specs.Answering.{IsReplied}
 use Rattle.misp_api.specs.Refusing.{TurnsAway}
 use Rattle.misp_api.specs.Request.{request_data}
-use Rattle.misp_api.specs.Sending.{GoOut, IsAnswered, http_text, status_of}
+use Rattle.misp_api.specs.Sending.{GoOut, IsAnswered, http_text, kind_of, status_of}
 use Rattle.misp_api.specs.Text.{body_text, reply_text}
 use Rattle.misp_api.specs.declared.TheConstants.{CHANGE_TEXT, REPLY_ROOM}
 use Rattle.misp_api.proofs.HttpTexts.{body_behind, long_text, no_memory, text_long}
@@ -133,10 +133,12 @@ small_body (Ok reply) text small is = omega (arith, small, ap length is, text_lo
 small_body (Err short) text small is = tt
 
 -- the bytes of its status and of what stands behind the status in its text
-pub its_text : (reply : Reply) (close : Bool) (status : ℕ) (body text : List ℕ) → status ≡ status_of reply → text ≡ reply_text reply → body ≡ drop 4 text
-    → http.reply_text status Json body close ≡ http_text reply close
-its_text reply close status body text status_is text_is body_is =
-    ap (λ s. http.reply_text s Json body close) status_is ∙ ap (λ b. http.reply_text (status_of reply) Json b close) (body_is ∙ ap (drop 4) text_is ∙ body_behind reply)
+pub its_text : (reply : Reply) (close : Bool) (status : ℕ) (kind : BodyKind) (body text : List ℕ) → status ≡ status_of reply → kind ≡ kind_of reply → text ≡ reply_text reply
+    → body ≡ drop 4 text → http.reply_text status kind body close ≡ http_text reply close
+its_text reply close status kind body text status_is kind_is text_is body_is =
+    ap (λ s. http.reply_text s kind body close) status_is
+    ∙ ap (λ k. http.reply_text (status_of reply) k body close) kind_is
+    ∙ ap (λ b. http.reply_text (status_of reply) (kind_of reply) b close) (body_is ∙ ap (drop 4) text_is ∙ body_behind reply)
 
 -- of the same bytes, after the same
 pub appends_for : (before start after : Option (List ℕ)) (bytes told : List ℕ) → start ≡ before → bytes ≡ told → Appends start after bytes → Appends before after told
@@ -151,7 +153,7 @@ where_room (Ok x) holds = holds
 where_room (Err short) holds = tt
 
 -- what is put after nothing is all
-pub put_alone : (reply : Reply) (close : Bool) (status : ℕ) (body text front out : List ℕ) → status ≡ status_of reply → text ≡ reply_text reply → body ≡ drop 4 text → front ≡ []
-    → out ≡ front ++ http.reply_text status Json body close → out ≡ http_text reply close
-put_alone reply close status body text front out status_is text_is body_is none put =
-    put ∙ ap (λ f. f ++ http.reply_text status Json body close) none ∙ its_text reply close status body text status_is text_is body_is
+pub put_alone : (reply : Reply) (close : Bool) (status : ℕ) (kind : BodyKind) (body text front out : List ℕ) → status ≡ status_of reply → kind ≡ kind_of reply → text ≡ reply_text reply
+    → body ≡ drop 4 text → front ≡ [] → out ≡ front ++ http.reply_text status kind body close → out ≡ http_text reply close
+put_alone reply close status kind body text front out status_is kind_is text_is body_is none put =
+    put ∙ ap (λ f. f ++ http.reply_text status kind body close) none ∙ its_text reply close status kind body text status_is kind_is text_is body_is

@@ -1,6 +1,9 @@
--- What a path is for, and the identifiers that it ends with.
-use Rattle.std.specs.Prelude.{ℕ, ◌+◌, List, [], ◌∷◌, take, drop, position, codes, find, Option, Some, None, option_map}
+-- What a path is for, and the identifiers and the number that it ends with.
+use Rattle.std.specs.Prelude.{ℕ, ◌+◌, ◌^◌, ◌==◌, ◌&&◌, Bool, false, not, nat_le, nat_lt, List, [], ◌∷◌, length, take, drop, position, codes, find, Option, Some, None, option_map, if◌then◌else◌}
+use Rattle.std.specs.Char.{is_ascii_digit}
+use Rattle.std.specs.List.{list_all}
 use Rattle.std.specs.Option.{option_map_or}
+use Rattle.std.specs.Str.Parse.{digits_value}
 use Rattle.misp_ids.specs.Uid.{read_uid}
 use Rattle.misp_groups.specs.Prelude.{Uid}
 use Rattle.misp_api.specs.declared.path_kind.PathKind.{PathKind}
@@ -9,7 +12,8 @@ use Rattle.misp_api.specs.Pattern.{is_slash, fits_pattern}
 
 -- ---- what a path is for
 
--- the patterns of paths, each with what it is for; a name in braces is an identifier
+-- the patterns of paths, each with what it is for; a name in braces is an identifier, or the number
+-- of a part
 unfoldable pub paths : List (List ℕ × PathKind)
 paths =
     (codes "/events/view/{event}", PathKind.ViewEvent)
@@ -43,6 +47,9 @@ paths =
     ∷ (codes "/sightings/add/{event}/{attribute}", PathKind.Sight)
     ∷ (codes "/sightings/add/{event}/{object}/{attribute}", PathKind.Sight)
     ∷ (codes "/sharing_groups/index", PathKind.Groups)
+    ∷ (codes "/sync/groups", PathKind.SyncGroups)
+    ∷ (codes "/sync/events", PathKind.SyncEvents)
+    ∷ (codes "/sync/part/{event}/{part}", PathKind.SyncPart)
     ∷ []
 
 -- what the first pattern is for that fits the path
@@ -83,6 +90,40 @@ ids_in (byte ∷ text) = from_one (byte ∷ text) (position is_slash (byte ∷ t
 abbrev pub behind_slash : List ℕ → List ℕ
 behind_slash text = option_map_or (λ at. drop (at + 1) text) (position is_slash text) []
 
--- the identifiers of a path stand behind its third slash
+-- what stands behind the third slash
+abbrev pub ending : List ℕ → List ℕ
+ending path = behind_slash (behind_slash (behind_slash path))
+
+-- the identifiers of a path stand there
 abbrev pub ids_of : List ℕ → Option PathIds
-ids_of path = ids_in (behind_slash (behind_slash (behind_slash path)))
+ids_of path = ids_in (ending path)
+
+-- ---- parts
+
+-- digits, of which the first is a zero only where it is the only one
+abbrev pub is_numeral : List ℕ → Bool
+is_numeral [] = false
+is_numeral (d ∷ []) = list_all is_ascii_digit (d ∷ [])
+is_numeral (d ∷ e ∷ ds) = not (d == 48) && list_all is_ascii_digit (d ∷ e ∷ ds)
+
+-- a number of four bytes
+abbrev pub four_bytes : ℕ → Option ℕ
+four_bytes number = if nat_lt number (2 ^ 32) then Some number else None
+
+-- a decimal number without leading zeros, of at most ten digits and of four bytes
+abbrev pub number_in : List ℕ → Option ℕ
+number_in text =
+    if nat_le (length text) 10 && is_numeral text then four_bytes (digits_value 10 text) else None
+
+abbrev pub part_by : Option Uid → Option ℕ → Option (Uid × ℕ)
+part_by (Some event) (Some number) = Some (event, number)
+part_by event number = None
+
+-- an event and the number of a part, before and behind the first slash
+abbrev pub part_in : List ℕ → Option ℕ → Option (Uid × ℕ)
+part_in text None = None
+part_in text (Some at) = part_by (read_uid (take at text)) (number_in (drop (at + 1) text))
+
+-- those of a path stand behind its third slash
+abbrev pub part_of : List ℕ → Option (Uid × ℕ)
+part_of path = part_in (ending path) (position is_slash (ending path))

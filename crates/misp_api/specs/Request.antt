@@ -120,6 +120,9 @@ ReadsBody (Route.DeleteAttribute event place) = ⊥
 ReadsBody (Route.DeleteObject event object) = ⊥
 ReadsBody (Route.DeleteReference event object reference) = ⊥
 ReadsBody Route.Groups = ⊥
+ReadsBody Route.SyncGroups = ⊥
+ReadsBody Route.SyncEvents = ⊥
+ReadsBody (Route.SyncPart event part) = ⊥
 ReadsBody route = Unit {0}
 
 -- what a request of this route asks
@@ -148,3 +151,6 @@ ask_of (Route.Propose event target) body word = formed (proposal_in event target
 ask_of (Route.Judge event accept) body word = formed (judgement_in event accept body)
 ask_of (Route.Sight event target) body word = formed (sighting_in event target body word)
 ask_of Route.Groups body word = Ok Ask.Groups
+ask_of Route.SyncGroups body word = Ok Ask.SyncGroups
+ask_of Route.SyncEvents body word = Ok Ask.SyncEvents
+ask_of (Route.SyncPart event part) body word = Ok (Ask.SyncPart event part)

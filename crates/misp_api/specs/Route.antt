@@ -9,7 +9,7 @@ use Rattle.misp_elem.specs.declared.key.Place.{Place}
 use Rattle.misp_api.specs.declared.route.Route.{Route}
 use Rattle.misp_api.specs.declared.path_kind.PathKind.{PathKind}
 use Rattle.misp_api.specs.declared.path_ids.PathIds.{PathIds}
-use Rattle.misp_api.specs.Path.{kind_of, ids_of}
+use Rattle.misp_api.specs.Path.{kind_of, ids_of, part_of}
 
 -- ---- targets
 
@@ -101,6 +101,8 @@ element_route kind ids = None
 abbrev pub route_with : PathKind → PathIds → Option Route
 route_with PathKind.AddEvent ids = alone Route.AddEvent ids
 route_with PathKind.Groups ids = alone Route.Groups ids
+route_with PathKind.SyncGroups ids = alone Route.SyncGroups ids
+route_with PathKind.SyncEvents ids = alone Route.SyncEvents ids
 route_with PathKind.ViewEvent ids = option_map (λ p. Route.ViewEvent p.0 p.1) (copy_in ids)
 route_with PathKind.EditEvent ids = option_map Route.EditEvent (event_in ids)
 route_with PathKind.DeleteEvent ids = option_map Route.DeleteEvent (event_in ids)
@@ -118,10 +120,18 @@ abbrev pub route_by : PathKind → Option PathIds → Option Route
 route_by kind None = None
 route_by kind (Some ids) = route_with kind ids
 
+-- of the path of a part
+abbrev pub part_route : List ℕ → Option Route
+part_route path = option_map (λ p. Route.SyncPart (event p.0) p.1) (part_of path)
+
 -- of a path of a kind
+abbrev pub route_as : PathKind → List ℕ → Option Route
+route_as PathKind.SyncPart path = part_route path
+route_as kind path = route_by kind (ids_of path)
+
 abbrev pub route_in : List ℕ → Option PathKind → Option Route
 route_in path None = None
-route_in path (Some kind) = route_by kind (ids_of path)
+route_in path (Some kind) = route_as kind path
 
 -- what a path is for
 unfoldable pub path_route : List ℕ → Option Route
@@ -133,6 +143,9 @@ path_route path = route_in path (kind_of path)
 abbrev pub method_of : Route → List ℕ
 method_of (Route.ViewEvent event owner) = codes "GET"
 method_of Route.Groups = codes "GET"
+method_of Route.SyncGroups = codes "GET"
+method_of Route.SyncEvents = codes "GET"
+method_of (Route.SyncPart event part) = codes "GET"
 method_of route = codes "POST"
 
 -- the path must be for something, and the method be its own

@@ -1,5 +1,5 @@
 -- What is written for a reply.
-use Rattle.std.specs.Prelude.{ℕ, List, ◌∷◌, ◌++◌, codes, decimal}
+use Rattle.std.specs.Prelude.{ℕ, Bool, true, false, List, ◌∷◌, ◌++◌, codes, decimal}
 use Rattle.misp_ids.specs.Refusal.{rule_status}
 use Rattle.misp_format.specs.Prelude.{body_data, compact_text}
 use Rattle.misp_format.specs.Replies.{saved_data, taken_data, refusal_data}
@@ -22,6 +22,11 @@ answer_text (Answer.Part part) = spell_package part
 abbrev pub body_text : Reply → List ℕ
 body_text (Reply.Ok answer) = answer_text answer
 body_text (Reply.Refused refusal) = compact_text (refusal_data refusal)
+
+-- whether the body of a reply is octets; else it is JSON
+abbrev pub has_octets : Reply → Bool
+has_octets (Reply.Ok (Answer.Part part)) = true
+has_octets reply = false
 
 -- the status of a reply, a space and its body
 abbrev pub reply_text : Reply → List ℕ

@@ -1,13 +1,13 @@
 //! Adds or edits a sharing group at an instance.
 
-ghost use Rattle.std.specs.Prelude.{◌≡◌, ◌<◌, ◌++◌, None, IfOk, IsOkAnd, IfSome, OnOk, OnErr, vec_len, vec_capacity};
+ghost use Rattle.std.specs.Prelude.{◌≡◌, true, ◌<◌, ◌++◌, None, IfOk, IsOkAnd, IfSome, OnOk, OnErr, vec_len, vec_capacity};
 ghost use Rattle.misp_groups.specs.Group.{IsGroup};
 ghost use Rattle.misp_outside.specs.Causes.{HasCause};
 ghost use Rattle.misp_core.specs.Effects.{by_keeper, stop_in, IsRefused};
 ghost use Rattle.misp_api.specs.Administering.{group_form, FormFits, IsDone};
 ghost use Rattle.misp_api.specs.Request.{Gives};
 ghost use Rattle.misp_api.specs.Refusing.{TurnsAway};
-ghost use Rattle.misp_api.specs.Text.{reply_text};
+ghost use Rattle.misp_api.specs.Text.{has_octets, reply_text};
 
 use crate::answering::refused;
 use crate::request::{AskFault, fault};
@@ -71,9 +71,11 @@ pub fn administer<K: Keeper>(
     ensures formed { IfOk result (λ reply.
         TurnsAway (group_form request.now.body.now) instance.old instance.new reply) }
 
-    // A refused request changes nothing.
+    // A refused request changes nothing, and neither does one that is answered octets.
     ensures refused { IfOk result (λ reply.
         IsRefused reply → instance.new.held ≡ instance.old.held) }
+    ensures octets { IfOk result (λ reply.
+        has_octets reply ≡ true → instance.new.held ≡ instance.old.held) }
     ensures cause { HasCause instance.old.faults instance.new.faults
         (IsOkAnd result (λ reply. stop_in reply ≡ by_keeper)) }
     ensures name { instance.new.name ≡ instance.old.name }

@@ -1,6 +1,6 @@
 //! Answers a request at an instance.
 
-ghost use Rattle.std.specs.Prelude.{◌≡◌, ◌<◌, ◌++◌, Err, IfOk, IsOkAnd, IfSome, OnOk, OnErr, length, vec_len, vec_capacity};
+ghost use Rattle.std.specs.Prelude.{◌≡◌, true, ◌<◌, ◌++◌, Err, IfOk, IsOkAnd, IfSome, OnOk, OnErr, length, vec_len, vec_capacity};
 ghost use Rattle.misp_outside.specs.Causes.{HasCause};
 ghost use Rattle.misp_core.specs.Answers.{IsBuilt};
 ghost use Rattle.misp_core.specs.Effects.{stop_in, by_keeper, refused_by, IsRefused};
@@ -10,7 +10,7 @@ ghost use Rattle.misp_api.specs.Order.{IsInOrder, order};
 ghost use Rattle.misp_core.specs.Standing.{host_of};
 ghost use Rattle.misp_api.specs.Request.{Gives, request_data};
 ghost use Rattle.misp_api.specs.Refusing.{TurnsAway};
-ghost use Rattle.misp_api.specs.Text.{reply_text};
+ghost use Rattle.misp_api.specs.Text.{has_octets, reply_text};
 ghost use Rattle.misp_api.specs.declared.TheConstants.{CHANGE_TEXT};
 
 use crate::asking::read_ask;
@@ -105,9 +105,11 @@ pub fn answer<K: Keeper>(
         (TurnsAway (form_of instance.old.admin (request_data word request.now))
         instance.old instance.new (refused_by RuleName.NoMemory)) }
 
-    // A refused request changes nothing.
+    // A refused request changes nothing, and neither does one that is answered octets.
     ensures refused { IfOk result (λ reply.
         IsRefused reply → instance.new.held ≡ instance.old.held) }
+    ensures octets { IfOk result (λ reply.
+        has_octets reply ≡ true → instance.new.held ≡ instance.old.held) }
     ensures cause { HasCause instance.old.faults instance.new.faults
         (IsOkAnd result (λ reply. stop_in reply ≡ by_keeper)) }
     ensures name { instance.new.name ≡ instance.old.name }

@@ -278,6 +278,9 @@ pub fn read_ask(alloc: Global, route: Route, body: &[u8], word: u128) -> Result<
             Ok(delete_reference(event, object, reference))
         }
         Route::Groups => Ok(Ask::Groups),
+        Route::SyncGroups => Ok(Ask::SyncGroups),
+        Route::SyncEvents => Ok(Ask::SyncEvents),
+        Route::SyncPart(event, part) => Ok(Ask::SyncPart { event, part }),
         _ => body_ask(alloc, route, body, word),
     }
 }

@@ -1,7 +1,7 @@
 //! Identifiers at the end of a path.
 
 ghost use Rattle.std.specs.Prelude.{◌≡◌, position};
-ghost use Rattle.misp_api.specs.Path.{behind_one, behind_slash, ids_in, ids_of, two, three};
+ghost use Rattle.misp_api.specs.Path.{behind_one, behind_slash, ending, ids_in, ids_of, two, three};
 ghost use Rattle.misp_api.specs.Pattern.{is_slash};
 
 use misp_ids::Uid;
@@ -68,9 +68,16 @@ fn behind_slash(text: &str) -> &str
     }
 }
 
+/// What stands behind the third slash of a path.
+pub(crate) fn ending(path: &str) -> &str
+    ensures { result.now ≡ ending path.now }
+{
+    behind_slash(behind_slash(behind_slash(path)))
+}
+
 /// The identifiers of a path, behind its third slash.
 pub(crate) fn ids_of(path: &str) -> Option<PathIds>
     ensures { result ≡ ids_of path.now }
 {
-    ids_in(behind_slash(behind_slash(behind_slash(path))))
+    ids_in(ending(path))
 }

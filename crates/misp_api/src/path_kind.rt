@@ -23,10 +23,14 @@ pub enum PathKind {
     Discard,
     Sight,
     Groups,
+    SyncGroups,
+    SyncEvents,
+    SyncPart,
 }
 
-/// The patterns of paths, each with what it is for. A name in braces is an identifier.
-pub(crate) const PATHS: [(&str, PathKind); 31] = [
+/// The patterns of paths, each with what it is for. A name in braces is an identifier, or the number
+/// of a part.
+pub(crate) const PATHS: [(&str, PathKind); 34] = [
     ("/events/view/{event}", PathKind::ViewEvent),
     ("/events/view/{event}/{owner}", PathKind::ViewEvent),
     ("/events/add", PathKind::AddEvent),
@@ -82,4 +86,7 @@ pub(crate) const PATHS: [(&str, PathKind); 31] = [
         PathKind::Sight,
     ),
     ("/sharing_groups/index", PathKind::Groups),
+    ("/sync/groups", PathKind::SyncGroups),
+    ("/sync/events", PathKind::SyncEvents),
+    ("/sync/part/{event}/{part}", PathKind::SyncPart),
 ];

@@ -1,7 +1,7 @@
 //! Writes replies.
 
-ghost use Rattle.std.specs.Prelude.{◌≡◌, ◌++◌, OnOk, decimal, codes, string_bytes};
-ghost use Rattle.misp_api.specs.Text.{answer_text, reply_text};
+ghost use Rattle.std.specs.Prelude.{◌≡◌, ◌++◌, OnOk, decimal, codes, drop, string_bytes};
+ghost use Rattle.misp_api.specs.Text.{answer_text, has_octets, reply_text};
 
 use crate::event_list::put_event_list;
 use misp_core::{Answer, Reply};
@@ -59,4 +59,21 @@ pub fn put_reply(out: &mut Vec<u8>, alloc: Global, reply: &Reply) -> Result<(), 
             Ok(out.extend_from_slice(&write_refusal(alloc, refusal)?)?)
         }
     }
+}
+
+/// The body in a text of a reply, which is behind three digits and a space.
+pub fn body_in(text: &[u8]) -> &[u8]
+    ensures { result.now ≡ drop 4 text.now }
+{
+    match text {
+        [_, _, _, _, body @ ..] => body,
+        _ => &[],
+    }
+}
+
+/// Whether the body of a reply is octets. Else it is JSON.
+pub fn has_octets(reply: &Reply) -> bool
+    ensures { result ≡ has_octets reply.now }
+{
+    matches!(reply, Reply::Ok(Answer::Part(_)))
 }

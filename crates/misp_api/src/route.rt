@@ -2,10 +2,11 @@
 
 ghost use Rattle.std.specs.Prelude.{◌≡◌};
 ghost use Rattle.misp_api.specs.Path.{ids_of};
-ghost use Rattle.misp_api.specs.Route.{path_of, event_in, object_in, reference_in, attribute_in, tagged_in, copy_in, parent_in, alone, element_route, route_with, route_by, method_of};
+ghost use Rattle.misp_api.specs.Route.{path_of, event_in, object_in, reference_in, attribute_in, tagged_in, copy_in, parent_in, alone, element_route, route_with, route_by, part_route, route_as, method_of};
 
 use crate::path_ids::{PathIds, ids_of};
 use crate::path_kind::PathKind;
+use crate::path_part::part_of;
 use misp_elem::Place;
 use misp_ids::{ElemId, EventId, OrgId};
 use misp_rules::{AttributePlace, TaggedPlace};
@@ -38,6 +39,12 @@ pub enum Route {
     Sight(EventId, AttributePlace),
     /// The groups that concern who asks.
     Groups,
+    /// The groups that a pull brings.
+    SyncGroups,
+    /// The events of which a pull brings something.
+    SyncEvents,
+    /// A package that a pull brings of an event.
+    SyncPart(EventId, u32),
 }
 
 /// What stands before the first `?`.
@@ -184,6 +191,8 @@ fn route_with(kind: PathKind, ids: PathIds) -> Option<Route>
     match kind {
         PathKind::AddEvent => alone(Route::AddEvent, ids),
         PathKind::Groups => alone(Route::Groups, ids),
+        PathKind::SyncGroups => alone(Route::SyncGroups, ids),
+        PathKind::SyncEvents => alone(Route::SyncEvents, ids),
         PathKind::ViewEvent => {
             let (event, owner) = copy_in(ids)?;
             Some(Route::ViewEvent(event, owner))
@@ -214,8 +223,8 @@ fn route_with(kind: PathKind, ids: PathIds) -> Option<Route>
     }
 }
 
-/// The route of a path of a kind.
-pub(crate) fn route_by(path: &str, kind: PathKind) -> Option<Route>
+// Of paths that end with identifiers alone.
+fn route_by(path: &str, kind: PathKind) -> Option<Route>
     ensures { result ≡ route_by kind (ids_of path.now) }
 {
     match ids_of(path) {
@@ -224,12 +233,34 @@ pub(crate) fn route_by(path: &str, kind: PathKind) -> Option<Route>
     }
 }
 
+// That of a part.
+fn part_route(path: &str) -> Option<Route>
+    ensures { result ≡ part_route path.now }
+{
+    let (event, number) = part_of(path)?;
+    Some(Route::SyncPart(EventId(event), number))
+}
+
+/// The route of a path of a kind.
+pub(crate) fn route_as(path: &str, kind: PathKind) -> Option<Route>
+    ensures { result ≡ route_as kind path.now }
+{
+    match kind {
+        PathKind::SyncPart => part_route(path),
+        _ => route_by(path, kind),
+    }
+}
+
 /// The method by which it is asked for.
 pub(crate) fn method_of(route: &Route) -> &'static str
     ensures { result.now ≡ method_of route.now }
 {
     match route {
-        Route::ViewEvent(_, _) | Route::Groups => "GET",
+        Route::ViewEvent(_, _)
+        | Route::Groups
+        | Route::SyncGroups
+        | Route::SyncEvents
+        | Route::SyncPart(_, _) => "GET",
         _ => "POST",
     }
 }

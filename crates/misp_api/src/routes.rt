@@ -7,7 +7,7 @@ ghost use Rattle.misp_api.specs.Route.{path_route, route_of};
 ghost use Rattle.misp_api.specs.Router.{rows_of, texts_of};
 
 use crate::path_kind::{PATHS, PathKind};
-use crate::route::{Route, method_of, path_of, route_by};
+use crate::route::{Route, method_of, path_of, route_as};
 use matchit::{InsertError, Router};
 use misp_ids::{NoMemory, RuleName};
 use std::alloc::Global;
@@ -64,7 +64,7 @@ impl Routes {
         ensures { result ≡ path_route path.now }
     {
         match self.kind_of(path) {
-            Some(kind) => route_by(path, kind),
+            Some(kind) => route_as(path, kind),
             None => None,
         }
     }

@@ -1,6 +1,6 @@
 //! How the reply to a request goes out.
 
-ghost use Rattle.std.specs.Prelude.{◌≡◌, ◌≤◌, ◌<◌, ◌≢◌, ◌++◌, ℕ, [], Ok, Some, length, drop, vec_len, vec_capacity, IfOk, OnOk, OnErr};
+ghost use Rattle.std.specs.Prelude.{◌≡◌, ◌≤◌, ◌<◌, ◌≢◌, ◌++◌, ℕ, [], Ok, Some, length, vec_len, vec_capacity, IfOk, OnOk, OnErr};
 ghost use Rattle.misp_outside.specs.Causes.{HasCause};
 ghost use Rattle.misp_outside.specs.Streams.{HasRoom};
 ghost use Rattle.misp_http.specs.Faults.{fault_refusal};
@@ -8,12 +8,13 @@ ghost use Rattle.misp_http.specs.declared.request.Read.TheVariants as reads;
 ghost use Rattle.misp_core.specs.declared.reply.Reply.{Reply as Answered};
 ghost use Rattle.misp_core.specs.Effects.{refused_by};
 ghost use Rattle.misp_ids.specs.declared.refusal.RuleName.{RuleName};
-ghost use Rattle.misp_api.specs.Sending.{GoOut, IsAnswered, http_text, no_memory_text, status_of};
+ghost use Rattle.misp_api.specs.Sending.{GoOut, IsAnswered, http_text, kind_of, no_memory_text, status_of};
 ghost use Rattle.misp_api.specs.Text.{body_text, reply_text};
 ghost use Rattle.misp_api.specs.Turn.{WentOut, next_word};
 ghost use Rattle.misp_api.specs.declared.TheConstants.{CHANGE_TEXT, REPLY_ROOM};
 
 use crate::answering::answer;
+use crate::reply::{body_in, has_octets};
 use crate::routes::Routes;
 use crate::telling::told;
 use crate::{CHANGE_TEXT, REPLY_ROOM};
@@ -148,13 +149,13 @@ fn status_of(reply: &Reply) -> u16
     }
 }
 
-// The body in a text of a reply, which is behind three digits and a space.
-fn body_in(text: &[u8]) -> &[u8]
-    ensures { result.now ≡ drop 4 text.now }
+fn kind_of(reply: &Reply) -> BodyKind
+    ensures { result ≡ kind_of reply.now }
 {
-    match text {
-        [_, _, _, _, body @ ..] => body,
-        _ => &[],
+    if has_octets(reply) {
+        BodyKind::Octets
+    } else {
+        BodyKind::Json
     }
 }
 
@@ -191,7 +192,7 @@ fn put<W: Sink>(
     ensures bytes { W.written sink.new ≡ W.written sink.old }
     ensures faults { W.faults sink.new ≡ W.faults sink.old }
 {
-    put_reply(out, status_of(reply), BodyKind::Json, body_in(text), close)?;
+    put_reply(out, status_of(reply), kind_of(reply), body_in(text), close)?;
     let size = out.as_slice().len();
     if size <= REPLY_ROOM {
         return Ok(());

@@ -1,17 +1,17 @@
 //! Tells what was planned, and puts it.
 
-ghost use Rattle.std.specs.Prelude.{◌≡◌, ◌⊎◌, ◌+◌, ◌<◌, ◌≤◌, ◌++◌, Some, IfOk, IfErr, IfSome, OnOk, OnErr, length, take, vec_len, vec_capacity};
+ghost use Rattle.std.specs.Prelude.{◌≡◌, true, false, ◌⊎◌, ◌+◌, ◌<◌, ◌≤◌, ◌++◌, Some, IfOk, IfErr, IfSome, OnOk, OnErr, length, take, vec_len, vec_capacity};
 ghost use Rattle.misp_outside.specs.Causes.{Rose, HasCause};
 ghost use Rattle.misp_effects.specs.Effect.{Effect};
 ghost use Rattle.misp_core.specs.Effects.{Did, IsRefused, refused_by, rule_of_stop, stop_in, by_keeper};
 ghost use Rattle.misp_core.specs.Planning.{IsPlan, IsPlanned, unplanned, stop_planned};
 ghost use Rattle.misp_core.specs.declared.planning.Plan.{Plan as Planned};
 ghost use Rattle.misp_core.specs.declared.reply.Reply.{Reply as Answered};
-ghost use Rattle.misp_api.specs.Text.{reply_text};
+ghost use Rattle.misp_api.specs.Text.{has_octets, reply_text};
 ghost use Rattle.misp_api.specs.declared.TheConstants.{CHANGE_TEXT};
 
 use crate::CHANGE_TEXT;
-use crate::reply::put_reply;
+use crate::reply::{has_octets, put_reply};
 use misp_core::{Answer, Batch, Instance, NoPlan, Plan, Reply};
 use misp_ids::NoMemory;
 use misp_outside::{Keeper, KeeperFault};
@@ -89,7 +89,7 @@ struct Written {
 }
 
 // Writes an answer, with room for each refusal in place of it, and for one byte after. One that is
-// longer than the answer to any change is given no memory.
+// longer than the answer to any change is given no memory, and neither are octets.
 fn write_answer(text: &mut Vec<u8>, alloc: Global, answer: Answer) -> Result<Written, NoMemory>
     ensures reply { IfOk result (λ written. written.reply ≡ Answered.Ok answer) }
     ensures failed { IfOk result (λ written.
@@ -104,11 +104,12 @@ fn write_answer(text: &mut Vec<u8>, alloc: Global, answer: Answer) -> Result<Wri
     ensures room_no_memory { IfOk result (λ written.
         vec_len text.old + vec_len written.stops.no_memory < vec_capacity text.new) }
     ensures short { OnOk result (length (reply_text (Answered.Ok answer)) ≤ CHANGE_TEXT) }
+    ensures no_octets { OnOk result (has_octets (Answered.Ok answer) ≡ false) }
 {
     let start = text.len();
     let stops = stop_texts(alloc)?;
     let reply = told(text, alloc, Reply::Ok(answer))?;
-    if text.len().saturating_sub(start) > CHANGE_TEXT {
+    if text.len().saturating_sub(start) > CHANGE_TEXT || has_octets(&reply) {
         return Err(NoMemory);
     }
     take_room(text, &stops)?;
@@ -136,6 +137,7 @@ fn settled<K: Keeper>(
     requires room_failed { start + vec_len written.stops.failed < vec_capacity text.old }
     requires room_no_memory { start + vec_len written.stops.no_memory < vec_capacity text.old }
     requires short { length (reply_text written.reply) ≤ CHANGE_TEXT }
+    requires no_octets { has_octets written.reply ≡ false }
     ensures text { text.new.items ≡ take start text.old.items ++ reply_text result }
     ensures room { vec_len text.new < vec_capacity text.new }
     ensures done { (p : Planned) (e : Effect Answered) → written.reply ≡ Answered.Ok p.answer →
@@ -144,6 +146,7 @@ fn settled<K: Keeper>(
     ensures refused { IsRefused result → instance.new.held ≡ instance.old.held }
     ensures long { CHANGE_TEXT < length (reply_text result) →
         instance.new.held ≡ instance.old.held }
+    ensures octets { has_octets result ≡ true → instance.new.held ≡ instance.old.held }
     ensures cause { HasCause instance.old.faults instance.new.faults
         (stop_in result ≡ by_keeper) }
     ensures name { instance.new.name ≡ instance.old.name }
@@ -174,6 +177,8 @@ fn told_and_put<K: Keeper>(
     ensures room { OnOk result (vec_len text.new < vec_capacity text.new) }
     ensures kept { IfOk result (λ reply. CHANGE_TEXT < length (reply_text reply)) →
         instance.new.held ≡ instance.old.held }
+    ensures octets { IfOk result (λ reply.
+        has_octets reply ≡ true → instance.new.held ≡ instance.old.held) }
     ensures done { (p : Planned) (e : Effect Answered) → p.answer ≡ answer →
         p.batch ≡ Some put → IsPlan p e → IfOk result (λ reply.
         IfSome instance.old.held (λ held. Did e held reply instance.new.held)) }
@@ -203,6 +208,8 @@ pub(crate) fn tell<K: Keeper>(
     // Where memory runs out for the text, or it is longer than that of any change, nothing is put.
     ensures kept { IfOk result (λ reply. CHANGE_TEXT < length (reply_text reply)) →
         instance.new.held ≡ instance.old.held }
+    ensures octets { IfOk result (λ reply.
+        has_octets reply ≡ true → instance.new.held ≡ instance.old.held) }
 
     // Else reply and rows are those of the plan.
     ensures done { (e : Effect Answered) → IsPlanned planned e → IfOk result (λ reply.

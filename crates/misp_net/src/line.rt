@@ -1,11 +1,12 @@
 //! Writes what the lines of a script come to.
 
-ghost use Rattle.std.specs.Prelude.{◌≡◌, ◌<◌, [], ◌∷◌, ◌++◌, IfOk, OnOk, codes, decimal, string_bytes, vec_len, vec_capacity};
+ghost use Rattle.std.specs.Prelude.{◌≡◌, ◌≤◌, ◌<◌, true, [], ◌∷◌, ◌++◌, IfOk, OnOk, OnErr, codes, decimal, drop, take, string_bytes, vec_len, vec_capacity};
 ghost use Rattle.hex.specs.Hex.{encode_lower};
 ghost use Rattle.misp_api.specs.Session.{end_name};
-ghost use Rattle.misp_net.specs.Text.{output_text};
+ghost use Rattle.misp_api.specs.Text.{has_octets, reply_text};
+ghost use Rattle.misp_net.specs.Text.{output_text, shown_text};
 
-use misp_api::{End, put_number, put_text};
+use misp_api::{End, body_in, has_octets, put_number, put_text};
 use misp_core::Reply;
 use misp_ids::NoMemory;
 use std::alloc::Global;
@@ -42,6 +43,45 @@ pub(crate) fn put_nothing(lines: &mut Vec<u8>) -> Result<(), NoMemory>
     put_text(lines, "-")?;
     lines.reserve(1)?;
     Ok(())
+}
+
+// Puts the body of a reply that is written behind a place into hexadecimal digits, with room for
+// one byte after them.
+fn put_digits(lines: &mut Vec<u8>, alloc: Global, start: usize) -> Result<(), NoMemory>
+    requires { start ≤ vec_len lines.old }
+    ensures text { OnOk result (lines.new.items ≡ (take start lines.old.items ++ codes "200 ")
+        ++ encode_lower (drop 4 (drop start lines.old.items))) }
+    ensures room { OnOk result (vec_len lines.new < vec_capacity lines.new) }
+{
+    let digits = hex::encode(alloc, body_in(&lines[start..]))?;
+    lines.truncate(start);
+    put_text(lines, "200 ")?;
+    put_text(lines, digits.as_str())?;
+    lines.reserve(1)?;
+    Ok(())
+}
+
+/// Shows a reply that is written behind a place, with room for one byte after it. Octets are put
+/// into hexadecimal digits, and memory may run out for these alone.
+pub(crate) fn show(
+    lines: &mut Vec<u8>,
+    alloc: Global,
+    start: usize,
+    reply: &Reply,
+) -> Result<(), NoMemory>
+    requires start { start ≤ vec_len lines.old }
+    requires text { drop start lines.old.items ≡ reply_text reply.now }
+    requires room { vec_len lines.old < vec_capacity lines.old }
+    ensures text { OnOk result
+        (lines.new.items ≡ take start lines.old.items ++ shown_text reply.now) }
+    ensures room { OnOk result (vec_len lines.new < vec_capacity lines.new) }
+    ensures octets { OnErr result (has_octets reply.now ≡ true) }
+{
+    if has_octets(reply) {
+        put_digits(lines, alloc, start)
+    } else {
+        Ok(())
+    }
 }
 
 /// Writes how a session ended that had no reply, with room for one byte after it.

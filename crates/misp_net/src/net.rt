@@ -15,7 +15,7 @@ ghost use Rattle.misp_net.specs.Run.{HasRun, IsDone};
 ghost use Rattle.misp_net.specs.Text.{output_text, line_of};
 ghost use Rattle.misp_net.specs.Promise.{IsPrivate, AreReplied, AreNewest, IsCut};
 
-use crate::line::{Output, put_bad, put_front, put_nothing};
+use crate::line::{Output, put_bad, put_front, put_nothing, show};
 use crate::places::{NetFault, close_all, open_all};
 use crate::requesting::put_request;
 use crate::sessions::put_raw;
@@ -59,7 +59,9 @@ fn put_group<K: Keeper>(
     ensures admin { instance.new.admin ≡ instance.old.admin }
 {
     let group = group_in(line);
+    let start = lines.len();
     let reply = administer(lines, alloc, instance, now, &group)?;
+    show(lines, alloc, start, &reply)?;
     Ok(Output::Replied(reply))
 }
 

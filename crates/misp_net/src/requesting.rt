@@ -9,7 +9,7 @@ ghost use Rattle.misp_http.specs.declared.request.ReadEnd.{ReadEnd as NotRead};
 ghost use Rattle.misp_net.specs.Running.{IsRequested};
 ghost use Rattle.misp_net.specs.Text.{output_text};
 
-use crate::line::{Output, put_unanswered};
+use crate::line::{Output, put_unanswered, show};
 use misp_api::{End, Routes, answer, refuse};
 use misp_core::Instance;
 use misp_http::{Read, ReadEnd, read_request, request_bytes};
@@ -57,7 +57,9 @@ pub(crate) fn put_request<K: Keeper>(
 {
     match request_read(alloc, line) {
         Ok(Read::Request(request)) => {
+            let start = lines.len();
             let reply = answer(lines, alloc, routes, instance, now, word, &request)?;
+            show(lines, alloc, start, &reply)?;
             Ok(Output::Replied(reply))
         }
         Ok(Read::Refused(fault)) => Ok(Output::Replied(refuse(lines, alloc, fault)?)),

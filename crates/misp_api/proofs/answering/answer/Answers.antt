@@ -1,6 +1,7 @@
-use Rattle.std.proofs.Common.{◌≡◌, ◌∙◌, subst, IfOk}
+use Rattle.std.proofs.Common.{◌≡◌, true, ◌∙◌, subst, IfOk}
 use Rattle.misp_core.specs.Effects.{IsRefused}
 use Rattle.misp_api.specs.Request.{request_data}
+use Rattle.misp_api.specs.Text.{has_octets}
 use Rattle.misp_api.proofs.Replying.{refused_by_form, no_keeper}
 use Rattle.misp_api.proofs.Turning.{out_of_memory, turned_unread}
 use Rattle.misp_api.proofs.Ordering.{order_by_fault}
@@ -38,6 +39,10 @@ returns-in-Ok-clause-kept g c = λ long. c.tell.ensures.kept long ∙ c.plan-pla
 pub returns-in-Ok-clause-refused : goal.returns-in-Ok-clause-refused
 returns-in-Ok-clause-refused g c =
     subst (λ held. IfOk c.tell.result (λ reply. IsRefused reply → c.tell.new.instance.held ≡ held)) c.plan-planned.ensures.held c.tell.ensures.refused
+
+pub returns-in-Ok-clause-octets : goal.returns-in-Ok-clause-octets
+returns-in-Ok-clause-octets g c =
+    subst (λ held. IfOk c.tell.result (λ reply. has_octets reply ≡ true → c.tell.new.instance.held ≡ held)) c.plan-planned.ensures.held c.tell.ensures.octets
 
 -- ---- what was not read
 

@@ -1,4 +1,5 @@
-use Rattle.std.proofs.Common.{◌≡◌, arith, sym, subst}
+use Rattle.std.proofs.Common.{◌≡◌, ◌∙◌, arith, sym, subst}
+use Rattle.std.proofs.lemmas.Bool.{true≢false}
 use Rattle.misp_outside.specs.declared.fault.KeeperFault.{KeeperFault}
 use Rattle.misp_core.proofs.Carried.{DidThere, settled_did, stopped_did}
 use Rattle.misp_core.specs.Effects.{stop_in, by_keeper}
@@ -18,6 +19,9 @@ returns-in-Ok-clause-refused g c = λ refused. absurd (c.requires.answer refused
 
 pub returns-in-Ok-clause-long : goal.returns-in-Ok-clause-long
 returns-in-Ok-clause-long g c = λ long. absurd (omega (arith, long, c.requires.short))
+
+pub returns-in-Ok-clause-octets : goal.returns-in-Ok-clause-octets
+returns-in-Ok-clause-octets g c = λ is. absurd (true≢false (sym is ∙ c.requires.no_octets))
 
 pub returns-in-Ok-clause-cause : goal.returns-in-Ok-clause-cause
 returns-in-Ok-clause-cause g c = record {

@@ -1,6 +1,6 @@
-use Rattle.std.proofs.Common.{◌≡◌, ◌≤◌, ◌++◌, take, length, arith, sym, ◌∙◌, ap, subst}
+use Rattle.std.proofs.Common.{◌≡◌, false, ◌≤◌, ◌++◌, take, length, arith, sym, ◌∙◌, ap, subst}
 use Rattle.misp_api.specs.Prelude.{IsRefused, Reply}
-use Rattle.misp_api.specs.Text.{reply_text}
+use Rattle.misp_api.specs.Text.{has_octets, reply_text}
 use Rattle.misp_api.specs.declared.TheConstants.{CHANGE_TEXT}
 use Rattle.misp_api.proofs.Told.{text_before, start_within}
 use Rattle.misp_api.proofs.telling.told_and_put.Goals as goal
@@ -41,3 +41,9 @@ settled-requires-clause-short g c = subst (λ reply. length (reply_text reply) �
 
 pub returns-clause-kept : goal.returns-clause-kept
 returns-clause-kept g c = c.settled.ensures.long
+
+pub settled-requires-clause-no_octets : goal.settled-requires-clause-no_octets
+settled-requires-clause-no_octets g c = subst (λ reply. has_octets reply ≡ false) (sym c.in_ok-written.ensures.reply) c.in_ok-written.ensures.no_octets
+
+pub returns-clause-octets : goal.returns-clause-octets
+returns-clause-octets g c = c.settled.ensures.octets
