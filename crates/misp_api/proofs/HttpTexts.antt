@@ -10,8 +10,8 @@ use Rattle.misp_ids.specs.declared.refusal.RuleName.{RuleName}
 use Rattle.misp_http.specs.Texts.{IsReplyStatus, is_reply_status, reason_of, connection_line}
 use Rattle.misp_core.specs.Effects.{refused_by}
 use Rattle.misp_core.specs.declared.reply.Reply.{Reply}
-use Rattle.misp_api.specs.Sending.{http_text, kind_of, no_memory_text, status_of}
-use Rattle.misp_api.specs.Text.{body_text, reply_text}
+use Rattle.misp_api.specs.Sending.{no_memory_text}
+use Rattle.misp_core.specs.Text.{body_text, http_text, kind_of, reply_text, status_of}
 use Rattle.misp_api.specs.declared.TheConstants.{CHANGE_TEXT, REPLY_ROOM}
 use Rattle.misp_http.specs.Texts as http
 use Rattle.misp_http.specs.declared.kind.BodyKind.{BodyKind}

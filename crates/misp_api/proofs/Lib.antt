@@ -1,9 +1,11 @@
 pub mod Apart
 pub mod Built
+pub mod Exchanges
 pub mod Formed
 pub mod Forms
 pub mod HttpTexts
 pub mod Replying
+pub mod Pulls
 pub mod Runs
 pub mod Outgoing
 pub mod Turning

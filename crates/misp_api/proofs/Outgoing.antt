@@ -18,8 +18,8 @@ use Rattle.misp_api.specs.Prelude.{Reading, Reply, RuleName, Standing, by_keeper
 use Rattle.misp_api.specs.Answering.{IsReplied}
 use Rattle.misp_api.specs.Refusing.{TurnsAway}
 use Rattle.misp_api.specs.Request.{request_data}
-use Rattle.misp_api.specs.Sending.{GoOut, IsAnswered, http_text, kind_of, status_of}
-use Rattle.misp_api.specs.Text.{body_text, reply_text}
+use Rattle.misp_api.specs.Sending.{GoOut, IsAnswered}
+use Rattle.misp_core.specs.Text.{body_text, http_text, kind_of, reply_text, status_of}
 use Rattle.misp_api.specs.declared.TheConstants.{CHANGE_TEXT, REPLY_ROOM}
 use Rattle.misp_api.proofs.HttpTexts.{body_behind, long_text, no_memory, text_long}
 

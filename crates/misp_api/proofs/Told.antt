@@ -12,7 +12,7 @@ use Rattle.misp_core.proofs.Carried.{DidThere, is_planned}
 use Rattle.misp_api.specs.Prelude.{Reply, RequestData, RuleName, by_keeper, form_of, read_of, refused_by}
 use Rattle.misp_api.specs.Order.{IsInOrder, order}
 use Rattle.misp_api.specs.Refusing.{TurnsAway}
-use Rattle.misp_api.specs.Text.{reply_text}
+use Rattle.misp_core.specs.Text.{reply_text}
 use Rattle.misp_api.specs.Answering.{IsReplied}
 use Rattle.misp_api.proofs.Turning.{lost_there, turned_there, turned_by_step}
 use Rattle.misp_api.proofs.Replying.{by_step}

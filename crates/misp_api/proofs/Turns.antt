@@ -7,7 +7,8 @@ use Rattle.misp_http.specs.declared.request.Read.{Read}
 use Rattle.misp_http.specs.declared.request.Read.TheVariants as reads
 use Rattle.misp_http.specs.declared.request.ReadEnd.{ReadEnd}
 use Rattle.misp_api.specs.Prelude.{Reply, Standing}
-use Rattle.misp_api.specs.Sending.{IsAnswered, http_text}
+use Rattle.misp_api.specs.Sending.{IsAnswered}
+use Rattle.misp_core.specs.Text.{http_text}
 use Rattle.misp_api.specs.Turn.{Point, IsAt, Answers, Turned, WentOut, closes, next_word}
 use Rattle.misp_api.specs.declared.sending.Delivery.{Delivery}
 use Rattle.misp_api.specs.declared.sending.Delivery.TheVariants.{Written, WriteFault, NoRoom}

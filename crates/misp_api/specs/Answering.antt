@@ -1,7 +1,8 @@
 -- What a request is by its form, and what it is replied.
-use Rattle.std.specs.Prelude.{ℕ, List, Option, Some, None, Result, Ok, Err, if◌then◌else◌}
+use Rattle.std.specs.Prelude.{◌≡◌, ℕ, true, List, Option, Some, None, Result, Ok, Err, if◌then◌else◌}
 use Rattle.misp_ids.specs.Names.{is_api_key}
 use Rattle.misp_orgs.specs.Admin.{who_of}
+use Rattle.misp_rules.specs.Machine.{pulls}
 use Rattle.misp_rules.specs.Permission.{permission_of, no_permission}
 use Rattle.misp_core.specs.Prelude.{Admin, Ask, Asked, Caller, Did, Effect, Held, Host, RuleName, Seen, asked_where, bare, is_permitted, refused, seen_in}
 use Rattle.misp_core.specs.declared.reply.Reply.{Reply}
@@ -41,6 +42,11 @@ permitted (Err refusal) = Err refusal
 -- what a request is by its form and the role of its caller
 abbrev pub form_of : Admin → RequestData → Reading Asked
 form_of admin request = permitted (read_of admin request)
+
+-- it is what a pull asks, or is refused
+abbrev pub IsPull : Reading Asked → Type 0
+IsPull (Ok asked) = pulls asked.1 ≡ true
+IsPull (Err refusal) = Unit {0}
 
 -- ---- a request of this form
 

@@ -1,6 +1,6 @@
 pub mod Administering
 pub mod Answering
-pub mod EventList
+pub mod Exchange
 pub mod Limits
 pub mod Order
 pub mod Path
@@ -12,6 +12,5 @@ pub mod Route
 pub mod Router
 pub mod Sending
 pub mod Session
-pub mod Text
 pub mod Turn
 pub mod Unread

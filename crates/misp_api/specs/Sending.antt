@@ -1,10 +1,7 @@
 -- What a request of a connection is replied, or bytes that are none, and the bytes of the reply.
-use Rattle.std.specs.Prelude.{◌≡◌, ◌⊎◌, ℕ, ◌<◌, Bool, true, false, List, length, codes, Result, Ok, Err, IfOk, IfSome, if◌then◌else◌}
-use Rattle.misp_ids.specs.Refusal.{rule_status}
+use Rattle.std.specs.Prelude.{◌≡◌, ◌⊎◌, ℕ, ◌<◌, Bool, true, false, List, length, codes, Result, Ok, Err, IfOk, IfSome}
 use Rattle.misp_outside.specs.Causes.{HasCause}
 use Rattle.misp_http.specs.Faults.{fault_refusal}
-use Rattle.misp_http.specs.declared.kind.BodyKind.{BodyKind}
-use Rattle.misp_http.specs.declared.kind.BodyKind.TheVariants.{Json, Octets}
 use Rattle.misp_http.specs.declared.request.Read.{Read}
 use Rattle.misp_http.specs.declared.request.Read.TheVariants as reads
 use Rattle.misp_core.specs.Prelude.{Admin, Asked, Standing, host_of, stop_in}
@@ -13,9 +10,8 @@ use Rattle.misp_core.specs.declared.reply.Reply.{Reply}
 use Rattle.misp_api.specs.Answering.{form_of, IsReplied}
 use Rattle.misp_api.specs.Refusing.{TurnsAway}
 use Rattle.misp_api.specs.Request.{Reading, request_data}
-use Rattle.misp_api.specs.Text.{body_text, has_octets}
+use Rattle.misp_core.specs.Text.{http_text}
 use Rattle.misp_api.specs.declared.TheConstants.{REPLY_ROOM}
-use Rattle.misp_http.specs.Texts as http
 
 -- ---- what is replied
 
@@ -37,18 +33,6 @@ pub record IsAnswered (now word : ℕ) (read : Read) (old new : Standing) (reply
   pub admin : new.admin ≡ old.admin
 
 -- ---- its bytes
-
-abbrev pub status_of : Reply → ℕ
-status_of (Reply.Ok answer) = 200
-status_of (Reply.Refused refusal) = rule_status refusal.name
-
--- what its body is
-abbrev pub kind_of : Reply → BodyKind
-kind_of reply = if has_octets reply then Octets else Json
-
--- as HTTP has it, where the connection is closed after it or not
-abbrev pub http_text : Reply → Bool → List ℕ
-http_text reply close = http.reply_text (status_of reply) (kind_of reply) (body_text reply) close
 
 -- the same of want of memory, as one text
 unfoldable pub no_memory_text : Bool → List ℕ

@@ -8,7 +8,8 @@ use Rattle.misp_http.specs.declared.request.Read.{Read}
 use Rattle.misp_http.specs.declared.request.Read.TheVariants as reads
 use Rattle.misp_core.specs.Prelude.{Standing}
 use Rattle.misp_core.specs.declared.reply.Reply.{Reply}
-use Rattle.misp_api.specs.Sending.{IsAnswered, http_text}
+use Rattle.misp_api.specs.Sending.{IsAnswered}
+use Rattle.misp_core.specs.Text.{http_text}
 use Rattle.misp_api.specs.declared.sending.Delivery.{Delivery}
 use Rattle.misp_api.specs.declared.sending.Delivery.TheVariants.{Written, WriteFault, NoRoom}
 use Rattle.misp_api.specs.declared.turn.Turn.{Turn}

@@ -7,7 +7,7 @@ ghost use Rattle.misp_core.specs.Effects.{by_keeper, stop_in, IsRefused};
 ghost use Rattle.misp_api.specs.Administering.{group_form, FormFits, IsDone};
 ghost use Rattle.misp_api.specs.Request.{Gives};
 ghost use Rattle.misp_api.specs.Refusing.{TurnsAway};
-ghost use Rattle.misp_api.specs.Text.{has_octets, reply_text};
+ghost use Rattle.misp_core.specs.Text.{has_octets, reply_text};
 
 use crate::answering::refused;
 use crate::request::{AskFault, fault};

@@ -4,13 +4,14 @@ ghost use Rattle.std.specs.Prelude.{◌≡◌, true, ◌<◌, ◌++◌, Err, IfO
 ghost use Rattle.misp_outside.specs.Causes.{HasCause};
 ghost use Rattle.misp_core.specs.Answers.{IsBuilt};
 ghost use Rattle.misp_core.specs.Effects.{stop_in, by_keeper, refused_by, IsRefused};
-ghost use Rattle.misp_api.specs.Answering.{caller_in, read_of, form_of, IsReplied};
+ghost use Rattle.misp_api.specs.Answering.{IsPull, IsReplied, caller_in, form_of, read_of};
 ghost use Rattle.misp_api.specs.Unread.{fault_reply};
 ghost use Rattle.misp_api.specs.Order.{IsInOrder, order};
+ghost use Rattle.misp_core.specs.Sound.{IsSound};
 ghost use Rattle.misp_core.specs.Standing.{host_of};
 ghost use Rattle.misp_api.specs.Request.{Gives, request_data};
 ghost use Rattle.misp_api.specs.Refusing.{TurnsAway};
-ghost use Rattle.misp_api.specs.Text.{has_octets, reply_text};
+ghost use Rattle.misp_core.specs.Text.{has_octets, reply_text};
 ghost use Rattle.misp_api.specs.declared.TheConstants.{CHANGE_TEXT};
 
 use crate::asking::read_ask;
@@ -110,6 +111,13 @@ pub fn answer<K: Keeper>(
         IsRefused reply → instance.new.held ≡ instance.old.held) }
     ensures octets { IfOk result (λ reply.
         has_octets reply ≡ true → instance.new.held ≡ instance.old.held) }
+
+    // What a pull asks changes nothing either, even where memory runs out, and its reply can be read
+    // back from its text.
+    ensures pulled { IsPull (form_of instance.old.admin (request_data word request.now)) →
+        instance.new.held ≡ instance.old.held }
+    ensures sound { IsPull (form_of instance.old.admin (request_data word request.now)) →
+        IfOk result IsSound }
     ensures cause { HasCause instance.old.faults instance.new.faults
         (IsOkAnd result (λ reply. stop_in reply ≡ by_keeper)) }
     ensures name { instance.new.name ≡ instance.old.name }

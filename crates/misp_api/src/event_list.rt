@@ -1,7 +1,7 @@
 //! Writes the list of the events that a pull brings.
 
 ghost use Rattle.std.specs.Prelude.{◌≡◌, ◌++◌, OnOk};
-ghost use Rattle.misp_api.specs.EventList.{event_list_text, event_parts_text, others_text};
+ghost use Rattle.misp_core.specs.EventList.{event_list_text, event_parts_text, others_text};
 
 use crate::reply::{put_number, put_text};
 use misp_core::EventParts;
@@ -9,7 +9,7 @@ use misp_ids::NoMemory;
 use std::alloc::Global;
 
 // Writes an event with the number of its packages.
-#[tactic(auto, unfolding(crate::specs::EventList::event_parts_text))]
+#[tactic(auto, unfolding(misp_core::specs::EventList::event_parts_text))]
 fn put_event_parts(out: &mut Vec<u8>, alloc: Global, event: &EventParts) -> Result<(), NoMemory>
     ensures { OnOk result (out.new.items ≡ out.old.items ++ event_parts_text event.now) }
 {

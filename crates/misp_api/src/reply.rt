@@ -1,7 +1,7 @@
 //! Writes replies.
 
 ghost use Rattle.std.specs.Prelude.{◌≡◌, ◌++◌, OnOk, decimal, codes, drop, string_bytes};
-ghost use Rattle.misp_api.specs.Text.{answer_text, has_octets, reply_text};
+ghost use Rattle.misp_core.specs.Text.{answer_text, has_octets, reply_text};
 
 use crate::event_list::put_event_list;
 use misp_core::{Answer, Reply};

@@ -8,8 +8,8 @@ ghost use Rattle.misp_http.specs.declared.request.Read.TheVariants as reads;
 ghost use Rattle.misp_core.specs.declared.reply.Reply.{Reply as Answered};
 ghost use Rattle.misp_core.specs.Effects.{refused_by};
 ghost use Rattle.misp_ids.specs.declared.refusal.RuleName.{RuleName};
-ghost use Rattle.misp_api.specs.Sending.{GoOut, IsAnswered, http_text, kind_of, no_memory_text, status_of};
-ghost use Rattle.misp_api.specs.Text.{body_text, reply_text};
+ghost use Rattle.misp_api.specs.Sending.{GoOut, IsAnswered, no_memory_text};
+ghost use Rattle.misp_core.specs.Text.{body_text, http_text, kind_of, reply_text, status_of};
 ghost use Rattle.misp_api.specs.Turn.{WentOut, next_word};
 ghost use Rattle.misp_api.specs.declared.TheConstants.{CHANGE_TEXT, REPLY_ROOM};
 
@@ -140,7 +140,8 @@ fn answer_read<K: Keeper, T: Clock>(
     }
 }
 
-fn status_of(reply: &Reply) -> u16
+/// The status of a reply.
+pub(crate) fn status_of(reply: &Reply) -> u16
     ensures { result ≡ status_of reply.now }
 {
     match reply {
@@ -149,7 +150,8 @@ fn status_of(reply: &Reply) -> u16
     }
 }
 
-fn kind_of(reply: &Reply) -> BodyKind
+/// What the body of a reply is.
+pub(crate) fn kind_of(reply: &Reply) -> BodyKind
     ensures { result ≡ kind_of reply.now }
 {
     if has_octets(reply) {

@@ -1,13 +1,14 @@
 //! Tells what was planned, and puts it.
 
-ghost use Rattle.std.specs.Prelude.{◌≡◌, true, false, ◌⊎◌, ◌+◌, ◌<◌, ◌≤◌, ◌++◌, Some, IfOk, IfErr, IfSome, OnOk, OnErr, length, take, vec_len, vec_capacity};
+ghost use Rattle.std.specs.Prelude.{◌≡◌, true, false, ◌⊎◌, ◌+◌, ◌<◌, ◌≤◌, ◌++◌, None, Some, IfOk, IfErr, IfSome, OnOk, OnErr, length, take, vec_len, vec_capacity};
 ghost use Rattle.misp_outside.specs.Causes.{Rose, HasCause};
 ghost use Rattle.misp_effects.specs.Effect.{Effect};
 ghost use Rattle.misp_core.specs.Effects.{Did, IsRefused, refused_by, rule_of_stop, stop_in, by_keeper};
 ghost use Rattle.misp_core.specs.Planning.{IsPlan, IsPlanned, unplanned, stop_planned};
 ghost use Rattle.misp_core.specs.declared.planning.Plan.{Plan as Planned};
 ghost use Rattle.misp_core.specs.declared.reply.Reply.{Reply as Answered};
-ghost use Rattle.misp_api.specs.Text.{has_octets, reply_text};
+ghost use Rattle.misp_core.specs.Sound.{IsSound, IsSoundAnswer};
+ghost use Rattle.misp_core.specs.Text.{has_octets, reply_text};
 ghost use Rattle.misp_api.specs.declared.TheConstants.{CHANGE_TEXT};
 
 use crate::CHANGE_TEXT;
@@ -147,6 +148,8 @@ fn settled<K: Keeper>(
     ensures long { CHANGE_TEXT < length (reply_text result) →
         instance.new.held ≡ instance.old.held }
     ensures octets { has_octets result ≡ true → instance.new.held ≡ instance.old.held }
+    ensures silent { instance.old.held ≡ None → instance.new.held ≡ None }
+    ensures sound { IsSound written.reply → IsSound result }
     ensures cause { HasCause instance.old.faults instance.new.faults
         (stop_in result ≡ by_keeper) }
     ensures name { instance.new.name ≡ instance.old.name }
@@ -182,6 +185,8 @@ fn told_and_put<K: Keeper>(
     ensures done { (p : Planned) (e : Effect Answered) → p.answer ≡ answer →
         p.batch ≡ Some put → IsPlan p e → IfOk result (λ reply.
         IfSome instance.old.held (λ held. Did e held reply instance.new.held)) }
+    ensures silent { instance.old.held ≡ None → instance.new.held ≡ None }
+    ensures sound { IsSoundAnswer answer → IfOk result IsSound }
     ensures refused { IfOk result (λ reply.
         IsRefused reply → instance.new.held ≡ instance.old.held) }
     ensures later { instance.old.faults ≤ instance.new.faults }
@@ -218,6 +223,8 @@ pub(crate) fn tell<K: Keeper>(
     ensures still { OnErr planned (instance.new ≡ instance.old) }
     ensures refused { IfOk result (λ reply.
         IsRefused reply → instance.new.held ≡ instance.old.held) }
+    ensures silent { instance.old.held ≡ None → instance.new.held ≡ None }
+    ensures sound { IfOk planned (λ plan. IsSoundAnswer plan.answer) → IfOk result IsSound }
 
     // A fault of the keeper that is told was met in planning, or now.
     ensures later { instance.old.faults ≤ instance.new.faults }

@@ -28,8 +28,8 @@ pub enum Turn {
     WriteFault,
 }
 
-// Whether the connection is closed after what was read.
-fn closes(read: &Read) -> bool
+/// Whether the connection is closed after what was read.
+pub(crate) fn closes(read: &Read) -> bool
     ensures { result ≡ closes read.now }
 {
     match read {

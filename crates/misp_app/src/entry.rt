@@ -4,6 +4,7 @@ ghost use Rattle.std.specs.Prelude.{◌≡◌, ◌≢◌, ◌≤◌, ◌↔◌, 
 ghost use Rattle.misp_outside.specs.Causes.{Rose};
 ghost use Rattle.std.specs.Io.KnownBytes.{Appends};
 ghost use Rattle.misp_effects.specs.KeeperStates.{told, OneFailed};
+ghost use Rattle.misp_net.specs.Carrying.{HasCarried};
 ghost use Rattle.misp_net.specs.Promise.{IsPrivate, AreReplied, AreNewest};
 ghost use Rattle.misp_app.specs.Limits.{source_limit, least_keepers};
 ghost use Rattle.misp_app.specs.Source.{described, described_status, status_of, ok_line, IsTold, HasRun, IsCutShort, IsSound, IsUnsound, HasFailed, OthersStay, HoldNothing, host_named};
@@ -56,6 +57,14 @@ pub fn run<S: Source, W: Sink, K: Keeper, C: Carry, D: Door, L: Dial, T: Clock>(
         IfSome (S.left source.old) (λ left. HasRun AreNewest left
         (map K.state keepers.old.items) (map K.state keepers.new.items)
         (Wrote result (W.written sink.old) (W.written sink.new))) }
+
+    // What carries failed at least as often as the outputs tell it, and its count never falls.
+    ensures carry { HasLines (command_of (map string_bytes words.now)) result →
+        IfSome (S.left source.old) (λ left. HasRun
+        (HasCarried (C.faults carry.old) (C.faults carry.new)) left
+        (map K.state keepers.old.items) (map K.state keepers.new.items)
+        (Wrote result (W.written sink.old) (W.written sink.new))) }
+    ensures later { C.faults carry.old ≤ C.faults carry.new }
 
     // The words and the source decide how it ends, where no fault does and memory does not run out.
     ensures usage { result ≡ Status.Usage ↔ command_of (map string_bytes words.now) ≡ None }
@@ -126,7 +135,8 @@ pub fn run<S: Source, W: Sink, K: Keeper, C: Carry, D: Door, L: Dial, T: Clock>(
     ensures others { IfSome (S.left source.old) (λ left. OthersStay (described left)
         (map K.state keepers.old.items) (map K.state keepers.new.items)) }
     ensures still { IsStill result → keepers.new.items ≡ keepers.old.items }
-    ensures untouched { (carry.new ≡ carry.old) × (dial.new ≡ dial.old) }
+    ensures untouched { (dial.new ≡ dial.old)
+        × ((command_of (map string_bytes words.now) ≢ Some Net) → carry.new ≡ carry.old) }
     ensures indoors { (HasDoor (command_of (map string_bytes words.now)) → ⊥) →
         (door.new ≡ door.old) × (clock.new ≡ clock.old) }
 
@@ -143,7 +153,7 @@ pub fn run<S: Source, W: Sink, K: Keeper, C: Carry, D: Door, L: Dial, T: Clock>(
         Err(status) => return status,
     };
     match command {
-        Command::Net => run_source(alloc, &bytes, sink, keepers),
+        Command::Net => run_source(alloc, &bytes, sink, keepers, carry),
         Command::Check => check_source(alloc, &bytes, sink),
         Command::Serve(words) => { serve_source(alloc, &bytes, &words, sink, keepers, door, clock) }
     }
@@ -151,11 +161,12 @@ pub fn run<S: Source, W: Sink, K: Keeper, C: Carry, D: Door, L: Dial, T: Clock>(
 
 // Runs what the source said.
 #[tactic(auto, using(misp_net::proofs::Apart::net_is_distinct))]
-fn run_source<W: Sink, K: Keeper>(
+fn run_source<W: Sink, K: Keeper, C: Carry>(
     alloc: Global,
     bytes: &[u8],
     sink: &mut W,
     keepers: &mut Vec<K>,
+    carry: &mut C,
 ) -> Status
     requires { least_keepers ≤ vec_len keepers.old }
     ensures private { HasLines (Some Net) result → HasRun IsPrivate bytes.now
@@ -167,6 +178,11 @@ fn run_source<W: Sink, K: Keeper>(
     ensures newest { HasLines (Some Net) result → HasRun AreNewest bytes.now
         (map K.state keepers.old.items) (map K.state keepers.new.items)
         (Wrote result (W.written sink.old) (W.written sink.new)) }
+    ensures carry { HasLines (Some Net) result → HasRun
+        (HasCarried (C.faults carry.old) (C.faults carry.new)) bytes.now
+        (map K.state keepers.old.items) (map K.state keepers.new.items)
+        (Wrote result (W.written sink.old) (W.written sink.new)) }
+    ensures later { C.faults carry.old ≤ C.faults carry.new }
     ensures status { IsStopped result ⊎ (result ≡ described_status (described bytes.now)) }
     ensures write { result ≡ Status.WriteFault → Rose (W.faults sink.old) (W.faults sink.new) }
     ensures silent { IsSilent result → W.written sink.new ≡ W.written sink.old }
@@ -190,7 +206,7 @@ fn run_source<W: Sink, K: Keeper>(
 {
     let (description, script) = split_source(bytes);
     match read_description(alloc, description) {
-        Ok(net) => match run_net(alloc, net, keepers, script) {
+        Ok(net) => match run_net(alloc, net, keepers, carry, script) {
             Ok(lines) => put(sink, &lines),
             Err(fault) => Status::from(fault),
         },

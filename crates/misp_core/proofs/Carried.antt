@@ -69,7 +69,8 @@ put_there : (b : Batch) (old : Option Held) → option_map (with_batch (spelled 
 put_there b None = refl
 put_there b (Some held) = refl
 
-are_groups : (gs : List Group) → AreStorable gs → AllByRecursion IsGroup gs
+-- groups that can be read back are groups
+pub are_groups : (gs : List Group) → AreStorable gs → AllByRecursion IsGroup gs
 are_groups [] are = tt
 are_groups (g ∷ gs) are = (are.0.is_group, are_groups gs are.1)
 

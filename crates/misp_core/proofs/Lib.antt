@@ -9,3 +9,5 @@ pub mod Pulled
 pub mod PulledEvents
 pub mod OwnRows
 pub mod TakenRows
+pub mod Listed
+pub mod TakenGroups

@@ -81,10 +81,14 @@ sorted_numbers (x ∷ xs) h = λ k d low high.
     not_less : (m n : ℕ) → m ≤ n → is_lt (nat_cmp n m) ≡ false
     not_less m n le = grind (arith, nat_tests)
 
+-- the numbers of the events of rows that rise ascend
+pub rising_numbers : (list : List Row) → Rises list → IsStrictlySortedBy nat_cmp (dedup eqb (map event_number list))
+rising_numbers list rises = IsStrictlySortedBy-dedup nat_cmp_total (λ x y. grind (arith, nat_tests)) (map event_number list) (sorted_numbers list rises)
+
 module _ (list rows : List Row) (by : IsByEvent list rows) where
   -- the numbers of the events ascend
   pub numbers_ascend : IsStrictlySortedBy nat_cmp (dedup eqb (map event_number list))
-  numbers_ascend = IsStrictlySortedBy-dedup nat_cmp_total (λ x y. grind (arith, nat_tests)) (map event_number list) (sorted_numbers list by.rises)
+  numbers_ascend = rising_numbers list by.rises
 
   -- that of each row is among them
   pub numbers_reach : (row : Row) → Contains rows row → Contains (dedup eqb (map event_number list)) (event_number row)

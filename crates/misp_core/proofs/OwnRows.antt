@@ -11,7 +11,7 @@ use Rattle.misp_package.specs.Landing.{IsLanding}
 use Rattle.misp_package.specs.declared.landing.Landing.{Landing}
 use Rattle.misp_store.specs.Raw.{onto, row_in, row_read, rows_in, stands_under}
 use Rattle.misp_core.specs.Prelude.{Held}
-use Rattle.misp_core.specs.Taking.{IsLandingAt}
+use Rattle.misp_core.specs.Taking.{IsLandingAt, IsLandingOf}
 
 -- ---- rows that are read
 
@@ -121,3 +121,13 @@ pub landing_loaded : {E : Type 0} (result : Result Landing E) (i : Inst) (w : Or
     → IfSome held (λ h. rows_in (rows_named e (uid w.0) h.rows) ≡ Ok own) → rows ≡ own → IfOk result (λ l. IsLanding l i w e rows) → IfOk result (λ l. IfSome held (IsLandingAt l i w e))
 landing_loaded (Err fault) i w e held own rows found same is = tt
 landing_loaded (Ok l) i w e held own rows found same is = landing_told l i w e own (subst (IsLanding l i w e) same is) held found
+
+own_told : (l : Landing) (i : Inst) (w : OrgId) (e : EventId) (own : List Row) → IsLanding l i w e own → (held : Option Held) → IfSome held (λ h. rows_in (rows_named e (uid w.0) h.rows) ≡ Ok own) → IfSome held (IsLandingOf l i w e)
+own_told l i w e own is None f = tt
+own_told l i w e own is (Some h) f = record { rows = own; read = f; is = is }
+
+-- and it is that of what is loaded
+pub own_loaded : {E : Type 0} (result : Result Landing E) (i : Inst) (w : OrgId) (e : EventId) (held : Option Held) (own rows : List Row)
+    → IfSome held (λ h. rows_in (rows_named e (uid w.0) h.rows) ≡ Ok own) → rows ≡ own → IfOk result (λ l. IsLanding l i w e rows) → IfOk result (λ l. IfSome held (IsLandingOf l i w e))
+own_loaded (Err fault) i w e held own rows found same is = tt
+own_loaded (Ok l) i w e held own rows found same is = own_told l i w e own (subst (IsLanding l i w e) same is) held found

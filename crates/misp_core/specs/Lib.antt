@@ -2,11 +2,14 @@ pub mod Administering
 pub mod Answers
 pub mod Changing
 pub mod Effects
+pub mod EventList
 pub mod Handing
 pub mod Keeping
 pub mod Planning
 pub mod Prelude
 pub mod Pulling
 pub mod Saving
+pub mod Sound
 pub mod Standing
 pub mod Taking
+pub mod Text

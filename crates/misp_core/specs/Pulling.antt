@@ -1,6 +1,7 @@
 -- Rows by their events, and how many packages there are of each.
-use Rattle.std.specs.Prelude.{◌≡◌, ℕ, zero, suc, List, Option, None, Some, Bool}
+use Rattle.std.specs.Prelude.{◌≡◌, ◌-◌, ◌^◌, ℕ, zero, suc, List, Option, None, Some, Bool}
 use Rattle.std.specs.List.Sorted.{IsNonDecreasingBy}
+use Rattle.misp_elem.specs.Fields.{IsBetween}
 use Rattle.misp_rules.specs.Machine.{event_number, event_rows}
 use Rattle.misp_rules.specs.Prelude.{EventId, Group, Inst, OrgId, Row}
 use Rattle.misp_groups.specs.Audience.{carries}
@@ -18,6 +19,11 @@ Rises rows = IsNonDecreasingBy event_number rows
 pub record IsByEvent (list rows : List Row) : Type 0 where
   pub rises : Rises list
   pub same : (e : EventId) → event_rows e list ≡ event_rows e rows
+
+-- it is of this event, and counts from one to as many as four bytes do
+pub record IsCountOf (which : EventId) (e : EventParts) : Type 0 where
+  pub event : e.event ≡ which
+  pub parts : IsBetween 1 (2 ^ 32 - 1) e.parts
 
 -- the event of a number
 abbrev pub event_at : ℕ → EventId

@@ -1,6 +1,7 @@
 -- What arrives by a synchronisation, and what of it an instance takes.
-use Rattle.std.specs.Prelude.{List, [], map, IfOk}
+use Rattle.std.specs.Prelude.{◌≡◌, List, [], ◌∷◌, ◌++◌, Ok, cond, map, true, IfOk}
 use Rattle.misp_outside.specs.Held.{with_batch}
+use Rattle.misp_groups.specs.Changes.{take_group, takes_group}
 use Rattle.misp_rules.specs.declared.package.PackageFields.{PackageFields as Package}
 use Rattle.misp_history.specs.Merging.{handed, rows_taken}
 use Rattle.misp_effects.specs.Batches.{batch}
@@ -15,6 +16,13 @@ use Rattle.misp_core.specs.Prelude.{EventId, Group, Held, Inst, OrgId, Row, grou
 abbrev pub IsLandingAt : Landing → Inst → OrgId → EventId → Held → Type 0
 IsLandingAt landing here owner event held =
     IfOk ((seen_in held).rows (Reach.Event event)) (IsLanding landing here owner event)
+
+-- the owner's own rows of the event all decode, and it is the landing of these
+pub record IsLandingOf (landing : Landing) (here : Inst) (owner : OrgId) (event : EventId)
+    (held : Held) : Type 0 where
+  pub rows : List Row
+  pub read : (seen_in held).rows (Reach.Own owner event) ≡ Ok rows
+  pub is : IsLanding landing here owner event rows
 
 -- the rows of a package as they are handed in for an owner
 abbrev pub handed_rows : OrgId → Package → List Row
@@ -33,3 +41,20 @@ with_rows rows = with_batch (spelled (batch rows []))
 abbrev pub with_package : Inst → List Row → OrgId → Package → Held → Held
 with_package here rows owner coming held =
     with_rows (package_taken here rows (groups_of held) owner coming) held
+
+-- ---- groups
+
+-- the groups that are taken of these, one after another, as they are put
+unfoldable pub groups_taken : List Group → List Group → List Group
+groups_taken groups [] = []
+groups_taken groups (g ∷ gs) =
+    cond (takes_group groups g) (record g { carried = true } ∷ []) []
+    ++ groups_taken (take_group groups g) gs
+
+-- what is held once these groups are put
+abbrev pub with_groups : List Group → Held → Held
+with_groups groups = with_batch (spelled (batch [] groups))
+
+-- what is held once what is new of groups is taken
+abbrev pub with_groups_taken : List Group → Held → Held
+with_groups_taken coming held = with_groups (groups_taken (groups_of held) coming) held

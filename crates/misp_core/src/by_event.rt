@@ -2,6 +2,8 @@
 
 ghost use Rattle.std.specs.Prelude.{◌≡◌, eqb, map, IfOk};
 ghost use Rattle.std.specs.List.{dedup};
+ghost use Rattle.std.specs.List.Sorted.{IsStrictlySortedBy};
+ghost use Rattle.misp_lists.specs.Prelude.{nat_cmp};
 ghost use Rattle.misp_elem.specs.Parents.{event_of};
 ghost use Rattle.misp_ids.specs.Same.{same_event};
 ghost use Rattle.misp_rules.specs.Machine.{event_number, event_rows};
@@ -69,7 +71,9 @@ fn numbers(alloc: Global, list: &[Row]) -> Result<Vec<u128>, NoMemory>
 
 /// The numbers of the events in a list by events, each once.
 pub(crate) fn events_of(alloc: Global, list: &[Row]) -> Result<Vec<u128>, NoMemory>
-    ensures { IfOk result (λ events. events.items ≡ dedup eqb (map event_number list.now)) }
+    ensures all { IfOk result (λ events. events.items ≡ dedup eqb (map event_number list.now)) }
+    ensures ascend { Rises list.now →
+        IfOk result (λ events. IsStrictlySortedBy nat_cmp events.items) }
 {
     let mut events = numbers(alloc, list)?;
     events.dedup();

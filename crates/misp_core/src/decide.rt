@@ -1,14 +1,15 @@
 //! What a request comes to over the rows of its event.
 
-ghost use Rattle.std.specs.Prelude.{◌≡◌, List, IfOk};
+ghost use Rattle.std.specs.Prelude.{◌≡◌, List, IfOk, true};
 ghost use Rattle.misp_elem.specs.declared.row.RowFields.{RowFields};
 ghost use Rattle.misp_rules.specs.View.{IsTable};
-ghost use Rattle.misp_rules.specs.Machine.{seeing};
+ghost use Rattle.misp_rules.specs.Machine.{pulls, seeing};
 ghost use Rattle.misp_rules.specs.declared.ask.Ask.TheVariants.{View};
 ghost use Rattle.misp_rules.specs.declared.ask.Ask.TheVariants as asks;
 ghost use Rattle.misp_core.specs.Answers.{IsBuilt, named_event};
 ghost use Rattle.misp_core.specs.Handing.{scene_in, scene_for, knowing};
 ghost use Rattle.misp_core.specs.Effects.{asked, by_keeper};
+ghost use Rattle.misp_core.specs.Sound.{IsSoundAnswer};
 ghost use Rattle.misp_core.specs.Planning.{Plans, stop_planned};
 
 use crate::changing::plan_change;
@@ -112,6 +113,7 @@ pub(crate) fn plan_request(
     requires { IsBuilt ask }
     ensures plan { IsTable rows.items → Plans result (asked site.now.admin.now
         (seeing (scene_for site.now ask) rows.items) ask) }
+    ensures sound { pulls ask ≡ true → IfOk result (λ plan. IsSoundAnswer plan.answer) }
     ensures no_fault { stop_planned result ≡ by_keeper → ⊥ }
 {
     match ask {

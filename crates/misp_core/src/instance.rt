@@ -1,6 +1,7 @@
 //! An instance over a keeper.
 
-ghost use Rattle.std.specs.Prelude.{◌≡◌, ◌≤◌, false, Err, length, List, IfOk, IfErr, IfSome, OnOk, OnErr, IsOk, option_map};
+ghost use Rattle.std.specs.Prelude.{◌≡◌, ◌≤◌, false, true, Err, length, List, IfOk, IfErr, IfSome, OnOk, OnErr, IsOk, Ok, option_map};
+ghost use Rattle.std.specs.List.{AllByRecursion};
 ghost use Rattle.misp_outside.specs.Causes.{HasCause};
 ghost use Rattle.misp_outside.specs.Held.{with_batch};
 ghost use Rattle.misp_store.specs.Sharing.{groups_in, groups_of, AreStorable};
@@ -9,13 +10,17 @@ ghost use Rattle.misp_store.specs.Seen.{seen_in};
 ghost use Rattle.misp_core.specs.Answers.{IsBuilt};
 ghost use Rattle.misp_core.specs.Standing.{standing, host_of};
 ghost use Rattle.misp_store.specs.Loading.{NamesFault};
+ghost use Rattle.misp_rules.specs.Machine.{pulls};
 ghost use Rattle.misp_rules.specs.Permission.{is_permitted, forbidden};
 ghost use Rattle.misp_core.specs.Effects.{requested, by_keeper};
 ghost use Rattle.misp_core.specs.Planning.{Plans, IsPlanned, batch_of, stop_planned, IsBarred};
 ghost use Rattle.misp_core.specs.Administering.{administered};
-ghost use Rattle.misp_core.specs.Taking.{IsLandingAt, handed_rows, package_taken, with_package};
+ghost use Rattle.misp_core.specs.Sound.{IsSoundAnswer};
+ghost use Rattle.misp_core.specs.Taking.{IsLandingAt, IsLandingOf, groups_taken, handed_rows, package_taken, with_groups_taken, with_package};
 ghost use Rattle.misp_ids.specs.declared.uid.OrgId.{OrgId as Owner};
 ghost use Rattle.misp_elem.specs.declared.row.RowFields.{RowFields};
+ghost use Rattle.misp_groups.specs.Changes.{take_groups};
+ghost use Rattle.misp_groups.specs.Group.{IsGroup};
 ghost use Rattle.misp_history.specs.Merging.{merged};
 ghost use Rattle.misp_package.specs.Landing.{IsLanding};
 ghost use Rattle.misp_store.specs.declared.reach.Reach.TheVariants as reach;
@@ -29,6 +34,7 @@ use crate::planning::{Batch, NoPlan, Plan};
 use crate::settling::settle;
 use crate::site::Site;
 use crate::taking::{Landed, load_landing, take_package};
+use crate::taking_groups::take_groups;
 use misp_groups::{Group, Groups};
 use misp_ids::{ApiKey, EventId, InstId, OrgId, Stamp};
 use misp_orgs::{Admin, Caller, Link, may};
@@ -138,6 +144,9 @@ impl<K: Keeper> Instance<K> {
         ensures forbidden { is_permitted caller.now ask ≡ false →
             IsBarred (forbidden ask) self.old self.new result }
 
+        // What a pull is answered can be read back from its text.
+        ensures sound { pulls ask ≡ true → IfOk result (λ plan. IsSoundAnswer plan.answer) }
+
         // What is held stays.
         ensures held { self.new.held ≡ self.old.held }
         ensures cause { HasCause self.old.faults self.new.faults
@@ -207,6 +216,10 @@ impl<K: Keeper> Instance<K> {
         ensures landing { IfOk result (λ landing. IfSome self.old.held
             (IsLandingAt landing self.old.name owner.now event.now)) }
 
+        // All rows that are read decode, and it is the landing of these.
+        ensures own { IfOk result (λ landing. IfSome self.old.held
+            (IsLandingOf landing self.old.name owner.now event.now)) }
+
         // Of the rows that are read, it names the first that does not decode.
         ensures bad { IfErr result (λ fault. IfSome self.old.held (λ held.
             NamesFault ((seen_in held).rows (reach.Own owner.now event.now)) fault)) }
@@ -253,5 +266,29 @@ impl<K: Keeper> Instance<K> {
         ensures admin { self.new.admin ≡ self.old.admin }
     {
         take_package(&mut self.keeper, &mut self.groups, alloc, landing, coming)
+    }
+    /// Takes what is new of groups that come by a synchronisation, in one batch, or in none where
+    /// nothing is. All memory is taken before it is put.
+    pub fn take_groups(&mut self, alloc: Global, coming: Vec<Group>) -> Result<u64, KeeperFault>
+        ensures count { IfOk result (λ n. IfSome self.old.held (λ held.
+            n ≡ length (groups_taken (groups_of held) coming.items))) }
+        ensures put { OnOk result
+            (self.new.held ≡ option_map (with_groups_taken coming.items) self.old.held) }
+
+        // The groups that are held then are those of before with these.
+        ensures groups { OnOk result (IfSome self.old.held (λ held. IfSome self.new.held (λ new.
+            groups_of new ≡ take_groups (groups_of held) coming.items))) }
+        ensures fits { OnOk result (IfSome self.old.held (λ held.
+            AllByRecursion IsGroup (groups_taken (groups_of held) coming.items))) }
+
+        // Where nothing is taken no keeper is asked.
+        ensures none { result ≡ Ok 0 → self.new ≡ self.old }
+        ensures err { OnErr result (self.new.held ≡ self.old.held) }
+        ensures cause { HasCause self.old.faults self.new.faults
+            (result ≡ Err KeeperFault.Failed) }
+        ensures name { self.new.name ≡ self.old.name }
+        ensures admin { self.new.admin ≡ self.old.admin }
+    {
+        take_groups(&mut self.keeper, &mut self.groups, alloc, coming)
     }
 }

@@ -18,6 +18,7 @@ mod settling;
 mod site;
 mod stating;
 mod taking;
+mod taking_groups;
 
 pub use instance::Instance;
 pub use laws::{

@@ -1,12 +1,15 @@
 //! What a pull by the partner of the caller's key brings.
 
-ghost use Rattle.std.specs.Prelude.{◌≡◌, ◌++◌, List, true, filter, length, map, option_to_list, IfOk, OnOk};
-ghost use Rattle.std.specs.List.{list_all, slice_get};
+ghost use Rattle.std.specs.Prelude.{◌≡◌, ◌++◌, List, None, true, filter, length, map, option_to_list, IfOk, IfSome, OnOk};
+ghost use Rattle.std.specs.List.{AllByRecursion, list_all, slice_get};
 ghost use Rattle.misp_elem.specs.declared.row.RowFields.{RowFields};
 ghost use Rattle.misp_elem.specs.Parents.{event_of};
 ghost use Rattle.misp_ids.specs.Same.{same_event};
+ghost use Rattle.misp_ids.specs.Uid.{IsUid};
+ghost use Rattle.misp_groups.specs.Group.{IsGroup};
 ghost use Rattle.misp_rules.specs.declared.ask.Ask.TheVariants as asks;
 ghost use Rattle.misp_rules.specs.Machine.{seeing};
+ghost use Rattle.misp_rules.specs.Package.{IsPackage};
 ghost use Rattle.misp_rules.specs.Packing.{packages};
 ghost use Rattle.misp_rules.specs.Pulling.{pull_route, pulled_events, pulled_groups, pulled_rows};
 ghost use Rattle.misp_rules.specs.View.{IsTable};
@@ -16,7 +19,9 @@ ghost use Rattle.misp_core.specs.Answers.{event_parts};
 ghost use Rattle.misp_core.specs.Effects.{asked, by_keeper};
 ghost use Rattle.misp_core.specs.Handing.{knowing, pull_scene};
 ghost use Rattle.misp_core.specs.Planning.{Plans, stop_planned};
-ghost use Rattle.misp_core.specs.Pulling.{IsByEvent, carries_to, parts_where};
+ghost use Rattle.misp_core.specs.Pulling.{IsByEvent, IsCountOf, Rises, carries_to, event_at, parts_where};
+ghost use Rattle.misp_core.specs.Sound.{AreListed, IsSoundAnswer};
+ghost use Rattle.misp_core.specs.declared.reply.Answer.{Answer as Answered};
 
 use crate::by_event::{by_event, events_of, of_event, part};
 use crate::planning::{NoPlan, Plan, told};
@@ -29,6 +34,15 @@ use misp_package::{Via, outgoing};
 use misp_rules::Package;
 use std::alloc::Global;
 
+// The same group once more.
+fn copy_of(group: &Group) -> Result<Group, NoMemory>
+    ensures copy { IfOk result (λ copy. copy ≡ group.now) }
+    ensures fits { IfOk result IsGroup }
+{
+    let _id = group.id;
+    group.copied()
+}
+
 // Those of the groups that carry what the organisation takes to the instance, in their order.
 fn carrying(
     alloc: Global,
@@ -36,13 +50,14 @@ fn carrying(
     org: &OrgId,
     dest: &InstId,
 ) -> Result<Vec<Group>, NoMemory>
-    ensures { IfOk result (λ some. some.items
+    ensures all { IfOk result (λ some. some.items
         ≡ filter (carries_to org.now dest.now) groups.now) }
+    ensures fits { IfOk result (λ some. AllByRecursion IsGroup some.items) }
 {
     let mut some = Vec::new(alloc);
     for group in groups.as_slice() {
         if carries(group, org, dest) {
-            some.push(group.copied()?)?;
+            some.push(copy_of(group)?)?;
         }
     }
     Ok(some)
@@ -51,7 +66,8 @@ fn carrying(
 // The groups that a pull brings.
 #[tactic(auto, unfolding(misp_rules::specs::Pulling::pulled_groups))]
 fn pulled_groups(alloc: Global, site: &Site<'_>) -> Result<Vec<Group>, NoMemory>
-    ensures { IfOk result (λ groups. groups.items ≡ pulled_groups (pull_scene site.now)) }
+    ensures all { IfOk result (λ groups. groups.items ≡ pulled_groups (pull_scene site.now)) }
+    ensures fits { IfOk result (λ groups. AllByRecursion IsGroup groups.items) }
 {
     match partner(site.caller) {
         Some(dest) => carrying(alloc, site.groups, &asker(site.caller), &dest),
@@ -61,8 +77,9 @@ fn pulled_groups(alloc: Global, site: &Site<'_>) -> Result<Vec<Group>, NoMemory>
 
 /// Tells the groups that a pull brings.
 pub(crate) fn plan_pulled_groups(alloc: Global, site: &Site<'_>) -> Result<Plan, NoPlan>
-    ensures { (rows : List RowFields) → Plans result (asked site.now.admin.now
+    ensures plan { (rows : List RowFields) → Plans result (asked site.now.admin.now
         (knowing (pull_scene site.now) rows) asks.SyncGroups) }
+    ensures sound { IfOk result (λ plan. IsSoundAnswer plan.answer) }
 {
     let groups = pulled_groups(alloc, site)?;
     Ok(told(Answer::Groups(Items::of(groups))))
@@ -108,6 +125,15 @@ fn part_at(packages: Vec<Package>, number: u32) -> Option<Package>
     packages.into_iter().nth(number as usize)
 }
 
+// Shows a package.
+fn shown(part: Package) -> Plan
+    ensures plan { result ≡ record { answer = Answered.Part part; batch = None } }
+    ensures sound { IsPackage part }
+{
+    let _number = part.get().part;
+    told(Answer::Part(part))
+}
+
 /// Shows one package of an event, as a pull brings it, over all rows that are read.
 pub(crate) fn plan_part(
     alloc: Global,
@@ -118,12 +144,13 @@ pub(crate) fn plan_part(
 ) -> Result<Plan, NoPlan>
     ensures plan { IsTable rows.items → Plans result (asked site.now.admin.now
         (seeing (pull_scene site.now) rows.items) (asks.SyncPart event.now number)) }
+    ensures sound { IfOk result (λ plan. IsSoundAnswer plan.answer) }
     ensures no_fault { stop_planned result ≡ by_keeper → ⊥ }
 {
     let rows = of_event(rows, event);
     let packages = pulled_packages(alloc, site, event, &rows)?;
     match part_at(packages, number) {
-        Some(package) => Ok(told(Answer::Part(package))),
+        Some(package) => Ok(shown(package)),
         None => {
             let refusal = Refusal::bare(alloc, RuleName::NotGranted);
             Err(NoPlan::Refused(refusal))
@@ -138,10 +165,11 @@ fn event_parts(
     event: EventId,
     rows: &[Row],
 ) -> Result<Option<EventParts>, NoMemory>
-    ensures { IsTable rows.now →
+    ensures parts { IsTable rows.now →
         list_all (λ row. same_event (event_of row.key) event) rows.now ≡ true →
         IfOk result (λ parts. parts ≡ parts_where event
         (length (packages (pulled_rows (seeing (pull_scene site.now) rows.now))))) }
+    ensures counted { IfOk result (λ parts. IfSome parts (IsCountOf event)) }
 {
     let packages = pulled_packages(alloc, site, &event, rows)?;
     match packages.as_slice() {
@@ -163,16 +191,25 @@ fn put(events: &mut Vec<EventParts>, more: Option<EventParts>) -> Result<(), NoM
     Ok(())
 }
 
+// The event of a number.
+fn event_at(number: u128) -> EventId
+    ensures event { result ≡ event_at number }
+    ensures fits { IsUid result.0 }
+{
+    EventId(Uid(number))
+}
+
 // The events of which a pull brings something, over a list of rows by events.
 fn pulled_events(alloc: Global, site: &Site<'_>, list: &[Row]) -> Result<Vec<EventParts>, NoMemory>
-    ensures { (rows : List RowFields) → IsTable rows → IsByEvent list.now rows →
+    ensures events { (rows : List RowFields) → IsTable rows → IsByEvent list.now rows →
         IfOk result (λ events. events.items
         ≡ map event_parts (pulled_events (seeing (pull_scene site.now) rows))) }
+    ensures listed { Rises list.now → IfOk result (λ events. AreListed events.items) }
 {
     let numbers = events_of(alloc, list)?;
     let mut events = Vec::new(alloc);
     for number in numbers.as_slice() {
-        let event = EventId(Uid(*number));
+        let event = event_at(*number);
         put(
             &mut events,
             event_parts(alloc, site, event, part(list, &event))?,
@@ -190,6 +227,7 @@ pub(crate) fn plan_event_list(
 ) -> Result<Plan, NoPlan>
     ensures plan { IsTable rows.items → Plans result (asked site.now.admin.now
         (seeing (pull_scene site.now) rows.items) asks.SyncEvents) }
+    ensures sound { IfOk result (λ plan. IsSoundAnswer plan.answer) }
     ensures no_fault { stop_planned result ≡ by_keeper → ⊥ }
 {
     let list = by_event(rows)?;

@@ -17,7 +17,7 @@ ghost use Rattle.misp_store.specs.Sharing.{HoldsGroups};
 ghost use Rattle.misp_store.specs.declared.fault.LoadFault.TheVariants as faults;
 ghost use Rattle.misp_store.specs.declared.reach.Reach.TheVariants as reach;
 ghost use Rattle.misp_core.specs.Planning.{batch_of};
-ghost use Rattle.misp_core.specs.Taking.{IsLandingAt, handed_rows, package_taken, with_rows};
+ghost use Rattle.misp_core.specs.Taking.{IsLandingAt, IsLandingOf, handed_rows, package_taken, with_rows};
 
 use crate::planning::Batch;
 use crate::settling::settle;
@@ -64,6 +64,8 @@ pub(crate) fn load_landing<K: Keeper>(
 ) -> Result<Landing, LoadFault>
     ensures landing { IfOk result (λ landing. IfSome (K.state keeper.old).held
         (IsLandingAt landing here.now owner.now event.now)) }
+    ensures own { IfOk result (λ landing. IfSome (K.state keeper.old).held
+        (IsLandingOf landing here.now owner.now event.now)) }
     ensures bad { IfErr result (λ fault. IfSome (K.state keeper.old).held
         (λ held. NamesFault ((seen_in held).rows (reach.Own owner.now event.now)) fault)) }
     ensures held { (K.state keeper.new).held ≡ (K.state keeper.old).held }

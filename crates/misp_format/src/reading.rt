@@ -25,6 +25,7 @@ mod tag;
 pub use attribute_edit::read_attribute_edit;
 pub use event::read_event;
 pub use event_edit::read_event_edit;
+pub use group::read_group;
 pub use group_text::{a_group_is_read_from_its_text, read_group_text};
 pub use json_text::read_json;
 pub use judgement::read_judgement;

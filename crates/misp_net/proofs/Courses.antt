@@ -1,12 +1,16 @@
 -- A course goes on by one line.
-use Rattle.std.proofs.Common.{◌≡◌, ℕ, suc, ◌+◌, take, List, [], ◌∷◌, ◌++◌, length, refl, sym, ◌∙◌, ap, subst, inl, inr, arith, append_assoc, append-nil, decimal, length-append, take_at}
+use Rattle.std.proofs.Common.{◌≡◌, ℕ, suc, ◌+◌, true, false, eqb, take, List, [], ◌∷◌, ◌++◌, length, refl, sym, ◌∙◌, ap, subst, inl, inr, arith, append_assoc, append-nil, decimal, length-append, take_at}
+use Rattle.std.proofs.lemmas.Bool.Decides.{eqb_tells}
 use Rattle.std.proofs.lemmas.List.{length-map, map-append}
+use Rattle.misp_outside.specs.Causes.{RoseBy}
 use Rattle.misp_effects.specs.Meanings.{Meaning}
 use Rattle.misp_effects.proofs.Courses.{no_lines, run_kept}
 use Rattle.misp_net.proofs.Appending.{more_ran}
+use Rattle.misp_net.proofs.Carrying.{faults_append, rose_more, rose_none}
 use Rattle.misp_effects.proofs.KeeperStates.{all_kept}
 use Rattle.misp_net.specs.Prelude.{Act, AreAmong, AreDone, AreKept, Done, HasRun, Host, IsCut, IsDone, KeeperState, Line, Output, Ran, Seen, acts_of, meaning, outputs_of, seen_in, spelled, stop_in}
 use Rattle.misp_net.specs.Acts.{Does, acts_done, outputs_done}
+use Rattle.misp_net.specs.Carrying.{HasCarried, carry_faults}
 use Rattle.misp_net.specs.Meaning.{meanings_of, AreAsFormed}
 use Rattle.misp_net.specs.Running.{CutLine}
 use Rattle.misp_net.specs.Text.{done_text, line_of, text_from}
@@ -97,6 +101,32 @@ one_more hosts lines line old mid new before after d run does is text_is =
           (formed_append hosts (acts_of run.dones) (acts_done d) (outputs_of run.dones) (outputs_done d) long run.formed is.formed));
       among = subst (AreAmong (length hosts)) (sym (acts_push run.dones d)) (among_append (length hosts) (acts_of run.dones) (acts_done d) run.among is.among);
     }
+
+-- a script that is empty
+pub none_left : (script : List ℕ) → true ≡ eqb (length script) 0 → script ≡ []
+none_left [] is = refl
+none_left (byte ∷ script) is = elim (eqb_tells (length (byte ∷ script)) 0) [
+  | inl same ↦ absurd (omega (arith, same.1))
+  | inr more ↦ absurd (let no_ : true ≡ false = is ∙ more.0 in cc)
+]
+
+-- ---- the same, with what carries
+
+pub none_carried : (hosts : List Host) (old : List KeeperState) (count : ℕ) → HasCarried count count hosts [] old old []
+unfolding none_run
+none_carried hosts old count = record { run = none_run hosts old; rose = rose_none 0 count count refl (omega arith) }
+
+pub carried_more : (hosts : List Host) (lines : List Line) (line : Line) (old mid new : List KeeperState) (before after : List ℕ) (d : Done) (first next last : ℕ)
+    → HasCarried first next hosts lines old mid before → Does line d → IsDone hosts d mid new → after ≡ before ++ line_of (1 + length lines) d
+    → RoseBy (carry_faults (outputs_done d)) next last → HasCarried first last hosts (lines ++ line ∷ []) old new after
+unfolding one_more
+carried_more hosts lines line old mid new before after d first next last so_far does is text rose = record {
+  run = one_more hosts lines line old mid new before after d so_far.run does is text;
+  rose =
+      subst (λ outputs. RoseBy (carry_faults outputs) first last) (sym (outputs_push so_far.run.dones d))
+      (subst (λ n. RoseBy n first last) (sym (faults_append (outputs_of so_far.run.dones) (outputs_done d)))
+      (rose_more _ _ _ _ _ so_far.rose rose));
+}
 
 -- ---- cut short
 

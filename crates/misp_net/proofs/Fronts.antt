@@ -5,6 +5,7 @@ use Rattle.misp_script.specs.declared.description.Entry.{Entry}
 use Rattle.misp_effects.proofs.KeeperStates.{all_kept}
 use Rattle.misp_effects.proofs.Courses.{run_kept}
 use Rattle.misp_net.specs.Prelude.{Act, AreAmong, AreKept, HasRun, Host, IsCut, KeeperState, Line, Output, Ran, Standing, acts_of, described_host, host_of, hosts_of, outputs_of, state_of, states_of}
+use Rattle.misp_net.specs.Carrying.{HasCarried}
 use Rattle.misp_net.specs.Meaning.{AreAsFormed}
 
 -- there are as many as are described
@@ -41,6 +42,11 @@ module _ {hosts described : List Host} {front after rest olds news : List Keeper
     formed = subst (λ there. AreAsFormed there (acts_of run.dones) (outputs_of run.dones)) over.same run.formed;
     among = subst (λ there. AreAmong (length there) (acts_of run.dones)) over.same run.among;
   }
+
+  -- with what carries
+  pub carried_in_front : {first last : ℕ} {lines : List Line} {text : List ℕ} → HasCarried first last hosts lines front after text → HasCarried first last described lines (take count olds) (take count news) text
+  unfolding run_in_front
+  carried_in_front carried = record { run = run_in_front carried.run; rose = carried.rose }
 
   -- and so is one that was cut short
   pub cut_in_front : {lines : List Line} → IsCut hosts lines front after → IsCut described lines (take count olds) (take count news)

@@ -12,6 +12,7 @@ use Rattle.misp_net.specs.Meaning.{meanings_of}
 use Rattle.misp_net.specs.Run.{tables_after}
 use Rattle.misp_net.specs.History.{world_after, world_left, told_outputs, empty_tables, IsHistory, AreTold, AreHeld}
 use Rattle.misp_net.proofs.Commands.{output_told, act_left}
+use Rattle.misp_net.proofs.PullLaw.{IsPullLaw}
 
 empty_at : (place : ℕ) (hosts : List Host) → held_at place (empty_tables hosts) ≡ nothing_held
 empty_at zero [] = refl
@@ -28,7 +29,7 @@ at_start hosts = record {
   earlier = refl;
 }
 
-module _ (back : AreReadBack) (hosts : List Host) (distinct : AreDistinct hosts) where
+module _ (back : AreReadBack) (law : IsPullLaw) (hosts : List Host) (distinct : AreDistinct hosts) where
   -- what the lines put out and leave, the first being the n-th
   all_told : (n : ℕ) (w : World) (acts : List Act) (outcomes : List Outcome) (old : Tables) → length outcomes ≡ length acts
       → AreAmong (length hosts) acts → IsHistory hosts n w old → AreFit seen_in spelled (meanings_of hosts acts) outcomes old
@@ -41,9 +42,9 @@ module _ (back : AreReadBack) (hosts : List Host) (distinct : AreDistinct hosts)
       let after : Tables = tables_after outcome hosts act old in
       let next : World = world_after outcome n hosts w act in
       let rest = all_told (suc n) next acts outcomes after (omega (arith, each)) among.1
-      (act_left hosts distinct n w old history back outcome act among.0 fits.0) fits.1 in
+      (act_left law hosts distinct n w old history back outcome act among.0 fits.0) fits.1 in
       let later : suc n + length acts ≡ n + suc (length acts) = omega arith in (
-        ap (λ output. output ∷ outputs_of seen_in spelled (meanings_of hosts acts) outcomes after) (output_told hosts distinct n w old history outcome act among.0)
+        ap (λ output. output ∷ outputs_of seen_in spelled (meanings_of hosts acts) outcomes after) (output_told law hosts distinct n w old history outcome act among.0)
             ∙ ap (λ outputs. told_output outcome hosts w act ∷ outputs) rest.0,
         subst (λ k. IsHistory hosts k (world_left (suc n) hosts next acts outcomes) (tables_left seen_in spelled (meanings_of hosts acts) outcomes after)) later rest.1,
       )

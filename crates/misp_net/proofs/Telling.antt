@@ -2,6 +2,7 @@
 use Rattle.std.proofs.Common.{◌≡◌, ◌≢◌, ℕ, zero, suc, ◌<◌, Bool, true, false, List, [], map, length, Option, Some, None, Ok, Err, refl, sym, ◌∙◌, ap, subst, inl, inr, length-set, get_or-set_same, get_or-set_other, ltb, slice_set}
 use Rattle.std.proofs.lemmas.Bool.{cases_eq, cases_Bool}
 use Rattle.std.proofs.lemmas.List.{set-get_or}
+use Rattle.misp_history.specs.Acts.{Net}
 use Rattle.misp_history.specs.Outcomes.{Whole, step_partly}
 use Rattle.misp_history.proofs.Steps.{step_nothing, step_misfit}
 use Rattle.misp_history.proofs.Numbered.{step_below}
@@ -13,32 +14,38 @@ use Rattle.misp_core.proofs.Keeping.{keeps_by, over_all, same_elsewhere, same_gr
 use Rattle.misp_core.proofs.KeepingGroups.{administered_left, same_log, groups_elsewhere}
 use Rattle.misp_api.specs.Prelude.{Reading, replied}
 use Rattle.misp_api.proofs.Forms.{BuiltForm}
-use Rattle.misp_net.specs.Prelude.{AreDistinct, GroupData, Reply, Stop, Stopped, Tables, grouped, held_at, host_at, no_links, nothing_held}
+use Rattle.misp_net.specs.Prelude.{AreDistinct, GroupData, Reply, Stop, Stopped, Tables, grouped, held_at, host_at, links_of, nothing_held}
 use Rattle.misp_net.specs.Meaning.{asking, administering}
-use Rattle.misp_net.specs.History.{applied, seen_by, IsHistory}
+use Rattle.misp_sync.specs.History.{applied}
+use Rattle.misp_net.specs.History.{seen_by, IsHistory}
 use Rattle.misp_history.specs.Acts as model
 use Rattle.misp_history.specs.Outcomes as parts
 
 -- ---- the model's step
 
-pub world_whole : (n : ℕ) (w : World) (act : model.Act) → step_partly no_links n w act Whole ≡ step no_links n w act
+pub world_whole : (net : Net) (n : ℕ) (w : World) (act : model.Act) → step_partly net n w act Whole ≡ step net n w act
 unfolding step_partly
-world_whole n w act = refl
+world_whole net n w act = refl
 
-command_still : (n : ℕ) (w : World) (at : Inst) (now : Stamp) (command : model.Command) (groups : Bool) (packages : ℕ)
-    → step_partly no_links n w (record { at = at; now = now; command = command }) (parts.Stopped groups packages) ≡ w
+-- it is no synchronisation
+abbrev pub IsLocal : model.Command → Type 0
+IsLocal (model.Syncs way link) = ⊥
+IsLocal command = Unit {0}
+
+command_still : (net : Net) (n : ℕ) (w : World) (at : Inst) (now : Stamp) (command : model.Command) (groups : Bool) (packages : ℕ) → IsLocal command
+    → step_partly net n w (record { at = at; now = now; command = command }) (parts.Stopped groups packages) ≡ w
 unfolding step_partly
-command_still n w at now (model.Asks c a) groups packages = refl
-command_still n w at now (model.Misfits c) groups packages = refl
-command_still n w at now (model.Syncs way link) groups packages = refl
-command_still n w at now (model.Takes_groups c gs) groups packages = refl
-command_still n w at now (model.Administers o add g) groups packages = refl
-command_still n w at now model.Nothing groups packages = refl
+command_still net n w at now (model.Asks c a) groups packages local = refl
+command_still net n w at now (model.Misfits c) groups packages local = refl
+command_still net n w at now (model.Syncs way link) groups packages local = absurd local
+command_still net n w at now (model.Takes_groups c gs) groups packages local = refl
+command_still net n w at now (model.Administers o add g) groups packages local = refl
+command_still net n w at now model.Nothing groups packages local = refl
 
--- where no instance pulls from another, of an act that was stopped nothing is applied
-pub world_still : (n : ℕ) (w : World) (act : model.Act) (stop : Stop) (k : ℕ) (lost : Bool) → step_partly no_links n w act (applied (Stopped stop k lost)) ≡ w
-world_still n w act stop zero lost = command_still n w act.at act.now act.command false 0
-world_still n w act stop (suc k) lost = command_still n w act.at act.now act.command true k
+-- of an act that is no synchronisation, and was stopped, nothing is applied
+pub world_still : (net : Net) (n : ℕ) (w : World) (act : model.Act) → IsLocal act.command → (stop : Stop) (k : ℕ) (lost : Bool) → step_partly net n w act (applied (Stopped stop k lost)) ≡ w
+world_still net n w act local stop zero lost = command_still net n w act.at act.now act.command false 0 local
+world_still net n w act local stop (suc k) lost = command_still net n w act.at act.now act.command true k local
 
 module _ (hosts : List Host) (distinct : AreDistinct hosts) (n : ℕ) (w : World) (old : Tables) (told : IsHistory hosts n w old) where
   -- the groups that are held there are those of the history
@@ -63,8 +70,8 @@ module _ (hosts : List Host) (distinct : AreDistinct hosts) (n : ℕ) (w : World
     long = told.long;
     each = told.each;
     earlier =
-        subst (λ (v : World). list_all (λ u. ltb u.act (suc n)) v.log ≡ true) (step_nothing no_links n w no_command refl)
-        (step_below no_links n w no_command told.earlier);
+        subst (λ (v : World). list_all (λ u. ltb u.act (suc n)) v.log ≡ true) (step_nothing (links_of hosts) n w no_command refl)
+        (step_below (links_of hosts) n w no_command told.earlier);
   }
 
   pub as_before : (v : World) (new : Tables) → v ≡ w → new ≡ old → IsHistory hosts (suc n) v new
@@ -95,7 +102,7 @@ module _ (hosts : List Host) (distinct : AreDistinct hosts) (n : ℕ) (w : World
           (keeps_by (host_at place hosts).name next (held_at place old) _ _ same.0 same.1 was.rows was.are_rows was.groups was.are_groups was.ascend)
     ]
 
-    one_left : IsHistory hosts (suc n) next (slice_set old at left)
+    pub one_left : IsHistory hosts (suc n) next (slice_set old at left)
     one_left = record {
       long = length-set old at left ∙ told.long;
       each = each_left;
@@ -105,32 +112,32 @@ module _ (hosts : List Host) (distinct : AreDistinct hosts) (n : ℕ) (w : World
   -- a request
   pub request_left : (at now : ℕ) (form : Reading Asked) (caller : Option Caller) → BuiltForm form → at < length hosts
       → AreReadable (replied (host_at at hosts) now form (seen_in (held_at at old))).batches
-      → IsHistory hosts (suc n) (step no_links n w (record { at = (host_at at hosts).name; now = now; command = asking form (host_at at hosts) caller }))
+      → IsHistory hosts (suc n) (step (links_of hosts) n w (record { at = (host_at at hosts).name; now = now; command = asking form (host_at at hosts) caller }))
       (slice_set old at (put_batches (map spelled (replied (host_at at hosts) now form (seen_in (held_at at old))).batches) (held_at at old)))
   request_left at now (Ok asked) caller built lt fits =
       let host : Host = host_at at hosts in
-      one_left at lt (step no_links n w (act_at host now asked)) _
-      (left_there no_links n w host now asked (held_at at old) built told.earlier (told.each at lt) fits)
-      (λ j other. (same_elsewhere no_links n w host now asked j other, ap (λ groups. groups j) (same_groups no_links n w host now asked)))
-      (step_below no_links n w (act_at host now asked) told.earlier)
-  request_left at now (Err refusal) None built lt fits = as_before _ _ (step_nothing no_links n w _ refl) (still at)
-  request_left at now (Err refusal) (Some caller) built lt fits = as_before _ _ (step_misfit no_links n w _ _ refl) (still at)
+      one_left at lt (step (links_of hosts) n w (act_at host now asked)) _
+      (left_there (links_of hosts) n w host now asked (held_at at old) built told.earlier (told.each at lt) fits)
+      (λ j other. (same_elsewhere (links_of hosts) n w host now asked j other, ap (λ groups. groups j) (same_groups (links_of hosts) n w host now asked)))
+      (step_below (links_of hosts) n w (act_at host now asked) told.earlier)
+  request_left at now (Err refusal) None built lt fits = as_before _ _ (step_nothing (links_of hosts) n w _ refl) (still at)
+  request_left at now (Err refusal) (Some caller) built lt fits = as_before _ _ (step_misfit (links_of hosts) n w _ _ refl) (still at)
 
   -- where a group that is kept is read again
   module _ (back : AreReadBack) where
     -- a line of a group
     pub group_left : (now : ℕ) (line : GroupData) (form : Reading Group) → line.at < length hosts
         → AreReadable (grouped now line.org line.add form (groups_of (held_at line.at old))).batches
-        → IsHistory hosts (suc n) (step no_links n w (record { at = (host_at line.at hosts).name; now = now; command = administering form line }))
+        → IsHistory hosts (suc n) (step (links_of hosts) n w (record { at = (host_at line.at hosts).name; now = now; command = administering form line }))
         (slice_set old line.at (put_batches (map spelled (grouped now line.org line.add form (groups_of (held_at line.at old))).batches) (held_at line.at old)))
     group_left now line (Ok g) lt fits =
         let here : Inst = (host_at line.at hosts).name in
         let held : Held = held_at line.at old in
-        one_left line.at lt (step no_links n w (act_of here now line.org line.add g)) _
-        (administered_left no_links n here w now line.org line.add g back held (told.each line.at lt) fits)
+        one_left line.at lt (step (links_of hosts) n w (act_of here now line.org line.add g)) _
+        (administered_left (links_of hosts) n here w now line.org line.add g back held (told.each line.at lt) fits)
         (λ j other. (
-          ap (λ log. tables log j) (same_log no_links n here w now line.org line.add g),
-          groups_elsewhere no_links n here w now line.org line.add g j other,
+          ap (λ log. tables log j) (same_log (links_of hosts) n here w now line.org line.add g),
+          groups_elsewhere (links_of hosts) n here w now line.org line.add g j other,
         ))
-        (step_below no_links n w (act_of here now line.org line.add g) told.earlier)
-    group_left now line (Err refusal) lt fits = as_before _ _ (step_nothing no_links n w _ refl) (still line.at)
+        (step_below (links_of hosts) n w (act_of here now line.org line.add g) told.earlier)
+    group_left now line (Err refusal) lt fits = as_before _ _ (step_nothing (links_of hosts) n w _ refl) (still line.at)

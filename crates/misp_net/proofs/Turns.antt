@@ -3,7 +3,8 @@ use Rattle.std.proofs.Common.{◌≡◌, ◌≢◌, ℕ, zero, suc, ◌+◌, ◌
 use Rattle.std.proofs.lemmas.List.{length-map, map-append, set-set}
 use Rattle.misp_http.specs.declared.request.Read.{Read}
 use Rattle.misp_http.specs.declared.request.ReadEnd.TheVariants as reading
-use Rattle.misp_api.specs.Sending.{IsAnswered, http_text}
+use Rattle.misp_api.specs.Sending.{IsAnswered}
+use Rattle.misp_core.specs.Text.{http_text}
 use Rattle.misp_api.specs.Session.{Runs, Session, end_after, is_last}
 use Rattle.misp_api.specs.Turn.{Answers, Goes, Point, Turned, closes, next_word}
 use Rattle.misp_api.specs.declared.TheConstants.{MAX_REQUESTS}

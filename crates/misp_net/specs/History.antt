@@ -1,20 +1,20 @@
 -- What a script does as the acts of a network's history, and what that history says of them.
-use Rattle.std.specs.Prelude.{◌≡◌, ℕ, zero, suc, ◌<◌, Bool, true, false, ltb, List, [], ◌∷◌, map, length, Option, Some, None, Ok}
+use Rattle.std.specs.Prelude.{◌≡◌, ℕ, suc, ◌<◌, Bool, true, false, ltb, List, [], ◌∷◌, map, length, Option, Some, None, Ok}
 use Rattle.misp_ids.specs.Same.{same_org}
 use Rattle.misp_outside.specs.Held.{nothing_held}
-use Rattle.misp_effects.specs.Effect.{Stopped, stop_of}
+use Rattle.misp_effects.specs.Effect.{stop_of}
 use Rattle.misp_effects.specs.KeeperStates.{Tables, held_at}
 use Rattle.misp_effects.specs.Run.{effect_of}
-use Rattle.misp_history.specs.Acts.{Net}
-use Rattle.misp_history.specs.Outcomes.{Whole, step_partly}
+use Rattle.misp_history.specs.Outcomes.{step_partly}
 use Rattle.misp_erasure.specs.Kept.{start}
-use Rattle.misp_core.specs.Prelude.{Host, KeeperState, Keeps, OrgId, Outcome, Seen, Tell, Went, World, list_all, same_inst, tables}
+use Rattle.misp_core.specs.Prelude.{Host, KeeperState, Keeps, OrgId, Outcome, Seen, Tell, World, list_all, same_inst, tables}
+use Rattle.misp_sync.specs.History.{applied}
 use Rattle.misp_net.specs.declared.line.Output.{Output}
 use Rattle.misp_net.specs.Hosts.{host_at}
 use Rattle.misp_net.specs.Acts.{Act}
+use Rattle.misp_net.specs.Links.{links_of}
 use Rattle.misp_net.specs.Meaning.{meaning, stop_in}
 use Rattle.misp_history.specs.Acts as model
-use Rattle.misp_history.specs.Outcomes as parts
 
 -- ---- acts of the history
 
@@ -24,20 +24,10 @@ act_in hosts act = (meaning hosts act).act
 abbrev pub acts_in : List Host → List Act → List model.Act
 acts_in hosts acts = map (act_in hosts) acts
 
--- no instance pulls from another
-abbrev pub no_links : Net
-no_links = λ way at link groups. None
-
--- what was applied of an act: the first batch of a synchronisation has its groups, and each
--- further one is a package
-abbrev pub applied : Outcome → parts.Outcome
-applied Went = Whole
-applied (Stopped stop zero lost) = parts.Stopped false 0
-applied (Stopped stop (suc n) lost) = parts.Stopped true n
-
 -- the state after the n-th act
 abbrev pub world_after : Outcome → ℕ → List Host → World → Act → World
-world_after outcome n hosts w act = step_partly no_links n w (act_in hosts act) (applied outcome)
+world_after outcome n hosts w act =
+    step_partly (links_of hosts) n w (act_in hosts act) (applied outcome)
 
 -- the state after these acts, the first being the n-th
 abbrev pub world_left : ℕ → List Host → World → List Act → List Outcome → World

@@ -1,11 +1,16 @@
 pub mod Acts
+pub mod Asking
+pub mod Carrying
 pub mod History
 pub mod Hosts
+pub mod Lending
 pub mod Lines
+pub mod Links
 pub mod Meaning
 pub mod Opening
 pub mod Prelude
 pub mod Promise
 pub mod Run
 pub mod Running
+pub mod SyncText
 pub mod Text

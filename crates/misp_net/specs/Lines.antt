@@ -1,9 +1,10 @@
 -- The lines of a script.
-use Rattle.std.specs.Prelude.{ℕ, List, map}
+use Rattle.std.specs.Prelude.{ℕ, List, Ok, map}
 use Rattle.misp_script.specs.Directory.{Roster}
 use Rattle.misp_script.specs.Fields.{Reading}
-use Rattle.misp_script.specs.Step.{StepData, step_of}
+use Rattle.misp_script.specs.Step.{PullData, StepData, step_of}
 use Rattle.misp_script.specs.Lines as script
+use Rattle.misp_script.specs.Step as commands
 
 -- a line of a script: a step, or the place of its first faulty field
 abbrev pub Line : Type 0
@@ -12,3 +13,8 @@ Line = Reading StepData
 -- the lines of a script, among these instances
 abbrev pub lines_of : List Roster → List ℕ → List Line
 lines_of rosters text = map (step_of rosters) (script.lines_of text)
+
+-- the line of a pull, at this time and with this word
+abbrev pub pull_line : ℕ → ℕ → PullData → Line
+pull_line time word pull =
+    Ok (record { time = time; word = word; command = commands.Pull pull })

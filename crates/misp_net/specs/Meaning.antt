@@ -1,9 +1,9 @@
 -- What each act means: THE definition by deed.
-use Rattle.std.specs.Prelude.{◌≡◌, ◌⊎◌, ℕ, List, [], ◌∷◌, map, Option, Some, None, option_map, Ok, Err}
-use Rattle.misp_script.specs.Step.{GroupData}
+use Rattle.std.specs.Prelude.{◌≡◌, ◌⊎◌, ℕ, List, [], ◌∷◌, map, take, Option, Some, None, option_map, Ok, Err}
+use Rattle.misp_script.specs.Step.{GroupData, PullData}
 use Rattle.misp_http.specs.declared.request.Read.{Read}
 use Rattle.misp_http.specs.declared.request.Read.TheVariants as reads
-use Rattle.misp_effects.specs.Effect.{effect, shown}
+use Rattle.misp_effects.specs.Effect.{Telling, effect, shown}
 use Rattle.misp_effects.specs.Meanings.{Meaning, alone}
 use Rattle.misp_store.specs.Seen.{Seen}
 use Rattle.misp_core.specs.Keeping.{caller_at}
@@ -12,12 +12,18 @@ use Rattle.misp_core.specs.declared.reply.Reply.TheVariants.{Refused}
 use Rattle.misp_api.specs.Prelude.{Admin, Asked, Caller, Effect, Group, Host, OrgId, Reading, Reply, RuleName, Stop, caller_in, grouped, refused_by, replied}
 use Rattle.misp_api.specs.Administering.{group_form}
 use Rattle.misp_net.specs.declared.line.Output.{Output}
-use Rattle.misp_net.specs.declared.line.Output.TheVariants.{Bad, Nothing, Replied, Unanswered}
+use Rattle.misp_net.specs.declared.line.Output.TheVariants.{Bad, Nothing, Replied, Synced, Unanswered}
 use Rattle.misp_api.specs.Sending.{read_form}
-use Rattle.misp_net.specs.Acts.{Act, Deed, Idle, Asks, Administers}
+use Rattle.misp_sync.specs.Counts.{count_of}
+use Rattle.misp_sync.specs.History.{pull_act}
+use Rattle.misp_sync.specs.Telling.{stop_refusal}
+use Rattle.misp_sync.specs.declared.reply.SyncReply.TheVariants as synced
+use Rattle.misp_net.specs.Acts.{Act, Deed, Idle, Asks, Administers, Pulls}
 use Rattle.misp_net.specs.Hosts.{host_at}
+use Rattle.misp_net.specs.Links.{place_of_peer, pulled_at}
 use Rattle.misp_history.specs.Acts as model
 use Rattle.misp_core.specs.Effects as replies
+use Rattle.misp_sync.specs.Pulled as pulls
 
 -- what an act is: what it comes to among the instances; what it puts out whatever is held, where
 -- its form says that; its act in the history; and the organisation that asks
@@ -33,6 +39,22 @@ pub record ActMeaning : Type 0 where
 abbrev pub asks : ℕ → (Seen → Effect Reply) → Meaning Seen Output
 asks at comes =
     alone (λ stop. Replied (refused_by (rule_told stop))) at (λ here. shown Replied (comes here))
+
+-- a stop of a pull leaves the batches that were put, and tells what they brought
+abbrev pub pull_telling : Telling Output
+pull_telling stop n lost e =
+    effect (Synced (synced.Stopped (count_of (take n e.batches)) (stop_refusal stop)))
+    (take n e.batches)
+
+-- an instance takes what passes at the peer of a link
+abbrev pub pulling : List Host → PullData → Meaning Seen Output
+pulling hosts line = record {
+  at = line.at;
+  peer = place_of_peer hosts line.at line.link;
+  into = line.at;
+  comes = λ own there. shown Synced (pulled_at hosts line.at line.link own there);
+  telling = pull_telling;
+}
 
 -- none is asked, and nothing stops it
 abbrev pub silent : Output → Meaning Seen Output
@@ -95,6 +117,12 @@ deed_meaning hosts time word (Administers line) =
       act = record { at = (host_at line.at hosts).name; now = time; command = administering form line };
       asker = None;
     }
+deed_meaning hosts time word (Pulls line) = record {
+  means = pulling hosts line;
+  formed = None;
+  act = pull_act (host_at line.at hosts).name time line.link;
+  asker = None;
+}
 
 abbrev pub meaning : List Host → Act → ActMeaning
 meaning hosts a = deed_meaning hosts a.time a.word a.deed
@@ -109,6 +137,7 @@ IsAsFormed None output = Unit {0}
 IsAsFormed (Some (Bad place)) output = output ≡ Bad place
 IsAsFormed (Some Nothing) output = output ≡ Nothing
 IsAsFormed (Some (Unanswered end)) output = output ≡ Unanswered end
+IsAsFormed (Some (Synced reply)) output = output ≡ Synced reply
 IsAsFormed (Some (Replied reply)) output =
     (output ≡ Replied reply) ⊎ (output ≡ Replied (refused_by RuleName.NoMemory))
 
@@ -127,3 +156,4 @@ stop_in (Bad place) = None
 stop_in Nothing = None
 stop_in (Unanswered end) = None
 stop_in (Replied reply) = replies.stop_in reply
+stop_in (Synced reply) = pulls.stop_in reply

@@ -3,13 +3,16 @@ use Rattle.std.specs.Prelude.{◌≡◌, ℕ, suc, List, [], ◌∷◌, map, tak
 use Rattle.misp_effects.specs.KeeperStates.{Tables}
 use Rattle.misp_erasure.specs.Kept.{start, erased}
 use Rattle.misp_core.specs.Prelude.{AllByRecursion, Host, IsRefused, KeeperState, OrgId, Outcome, Tell, Went, World, step}
+use Rattle.misp_ids.specs.declared.refusal.RuleName.{RuleName}
+use Rattle.misp_sync.specs.declared.reply.SyncReply.{SyncReply}
 use Rattle.misp_net.specs.declared.line.Output.{Output}
-use Rattle.misp_net.specs.declared.line.Output.TheVariants.{Bad, Nothing, Replied, Unanswered}
+use Rattle.misp_net.specs.declared.line.Output.TheVariants.{Bad, Nothing, Replied, Synced, Unanswered}
 use Rattle.misp_net.specs.Acts.{Act, AreDone, Done, HasMemory, acts_of, outputs_of}
 use Rattle.misp_net.specs.Lines.{Line}
+use Rattle.misp_net.specs.Links.{links_of}
 use Rattle.misp_net.specs.Meaning.{stop_in}
 use Rattle.misp_net.specs.Run.{output_of, tables_after, Ran, HasRun}
-use Rattle.misp_net.specs.History.{acts_in, no_links, told_output, AreDistinct, empty_tables, AreTold, AreHeld, is_of}
+use Rattle.misp_net.specs.History.{acts_in, told_output, AreDistinct, empty_tables, AreTold, AreHeld, is_of}
 use Rattle.misp_history.specs.Acts as model
 
 -- nothing stopped any of the acts, and no session ended for want of memory
@@ -23,7 +26,8 @@ abbrev pub outputs_over : ℕ → List Host → World → List Act → List mode
 outputs_over n hosts w [] history = []
 outputs_over n hosts w (act ∷ acts) [] = []
 outputs_over n hosts w (act ∷ acts) (a ∷ history) =
-    told_output Went hosts w act ∷ outputs_over (suc n) hosts (step no_links n w a) acts history
+    told_output Went hosts w act
+    ∷ outputs_over (suc n) hosts (step (links_of hosts) n w a) acts history
 
 -- what the organisation is replied, in order
 abbrev pub replies_to : OrgId → List Host → List Act → List Output → List Output
@@ -35,12 +39,21 @@ replies_to o hosts acts outputs =
 abbrev pub own_acts : OrgId → List Host → List Act → List (Option Act)
 own_acts o hosts acts = map (λ act. if is_of o hosts act then Some act else None) acts
 
--- a line that is none, asks nothing, or has no reply; or a refusal
+-- the rule by which a link bars a pull: it is not there, or is off
+abbrev pub IsBar : RuleName → Type 0
+IsBar RuleName.NoLink = Unit {0}
+IsBar RuleName.LinkOff = Unit {0}
+IsBar name = ⊥
+
+-- a line that is none, asks nothing, or has no reply; a refusal; or a pull that its link bars. Before
+-- another refusal of a pull something may have been taken.
 abbrev pub IsIdle : Output → Type 0
 IsIdle (Bad place) = Unit {0}
 IsIdle Nothing = Unit {0}
 IsIdle (Unanswered end) = Unit {0}
 IsIdle (Replied reply) = IsRefused reply
+IsIdle (Synced (SyncReply.Done count)) = ⊥
+IsIdle (Synced (SyncReply.Stopped count cause)) = IsBar cause.name
 
 -- THE headline, of what these lines put out, of which this is the text, over keepers that held
 -- nothing.
@@ -53,14 +66,14 @@ pub record IsPrivate (hosts : List Host) (lines : List Line)
       → (o : OrgId) → replies_to o hosts (acts_of run.dones) (outputs_of run.dones)
       ≡ replies_to o hosts (acts_of run.dones)
       (outputs_over 0 hosts start (acts_of run.dones)
-      (erased o no_links (acts_in hosts (acts_of run.dones))))
+      (erased o (links_of hosts) (acts_in hosts (acts_of run.dones))))
   -- and any script with its acts that comes to the same without those elements gives it these
   -- replies
   pub alike : AreDistinct hosts → Tell old (empty_tables hosts) → ShowNoStop run.dones
       → (o : OrgId) (others : List Act)
       → own_acts o hosts others ≡ own_acts o hosts (acts_of run.dones)
-      → erased o no_links (acts_in hosts others)
-      ≡ erased o no_links (acts_in hosts (acts_of run.dones))
+      → erased o (links_of hosts) (acts_in hosts others)
+      ≡ erased o (links_of hosts) (acts_in hosts (acts_of run.dones))
       → replies_to o hosts others (outputs_over 0 hosts start others (acts_in hosts others))
       ≡ replies_to o hosts (acts_of run.dones) (outputs_of run.dones)
 

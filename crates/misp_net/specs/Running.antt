@@ -2,8 +2,8 @@
 use Rattle.std.specs.Prelude.{◌≡◌, ◌≢◌, ◌⊎◌, ℕ, ◌∷◌, ◌++◌, false, List, [], map, Option, Some, Result, Ok, Err, IfSome}
 use Rattle.hex.specs.Hex.{encode_lower}
 use Rattle.misp_outside.specs.KeeperState.{state}
-use Rattle.misp_outside.specs.Causes.{HasCause}
-use Rattle.misp_script.specs.Step.{GroupData, RawData, RequestData}
+use Rattle.misp_outside.specs.Causes.{HasCause, RoseBy}
+use Rattle.misp_script.specs.Step.{GroupData, PullData, RawData, RequestData}
 use Rattle.misp_http.specs.Reading.{IsConclusive, IsRead}
 use Rattle.misp_http.specs.Texts.{request_text}
 use Rattle.misp_http.specs.declared.request.Read.{Read}
@@ -18,9 +18,17 @@ use Rattle.misp_api.specs.Refusing.{TurnsAway}
 use Rattle.misp_api.specs.Session.{Session, end_name, end_of}
 use Rattle.misp_api.specs.declared.sessions.End.{End}
 use Rattle.misp_api.specs.declared.sessions.SessionEnd.{SessionEnd}
+use Rattle.misp_effects.specs.Effect.{Does as DoesCall}
 use Rattle.misp_effects.specs.KeeperStates.{AreKept}
-use Rattle.misp_net.specs.Acts.{Act, Does, Done}
+use Rattle.misp_effects.specs.declared.stop.Side.TheVariants.{Here, There}
+use Rattle.misp_effects.specs.declared.stop.Stop.TheVariants as stops
+use Rattle.misp_sync.specs.Pulled.{pulled}
+use Rattle.misp_sync.specs.declared.reply.SyncReply.{SyncReply}
+use Rattle.misp_net.specs.Acts.{Act, Does, Done, outputs_done}
+use Rattle.misp_net.specs.Carrying.{carry_faults}
+use Rattle.misp_net.specs.Hosts.{host_at}
 use Rattle.misp_net.specs.Lines.{Line}
+use Rattle.misp_net.specs.Links.{place_of_peer}
 use Rattle.misp_net.specs.Meaning.{meaning, stop_in}
 use Rattle.misp_net.specs.Run.{IsDone}
 use Rattle.misp_net.specs.Text.{done_text}
@@ -30,6 +38,7 @@ use Rattle.misp_net.specs.declared.places.NetFault.{NetFault}
 use Rattle.misp_core.specs.Effects as replies
 use Rattle.misp_api.specs.Administering as groups
 use Rattle.misp_effects.specs.Course as courses
+use Rattle.misp_sync.specs.Pulled as pulls
 
 abbrev pub hosts_of : List Standing → List Host
 hosts_of instances = map host_of instances
@@ -80,13 +89,31 @@ HasSession now word r old new Wrote =
     × (end.end ≢ End.ReadFault) × (end.end ≢ End.WriteFault)
     × Wrote (end_name end.end ++ 32 ∷ encode_lower written)
 
+-- ---- pulls
+
+-- What a pull did between two keepers: here what it comes to, as far as nothing stopped it; and what
+-- the peer holds stays. The fault of each is told only where this keeper failed.
+pub record IsPulled (hosts : List Host) (line : PullData) (reply : SyncReply)
+    (own here peer there : KeeperState) : Type 0 where
+  pub did : IfSome own.held (λ o. IfSome peer.held
+      (λ p. DoesCall SyncReply spelled pulls.stop_in pulls.telling
+      (pulled (host_at line.at hosts) line.link
+      (host_at (place_of_peer hosts line.at line.link) hosts) (seen_in o) (seen_in p))
+      o reply here.held))
+  pub kept : there.held ≡ peer.held
+  pub cause : HasCause own.faults here.faults (pulls.stop_in reply ≡ Some (stops.Keeper Here))
+  pub peer_cause : HasCause peer.faults there.faults
+      (pulls.stop_in reply ≡ Some (stops.Keeper There))
+
 -- ---- lines
 
--- a line was run over the instances, and wrote this behind what was there
+-- A line was run over the instances, and wrote this behind what was there. The count of the faults
+-- of what carries rose by at least as many as its outputs tell.
 abbrev pub RanLine : List Host → Line → List KeeperState → List KeeperState
-    → List ℕ → List ℕ → Type 0
-RanLine hosts line old new before after =
+    → List ℕ → List ℕ → ℕ → ℕ → Type 0
+RanLine hosts line old new before after carried_before carried_after =
     (d : Done) × Does line d × IsDone hosts d old new × (after ≡ before ++ done_text d)
+    × RoseBy (carry_faults (outputs_done d)) carried_before carried_after
 
 -- memory ran out: it did nothing, or all that it does, and is not written
 abbrev pub CutLine : List Host → Line → List KeeperState → List KeeperState → Type 0

@@ -3,26 +3,27 @@ use Rattle.std.specs.Prelude.{ℕ, suc, ◌+◌, ◌||◌, List, [], ◌∷◌, 
 use Rattle.hex.specs.Hex.{encode_lower}
 use Rattle.misp_http.specs.declared.request.Read.{Read}
 use Rattle.misp_core.specs.declared.reply.Reply.{Reply}
-use Rattle.misp_api.specs.Sending.{http_text}
+use Rattle.misp_core.specs.Text.{body_text, has_octets, http_text, reply_text}
 use Rattle.misp_api.specs.Session.{end_name, is_last}
-use Rattle.misp_api.specs.Text.{body_text, has_octets, reply_text}
 use Rattle.misp_api.specs.Turn.{closes}
 use Rattle.misp_net.specs.Acts.{Done, One, Session}
 use Rattle.misp_net.specs.declared.line.Output.{Output}
-use Rattle.misp_net.specs.declared.line.Output.TheVariants.{Bad, Nothing, Replied, Unanswered}
+use Rattle.misp_net.specs.declared.line.Output.TheVariants.{Bad, Nothing, Replied, Synced, Unanswered}
+use Rattle.misp_net.specs.SyncText.{sync_text}
 
 -- a reply as a line shows it: its status, a space and its body, and octets in hexadecimal digits
 abbrev pub shown_text : Reply → List ℕ
 shown_text reply =
     if has_octets reply then codes "200 " ++ encode_lower (body_text reply) else reply_text reply
 
--- `bad` and the place of the first faulty field, `-` where nothing was asked, the reply, or how the
--- session ended where there was none
+-- `bad` and the place of the first faulty field, `-` where nothing was asked, the reply, how the
+-- session ended where there was none, or what a pull was told
 abbrev pub output_text : Output → List ℕ
 output_text (Bad place) = codes "bad " ++ decimal place
 output_text Nothing = codes "-"
 output_text (Replied reply) = shown_text reply
 output_text (Unanswered end) = end_name end
+output_text (Synced reply) = sync_text reply
 
 -- the bytes of replies to these requests, after so many
 abbrev pub replies_text : ℕ → List Read → List Reply → List ℕ

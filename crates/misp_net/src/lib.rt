@@ -1,12 +1,18 @@
 //! Runs a script of requests over the instances of a description.
 #![tactic(auto)]
 
+mod lending;
 mod line;
 mod net;
+mod over_carry;
 mod places;
+mod pulling;
 mod requesting;
 mod sessions;
+mod synced;
 
+pub use lending::pull_between;
 pub use line::Output;
 pub use net::run_net;
+pub use over_carry::OverCarry;
 pub use places::{NetFault, close_first, open_first};

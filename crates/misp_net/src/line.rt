@@ -3,12 +3,13 @@
 ghost use Rattle.std.specs.Prelude.{◌≡◌, ◌≤◌, ◌<◌, true, [], ◌∷◌, ◌++◌, IfOk, OnOk, OnErr, codes, decimal, drop, take, string_bytes, vec_len, vec_capacity};
 ghost use Rattle.hex.specs.Hex.{encode_lower};
 ghost use Rattle.misp_api.specs.Session.{end_name};
-ghost use Rattle.misp_api.specs.Text.{has_octets, reply_text};
+ghost use Rattle.misp_core.specs.Text.{has_octets, reply_text};
 ghost use Rattle.misp_net.specs.Text.{output_text, shown_text};
 
 use misp_api::{End, body_in, has_octets, put_number, put_text};
 use misp_core::Reply;
 use misp_ids::NoMemory;
+use misp_sync::SyncReply;
 use std::alloc::Global;
 
 /// What a line of a script comes to.
@@ -21,6 +22,8 @@ pub enum Output {
     Replied(Reply),
     /// The bytes of a request ended within it.
     Unanswered(End),
+    /// What a pull was told.
+    Synced(SyncReply),
 }
 
 /// Writes that a line is none, with room for one byte after it.

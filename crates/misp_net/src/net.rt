@@ -1,12 +1,15 @@
 //! The run of a script.
 
 ghost use Rattle.std.specs.Prelude.{◌≡◌, ◌<◌, ◌≤◌, ◌++◌, true, Ok, Err, IfOk, IfErr, OnOk, OnErr, length, map, take, drop, vec_len, vec_capacity};
-ghost use Rattle.misp_script.specs.Directory.{directory_of};
+ghost use Rattle.misp_outside.specs.Causes.{RoseBy};
+ghost use Rattle.misp_script.specs.Directory.{directory_of, roster_names};
 ghost use Rattle.misp_script.specs.Step.{IsPlaced, command_data, step_data, step_of};
 ghost use Rattle.misp_script.specs.Step as commands;
 ghost use Rattle.misp_effects.specs.KeeperStates.{told, AreKept, OneFailed};
 ghost use Rattle.misp_net.specs.Hosts.{described_hosts};
-ghost use Rattle.misp_net.specs.Acts.{Does, Done};
+ghost use Rattle.misp_net.specs.Acts.{Does, Done, outputs_done};
+ghost use Rattle.misp_net.specs.Asking.{names_of};
+ghost use Rattle.misp_net.specs.Carrying.{carry_faults, HasCarried};
 ghost use Rattle.misp_net.specs.Running.{hosts_of, states_of, CutLine, IsAdministered, RanLine};
 ghost use Rattle.misp_net.specs.Lines.{lines_of};
 ghost use Rattle.misp_store.specs.Sharing.{may_be_sound, may_be_unsound};
@@ -17,14 +20,16 @@ ghost use Rattle.misp_net.specs.Promise.{IsPrivate, AreReplied, AreNewest, IsCut
 
 use crate::line::{Output, put_bad, put_front, put_nothing, show};
 use crate::places::{NetFault, close_all, open_all};
+use crate::pulling::put_pull;
 use crate::requesting::put_request;
 use crate::sessions::put_raw;
 use misp_api::{GroupRequest, Routes, administer};
 use misp_core::Instance;
 use misp_format::a_group_is_read_from_its_text;
 use misp_ids::{NoMemory, Stamp};
-use misp_outside::Keeper;
+use misp_outside::{Carry, Keeper};
 use misp_script::{Command, Description, Directory, GroupLine, Step, read_line, split_line};
+use misp_sync::an_instance_pulls_by_the_history;
 use std::alloc::Global;
 
 // The adding or editing of a group by a line.
@@ -66,23 +71,27 @@ fn put_group<K: Keeper>(
 }
 
 // Runs one step, and writes what it puts out, with room for one byte after it.
-fn run_step<K: Keeper>(
+fn run_step<K: Keeper, C: Carry>(
     lines: &mut Vec<u8>,
     alloc: Global,
     routes: &Routes,
+    directory: &Directory,
     instances: &mut Vec<Instance<K>>,
+    carry: &mut C,
     step: &Step<'_>,
 ) -> Result<(), NoMemory>
-    requires { IsPlaced (vec_len instances.old) (command_data step.now.command) }
+    requires placed { IsPlaced (vec_len instances.old) (command_data step.now.command) }
+    requires names { roster_names directory.now ≡ names_of (hosts_of instances.old.items) }
     ensures ran { OnOk result
         (RanLine (hosts_of instances.old.items) (Ok (step_data step.now))
         (states_of instances.old.items) (states_of instances.new.items)
-        lines.old.items lines.new.items) }
+        lines.old.items lines.new.items (C.faults carry.old) (C.faults carry.new)) }
     ensures room { OnOk result (vec_len lines.new < vec_capacity lines.new) }
     ensures cut { OnErr result
         (CutLine (hosts_of instances.old.items) (Ok (step_data step.now))
         (states_of instances.old.items) (states_of instances.new.items)) }
     ensures hosts { hosts_of instances.new.items ≡ hosts_of instances.old.items }
+    ensures later { C.faults carry.old ≤ C.faults carry.new }
 {
     match step.command {
         Command::Nothing => put_nothing(lines),
@@ -102,77 +111,88 @@ fn run_step<K: Keeper>(
             put_group(lines, alloc, instance, step.time, &group)?;
             Ok(())
         }
+        Command::Pull(pull) => put_pull(
+            lines, alloc, routes, directory, instances, carry, step.time, step.word, &pull,
+        ),
     }
 }
 
 // Runs one line, as `run_step` does a step.
-fn run_line<K: Keeper>(
+fn run_line<K: Keeper, C: Carry>(
     lines: &mut Vec<u8>,
     alloc: Global,
     routes: &Routes,
     directory: &Directory,
     instances: &mut Vec<Instance<K>>,
+    carry: &mut C,
     line: &[u8],
 ) -> Result<(), NoMemory>
-    requires { length directory.now ≡ vec_len instances.old }
+    requires { roster_names directory.now ≡ names_of (hosts_of instances.old.items) }
     ensures ran { OnOk result
         (RanLine (hosts_of instances.old.items) (step_of directory.now line.now)
         (states_of instances.old.items) (states_of instances.new.items)
-        lines.old.items lines.new.items) }
+        lines.old.items lines.new.items (C.faults carry.old) (C.faults carry.new)) }
     ensures room { OnOk result (vec_len lines.new < vec_capacity lines.new) }
     ensures cut { OnErr result
         (CutLine (hosts_of instances.old.items) (step_of directory.now line.now)
         (states_of instances.old.items) (states_of instances.new.items)) }
     ensures hosts { hosts_of instances.new.items ≡ hosts_of instances.old.items }
+    ensures later { C.faults carry.old ≤ C.faults carry.new }
 {
     match read_line(line, directory) {
-        Ok(step) => run_step(lines, alloc, routes, instances, &step),
+        Ok(step) => run_step(lines, alloc, routes, directory, instances, carry, &step),
         Err(bad) => put_bad(lines, alloc, bad.place),
     }
 }
 
 // Runs one line, and writes the line of this number.
-fn put_line<K: Keeper>(
+fn put_line<K: Keeper, C: Carry>(
     lines: &mut Vec<u8>,
     alloc: Global,
     routes: &Routes,
     directory: &Directory,
     instances: &mut Vec<Instance<K>>,
+    carry: &mut C,
     number: usize,
     line: &[u8],
 ) -> Result<(), NoMemory>
-    requires { length directory.now ≡ vec_len instances.old }
+    requires { roster_names directory.now ≡ names_of (hosts_of instances.old.items) }
     ensures ran { OnOk result ((d : Done) × Does (step_of directory.now line.now) d
         × IsDone (hosts_of instances.old.items) d (states_of instances.old.items)
         (states_of instances.new.items)
-        × (lines.new.items ≡ lines.old.items ++ line_of number d)) }
+        × (lines.new.items ≡ lines.old.items ++ line_of number d)
+        × RoseBy (carry_faults (outputs_done d)) (C.faults carry.old) (C.faults carry.new)) }
     ensures cut { OnErr result
         (CutLine (hosts_of instances.old.items) (step_of directory.now line.now)
         (states_of instances.old.items) (states_of instances.new.items)) }
     ensures hosts { hosts_of instances.new.items ≡ hosts_of instances.old.items }
+    ensures later { C.faults carry.old ≤ C.faults carry.new }
 {
     put_front(lines, alloc, number)?;
-    run_line(lines, alloc, routes, directory, instances, line)?;
+    run_line(lines, alloc, routes, directory, instances, carry, line)?;
     lines.push(b'\n').unwrap();
     Ok(())
 }
 
 // Runs a script, one line after another.
-fn run_lines<K: Keeper>(
+fn run_lines<K: Keeper, C: Carry>(
     alloc: Global,
     routes: &Routes,
     directory: &Directory,
     instances: &mut Vec<Instance<K>>,
+    carry: &mut C,
     script: &[u8],
 ) -> Result<Vec<u8>, NoMemory>
-    requires { length directory.now ≡ vec_len instances.old }
+    requires { roster_names directory.now ≡ names_of (hosts_of instances.old.items) }
     ensures places { vec_len instances.new ≡ vec_len instances.old }
     ensures ran { IfOk result (λ lines.
-        HasRun (hosts_of instances.old.items) (lines_of directory.now script.now)
+        HasCarried (C.faults carry.old) (C.faults carry.new)
+        (hosts_of instances.old.items) (lines_of directory.now script.now)
         (states_of instances.old.items) (states_of instances.new.items) lines.items) }
     ensures cut { OnErr result
         (IsCut (hosts_of instances.old.items) (lines_of directory.now script.now)
         (states_of instances.old.items) (states_of instances.new.items)) }
+    ensures later { C.faults carry.old ≤ C.faults carry.new }
 {
     let mut lines = Vec::new(alloc);
     let mut number = 1usize;
@@ -180,7 +200,7 @@ fn run_lines<K: Keeper>(
     while !rest.is_empty() {
         let (line, after) = split_line(rest);
         put_line(
-            &mut lines, alloc, routes, directory, instances, number, line,
+            &mut lines, alloc, routes, directory, instances, carry, number, line,
         )?;
         rest = after;
         number += 1;
@@ -190,10 +210,11 @@ fn run_lines<K: Keeper>(
 
 /// Runs a script over the instances of a description, each over the keeper of its place, and
 /// answers a line for each line of it.
-pub fn run_net<K: Keeper>(
+pub fn run_net<K: Keeper, C: Carry>(
     alloc: Global,
     net: Description,
     keepers: &mut Vec<K>,
+    carry: &mut C,
     script: &[u8],
 ) -> Result<Vec<u8>, NetFault>
     requires { length net.instances ≤ vec_len keepers.old }
@@ -235,17 +256,26 @@ pub fn run_net<K: Keeper>(
         (take (length net.instances) (map K.state keepers.old.items))
         (take (length net.instances) (map K.state keepers.new.items)) }
 
+    // What carries failed at least as often as outputs tell it.
+    ensures carried { IfOk result (λ lines.
+        HasCarried (C.faults carry.old) (C.faults carry.new)
+        (described_hosts net) (lines_of (directory_of net) script.now)
+        (take (length net.instances) (map K.state keepers.old.items))
+        (take (length net.instances) (map K.state keepers.new.items)) lines.items) }
+    ensures later { C.faults carry.old ≤ C.faults carry.new }
+
     // Each keeper is back in its place, and the others are as they were.
     ensures places { vec_len keepers.new ≡ vec_len keepers.old }
     ensures others { drop (length net.instances) (map K.state keepers.new.items)
         ≡ drop (length net.instances) (map K.state keepers.old.items) }
 {
-    // A group that is held is read again as it was.
+    // A group that is held is read again as it was, and a pull leaves what the history says of it.
     a_group_is_read_from_its_text();
+    an_instance_pulls_by_the_history();
     let directory = net.directory(alloc)?;
     let routes = Routes::new(alloc)?;
     let mut instances = open_all(alloc, keepers, net.instances.into_vec())?;
-    let lines = run_lines(alloc, &routes, &directory, &mut instances, script);
+    let lines = run_lines(alloc, &routes, &directory, &mut instances, carry, script);
     close_all(instances, keepers);
     Ok(lines?)
 }

@@ -5,12 +5,14 @@ use Rattle.std.specs.Result.{result_ok}
 use Rattle.hex.specs.Hex.{decode_of}
 use Rattle.misp_ids.specs.declared.uid.Uid.{Uid}
 use Rattle.misp_ids.specs.declared.uid.OrgId.{OrgId}
+use Rattle.misp_ids.specs.Names.{is_inst_name}
 use Rattle.misp_ids.specs.Uid.{read_uid}
 use Rattle.misp_script.specs.declared.command.Verb.{Verb}
 use Rattle.misp_script.specs.declared.step.Step.{Step}
 use Rattle.misp_script.specs.declared.step.Command.{Command}
 use Rattle.misp_script.specs.declared.step.RequestLine.{RequestLine}
 use Rattle.misp_script.specs.declared.step.GroupLine.{GroupLine}
+use Rattle.misp_script.specs.declared.step.PullLine.{PullLine}
 use Rattle.misp_script.specs.declared.step.RawLine.{RawLine}
 use Rattle.misp_script.specs.Directory.{Roster, roster_names, place_of, knows}
 use Rattle.misp_script.specs.Fields.{Reading, ◌>>=◌, field_in, next_field, kept, no_field}
@@ -39,11 +41,17 @@ pub record GroupData : Type 0 where
   pub add : Bool
   pub body : List ℕ
 
+-- a pull of an instance over one of its links: the place of the instance, and the name of the link
+pub record PullData : Type 0 where
+  pub at : ℕ
+  pub link : List ℕ
+
 pub data CommandData : Type 0 where
   Nothing : CommandData
   Request : RequestData → CommandData
   Raw : RawData → CommandData
   Group : GroupData → CommandData
+  Pull : PullData → CommandData
 
 -- a step: its moment, its word and its command
 pub record StepData : Type 0 where
@@ -71,11 +79,15 @@ raw_data r = record { at = r.at; bytes = bytes_of r.hex.now }
 abbrev pub group_data : GroupLine → GroupData
 group_data g = record { at = g.at; org = g.org; add = g.add; body = g.body.now }
 
+abbrev pub pull_data : PullLine → PullData
+pull_data p = record { at = p.at; link = p.link }
+
 abbrev pub command_data : Command → CommandData
 command_data Command.Nothing = Nothing
 command_data (Command.Request request) = Request (request_data request)
 command_data (Command.Raw raw) = Raw (raw_data raw)
 command_data (Command.Group group) = Group (group_data group)
+command_data (Command.Pull pull) = Pull (pull_data pull)
 
 abbrev pub step_data : Step → StepData
 step_data step = record { time = step.time; word = step.word; command = command_data step.command }
@@ -86,6 +98,7 @@ IsPlaced count Nothing = Unit {0}
 IsPlaced count (Request request) = request.at < count
 IsPlaced count (Raw raw) = raw.at < count
 IsPlaced count (Group group) = group.at < count
+IsPlaced count (Pull pull) = pull.at < count
 
 -- ---- fields
 
@@ -96,6 +109,7 @@ verb_of text =
     else if bytes_eq text (codes "raw") then Some Verb.Raw
     else if bytes_eq text (codes "group-add") then Some Verb.AddGroup
     else if bytes_eq text (codes "group-edit") then Some Verb.EditGroup
+    else if bytes_eq text (codes "pull") then Some Verb.Pull
     else None
 
 -- a byte from 33 to 126
@@ -129,6 +143,10 @@ known_org rosters at uuid =
 -- the same of a uuid in the hyphenated form
 abbrev pub org_of : List Roster → ℕ → List ℕ → Option OrgId
 org_of rosters at text = option_and_then (known_org rosters at) (read_uid text)
+
+-- the name of an instance or a link
+abbrev pub name_of : List ℕ → Option (List ℕ)
+name_of text = if is_inst_name text then Some text else None
 
 -- the rest of the line, which must be there, and may be empty
 abbrev pub rest_of : List ℕ → Option (List ℕ) → Reading (List ℕ)
@@ -171,6 +189,14 @@ group_of rosters line add left = do
   body ← rest_of line org.rest
   Ok (record { at = at; org = named; add = add; body = body })
 
+unfoldable pub pull_of : List Roster → List ℕ → Option (List ℕ) → Reading PullData
+pull_of rosters line left = do
+  inst ← next_field line left
+  at ← kept inst.place (place_of (roster_names rosters) inst.text)
+  link ← next_field line inst.rest
+  name ← kept link.place (name_of link.text)
+  no_field line link.rest >>= λ done. Ok (record { at = at; link = name })
+
 abbrev pub command_of : List Roster → List ℕ → Verb → Option (List ℕ) → Reading CommandData
 command_of rosters line Verb.Nothing left = no_field line left >>= λ done. Ok Nothing
 command_of rosters line Verb.Request left =
@@ -180,6 +206,7 @@ command_of rosters line Verb.AddGroup left =
     group_of rosters line true left >>= λ group. Ok (Group group)
 command_of rosters line Verb.EditGroup left =
     group_of rosters line false left >>= λ group. Ok (Group group)
+command_of rosters line Verb.Pull left = pull_of rosters line left >>= λ pull. Ok (Pull pull)
 
 -- a time, a word, and a verb with its fields
 unfoldable pub step_of : List Roster → List ℕ → Reading StepData

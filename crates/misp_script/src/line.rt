@@ -24,10 +24,12 @@ pub fn read_line<'a>(line: &'a [u8], directory: &Directory) -> Result<Step<'a>, 
     let word = kept(word_field.place, word(word_field.text))?;
     let verb_field = next_field(line, &word_field)?;
     let verb = kept(verb_field.place, read_verb(verb_field.text))?;
-    let command = command(line, directory, verb, &verb_field)?;
-    Ok(Step {
-        time,
-        word,
-        command,
-    })
+    match command(line, directory, verb, &verb_field) {
+        Ok(command) => Ok(Step {
+            time,
+            word,
+            command,
+        }),
+        Err(bad) => Err(bad),
+    }
 }

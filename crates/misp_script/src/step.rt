@@ -1,6 +1,6 @@
 //! The steps of a script.
 
-use misp_ids::{OrgId, Stamp};
+use misp_ids::{InstId, OrgId, Stamp};
 
 /// What a line of a script says.
 #[derive(Clone, Copy, Debug, PartialEq, Eq)]
@@ -19,6 +19,7 @@ pub enum Command<'a> {
     Request(RequestLine<'a>),
     Raw(RawLine<'a>),
     Group(GroupLine<'a>),
+    Pull(PullLine),
 }
 
 /// A request to an instance.
@@ -53,4 +54,13 @@ pub struct GroupLine<'a> {
     pub add: bool,
     /// The text of the group. It may be no JSON.
     pub body: &'a [u8],
+}
+
+/// A pull of an instance over one of its links.
+#[derive(Clone, Copy, Debug, PartialEq, Eq)]
+pub struct PullLine {
+    /// The place of the instance in the description, from 0.
+    pub at: usize,
+    /// The name of the link. There may be no such link.
+    pub link: InstId,
 }

@@ -4,8 +4,8 @@ mod limits;
 
 use misp_samples::filled;
 use misp_script::{
-    Command, DescFault, Directory, GroupLine, RawLine, RequestLine, read_description, read_line,
-    split_line, split_source,
+    Command, DescFault, Directory, GroupLine, PullLine, RawLine, RequestLine, read_description,
+    read_line, split_line, split_source,
 };
 use std::alloc::Global;
 use std::fmt::Write;
@@ -211,6 +211,13 @@ fn group_shown(alloc: Global, group: &GroupLine<'_>) -> Result<String, Fail> {
     Ok(format!(in alloc; "{at} {org} {command} [{body}]")?)
 }
 
+/// A pull, as a test shows it.
+fn pull_shown(alloc: Global, pull: &PullLine) -> Result<String, Fail> {
+    let at = pull.at;
+    let link = pull.link.text();
+    Ok(format!(in alloc; "{at} pull {link}")?)
+}
+
 /// What a line is read as: its step, or the place of its fault.
 fn step_shown(alloc: Global, line: &str, directory: &Directory) -> Result<String, Fail> {
     match read_line(line.as_bytes(), directory) {
@@ -221,6 +228,7 @@ fn step_shown(alloc: Global, line: &str, directory: &Directory) -> Result<String
                 Command::Request(request) => request_shown(alloc, request)?,
                 Command::Raw(raw) => raw_shown(alloc, raw)?,
                 Command::Group(group) => group_shown(alloc, group)?,
+                Command::Pull(pull) => pull_shown(alloc, pull)?,
             };
             Ok(format!(in alloc; "{time} {command}")?)
         }
@@ -240,7 +248,7 @@ const WORDS: [(&str, &str); 5] = [
 ];
 
 /// Lines of a script, and what each is read as.
-const LINES: [(&str, &str); 40] = [
+const LINES: [(&str, &str); 47] = [
     ("x", "bad 0"),
     ("", "bad 0"),
     ("1700000000", "bad 10"),
@@ -252,7 +260,7 @@ const LINES: [(&str, &str); 40] = [
     ("1 {word}", "bad 34"),
     ("1 {word} ", "bad 35"),
     ("1 {WORD} none", "bad 2"),
-    ("1 {word} pull one", "bad 35"),
+    ("1 {word} push one", "bad 35"),
     ("1 {word} none ", "bad 40"),
     ("1 {word} none x", "bad 40"),
     ("1 {word} req", "bad 38"),
@@ -281,6 +289,13 @@ const LINES: [(&str, &str); 40] = [
     ("1 {word} group-add one {A} ", "1 0 {a} adds []"),
     ("1 {word} group-edit one {a} {} b", "1 0 {a} edits [{} b]"),
     ("1 {word} group-del one {a} {}", "bad 35"),
+    ("1 {word} pull", "bad 39"),
+    ("1 {word} pull two up", "bad 40"),
+    ("1 {word} pull one", "bad 43"),
+    ("1 {word} pull one ", "bad 44"),
+    ("1 {word} pull one Up", "bad 44"),
+    ("1 {word} pull one up ", "bad 47"),
+    ("1 {word} pull one up-2", "1 0 pull up-2"),
 ];
 
 #[test]

@@ -219,7 +219,7 @@ fn whole_group(alloc: Global, path: &Path<'_>, value: &Value) -> Result<Group, F
 }
 
 /// A body that is a sharing group.
-pub(crate) fn read_group(alloc: Global, value: &Value) -> Result<Group, FormatFault>
+pub fn read_group(alloc: Global, value: &Value) -> Result<Group, FormatFault>
     ensures { Gives result (group_body_at (view value.now)) }
 {
     whole_group(

@@ -1,8 +1,11 @@
 use Rattle.std.proofs.Common.{◌≡◌, true, ◌∙◌, subst, IfOk}
 use Rattle.misp_core.specs.Effects.{IsRefused}
+use Rattle.misp_core.specs.Standing.{host_of}
+use Rattle.misp_api.specs.Answering.{form_of}
 use Rattle.misp_api.specs.Request.{request_data}
-use Rattle.misp_api.specs.Text.{has_octets}
+use Rattle.misp_core.specs.Text.{has_octets}
 use Rattle.misp_api.proofs.Replying.{refused_by_form, no_keeper}
+use Rattle.misp_api.proofs.Pulls.{stays}
 use Rattle.misp_api.proofs.Turning.{out_of_memory, turned_unread}
 use Rattle.misp_api.proofs.Ordering.{order_by_fault}
 use Rattle.misp_api.proofs.Told.{replied_told, ordered_told, of_told, text_told, turned_told, unformed_told, where_short, cause_told, no_cause}
@@ -14,6 +17,14 @@ pub returns-in-Ok-clause-replied : goal.returns-in-Ok-clause-replied
 returns-in-Ok-clause-replied g c =
     replied_told c.tell.result c.args.instance.now c.args.now (request_data c.args.word c.args.request.now) _ c.plan-planned.result _ _
     c.in-Ok.ensures.read c.plan-planned.ensures.held c.plan-planned.ensures.planned c.tell.ensures.done
+
+pub returns-in-Ok-clause-pulled : goal.returns-in-Ok-clause-pulled
+returns-in-Ok-clause-pulled g c =
+    stays c.tell.result (host_of c.args.instance.now) c.args.now (form_of c.args.instance.now.admin (request_data c.args.word c.args.request.now)) c.args.instance.now.held c.tell.new.instance.held
+    (replied_told c.tell.result c.args.instance.now c.args.now (request_data c.args.word c.args.request.now) _ c.plan-planned.result _ _
+    c.in-Ok.ensures.read c.plan-planned.ensures.held c.plan-planned.ensures.planned c.tell.ensures.done)
+    (λ long. c.tell.ensures.kept long ∙ c.plan-planned.ensures.held)
+    (λ none. c.tell.ensures.silent (c.plan-planned.ensures.held ∙ none))
 
 pub returns-in-Ok-clause-order : goal.returns-in-Ok-clause-order
 returns-in-Ok-clause-order g c =

@@ -1,6 +1,6 @@
 use Rattle.std.proofs.Common.{◌≡◌, false, ◌≤◌, ◌++◌, take, length, arith, sym, ◌∙◌, ap, subst}
 use Rattle.misp_api.specs.Prelude.{IsRefused, Reply}
-use Rattle.misp_api.specs.Text.{has_octets, reply_text}
+use Rattle.misp_core.specs.Text.{has_octets, reply_text}
 use Rattle.misp_api.specs.declared.TheConstants.{CHANGE_TEXT}
 use Rattle.misp_api.proofs.Told.{text_before, start_within}
 use Rattle.misp_api.proofs.telling.told_and_put.Goals as goal

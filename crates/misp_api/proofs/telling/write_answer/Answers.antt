@@ -1,6 +1,6 @@
 use Rattle.std.proofs.Common.{ap, arith, length-append, length}
 use Rattle.misp_api.specs.Prelude.{Reply}
-use Rattle.misp_api.specs.Text.{reply_text}
+use Rattle.misp_core.specs.Text.{reply_text}
 use Rattle.misp_api.proofs.telling.write_answer.Goals as goal
 
 -- what was written is the text of the answer, and it is short

@@ -21,4 +21,4 @@ pub returns-in-Sight-clause-no_fault : goal.returns-in-Sight-clause-no_fault
 returns-in-Sight-clause-no_fault c = asks_none c.plan_sighting.result _ c.plan_sighting.ensures
 
 pub returns-in-SyncGroups-clause-no_fault : goal.returns-in-SyncGroups-clause-no_fault
-returns-in-SyncGroups-clause-no_fault c = asks_none c.plan_pulled_groups.result _ (c.plan_pulled_groups.ensures [])
+returns-in-SyncGroups-clause-no_fault c = asks_none c.plan_pulled_groups.result _ (c.plan_pulled_groups.ensures.plan [])

@@ -9,4 +9,4 @@ pub returns-clause-plan : goal.returns-clause-plan
 returns-clause-plan c = λ table.
     rw (c.told.ensures, c.of.ensures)
     (events_listed c.args.site.now.admin.now (seeing (pull_scene c.args.site.now) c.args.rows.items) c.in_ok-events.events.items
-    (c.in_ok-events.ensures c.args.rows.items table (subst (λ l. IsByEvent l c.args.rows.items) (sym c.deref.ensures.value) c.in_ok-list.ensures)))
+    (c.in_ok-events.ensures.events c.args.rows.items table (subst (λ l. IsByEvent l c.args.rows.items) (sym c.deref.ensures.value) c.in_ok-list.ensures)))

@@ -1,12 +1,14 @@
 use Rattle.std.proofs.Common.{◌≡◌, ℕ, List, ◌++◌, length, map, take, drop, vec_len, sym, ◌∙◌, ap, subst, arith, length-append}
 use Rattle.std.proofs.lemmas.List.{length-map}
-use Rattle.misp_script.specs.Directory.{roster_of}
+use Rattle.misp_script.specs.Directory.{roster_names}
 use Rattle.misp_effects.proofs.KeeperStates.{all_kept, kept_told, kept_take}
 use Rattle.misp_net.specs.Prelude.{AreKept, Description, KeeperState, Standing, described_host, described_hosts, hosts_of, state_of, states_of}
 use Rattle.misp_net.proofs.Openings.{if_err}
+use Rattle.misp_net.specs.Asking.{names_of}
+use Rattle.misp_net.proofs.Asking.{names_described}
 use Rattle.misp_net.proofs.Courses.{none_ran}
 use Rattle.misp_net.proofs.Privacy.{is_private, are_replied, are_newest}
-use Rattle.misp_net.proofs.Fronts.{AreInFront, opened_long, run_in_front, cut_in_front, others_kept}
+use Rattle.misp_net.proofs.Fronts.{AreInFront, opened_long, carried_in_front, run_in_front, cut_in_front, others_kept}
 use Rattle.misp_net.proofs.net.run_net.Goals as goal
 
 -- the instances are before the other keepers, before and after
@@ -24,30 +26,48 @@ in_front net opened ran rest olds news count long hosts kept left many is = reco
 
 pub returns-clause-private : goal.returns-clause-private
 returns-clause-private g c =
+    let pulls = c.an_instance_pulls_by_the_history.ensures in
     let front = in_front c.args.net c.in_ok-instances.instances.items c.run_lines-lines.new.instances.items (map g.K.Keeper.state c.open_all.new.keepers.items)
     (map g.K.Keeper.state c.args.keepers.now.items) (map g.K.Keeper.state c.close_all.new.keepers.items) (vec_len c.into_vec.result)
     (c.into_vec.result.ok.0 ∙ ap length c.into_vec.ensures) (c.in_ok-instances.ensures.hosts ∙ ap (map described_host) c.into_vec.ensures)
     c.in_ok-instances.ensures.opened c.in_ok-instances.ensures.rest
     (omega (arith, c.run_lines-lines.ensures.places, c.run_lines-lines.new.instances.ok.0, c.in_ok-instances.instances.ok.0)) c.close_all.ensures in
-    is_private c.a_group_is_read_from_its_text.ensures _ _ _ _ _ (run_in_front front (rw (← c.in_ok-directory.ensures) c.in_ok-lines.ensures.ran))
+    is_private c.a_group_is_read_from_its_text.ensures
+    (record { told = pulls.told; left = pulls.left; elsewhere = pulls.elsewhere; groups = pulls.groups }) _ _ _ _ _
+    (run_in_front front (rw (← c.in_ok-directory.ensures) c.in_ok-lines.ensures.ran.run))
 
 pub returns-clause-replied : goal.returns-clause-replied
 returns-clause-replied g c =
+    let pulls = c.an_instance_pulls_by_the_history.ensures in
     let front = in_front c.args.net c.in_ok-instances.instances.items c.run_lines-lines.new.instances.items (map g.K.Keeper.state c.open_all.new.keepers.items)
     (map g.K.Keeper.state c.args.keepers.now.items) (map g.K.Keeper.state c.close_all.new.keepers.items) (vec_len c.into_vec.result)
     (c.into_vec.result.ok.0 ∙ ap length c.into_vec.ensures) (c.in_ok-instances.ensures.hosts ∙ ap (map described_host) c.into_vec.ensures)
     c.in_ok-instances.ensures.opened c.in_ok-instances.ensures.rest
     (omega (arith, c.run_lines-lines.ensures.places, c.run_lines-lines.new.instances.ok.0, c.in_ok-instances.instances.ok.0)) c.close_all.ensures in
-    are_replied c.a_group_is_read_from_its_text.ensures _ _ _ _ _ (run_in_front front (rw (← c.in_ok-directory.ensures) c.in_ok-lines.ensures.ran))
+    are_replied c.a_group_is_read_from_its_text.ensures
+    (record { told = pulls.told; left = pulls.left; elsewhere = pulls.elsewhere; groups = pulls.groups }) _ _ _ _ _
+    (run_in_front front (rw (← c.in_ok-directory.ensures) c.in_ok-lines.ensures.ran.run))
 
 pub returns-clause-newest : goal.returns-clause-newest
 returns-clause-newest g c =
+    let pulls = c.an_instance_pulls_by_the_history.ensures in
     let front = in_front c.args.net c.in_ok-instances.instances.items c.run_lines-lines.new.instances.items (map g.K.Keeper.state c.open_all.new.keepers.items)
     (map g.K.Keeper.state c.args.keepers.now.items) (map g.K.Keeper.state c.close_all.new.keepers.items) (vec_len c.into_vec.result)
     (c.into_vec.result.ok.0 ∙ ap length c.into_vec.ensures) (c.in_ok-instances.ensures.hosts ∙ ap (map described_host) c.into_vec.ensures)
     c.in_ok-instances.ensures.opened c.in_ok-instances.ensures.rest
     (omega (arith, c.run_lines-lines.ensures.places, c.run_lines-lines.new.instances.ok.0, c.in_ok-instances.instances.ok.0)) c.close_all.ensures in
-    are_newest c.a_group_is_read_from_its_text.ensures _ _ _ _ _ (run_in_front front (rw (← c.in_ok-directory.ensures) c.in_ok-lines.ensures.ran))
+    are_newest c.a_group_is_read_from_its_text.ensures
+    (record { told = pulls.told; left = pulls.left; elsewhere = pulls.elsewhere; groups = pulls.groups }) _ _ _ _ _
+    (run_in_front front (rw (← c.in_ok-directory.ensures) c.in_ok-lines.ensures.ran.run))
+
+pub returns-clause-carried : goal.returns-clause-carried
+returns-clause-carried g c =
+    let front = in_front c.args.net c.in_ok-instances.instances.items c.run_lines-lines.new.instances.items (map g.K.Keeper.state c.open_all.new.keepers.items)
+    (map g.K.Keeper.state c.args.keepers.now.items) (map g.K.Keeper.state c.close_all.new.keepers.items) (vec_len c.into_vec.result)
+    (c.into_vec.result.ok.0 ∙ ap length c.into_vec.ensures) (c.in_ok-instances.ensures.hosts ∙ ap (map described_host) c.into_vec.ensures)
+    c.in_ok-instances.ensures.opened c.in_ok-instances.ensures.rest
+    (omega (arith, c.run_lines-lines.ensures.places, c.run_lines-lines.new.instances.ok.0, c.in_ok-instances.instances.ok.0)) c.close_all.ensures in
+    carried_in_front front (rw (← c.in_ok-directory.ensures) c.in_ok-lines.ensures.ran)
 
 pub returns-clause-others : goal.returns-clause-others
 returns-clause-others g c =
@@ -76,14 +96,12 @@ returns-in_err-lines-clause-cut g c =
     (omega (arith, c.run_lines-lines.ensures.places, c.run_lines-lines.new.instances.ok.0, c.in_ok-instances.instances.ok.0)) c.close_all.ensures in
     λ is. cut_in_front front (rw (← c.in_ok-directory.ensures) c.in_err-lines.ensures.cut)
 
--- ---- there are as many instances as entries, and as many keepers as before
+-- ---- the directory has the names of the instances, and there are as many keepers as before
 
 pub run_lines-lines-requires : goal.run_lines-lines-requires
 run_lines-lines-requires g c =
-    let entries = c.args.net.instances in
-    let opened = c.in_ok-instances.instances.items in
-    let hosts : hosts_of opened ≡ described_hosts c.args.net = c.in_ok-instances.ensures.hosts ∙ ap (map described_host) c.into_vec.ensures in
-    omega (arith, ap length c.in_ok-directory.ensures, length-map entries roster_of, opened_long opened entries hosts, length-map opened state_of, c.in_ok-instances.instances.ok.0)
+    let hosts : hosts_of c.in_ok-instances.instances.items ≡ described_hosts c.args.net = c.in_ok-instances.ensures.hosts ∙ ap (map described_host) c.into_vec.ensures in
+    ap roster_names c.in_ok-directory.ensures ∙ names_described c.args.net ∙ ap names_of (sym hosts)
 
 pub close_all-requires : goal.close_all-requires
 close_all-requires g c = omega (arith, c.in_ok-instances.ensures.fewer, c.in_ok-instances.ensures.room, c.run_lines-lines.ensures.places)

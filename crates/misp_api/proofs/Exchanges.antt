@@ -1,0 +1,54 @@
+-- The one request that bytes are.
+use Rattle.std.proofs.Common.{◌≡◌, ◌≢◌, ◌++◌, ℕ, Bool, List, [], refl, ap, ◌∙◌, subst, arith, Option, Some, Result, Ok, Err, IfOk, IfSome, OnOk}
+use Rattle.std.specs.Io.KnownBytes.{prepend_known}
+use Rattle.misp_outside.specs.Causes.{HasCause}
+use Rattle.misp_http.specs.Reading.{IsRead}
+use Rattle.misp_http.specs.declared.request.Read.{Read}
+use Rattle.misp_http.specs.declared.request.ReadEnd.{ReadEnd}
+use Rattle.misp_http.proofs.Readings.{one_reading}
+use Rattle.misp_core.specs.Sound.{IsSound}
+use Rattle.misp_api.specs.Prelude.{Reply, Standing}
+use Rattle.misp_core.specs.Text.{http_text}
+use Rattle.misp_api.specs.Answering.{IsPull}
+use Rattle.misp_api.specs.Exchange.{IsExchanged, IsWorded}
+use Rattle.misp_api.specs.Sending.{IsAnswered, read_form}
+use Rattle.misp_api.specs.Turn.{closes}
+
+-- an end that counts no fault has none
+pub never_fails : {Failed : Type 0} → HasCause 0 0 Failed → Failed → ⊥
+never_fails cause failed = absurd (omega (arith, cause.rose failed))
+
+-- what is read of a source that has these bytes
+pub read_of : (front left text : List ℕ) (result : Result Read ReadEnd) (after : Option (List ℕ)) → front ≡ [] → left ≡ text
+    → IfSome (prepend_known front (Some left)) (λ bytes. IsRead bytes result after) → IsRead text result after
+read_of front left text result after none same is = subst (λ bytes. IsRead bytes result after) ((λ i. none i ++ same i)) is
+
+read_in : Read → Result Read ReadEnd → Read
+read_in other (Ok read) = read
+read_in other (Err end) = other
+
+-- what is read of bytes is one thing
+pub one_read : (bytes : List ℕ) (a b : Read) (x y : Option (List ℕ)) → IsRead bytes (Ok a) x → IsRead bytes (Ok b) y → a ≡ b
+unfolding read_in
+one_read bytes a b x y is is2 = ap (read_in a) (one_reading bytes (Ok a) (Ok b) x y tt tt is is2)
+
+-- where bytes are read, they are not read as none, but memory may run out
+pub not_unread : (bytes : List ℕ) (end : ReadEnd) (read : Read) (x y : Option (List ℕ)) → end ≢ ReadEnd.NoMemory → ◌≢◌ {A = Result Read ReadEnd} (Err end) (Err ReadEnd.ReadFault)
+    → IsRead bytes (Err end) x → IsRead bytes (Ok read) y → ⊥
+not_unread bytes ReadEnd.Ended read x y memory fault is is2 = let same = one_reading bytes (Err ReadEnd.Ended) (Ok read) x y tt tt is is2 in absurd cc
+not_unread bytes ReadEnd.Cut read x y memory fault is is2 = let same = one_reading bytes (Err ReadEnd.Cut) (Ok read) x y tt tt is is2 in absurd cc
+not_unread bytes ReadEnd.ReadFault read x y memory fault is is2 = absurd (fault refl)
+not_unread bytes ReadEnd.NoMemory read x y memory fault is is2 = absurd (memory refl)
+
+-- so there is no reply to bytes that are read as none
+pub no_reply : {V E : Type 0} (r : Result V E) (P : V → Type 0) {Short : Type 0} → OnOk r Short → (Short → ⊥) → IfOk r P
+no_reply (Ok v) P short not_ = absurd (not_ short)
+no_reply (Err fault) P short not_ = tt
+
+-- the bytes of what was answered
+pub exchanged : {V E : Type 0} (items : V → List ℕ) (r : Result V E) (now word : ℕ) (read : Read) (old new : Standing) (reply : Reply) (close : Bool) → close ≡ closes read
+    → IsAnswered now word read old new reply → (IsPull (read_form old.admin word read) → IsSound reply) → IsWorded reply
+    → IfOk r (λ v. items v ≡ http_text reply close) → IfOk r (λ v. IsExchanged now word read old new (items v))
+exchanged items (Ok v) now word read old new reply close closed answered sound worded bytes =
+    record { reply = reply; answered = answered; sound = sound; worded = worded; bytes_are = bytes ∙ ap (http_text reply) closed }
+exchanged items (Err short) now word read old new reply close closed answered sound worded bytes = tt

@@ -1,0 +1,92 @@
+-- What a pull asks changes nothing that is held, and its reply is sound.
+use Rattle.std.proofs.Common.{◌≡◌, ◌<◌, ℕ, Bool, true, false, List, [], map, length, refl, sym, ap, ◌∙◌, subst, inl, inr, cond, Option, Some, None, Result, Ok, Err, IfSome, IfOk}
+use Rattle.misp_rules.specs.Machine.{pulls}
+use Rattle.misp_rules.specs.Answers.{brings, is_accepted}
+use Rattle.misp_rules.specs.Scene.{Scene}
+use Rattle.misp_effects.specs.Batches.{put_batches}
+use Rattle.misp_effects.specs.Effect.{Outcome, Stopped, Went, left, under}
+use Rattle.misp_core.specs.Answers.{writes_in}
+use Rattle.misp_core.specs.Effects.{asked_over, row_batches, telling}
+use Rattle.misp_core.specs.Planning.{IsBarred, unplanned}
+use Rattle.misp_core.specs.Prelude.{Row, spelled}
+use Rattle.misp_core.specs.Sound.{IsSound, IsSoundAnswer}
+use Rattle.misp_core.specs.Text.{reply_text}
+use Rattle.misp_core.specs.declared.planning.Plan.{Plan}
+use Rattle.misp_core.specs.declared.planning.NoPlan.{NoPlan}
+use Rattle.misp_store.specs.Prelude.{reach_of}
+use Rattle.misp_store.specs.Seen.{Seen}
+use Rattle.misp_api.specs.Prelude.{Ask, Asked, AskFault, Effect, Group, Held, Host, Reading, Reply, RequestData, Standing, fault_reply, forbidden, form_of, is_permitted, read_of, replied, seen_in}
+use Rattle.misp_api.specs.Answering.{IsPull, IsReplied, permitted}
+use Rattle.misp_api.specs.declared.TheConstants.{CHANGE_TEXT}
+use Rattle.misp_api.proofs.Forms.{allowed}
+
+-- ---- what is held stays
+
+nothing : (accepted : Bool) (rows : List Row) → rows ≡ [] → cond accepted rows [] ≡ []
+nothing true rows none = none
+nothing false rows none = refl
+
+writes_none : (s : Scene) (ask : Ask) → pulls ask ≡ true → writes_in s ask ≡ []
+unfolding pulls writes_in brings
+writes_none s Ask.SyncGroups is = nothing (is_accepted s Ask.SyncGroups) [] refl
+writes_none s Ask.SyncEvents is = nothing (is_accepted s Ask.SyncEvents) [] refl
+writes_none s (Ask.SyncPart e n) is = nothing (is_accepted s (Ask.SyncPart e n)) [] refl
+writes_none s (Ask.View e owner) is = absurd cc
+writes_none s (Ask.Change c) is = absurd cc
+writes_none s (Ask.Propose d) is = absurd cc
+writes_none s (Ask.Judge e n accept) is = absurd cc
+writes_none s (Ask.Sight e t d) is = absurd cc
+writes_none s Ask.Index is = absurd cc
+writes_none s Ask.Groups is = absurd cc
+writes_none s (Ask.TakePart p) is = absurd cc
+
+over_none : (host : Host) (now : ℕ) (it : Asked) (groups : List Group) (read : Result (List Row) (List ℕ)) → pulls it.1 ≡ true → (asked_over host now it groups read).batches ≡ []
+over_none host now it groups (Ok rows) is = ap row_batches (writes_none _ it.1 is)
+over_none host now it groups (Err name) is = refl
+
+replied_none : (host : Host) (now : ℕ) (form : Reading Asked) (seen : Seen) → IsPull form → (replied host now form seen).batches ≡ []
+replied_none host now (Ok it) seen is = over_none host now it seen.groups (seen.rows (reach_of it.0.org it.1)) is
+replied_none host now (Err refusal) seen is = refl
+
+left_same : (outcome : Outcome) (e : Effect Reply) (held : Held) → e.batches ≡ [] → left spelled (under telling outcome e) held ≡ held
+left_same Went e held none = ap (λ batches. put_batches (map spelled batches) held) none
+left_same (Stopped stop n lost) e held none = refl
+
+pub stays : {E : Type 0} (r : Result Reply E) (host : Host) (now : ℕ) (form : Reading Asked) (old new : Option Held)
+    → IfOk r (λ reply. IfSome old (λ held. IsReplied host now form held reply new))
+    → (IfOk r (λ reply. CHANGE_TEXT < length (reply_text reply)) → new ≡ old) → (old ≡ None → new ≡ None) → IsPull form → new ≡ old
+stays (Ok reply) host now form None new replies kept silent is = silent refl
+stays (Ok reply) host now form (Some held) new replies kept silent is =
+    replies.held_is ∙ ap Some (left_same replies.outcome (replied host now form (seen_in held)) held (replied_none host now form (seen_in held) is))
+stays (Err short) host now form old new replies kept silent is = kept tt
+
+-- ---- what is replied is sound
+
+pub sound_unplanned : (why : NoPlan) → IsSound (unplanned why)
+sound_unplanned (NoPlan.Refused refusal) = tt
+sound_unplanned NoPlan.KeeperFault = tt
+sound_unplanned NoPlan.NoMemory = tt
+
+pub sound_unread : (fault : AskFault) → IsSound (fault_reply fault)
+sound_unread (AskFault.Refused refusal) = tt
+sound_unread AskFault.NoMemory = tt
+
+abbrev PlansSound : Result Plan NoPlan → Type 0
+PlansSound planned = IfOk planned (λ plan. IsSoundAnswer plan.answer)
+
+barred_sound : (refusal : _) (old new : Standing) (planned : Result Plan NoPlan) → IsBarred refusal old new planned → PlansSound planned
+barred_sound refusal old new planned bars = elim bars.just [
+  | inl e ↦ subst PlansSound (sym e) tt
+  | inr e ↦ subst PlansSound (sym e) tt
+]
+
+by_role : (may : Bool) (asked : Asked) (planned : Result Plan NoPlan) → (may ≡ false → PlansSound planned) → (pulls asked.1 ≡ true → PlansSound planned) → IsPull (allowed may asked) → PlansSound planned
+by_role true asked planned barred sound is = sound is
+by_role false asked planned barred sound is = barred refl
+
+pub sound_told : {E : Type 0} (r : Result Reply E) (old mid : Standing) (request : RequestData) (asked : Asked) (planned : Result Plan NoPlan) → read_of old.admin request ≡ Ok asked
+    → (is_permitted asked.0 asked.1 ≡ false → IsBarred (forbidden asked.1) old mid planned) → (pulls asked.1 ≡ true → PlansSound planned)
+    → (PlansSound planned → IfOk r IsSound) → IsPull (form_of old.admin request) → IfOk r IsSound
+sound_told r old mid request asked planned read bars sound told is =
+    told (by_role (is_permitted asked.0 asked.1) asked planned (λ not_. barred_sound (forbidden asked.1) old mid planned (bars not_)) sound
+    (subst (λ form. IsPull (permitted form)) read is))

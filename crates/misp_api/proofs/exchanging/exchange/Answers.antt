@@ -1,0 +1,23 @@
+use Rattle.std.proofs.Common.{IfOk, sym, subst}
+use Rattle.misp_api.specs.Answering.{IsPull}
+use Rattle.misp_api.specs.Exchange.{IsExchanged}
+use Rattle.misp_api.specs.Sending.{read_form}
+use Rattle.misp_api.proofs.Exchanges.{no_reply, not_unread, one_read}
+use Rattle.misp_api.proofs.exchanging.exchange.Goals as goal
+
+-- the bytes are a request, and no other
+pub returns-in-Ok-clause-answered : goal.returns-in-Ok-clause-answered
+returns-in-Ok-clause-answered g c = λ read left is.
+    let same = one_read c.args.bytes.items c.in-Ok.read read c.in-Ok.ensures.read.0 left c.in-Ok.ensures.read.1 is in
+    subst (λ r. IfOk c.reply_to_read.result (λ reply. IsExchanged c.args.now c.args.word r c.args.instance.now c.reply_to_read.new.instance reply.items)) same c.reply_to_read.ensures.answered
+
+pub returns-in-Ok-clause-still : goal.returns-in-Ok-clause-still
+returns-in-Ok-clause-still g c = λ read left is pull.
+    let same = one_read c.args.bytes.items c.in-Ok.read read c.in-Ok.ensures.read.0 left c.in-Ok.ensures.read.1 is in
+    c.reply_to_read.ensures.still (subst (λ r. IsPull (read_form c.args.instance.now.admin c.args.word r)) (sym same) pull)
+
+-- they are none
+pub returns-in-Err-clause-answered : goal.returns-in-Err-clause-answered
+returns-in-Err-clause-answered g c = λ read left is.
+    no_reply c.unread.result _ c.unread.ensures
+    (λ memory. not_unread c.args.bytes.items c.in-Err.end read c.in-Err.ensures.read.0 left memory c.in-Err.ensures.no_fault c.in-Err.ensures.read.1 is)

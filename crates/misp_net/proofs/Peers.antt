@@ -1,0 +1,84 @@
+-- The places of instances by name, and the net of their links.
+use Rattle.std.proofs.Common.{◌≡◌, ℕ, zero, suc, ◌+◌, ◌<◌, Bool, true, false, cond, ltb, eqb, List, [], ◌∷◌, length, position, Option, Some, None, option_map, unwrap_or, refl, ◌∙◌, ap, inl, inr, arith, bytes_eq}
+use Rattle.std.specs.List.{position_or_len}
+use Rattle.std.proofs.lemmas.Bool.{cases_Bool}
+use Rattle.std.proofs.lemmas.Bool.Decides.{nat_tests}
+use Rattle.std.proofs.lemmas.List.Quantifiers.{position-Some}
+use Rattle.misp_ids.proofs.Same.{same_inst-refl}
+use Rattle.misp_ids.specs.declared.label.Way.TheVariants as ways
+use Rattle.misp_orgs.specs.declared.link.Link.{Link}
+use Rattle.misp_core.specs.Prelude.{Host, Inst, World, same_inst}
+use Rattle.misp_sync.specs.History.{route_of}
+use Rattle.misp_net.specs.Prelude.{AreDistinct, host_at}
+use Rattle.misp_net.specs.Hosts.{nobody}
+use Rattle.misp_net.specs.Links.{links_of, peer_place, place_named, place_of_peer, route_at}
+
+-- ---- the first of a list
+
+here_place : (n : ℕ) → cond {A = Option ℕ} (ltb 0 (suc n)) (Some 0) None ≡ Some 0
+here_place n = let up : ltb 0 (suc n) ≡ true = grind (arith, nat_tests) in rw up refl
+
+later_place : (k n : ℕ) → cond {A = Option ℕ} (ltb (1 + k) (suc n)) (Some (1 + k)) None ≡ option_map suc (cond (ltb k n) (Some k) None)
+later_place k n = elim (cases_Bool (ltb k n)) [
+  | inl hit ↦
+      let up : ltb (1 + k) (suc n) ≡ true = grind (arith, nat_tests) in
+      let one : 1 + k ≡ suc k = omega arith in
+      rw (up, hit) (ap Some one)
+  | inr miss ↦ let up : ltb (1 + k) (suc n) ≡ false = grind (arith, nat_tests) in rw (up, miss) refl
+]
+
+first_place : {A : Type 0} (p : A → Bool) (x : A) (xs : List A) → position p (x ∷ xs) ≡ cond (p x) (Some 0) (option_map suc (position p xs))
+first_place p x xs = elim (cases_Bool (p x)) [
+  | inl hit ↦ rw hit (here_place (length xs))
+  | inr miss ↦ rw miss (later_place (position_or_len p xs) (length xs))
+]
+
+-- ---- instances by name
+
+rest_apart : (h : Host) (hosts : List Host) → AreDistinct (h ∷ hosts) → AreDistinct hosts
+rest_apart h hosts distinct p q p_in q_in same =
+    let more : suc p ≡ suc q = distinct (suc p) (suc q) (omega (arith, p_in)) (omega (arith, q_in)) same in omega (arith, more)
+
+-- none before it has its name
+not_named : (h : Host) (hosts : List Host) (at : ℕ) → AreDistinct (h ∷ hosts) → at < length hosts → bytes_eq h.name (host_at at hosts).name ≡ false
+unfolding same_inst
+not_named h hosts at distinct lt = elim (cases_Bool (bytes_eq h.name (host_at at hosts).name)) [
+  | inl yes_ ↦ let same : 0 ≡ suc at = distinct 0 (suc at) (omega arith) (omega (arith, lt)) yes_ in absurd (omega (arith, same))
+  | inr no_ ↦ no_
+]
+
+-- the instance of the name of an instance is that instance
+pub place_is : (hosts : List Host) (at : ℕ) → AreDistinct hosts → at < length hosts → place_named hosts (host_at at hosts).name ≡ Some at
+unfolding same_inst
+place_is [] at distinct lt = absurd (omega arith)
+place_is (h ∷ hosts) zero distinct lt =
+    let same : bytes_eq h.name h.name ≡ true = same_inst-refl h.name in first_place (λ (host : Host). bytes_eq host.name h.name) h hosts ∙ rw same refl
+place_is (h ∷ hosts) (suc at) distinct lt =
+    let name : Inst = (host_at at hosts).name in
+    let other : bytes_eq h.name name ≡ false = not_named h hosts at distinct (omega (arith, lt)) in
+    let rest : place_named hosts name ≡ Some at = place_is hosts at (rest_apart h hosts distinct) (omega (arith, lt)) in
+    first_place (λ (host : Host). bytes_eq host.name name) h hosts ∙ rw (other, rest) refl
+
+-- a place that is found is one of theirs
+named_inside : (hosts : List Host) (at : ℕ) (name : Inst) → at < length hosts → (found : Option ℕ) → place_named hosts name ≡ found → unwrap_or found at < length hosts
+named_inside hosts at name lt None is = lt
+named_inside hosts at name lt (Some p) is = (position-Some (λ (host : Host). bytes_eq host.name name) hosts p nobody is).0
+
+pub peer_inside : (hosts : List Host) (at : ℕ) (link : Option Link) → at < length hosts → peer_place hosts at link < length hosts
+peer_inside hosts at None lt = lt
+peer_inside hosts at (Some link) lt = named_inside hosts at link.peer lt (place_named hosts link.peer) refl
+
+-- ---- the net
+
+-- it has the routes of the place of an instance
+pub route_there : (hosts : List Host) (at : ℕ) (link : Inst) (w : World) → AreDistinct hosts → at < length hosts
+    → links_of hosts ways.Pull (host_at at hosts).name link w.groups ≡ route_at hosts at link
+route_there hosts at link w distinct lt = rw (place_is hosts at distinct lt) refl
+
+-- where the peer is another, that of the pull from it, and else none
+pub route_apart : (hosts : List Host) (at : ℕ) (link : Inst) → eqb (place_of_peer hosts at link) at ≡ false
+    → route_at hosts at link ≡ route_of (host_at at hosts) link (host_at (place_of_peer hosts at link) hosts)
+route_apart hosts at link other = rw other refl
+
+pub no_route : (hosts : List Host) (at : ℕ) (link : Inst) → eqb (place_of_peer hosts at link) at ≡ true → route_at hosts at link ≡ None
+no_route hosts at link same = rw same refl

@@ -1,0 +1,34 @@
+use Rattle.std.proofs.Common.{◌≡◌, Some, [], IfOk, subst}
+use Rattle.misp_sync.specs.Serving.{IsStill}
+use Rattle.misp_net.proofs.Queries.{came_back, is_pull, query_came, query_reads}
+use Rattle.misp_net.proofs.over_carry.OverCarryWire.ask.Goals as goal
+
+pub returns-in-Ok-clause-answered : goal.returns-in-Ok-clause-answered
+returns-in-Ok-clause-answered g c = λ key query askable is.
+    let old = c.args.self.now.peer.now in
+    let new = c.exchange-replied.new.instance in
+    let word = c.args.self.now.word in
+    let now = c.args.self.now.now in
+    let came = query_came key query askable now word old new c.args.bytes.now c.in_ok-sent.sent.items is c.in_ok-sent.ensures.bytes in
+    let still : IsStill old new = record {
+      name = c.exchange-replied.ensures.name;
+      admin = c.exchange-replied.ensures.admin;
+      held = c.exchange-replied.ensures.still (query_reads key query askable now word old new) (Some []) came (is_pull key query askable now word old new);
+      later = c.exchange-replied.ensures.later;
+    } in
+    came_back key query askable now word old new _ c.pass-in-Ok.result c.in-Ok.reply.items (subst (λ bytes. IfOk c.pass-in-Ok.result (λ v. v.items ≡ bytes)) c.deref.ensures.value c.pass-in-Ok.ensures.bytes)
+    (c.in-Ok.ensures.answered (query_reads key query askable now word old new) (Some []) came) still
+
+pub returns-in-Err-clause-answered : goal.returns-in-Err-clause-answered
+returns-in-Err-clause-answered g c = λ key query askable is.
+    let old = c.args.self.now.peer.now in
+    let new = c.exchange-replied.new.instance in
+    let word = c.args.self.now.word in
+    let now = c.args.self.now.now in
+    let came = query_came key query askable now word old new c.args.bytes.now c.in_ok-sent.sent.items is c.in_ok-sent.ensures.bytes in
+    record {
+      name = c.exchange-replied.ensures.name;
+      admin = c.exchange-replied.ensures.admin;
+      held = c.exchange-replied.ensures.still (query_reads key query askable now word old new) (Some []) came (is_pull key query askable now word old new);
+      later = c.exchange-replied.ensures.later;
+    }

@@ -1,0 +1,30 @@
+use Rattle.serde_json.proofs.Texts.{print-outline}
+use Rattle.misp_net.specs.SyncText.{stopped_data}
+use Rattle.misp_net.proofs.synced.write_stopped.Goals as goal
+
+pub returns : goal.returns
+unfolding stopped_data
+returns c =
+    rw (
+      c.into_inner.ensures.items,
+      c.in_ok-end_object.ensures.room.0,
+      c.in_ok-end_object.ensures.ok,
+      c.in_ok-put_count-2.ensures.before,
+      c.in_ok-put_count-2.ensures.tokens,
+      c.from.ensures,
+      c.rule.ensures,
+      c.in_ok-put_name-2.ensures.before,
+      c.in_ok-put_name-2.ensures.tokens,
+      c.as_str.ensures,
+      c.in_ok-put_count.ensures.before,
+      c.in_ok-put_count.ensures.tokens,
+      c.in_ok-put_name.ensures.before,
+      c.in_ok-put_name.ensures.tokens,
+      c.text.ensures,
+      c.in_ok-begin_object.ensures.room.0,
+      c.in_ok-begin_object.ensures.ok,
+      c.new-out.ensures.before,
+      c.new-out.ensures.tokens,
+      c.new.ensures.items,
+    )
+    (print-outline (stopped_data c.args.count.now c.args.cause.now))

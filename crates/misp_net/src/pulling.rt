@@ -1,0 +1,152 @@
+//! The pulls of lines.
+
+ghost use Rattle.std.specs.Prelude.{◌≡◌, ◌≤◌, ◌<◌, false, eqb, Some, OnOk, OnErr, vec_len, vec_capacity};
+ghost use Rattle.misp_ids.specs.Refusal.{bare};
+ghost use Rattle.misp_orgs.specs.Admin.{link_of};
+ghost use Rattle.misp_outside.specs.Causes.{HasCause};
+ghost use Rattle.misp_effects.specs.KeeperStates.{Lends};
+ghost use Rattle.misp_effects.specs.declared.stop.Stop.TheVariants as stops;
+ghost use Rattle.misp_script.specs.Directory.{roster_names};
+ghost use Rattle.misp_script.specs.Step.{pull_data};
+ghost use Rattle.misp_sync.specs.Counts.{no_count};
+ghost use Rattle.misp_sync.specs.Pulled.{stop_in};
+ghost use Rattle.misp_sync.specs.declared.reply.SyncReply.TheVariants as replies;
+ghost use Rattle.misp_net.specs.Acts.{Pulls, act};
+ghost use Rattle.misp_net.specs.Asking.{asked_over, names_of};
+ghost use Rattle.misp_net.specs.Lines.{pull_line};
+ghost use Rattle.misp_net.specs.Links.{place_of_peer};
+ghost use Rattle.misp_net.specs.Running.{hosts_of, states_of, CutLine, IsAct, IsPulled, RanLine};
+ghost use Rattle.misp_net.specs.declared.line.Output.TheVariants.{Synced};
+
+use crate::lending::pull_between;
+use crate::synced::put_synced;
+use misp_api::Routes;
+use misp_core::Instance;
+use misp_ids::{NoMemory, Refusal, RuleName, Stamp};
+use misp_outside::{Carry, Keeper};
+use misp_script::{Directory, PullLine};
+use misp_sync::{SyncCount, SyncReply};
+use std::alloc::Global;
+
+// The place of the peer of a link, or the rule by which a pull over it is refused.
+fn asked<K: Keeper>(
+    directory: &Directory,
+    instance: &Instance<K>,
+    line: &PullLine,
+) -> Result<usize, RuleName>
+    ensures { result
+        ≡ asked_over directory.now line.now.at (link_of instance.now.admin.links line.now.link) }
+{
+    let Some(link) = instance.link(&line.link) else {
+        return Err(RuleName::NoLink);
+    };
+    if !link.on {
+        return Err(RuleName::LinkOff);
+    }
+    match directory.place_of(link.peer.text().as_bytes()) {
+        Some(peer) => {
+            if peer == line.at {
+                Err(RuleName::NoLink)
+            } else {
+                Ok(peer)
+            }
+        }
+        None => Err(RuleName::NoLink),
+    }
+}
+
+// Refuses a pull of which nobody is asked.
+fn refused(alloc: Global, name: RuleName) -> SyncReply
+    ensures { result ≡ replies.Stopped no_count (bare name) }
+{
+    SyncReply::Stopped {
+        count: SyncCount {
+            groups: 0,
+            events: 0,
+            elements: 0,
+            packages: 0,
+        },
+        cause: Refusal::bare(alloc, name),
+    }
+}
+
+// Pulls over the link of a line from the instance of another place.
+fn lend<K: Keeper, C: Carry>(
+    alloc: Global,
+    routes: &Routes,
+    instances: &mut Vec<Instance<K>>,
+    carry: &mut C,
+    now: Stamp,
+    word: u128,
+    line: &PullLine,
+    peer: usize,
+) -> SyncReply
+    requires inside { line.now.at < vec_len instances.old }
+    requires peer { peer ≡ place_of_peer (hosts_of instances.old.items) line.now.at line.now.link }
+    requires apart { eqb peer line.now.at ≡ false }
+    ensures lends { Lends line.now.at peer
+        (states_of instances.old.items) (states_of instances.new.items)
+        (IsPulled (hosts_of instances.old.items) (pull_data line.now) result) }
+    ensures cause { HasCause (C.faults carry.old) (C.faults carry.new)
+        (stop_in result ≡ Some stops.Carry) }
+    ensures hosts { hosts_of instances.new.items ≡ hosts_of instances.old.items }
+{
+    pull_between(
+        alloc, routes, instances, carry, line.at, peer, &line.link, now, word,
+    )
+}
+
+// Runs the pull of a line.
+fn pull_at<K: Keeper, C: Carry>(
+    alloc: Global,
+    routes: &Routes,
+    directory: &Directory,
+    instances: &mut Vec<Instance<K>>,
+    carry: &mut C,
+    now: Stamp,
+    word: u128,
+    line: &PullLine,
+) -> SyncReply
+    requires inside { line.now.at < vec_len instances.old }
+    requires names { roster_names directory.now ≡ names_of (hosts_of instances.old.items) }
+    ensures act { IsAct (hosts_of instances.old.items)
+        (act now word (Pulls (pull_data line.now)))
+        (states_of instances.old.items) (states_of instances.new.items) (Synced result) }
+    ensures cause { HasCause (C.faults carry.old) (C.faults carry.new)
+        (stop_in result ≡ Some stops.Carry) }
+    ensures hosts { hosts_of instances.new.items ≡ hosts_of instances.old.items }
+{
+    match asked(directory, &instances[line.at], line) {
+        Ok(peer) => lend(alloc, routes, instances, carry, now, word, line, peer),
+        Err(name) => refused(alloc, name),
+    }
+}
+
+/// Runs the pull of a line, and writes what it was told, with room for one byte after it.
+pub(crate) fn put_pull<K: Keeper, C: Carry>(
+    lines: &mut Vec<u8>,
+    alloc: Global,
+    routes: &Routes,
+    directory: &Directory,
+    instances: &mut Vec<Instance<K>>,
+    carry: &mut C,
+    now: Stamp,
+    word: u128,
+    line: &PullLine,
+) -> Result<(), NoMemory>
+    requires inside { line.now.at < vec_len instances.old }
+    requires names { roster_names directory.now ≡ names_of (hosts_of instances.old.items) }
+    ensures ran { OnOk result (RanLine (hosts_of instances.old.items)
+        (pull_line now word (pull_data line.now))
+        (states_of instances.old.items) (states_of instances.new.items)
+        lines.old.items lines.new.items (C.faults carry.old) (C.faults carry.new)) }
+    ensures room { OnOk result (vec_len lines.new < vec_capacity lines.new) }
+    ensures cut { OnErr result (CutLine (hosts_of instances.old.items)
+        (pull_line now word (pull_data line.now))
+        (states_of instances.old.items) (states_of instances.new.items)) }
+    ensures hosts { hosts_of instances.new.items ≡ hosts_of instances.old.items }
+    ensures later { C.faults carry.old ≤ C.faults carry.new }
+{
+    let reply = pull_at(alloc, routes, directory, instances, carry, now, word, line);
+    put_synced(lines, alloc, &reply)
+}

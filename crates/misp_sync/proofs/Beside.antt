@@ -1,0 +1,80 @@
+-- What else is held where rows of an event are put.
+use Rattle.std.proofs.Common.{◌≡◌, ℕ, ◌==◌, ◌&&◌, Bool, true, false, not, List, [], ◌∷◌, map, filter, nat_eq, Option, Some, refl, sym, ap, subst, ◌∙◌, arith, IfSome}
+use Rattle.std.specs.List.{list_all, starts_with}
+use Rattle.misp_lists.proofs.Prelude.{put}
+use Rattle.misp_outside.specs.Held.{Held, comes_before, put_admins, put_raw, put_rows, rows_named, same_raw, with_batch}
+use Rattle.misp_outside.specs.declared.row.RawRow.{RawRow}
+use Rattle.misp_effects.specs.Batches.{batch, put_batches}
+use Rattle.misp_rules.proofs.Prelude.{EventId, OrgId, Row, event_of, nat_tests, same_event, uid, and_parts}
+use Rattle.misp_store.specs.Raw.{raw_row, rows_in}
+use Rattle.misp_core.specs.Effects.{row_batches}
+use Rattle.misp_core.specs.Prelude.{spelled}
+use Rattle.misp_sync.specs.Steps.{IsBeside}
+
+-- ---- what is left out
+
+put_out : {X : Type 0} (before : X → X → Bool) (q : X → Bool) (x : X) (ys : List X) → q x ≡ false → filter q (put before x ys) ≡ filter q ys
+unfolding put
+put_out before q x [] out = grind (arith, out)
+put_out before q x (y ∷ ys) out = grind (arith, out, put_out before q x ys out)
+
+pub kept_out : {X : Type 0} (q t : X → Bool) → ((y : X) → q y ≡ true → t y ≡ true) → (ys : List X) → filter q (filter t ys) ≡ filter q ys
+kept_out q t keeps [] = refl
+kept_out q t keeps (y ∷ ys) = grind (arith, keeps y, kept_out q t keeps ys)
+
+-- ---- rows of another event
+
+module _ (e other : EventId) (front : List ℕ) (apart : same_event e other ≡ false) where
+  abbrev among : RawRow → Bool
+  among row = (row.event.0.0 == other.0.0) && starts_with nat_eq row.name front
+
+  not_among : (r : Row) → same_event (event_of r.key) e ≡ true → among (raw_row r) ≡ false
+  unfolding raw_row same_event
+  not_among r is = grind (arith, nat_tests, apart, is)
+
+  not_same : (r : Row) → same_event (event_of r.key) e ≡ true → (y : RawRow) → among y ≡ true → not (same_raw y (raw_row r)) ≡ true
+  unfolding raw_row same_event same_raw
+  not_same r is y h = grind (arith, nat_tests, apart, is, h)
+
+  pub named_kept : (rows : List Row) → list_all (λ row. same_event (event_of row.key) e) rows ≡ true → (raws : List RawRow)
+      → rows_named other front (put_rows (map raw_row rows) raws) ≡ rows_named other front raws
+  unfolding rows_named put_rows put_raw
+  named_kept [] are raws = refl
+  named_kept (r ∷ rows) are raws =
+      let both = and_parts (same_event (event_of r.key) e) (list_all (λ row. same_event (event_of row.key) e) rows) are in
+      named_kept rows both.1 (put_raw (raw_row r) raws)
+      ∙ put_out comes_before among (raw_row r) _ (not_among r both.0)
+      ∙ kept_out among (λ held. not (same_raw held (raw_row r))) (not_same r both.0) raws
+
+-- ---- batches of rows
+
+-- rows are put in their batch
+pub rows_put_so : (rows : List Row) (held : Held) → put_batches (map spelled (row_batches rows)) held ≡ record held { rows = put_rows (map raw_row rows) held.rows }
+unfolding with_batch put_rows put_admins
+rows_put_so [] held = refl
+rows_put_so (row ∷ rows) held = refl
+
+-- and so where an empty batch is put for no rows
+pub batch_put_so : (rows : List Row) (held : Held) → with_batch (spelled (batch rows [])) held ≡ put_batches (map spelled (row_batches rows)) held
+unfolding with_batch put_rows put_admins
+batch_put_so [] held = refl
+batch_put_so (row ∷ rows) held = refl
+
+-- ---- what is beside
+
+pub beside_put : (w : OrgId) (e : EventId) (rows : List Row) (held : Held) → list_all (λ row. same_event (event_of row.key) e) rows ≡ true
+    → IsBeside w e held (put_batches (map spelled (row_batches rows)) held)
+beside_put w e rows held are = subst (IsBeside w e held) (sym (rows_put_so rows held)) (record {
+  groups = refl;
+  rows = λ other apart. ap rows_in (named_kept e other (uid w.0) apart rows are held.rows);
+})
+
+pub beside_none : (w : OrgId) (e : EventId) (held : Held) → IsBeside w e held held
+beside_none w e held = record { groups = refl; rows = λ other apart. refl }
+
+pub beside_then : (w : OrgId) (e : EventId) (a b c : Held) → IsBeside w e a b → IsBeside w e b c → IsBeside w e a c
+beside_then w e a b c h k = record { groups = k.groups ∙ h.groups; rows = λ other apart. k.rows other apart ∙ h.rows other apart }
+
+-- where something may be held
+pub beside_now : (w : OrgId) (e : EventId) (old held : Held) (new : Option Held) → new ≡ Some held → IsBeside w e old held → IfSome new (IsBeside w e old)
+beside_now w e old held new is beside = subst (λ new. IfSome new (IsBeside w e old)) (sym is) beside

@@ -1,0 +1,57 @@
+-- A pull changes no other instance.
+use Rattle.std.proofs.Common.{◌≡◌, ℕ, zero, suc, true, false, Option, Some, None, refl, sym, ap, ◌∙◌, inl, inr}
+use Rattle.std.proofs.lemmas.Bool.{cases_Bool}
+use Rattle.std.proofs.lemmas.Slice.Eq.{bytes_eq-Decides}
+use Rattle.misp_ids.specs.declared.label.Way.{Way}
+use Rattle.misp_orgs.specs.Admin.{link_of}
+use Rattle.misp_effects.specs.Effect.{Outcome, Stopped, Went}
+use Rattle.misp_rules.proofs.Prelude.{Inst, same_inst}
+use Rattle.misp_history.specs.Acts.{Net, World, synced, synced_groups}
+use Rattle.misp_history.specs.History.{tables}
+use Rattle.misp_history.specs.Outcomes.{step_partly, synced_partly}
+use Rattle.misp_history.specs.Passing.{Route}
+use Rattle.misp_history.proofs.Merging.{stopped_elsewhere, synced_elsewhere}
+use Rattle.misp_history.proofs.Steps.{with_groups_elsewhere}
+use Rattle.misp_core.specs.Prelude.{Host}
+use Rattle.misp_sync.specs.History.{applied, pull_act, route_of}
+use Rattle.misp_sync.proofs.Routes.{IsBetween, between_over, world_by, world_is, world_none}
+
+same_apart : (i j : Inst) → same_inst i j ≡ false → same_inst j i ≡ false
+unfolding same_inst
+same_apart i j apart = elim (cases_Bool (same_inst j i)) [
+  | inl same ↦ absurd (
+      let equal : j ≡ i = (bytes_eq-Decides j i).0 same in
+      let again : same_inst i j ≡ true = (bytes_eq-Decides i j).1 (sym equal) in
+      let never : true ≡ false = sym again ∙ apart in
+      cc
+      )
+  | inr other ↦ other
+]
+
+module _ (n : ℕ) (w : World) (here peer j : Inst) (apart : same_inst here j ≡ false) where
+  tables_by : (outcome : Outcome) (o : Option Route) → IsBetween here peer o → tables (world_by n w outcome o).log j ≡ tables w.log j
+  tables_by outcome None h = ap (λ (v : World). tables v.log j) (world_none n w outcome)
+  tables_by Went (Some r) h = synced_elsewhere n w r j (ap (λ i. same_inst i j) h.0 ∙ apart)
+  tables_by (Stopped stop zero lost) (Some r) h = stopped_elsewhere n 0 w r false j (ap (λ i. same_inst i j) h.0 ∙ apart)
+  tables_by (Stopped stop (suc p) lost) (Some r) h = stopped_elsewhere n p w r true j (ap (λ i. same_inst i j) h.0 ∙ apart)
+
+  groups_by : (outcome : Outcome) (o : Option Route) → IsBetween here peer o → (world_by n w outcome o).groups j ≡ w.groups j
+  unfolding synced synced_partly synced_groups
+  groups_by outcome None h = ap (λ (v : World). v.groups j) (world_none n w outcome)
+  groups_by Went (Some r) h = with_groups_elsewhere w.groups r.into j _ (same_apart r.into j (ap (λ i. same_inst i j) h.0 ∙ apart))
+  groups_by (Stopped stop zero lost) (Some r) h = refl
+  groups_by (Stopped stop (suc p) lost) (Some r) h = with_groups_elsewhere w.groups r.into j _ (same_apart r.into j (ap (λ i. same_inst i j) h.0 ∙ apart))
+
+module _ (net : Net) (n now : ℕ) (w : World) (here peer : Host) (link j : Inst) (outcome : Outcome)
+    (e : net Way.Pull here.name link w.groups ≡ route_of here link peer) (apart : same_inst here.name j ≡ false) where
+  -- no tables of another instance change
+  pub tables_elsewhere : tables (step_partly net n w (pull_act here.name now link) (applied outcome)).log j ≡ tables w.log j
+  tables_elsewhere =
+      ap (λ (v : World). tables v.log j) (world_is net n now w here.name link outcome (route_of here link peer) e)
+      ∙ tables_by n w here.name peer.name j apart outcome (route_of here link peer) (between_over here.name peer (link_of here.admin.links link))
+
+  -- and no groups
+  pub groups_elsewhere : (step_partly net n w (pull_act here.name now link) (applied outcome)).groups j ≡ w.groups j
+  groups_elsewhere =
+      ap (λ (v : World). v.groups j) (world_is net n now w here.name link outcome (route_of here link peer) e)
+      ∙ groups_by n w here.name peer.name j apart outcome (route_of here link peer) (between_over here.name peer (link_of here.admin.links link))

@@ -1,0 +1,22 @@
+use Rattle.std.proofs.Common.{Vec, Global, length, ◌<◌, ◌^◌, arith}
+use Rattle.misp_lists.proofs.Prelude.{AllByRecursion}
+use Rattle.misp_core.specs.Sound.{IsListed}
+use Rattle.misp_core.specs.declared.reply.EventParts.{EventParts}
+use Rattle.misp_sync.specs.Replied.{IsBrought, events_in}
+use Rattle.misp_sync.specs.Serving.{IsAnswered}
+use Rattle.misp_sync.specs.Telling.{events_told}
+use Rattle.misp_sync.specs.declared.query.Query.{Query}
+use Rattle.misp_sync.proofs.Brought.{answered, meet_all}
+use Rattle.misp_sync.proofs.EventsTold.{events_fit}
+use Rattle.misp_sync.proofs.fetching.events_brought.Goals as goal
+
+pub returns-in-Ok-clause-told : goal.returns-in-Ok-clause-told
+returns-in-Ok-clause-told g c =
+    let bytes = c.in-Ok.bytes.items in
+    let key = c.args.key.now in
+    let small : length bytes < 2 ^ 63 = omega (arith, c.in-Ok.bytes.ok, c.in-Ok.bytes.small) in
+    meet_all (g.W.Wire.peer c.args.wire.now) (g.W.Wire.peer c.ask.new.wire)
+    (λ old new. IsAnswered key Query.Events old new bytes)
+    (IsBrought {A = Vec EventParts Global} (λ events. events.items) events_told key Query.Events c.events_replied.result)
+    (λ old new a. answered {X = Vec EventParts Global} (λ events. events.items) (AllByRecursion IsListed) events_told events_in key Query.Events old new (events_fit key old new) bytes small a c.events_replied.result c.events_replied.ensures.each (rw c.deref.ensures.value at c.events_replied.ensures.read))
+    c.in-Ok.ensures.answered

@@ -1,0 +1,11 @@
+use Rattle.std.proofs.Common.{ℕ, Vec, Global}
+use Rattle.misp_core.specs.declared.reply.EventParts.{EventParts}
+use Rattle.misp_sync.specs.Replied.{events_in}
+use Rattle.misp_sync.proofs.ReadReplies.{read_err, read_ok}
+use Rattle.misp_sync.proofs.fetching.events_replied.Goals as goal
+
+pub returns-in-Ok-clause-read : goal.returns-in-Ok-clause-read
+returns-in-Ok-clause-read c = read_ok {X = Vec EventParts Global} (λ events. events.items) events_in c.args.bytes.now c.deref.result.now c.read_events.result (rw c.deref.ensures.value c.in-Ok.ensures) c.read_events.ensures.gives
+
+pub returns-in-Err-clause-read : goal.returns-in-Err-clause-read
+returns-in-Err-clause-read c = read_err {V = Vec ℕ Global} {X = Vec EventParts Global} (λ body. body.items) (λ events. events.items) events_in c.args.bytes.now c.in-Err.fault c.in-Err.ensures

@@ -1,0 +1,22 @@
+use Rattle.std.proofs.Common.{Vec, Global, length, ◌<◌, ◌^◌, arith}
+use Rattle.misp_lists.proofs.Prelude.{AllByRecursion}
+use Rattle.misp_groups.specs.Group.{IsGroup}
+use Rattle.misp_groups.specs.declared.group.GroupFields.{GroupFields as Group}
+use Rattle.misp_sync.specs.Replied.{IsBrought, groups_in}
+use Rattle.misp_sync.specs.Serving.{IsAnswered}
+use Rattle.misp_sync.specs.Telling.{groups_told}
+use Rattle.misp_sync.specs.declared.query.Query.{Query}
+use Rattle.misp_sync.proofs.Brought.{answered, meet_all}
+use Rattle.misp_sync.proofs.GroupsTold.{groups_fit}
+use Rattle.misp_sync.proofs.fetching.groups_brought.Goals as goal
+
+pub returns-in-Ok-clause-told : goal.returns-in-Ok-clause-told
+returns-in-Ok-clause-told g c =
+    let bytes = c.in-Ok.bytes.items in
+    let key = c.args.key.now in
+    let small : length bytes < 2 ^ 63 = omega (arith, c.in-Ok.bytes.ok, c.in-Ok.bytes.small) in
+    meet_all (g.W.Wire.peer c.args.wire.now) (g.W.Wire.peer c.ask.new.wire)
+    (λ old new. IsAnswered key Query.Groups old new bytes)
+    (IsBrought {A = Vec Group Global} (λ groups. groups.items) groups_told key Query.Groups c.groups_replied.result)
+    (λ old new a. answered {X = Vec Group Global} (λ groups. groups.items) (AllByRecursion IsGroup) groups_told groups_in key Query.Groups old new (groups_fit c.a_group_is_read_from_its_text.ensures key old new) bytes small a c.groups_replied.result c.groups_replied.ensures.each (rw c.deref.ensures.value at c.groups_replied.ensures.read))
+    c.in-Ok.ensures.answered

@@ -1,0 +1,13 @@
+-- The laws are lemmas of proofs/Keeping.antt, proofs/Left.antt and proofs/Elsewhere.antt.
+use Rattle.misp_sync.proofs.Elsewhere.{groups_elsewhere, tables_elsewhere}
+use Rattle.misp_sync.proofs.Keeping.{told_there}
+use Rattle.misp_sync.proofs.Left.{left_there}
+use Rattle.misp_sync.proofs.laws.an_instance_pulls_by_the_history.Goals as goal
+
+pub returns : goal.returns
+returns c = record {
+  told = told_there;
+  left = left_there c.a_group_is_read_from_its_text.ensures;
+  elsewhere = tables_elsewhere;
+  groups = groups_elsewhere;
+}

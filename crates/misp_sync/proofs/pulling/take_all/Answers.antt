@@ -1,0 +1,71 @@
+-- What is shown of the taking of groups and rows.
+use Rattle.std.proofs.Common.{Global, IfSome, None, Ok, Err, Vec, ap, option_map, refl, subst, ◌∙◌, ◌≡◌, length}
+use Rattle.std.specs.List.{AllByRecursion}
+use Rattle.misp_groups.specs.Changes.{take_groups}
+use Rattle.misp_groups.specs.Group.{IsGroup}
+use Rattle.misp_orgs.specs.Admin.{who_of}
+use Rattle.misp_core.specs.Prelude.{Group, groups_of, host_of}
+use Rattle.misp_core.specs.Taking.{groups_taken, with_groups_taken}
+use Rattle.misp_sync.specs.Serving.{Meet}
+use Rattle.misp_sync.specs.Steps.{IsStep, stand, stop_of_keeper}
+use Rattle.misp_sync.specs.Telling.{IsFetched, groups_told}
+use Rattle.misp_sync.specs.declared.query.Query.{Query}
+use Rattle.misp_sync.proofs.GroupsSent.{all_barred, all_came, all_ended, groups_fetched, rows_said}
+use Rattle.misp_sync.proofs.Standings.{groups_tell, step_done, step_fetched, step_stopped, step_then}
+use Rattle.misp_sync.proofs.pulling.take_all.Goals as goal
+
+pub returns-in-Err-clause-step : goal.returns-in-Err-clause-step
+returns-in-Err-clause-step g c =
+    let told = c.in-Err.ensures in
+    step_fetched (λ (groups : Vec Group Global). groups.items) groups_told groups_tell c.args.key.now Query.Groups
+    (Err c.in-Err.cause) c.args.instance.now _ _ _ _ _ _ told.told told.through told.cause told.why
+
+pub returns-in-Ok-take_groups-clause-step : goal.returns-in-Ok-take_groups-clause-step
+returns-in-Ok-take_groups-clause-step g c =
+    let told = c.in-Ok.ensures in let took = c.in-Ok-take_groups.ensures in
+    step_then _ _ _ _
+    (step_fetched (λ (groups : Vec Group Global). groups.items) groups_told groups_tell c.args.key.now Query.Groups
+    (Ok c.in-Ok.groups) c.args.instance.now _ _ _ _ _ _ told.told told.through told.cause told.why)
+    (step_then _ _ _ _ (step_done c.args.instance.now c.take_groups.new.self _ _ _ took.name took.admin took.cause.later) c.take_rows.ensures.step)
+
+pub returns-in-Err-take_groups-clause-step : goal.returns-in-Err-take_groups-clause-step
+returns-in-Err-take_groups-clause-step g c =
+    let told = c.in-Ok.ensures in let took = c.in-Err-take_groups.ensures in
+    step_then _ _ _ _
+    (step_fetched (λ (groups : Vec Group Global). groups.items) groups_told groups_tell c.args.key.now Query.Groups
+    (Ok c.in-Ok.groups) c.args.instance.now _ _ _ _ _ _ told.told told.through told.cause told.why)
+    (step_stopped c.args.instance.now c.take_groups.new.self _ _ _ c.in-Err-take_groups.fault c.stopped.result took.name took.admin c.stopped.ensures took.cause)
+
+pub returns-in-Err-clause-taken : goal.returns-in-Err-clause-taken
+returns-in-Err-clause-taken g c = λ own there peer tell.
+    all_ended c.args.instance.now.name c.args.holder.now (host_of peer) own there (λ (groups : Vec Group Global). groups.items) (who_of peer.admin c.args.key.now) c.in-Err.cause _ _
+    (groups_fetched (λ (groups : Vec Group Global). groups.items) c.args.key.now peer there (g.W.Wire.peer c.fetch_groups.new.wire) (Err c.in-Err.cause) tell.there_is
+    (subst (λ x. Meet x (g.W.Wire.peer c.fetch_groups.new.wire)
+    (IsFetched (λ (groups : Vec Group Global). groups.items) groups_told c.args.key.now Query.Groups (Err c.in-Err.cause))) tell.peer_is c.in-Err.ensures.told))
+    tell.own_is
+
+pub returns-in-Ok-take_groups-clause-taken : goal.returns-in-Ok-take_groups-clause-taken
+returns-in-Ok-take_groups-clause-taken g c = λ own there peer tell.
+    let told = c.in-Ok.ensures in let took = c.in-Ok-take_groups.ensures in
+    let mid = stand c.take_groups.new.self (g.W.Wire.peer c.fetch_groups.new.wire) (g.W.Wire.faults c.fetch_groups.new.wire) (g.W.Wire.through c.fetch_groups.new.wire) in
+    let old = stand c.args.instance.now (g.W.Wire.peer c.args.wire.now) (g.W.Wire.faults c.args.wire.now) (g.W.Wire.through c.args.wire.now) in
+    let step : IsStep old mid None = step_then old _ mid None
+    (step_fetched (λ (groups : Vec Group Global). groups.items) groups_told groups_tell c.args.key.now Query.Groups
+    (Ok c.in-Ok.groups) c.args.instance.now _ _ _ _ _ _ told.told told.through told.cause told.why)
+    (step_done c.args.instance.now c.take_groups.new.self _ _ _ took.name took.admin took.cause.later) in
+    all_came c.args.instance.now.name c.args.holder.now (host_of peer) own there c.args.key.now c.in-Ok.groups.items _ _ _ _ _ _ c.in-Ok-take_groups.count
+    (took.put ∙ ap (option_map (with_groups_taken c.in-Ok.groups.items)) tell.own_is)
+    (subst (λ x. IfSome x (λ held. IfSome c.take_groups.new.self.held (λ new. groups_of new ≡ take_groups (groups_of held) c.in-Ok.groups.items))) tell.own_is took.groups)
+    (subst (λ x. IfSome x (λ held. AllByRecursion IsGroup (groups_taken (groups_of held) c.in-Ok.groups.items))) tell.own_is took.fits)
+    (subst (λ x. IfSome x (λ held. c.in-Ok-take_groups.count ≡ length (groups_taken (groups_of held) c.in-Ok.groups.items))) tell.own_is took.count)
+    c.add_groups.ensures
+    (rows_said old mid c.args.key.now c.args.holder.now own there peer _ _ _ _ step tell c.take_rows.ensures.taken)
+    (λ (groups : Vec Group Global). groups.items) c.in-Ok.groups refl (who_of peer.admin c.args.key.now) refl
+    (groups_fetched (λ (groups : Vec Group Global). groups.items) c.args.key.now peer there (g.W.Wire.peer c.fetch_groups.new.wire) (Ok c.in-Ok.groups) tell.there_is
+    (subst (λ x. Meet x (g.W.Wire.peer c.fetch_groups.new.wire)
+    (IsFetched (λ (groups : Vec Group Global). groups.items) groups_told c.args.key.now Query.Groups (Ok c.in-Ok.groups))) tell.peer_is told.told))
+
+pub returns-in-Err-take_groups-clause-taken : goal.returns-in-Err-take_groups-clause-taken
+returns-in-Err-take_groups-clause-taken g c = λ own there peer tell.
+    all_barred c.args.instance.now.name c.args.holder.now (host_of peer) own there (stop_of_keeper c.in-Err-take_groups.fault) (who_of peer.admin c.args.key.now) c.stopped.result _ _ c.stopped.ensures
+    (c.in-Err-take_groups.ensures.err ∙ tell.own_is)

@@ -1,0 +1,31 @@
+-- What is shown of the taking of an event.
+use Rattle.std.proofs.Common.{◌<◌, ◌^◌, rules, ◌∙◌, IfSome, subst}
+use Rattle.misp_store.specs.Loading.{NamesFault}
+use Rattle.misp_store.specs.declared.reach.Reach.{Reach}
+use Rattle.misp_core.specs.Prelude.{seen_in}
+use Rattle.misp_sync.proofs.EventLoop.{event_landed, event_unread, step_unread}
+use Rattle.misp_sync.proofs.Standings.{step_done, step_then}
+use Rattle.misp_sync.proofs.pulling.take_event.Goals as goal
+
+pub returns-in-Ok-clause-step : goal.returns-in-Ok-clause-step
+returns-in-Ok-clause-step g c =
+    let took = c.in-Ok.ensures in
+    step_then _ _ _ _ (step_done c.args.instance.now c.landing.new.self _ _ _ took.name took.admin took.cause.later) c.take_parts.ensures.step
+
+pub returns-in-Err-clause-step : goal.returns-in-Err-clause-step
+returns-in-Err-clause-step g c =
+    let took = c.in-Err.ensures in
+    step_unread c.args.instance.now c.landing.new.self _ _ _ c.in-Err.fault c.unread.result took.name took.admin c.unread.ensures took.cause
+
+pub returns-in-Ok-clause-taken : goal.returns-in-Ok-clause-taken
+returns-in-Ok-clause-taken g c =
+    let took = c.in-Ok.ensures in
+    let owner : c.args.holder.now.0.0 < 2 ^ 128 = search rules in
+    event_landed _ _ _ c.args.holder.now c.args.listed.now.event c.args.listed.now.parts c.in-Ok.landing _ _ _ _
+    (step_done c.args.instance.now c.landing.new.self _ _ _ took.name took.admin took.cause.later) took.held took.own c.take_parts.ensures.taken owner
+
+pub returns-in-Err-clause-taken : goal.returns-in-Err-clause-taken
+returns-in-Err-clause-taken g c = λ all next own there peer tell sends count.
+    let took = c.in-Err.ensures in
+    event_unread c.args.instance.now.name c.args.holder.now c.args.listed.now.event all next own c.in-Err.fault c.unread.result _ _ c.unread.ensures (took.held ∙ tell.own_is)
+    (subst (λ held. IfSome held (λ held. NamesFault ((seen_in held).rows (Reach.Own c.args.holder.now c.args.listed.now.event)) c.in-Err.fault)) tell.own_is took.bad)

@@ -1,0 +1,50 @@
+//! Laws of what a synchronisation leaves.
+
+ghost use Rattle.std.specs.Prelude.{◌≡◌, ℕ, false};
+ghost use Rattle.misp_ids.specs.Same.{Inst, same_inst};
+ghost use Rattle.misp_ids.specs.declared.label.Way.TheVariants as ways;
+ghost use Rattle.misp_outside.specs.Held.{Held};
+ghost use Rattle.misp_effects.specs.Batches.{AreReadable};
+ghost use Rattle.misp_effects.specs.Effect.{Outcome, left, under};
+ghost use Rattle.misp_history.specs.Acts.{Net, World};
+ghost use Rattle.misp_history.specs.History.{tables};
+ghost use Rattle.misp_history.specs.Outcomes.{step_partly};
+ghost use Rattle.misp_store.specs.Batches.{spelled};
+ghost use Rattle.misp_store.specs.Seen.{seen_in};
+ghost use Rattle.misp_core.specs.Keeping.{Keeps};
+ghost use Rattle.misp_core.specs.Standing.{Host};
+ghost use Rattle.misp_sync.specs.History.{applied, pull_act, route_of, seen_of};
+ghost use Rattle.misp_sync.specs.Pulled.{pulled, telling};
+
+use misp_format::a_group_is_read_from_its_text;
+
+/// Where the keepers of two instances hold their tables and groups, a pull of the one from the
+/// other comes to what the history says. Whatever stopped it, its keeper holds afterwards what it is
+/// to hold after the act. No tables and no groups elsewhere change.
+pub fn an_instance_pulls_by_the_history()
+    ensures told { (w : World) (here peer : Host) (link : Inst) (own there : Held) →
+        Keeps here.name w own → Keeps peer.name w there →
+        pulled here link peer (seen_in own) (seen_in there)
+        ≡ pulled here link peer (seen_of w here.name) (seen_of w peer.name) }
+    ensures left { (net : Net) (n now : ℕ) (w : World) (here peer : Host) (link : Inst)
+        (own there : Held) (outcome : Outcome) →
+        Keeps here.name w own → Keeps peer.name w there →
+        net ways.Pull here.name link w.groups ≡ route_of here link peer →
+        AreReadable (under telling outcome
+        (pulled here link peer (seen_in own) (seen_in there))).batches →
+        Keeps here.name (step_partly net n w (pull_act here.name now link) (applied outcome))
+        (left spelled (under telling outcome
+        (pulled here link peer (seen_in own) (seen_in there))) own) }
+    ensures elsewhere { (net : Net) (n now : ℕ) (w : World) (here peer : Host) (link j : Inst)
+        (outcome : Outcome) → net ways.Pull here.name link w.groups ≡ route_of here link peer →
+        same_inst here.name j ≡ false →
+        tables (step_partly net n w (pull_act here.name now link) (applied outcome)).log j
+        ≡ tables w.log j }
+    ensures groups { (net : Net) (n now : ℕ) (w : World) (here peer : Host) (link j : Inst)
+        (outcome : Outcome) → net ways.Pull here.name link w.groups ≡ route_of here link peer →
+        same_inst here.name j ≡ false →
+        (step_partly net n w (pull_act here.name now link) (applied outcome)).groups j
+        ≡ w.groups j }
+{
+    a_group_is_read_from_its_text();
+}

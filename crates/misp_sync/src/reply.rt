@@ -1,0 +1,13 @@
+//! What a synchronisation is told.
+
+use crate::count::SyncCount;
+use misp_ids::Refusal;
+
+/// What a synchronisation is told.
+#[derive(Debug, Drop)]
+pub enum SyncReply {
+    /// All that passes was taken, so far as it is new.
+    Done(SyncCount),
+    /// So much was taken before this refused or stopped it.
+    Stopped { count: SyncCount, cause: Refusal },
+}
