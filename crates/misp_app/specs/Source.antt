@@ -68,13 +68,17 @@ abbrev pub HasRun : (List Host → List Line → List KeeperState → List Keepe
 HasRun Says source old new Writes =
     IfOk (described source) (λ net. HasWritten Says net (script_part source) old new Writes)
 
--- where the source describes a network, the run of its script was cut short: the keepers of the
--- instances are as some first lines left them
-abbrev pub IsCutShort : List ℕ → List KeeperState → List KeeperState → Type 0
-IsCutShort source old new =
+-- where the source describes a network, the run of its script was cut short, and this is said of it
+abbrev pub IsCutSaying : (List Host → List Line → List KeeperState → List KeeperState → Type 0)
+    → List ℕ → List KeeperState → List KeeperState → Type 0
+IsCutSaying Says source old new =
     IfOk (described source) (λ net.
-    IsCut (described_hosts net) (lines_of (directory_of net) (script_part source))
+    Says (described_hosts net) (lines_of (directory_of net) (script_part source))
     (take (length net.instances) old) (take (length net.instances) new))
+
+-- the keepers of the instances are as some first lines left them
+abbrev pub IsCutShort : List ℕ → List KeeperState → List KeeperState → Type 0
+IsCutShort source old new = IsCutSaying IsCut source old new
 
 -- as far as the keepers of its instances tell, every row of the administration is a group
 abbrev pub IsSound : Reading Description → List KeeperState → Type 0

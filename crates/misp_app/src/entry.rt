@@ -5,9 +5,10 @@ ghost use Rattle.misp_outside.specs.Causes.{Rose};
 ghost use Rattle.std.specs.Io.KnownBytes.{Appends};
 ghost use Rattle.misp_effects.specs.KeeperStates.{told, OneFailed};
 ghost use Rattle.misp_net.specs.Carrying.{HasCarried};
+ghost use Rattle.misp_net.specs.Passing.{HasPassed, HasPassedFirst};
 ghost use Rattle.misp_net.specs.Promise.{IsPrivate, AreReplied, AreNewest};
 ghost use Rattle.misp_app.specs.Limits.{source_limit, least_keepers};
-ghost use Rattle.misp_app.specs.Source.{described, described_status, status_of, ok_line, IsTold, HasRun, IsCutShort, IsSound, IsUnsound, HasFailed, OthersStay, HoldNothing, host_named};
+ghost use Rattle.misp_app.specs.Source.{described, described_status, status_of, ok_line, IsTold, HasRun, IsCutSaying, IsCutShort, IsSound, IsUnsound, HasFailed, OthersStay, HoldNothing, host_named};
 ghost use Rattle.misp_words.specs.Words.{ServeData, Net, Check, Serve, command_of};
 ghost use Rattle.misp_outside.specs.Wires.{Connection};
 ghost use Rattle.misp_app.specs.Hosting.{HasLinesServed, HasServed, IsReady};
@@ -65,6 +66,19 @@ pub fn run<S: Source, W: Sink, K: Keeper, C: Carry, D: Door, L: Dial, T: Clock>(
         (map K.state keepers.old.items) (map K.state keepers.new.items)
         (Wrote result (W.written sink.old) (W.written sink.new))) }
     ensures later { C.faults carry.old ≤ C.faults carry.new }
+
+    // What it answered, where it tells that, is for each pull the stated requests with their
+    // replies, from the first on, and all of them where the pull is done. For any other line it is
+    // nothing. Where memory runs out, the same holds of some first lines.
+    ensures passed { HasLines (command_of (map string_bytes words.now)) result →
+        IfSome (S.left source.old) (λ left. HasRun
+        (HasPassed (C.passed carry.old) (C.passed carry.new)) left
+        (map K.state keepers.old.items) (map K.state keepers.new.items)
+        (Wrote result (W.written sink.old) (W.written sink.new))) }
+    ensures cut_passed { command_of (map string_bytes words.now) ≡ Some Net →
+        result ≡ Status.OutOfMemory → IfSome (S.left source.old) (λ left. IsCutSaying
+        (HasPassedFirst (C.passed carry.old) (C.passed carry.new)) left
+        (map K.state keepers.old.items) (map K.state keepers.new.items)) }
 
     // The words and the source decide how it ends, where no fault does and memory does not run out.
     ensures usage { result ≡ Status.Usage ↔ command_of (map string_bytes words.now) ≡ None }
@@ -183,6 +197,10 @@ fn run_source<W: Sink, K: Keeper, C: Carry>(
         (map K.state keepers.old.items) (map K.state keepers.new.items)
         (Wrote result (W.written sink.old) (W.written sink.new)) }
     ensures later { C.faults carry.old ≤ C.faults carry.new }
+    ensures passed { HasLines (Some Net) result → HasRun
+        (HasPassed (C.passed carry.old) (C.passed carry.new)) bytes.now
+        (map K.state keepers.old.items) (map K.state keepers.new.items)
+        (Wrote result (W.written sink.old) (W.written sink.new)) }
     ensures status { IsStopped result ⊎ (result ≡ described_status (described bytes.now)) }
     ensures write { result ≡ Status.WriteFault → Rose (W.faults sink.old) (W.faults sink.new) }
     ensures silent { IsSilent result → W.written sink.new ≡ W.written sink.old }
@@ -196,6 +214,9 @@ fn run_source<W: Sink, K: Keeper, C: Carry>(
     ensures sound { HasLines (Some Net) result →
         IsSound (described bytes.now) (map K.state keepers.old.items) }
     ensures cut { result ≡ Status.OutOfMemory → IsCutShort bytes.now
+        (map K.state keepers.old.items) (map K.state keepers.new.items) }
+    ensures cut_passed { result ≡ Status.OutOfMemory → IsCutSaying
+        (HasPassedFirst (C.passed carry.old) (C.passed carry.new)) bytes.now
         (map K.state keepers.old.items) (map K.state keepers.new.items) }
     ensures told { TellsFault result → IsTold (described bytes.now)
         (Wrote result (W.written sink.old) (W.written sink.new)) }

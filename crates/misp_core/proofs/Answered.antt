@@ -17,7 +17,7 @@ use Rattle.misp_core.proofs.Carried.{is_planned}
 
 module _ (host : Host) (now : ℕ) (it : Asked) where
   -- what is permitted comes to what is asked, and what is not to its refusal
-  by_role : (seen : Seen) (may : Bool) → is_permitted it.0 it.1 ≡ may → requested host now it seen ≡ (if may then asked_where host now it seen else refused (forbidden it.1))
+  pub by_role : (seen : Seen) (may : Bool) → is_permitted it.0 it.1 ≡ may → requested host now it seen ≡ (if may then asked_where host now it seen else refused (forbidden it.1))
   by_role seen may is = ap (λ b. if b then asked_where host now it seen else refused (forbidden it.1)) is
 
   is_unread : (seen : Seen) (fault : LoadFault) → is_permitted it.0 it.1 ≡ true → NamesFault (seen.rows (reach_of it.0.org it.1)) fault → IsUnread fault (requested host now it seen)

@@ -4,6 +4,7 @@ pub mod Answered
 pub mod Alike
 pub mod Keeping
 pub mod KeepingGroups
+pub mod KeptParts
 pub mod Numbered
 pub mod Pulled
 pub mod PulledEvents

@@ -1,4 +1,5 @@
 pub mod Administering
+pub mod Ahead
 pub mod Answers
 pub mod Changing
 pub mod Effects

@@ -6,12 +6,14 @@ ghost use Rattle.misp_rules.specs.View.{IsTable};
 ghost use Rattle.misp_rules.specs.Machine.{pulls, seeing};
 ghost use Rattle.misp_rules.specs.declared.ask.Ask.TheVariants.{View};
 ghost use Rattle.misp_rules.specs.declared.ask.Ask.TheVariants as asks;
+ghost use Rattle.misp_core.specs.Ahead.{StaysOrIsPacked};
 ghost use Rattle.misp_core.specs.Answers.{IsBuilt, named_event};
-ghost use Rattle.misp_core.specs.Handing.{scene_in, scene_for, knowing};
+ghost use Rattle.misp_core.specs.Handing.{scene_in, scene_for, pull_scene, knowing};
 ghost use Rattle.misp_core.specs.Effects.{asked, by_keeper};
 ghost use Rattle.misp_core.specs.Sound.{IsSoundAnswer};
 ghost use Rattle.misp_core.specs.Planning.{Plans, stop_planned};
 
+use crate::ahead::Ahead;
 use crate::changing::plan_change;
 use crate::naming::name_text;
 use crate::planning::{NoPlan, Plan, told};
@@ -102,17 +104,22 @@ fn list(alloc: Global, site: &Site<'_>) -> Result<Plan, NoPlan>
     Ok(told(Answer::Groups(Items::of(groups))))
 }
 
-/// What is planned for a request, over the rows that are read for it.
+/// What is planned for a request, over the rows that are read for it. Of a pull the packages that
+/// are not asked for yet are kept.
 #[tactic(auto, unfolding(misp_rules::specs::Machine::pulls))]
 pub(crate) fn plan_request(
     alloc: Global,
     site: &Site<'_>,
     ask: Ask,
     rows: Vec<Row>,
+    kept: &mut Option<Ahead>,
 ) -> Result<Plan, NoPlan>
     requires { IsBuilt ask }
     ensures plan { IsTable rows.items → Plans result (asked site.now.admin.now
         (seeing (scene_for site.now ask) rows.items) ask) }
+    ensures kept { IsTable rows.items →
+        StaysOrIsPacked (seeing (pull_scene site.now) rows.items) site.now.caller.now
+        ask kept.old kept.new }
     ensures sound { pulls ask ≡ true → IfOk result (λ plan. IsSoundAnswer plan.answer) }
     ensures no_fault { stop_planned result ≡ by_keeper → ⊥ }
 {
@@ -133,7 +140,7 @@ pub(crate) fn plan_request(
         } => plan_sighting(alloc, site, &event, &target, &draft, rows),
         Ask::SyncGroups => plan_pulled_groups(alloc, site),
         Ask::SyncEvents => plan_event_list(alloc, site, rows),
-        Ask::SyncPart { event, part } => plan_part(alloc, site, &event, part, rows),
+        Ask::SyncPart { event, part } => plan_part(alloc, site, &event, part, rows, kept),
         _ => unreachable!(),
     }
 }

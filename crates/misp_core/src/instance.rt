@@ -28,9 +28,11 @@ ghost use Rattle.misp_store.specs.declared.fault.LoadFault.TheVariants as faults
 ghost use Rattle.misp_orgs.specs.Admin.{who_of, link_of};
 
 use crate::administering::plan_group;
+use crate::ahead::{Ahead, take_kept};
 use crate::answering::{forbidden, unread};
 use crate::decide::plan_request;
 use crate::planning::{Batch, NoPlan, Plan};
+use crate::pulling::show_part;
 use crate::settling::settle;
 use crate::site::Site;
 use crate::taking::{Landed, load_landing, take_package};
@@ -46,13 +48,15 @@ use std::alloc::Global;
 use std::marker::Model;
 
 /// An instance, seen as its name, its administration, what its keeper holds, and the count of the
-/// keeper's faults. It keeps the groups beside, as they stand among the rows of the administration.
+/// keeper's faults. It keeps the groups beside, as they stand among the rows of the administration,
+/// and what is packed of the event that a partner asked for last.
 #[derive(Drop)]
 pub struct Instance<K: Keeper> {
     name: InstId,
     admin: Admin,
     groups: Groups,
     keeper: K,
+    ahead: Option<Ahead>,
 }
 
 impl<K: Keeper> Model for Instance<K> {
@@ -67,9 +71,10 @@ impl<K: Keeper> Model for Instance<K> {
       faults = (K.state a.keeper).faults;
     } };
 
-    ghost use Rattle.misp_store.specs.Sharing.{HoldsGroups};
+    ghost use Rattle.misp_core.specs.Ahead.{IsBeside};
 
-    ghost invariant = { λ a. HoldsGroups (K.state a.keeper).held a.groups };
+    ghost invariant = { λ a. IsBeside (record { name = a.name; admin = a.admin })
+        (K.state a.keeper).held a.groups a.ahead };
 }
 
 impl<K: Keeper> Instance<K> {
@@ -99,6 +104,7 @@ impl<K: Keeper> Instance<K> {
                 admin,
                 groups,
                 keeper,
+                ahead: None,
             }),
             Err(fault) => Err((fault, keeper)),
         }
@@ -158,6 +164,9 @@ impl<K: Keeper> Instance<K> {
         if !may(caller.role, perm) {
             return Err(forbidden(alloc, perm));
         }
+        if let Some(part) = take_kept(&mut self.ahead, caller, &ask) {
+            return Ok(show_part(part));
+        }
         let rows = match load(&mut self.keeper, alloc, &Reach::of(&caller.org, &ask)) {
             Ok(rows) => rows,
             Err(fault) => return Err(unread(alloc, fault)),
@@ -169,7 +178,7 @@ impl<K: Keeper> Instance<K> {
             caller,
             moment: now,
         };
-        plan_request(alloc, &site, ask, rows)
+        plan_request(alloc, &site, ask, rows, &mut self.ahead)
     }
 
     /// Plans what it comes to that an organisation adds a group at this moment, or edits the one of
@@ -201,6 +210,7 @@ impl<K: Keeper> Instance<K> {
         ensures name { self.new.name ≡ self.old.name }
         ensures admin { self.new.admin ≡ self.old.admin }
     {
+        self.ahead = None; // It is packed of what was held.
         settle(&mut self.keeper, &mut self.groups, alloc, put)
     }
 
@@ -265,8 +275,10 @@ impl<K: Keeper> Instance<K> {
         ensures name { self.new.name ≡ self.old.name }
         ensures admin { self.new.admin ≡ self.old.admin }
     {
+        self.ahead = None;
         take_package(&mut self.keeper, &mut self.groups, alloc, landing, coming)
     }
+
     /// Takes what is new of groups that come by a synchronisation, in one batch, or in none where
     /// nothing is. All memory is taken before it is put.
     pub fn take_groups(&mut self, alloc: Global, coming: Vec<Group>) -> Result<u64, KeeperFault>
@@ -289,6 +301,7 @@ impl<K: Keeper> Instance<K> {
         ensures name { self.new.name ≡ self.old.name }
         ensures admin { self.new.admin ≡ self.old.admin }
     {
+        self.ahead = None;
         take_groups(&mut self.keeper, &mut self.groups, alloc, coming)
     }
 }

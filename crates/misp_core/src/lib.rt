@@ -3,6 +3,7 @@
 #![tactic(auto)]
 
 mod administering;
+mod ahead;
 mod answering;
 mod by_event;
 mod changing;

@@ -1,7 +1,7 @@
 //! What a pull by the partner of the caller's key brings.
 
-ghost use Rattle.std.specs.Prelude.{◌≡◌, ◌++◌, List, None, true, filter, length, map, option_to_list, IfOk, IfSome, OnOk};
-ghost use Rattle.std.specs.List.{AllByRecursion, list_all, slice_get};
+ghost use Rattle.std.specs.Prelude.{◌≡◌, ◌++◌, ℕ, List, None, true, filter, length, map, option_to_list, IfOk, IfSome, OnOk};
+ghost use Rattle.std.specs.List.{AllByRecursion, list_all};
 ghost use Rattle.misp_elem.specs.declared.row.RowFields.{RowFields};
 ghost use Rattle.misp_elem.specs.Parents.{event_of};
 ghost use Rattle.misp_ids.specs.Same.{same_event};
@@ -11,10 +11,11 @@ ghost use Rattle.misp_rules.specs.declared.ask.Ask.TheVariants as asks;
 ghost use Rattle.misp_rules.specs.Machine.{seeing};
 ghost use Rattle.misp_rules.specs.Package.{IsPackage};
 ghost use Rattle.misp_rules.specs.Packing.{packages};
-ghost use Rattle.misp_rules.specs.Pulling.{pull_route, pulled_events, pulled_groups, pulled_rows};
+ghost use Rattle.misp_rules.specs.Pulling.{pull_route, pulled_events, pulled_groups, pulled_part, pulled_rows};
 ghost use Rattle.misp_rules.specs.View.{IsTable};
 ghost use Rattle.misp_package.specs.Packing.{AreNumbered};
 ghost use Rattle.misp_package.specs.Passing.{route_of};
+ghost use Rattle.misp_core.specs.Ahead.{StaysOrIsPacked, kept_part};
 ghost use Rattle.misp_core.specs.Answers.{event_parts};
 ghost use Rattle.misp_core.specs.Effects.{asked, by_keeper};
 ghost use Rattle.misp_core.specs.Handing.{knowing, pull_scene};
@@ -23,6 +24,7 @@ ghost use Rattle.misp_core.specs.Pulling.{IsByEvent, IsCountOf, Rises, carries_t
 ghost use Rattle.misp_core.specs.Sound.{AreListed, IsSoundAnswer};
 ghost use Rattle.misp_core.specs.declared.reply.Answer.{Answer as Answered};
 
+use crate::ahead::Ahead;
 use crate::by_event::{by_event, events_of, of_event, part};
 use crate::planning::{NoPlan, Plan, told};
 use crate::reply::{Answer, EventParts};
@@ -118,15 +120,25 @@ fn pulled_packages(
     }
 }
 
-// The package of this number, where there are so many.
-fn part_at(packages: Vec<Package>, number: u32) -> Option<Package>
-    ensures { result ≡ slice_get packages.items number }
+// All packages of an event that a pull brings, over all rows that are read.
+fn packed(
+    alloc: Global,
+    site: &Site<'_>,
+    event: &EventId,
+    rows: Vec<Row>,
+) -> Result<Ahead, NoMemory>
+    ensures caller { IfOk result (λ ahead. ahead.caller ≡ site.now.caller.now) }
+    ensures event { IfOk result (λ ahead. ahead.event ≡ event.now) }
+    ensures parts { IsTable rows.items → IfOk result (λ ahead. (n : ℕ) →
+        pulled_part (seeing (pull_scene site.now) rows.items) event.now n ≡ kept_part ahead n) }
 {
-    packages.into_iter().nth(number as usize)
+    let rows = of_event(rows, event);
+    let packages = pulled_packages(alloc, site, event, &rows)?;
+    Ahead::of(alloc, *site.caller, *event, packages)
 }
 
-// Shows a package.
-fn shown(part: Package) -> Plan
+/// Shows a package.
+pub(crate) fn show_part(part: Package) -> Plan
     ensures plan { result ≡ record { answer = Answered.Part part; batch = None } }
     ensures sound { IsPackage part }
 {
@@ -134,23 +146,30 @@ fn shown(part: Package) -> Plan
     told(Answer::Part(part))
 }
 
-/// Shows one package of an event, as a pull brings it, over all rows that are read.
+/// Shows one package of an event, as a pull brings it, over all rows that are read. The others are
+/// kept until they are asked for.
 pub(crate) fn plan_part(
     alloc: Global,
     site: &Site<'_>,
     event: &EventId,
     number: u32,
     rows: Vec<Row>,
+    kept: &mut Option<Ahead>,
 ) -> Result<Plan, NoPlan>
     ensures plan { IsTable rows.items → Plans result (asked site.now.admin.now
         (seeing (pull_scene site.now) rows.items) (asks.SyncPart event.now number)) }
+    ensures kept { IsTable rows.items →
+        StaysOrIsPacked (seeing (pull_scene site.now) rows.items) site.now.caller.now
+        (asks.SyncPart event.now number) kept.old kept.new }
     ensures sound { IfOk result (λ plan. IsSoundAnswer plan.answer) }
     ensures no_fault { stop_planned result ≡ by_keeper → ⊥ }
 {
-    let rows = of_event(rows, event);
-    let packages = pulled_packages(alloc, site, event, &rows)?;
-    match part_at(packages, number) {
-        Some(package) => Ok(shown(package)),
+    let mut ahead = packed(alloc, site, event, rows)?;
+    match ahead.take(number) {
+        Some(package) => {
+            *kept = Some(ahead);
+            Ok(show_part(package))
+        }
         None => {
             let refusal = Refusal::bare(alloc, RuleName::NotGranted);
             Err(NoPlan::Refused(refusal))

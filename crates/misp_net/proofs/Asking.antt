@@ -51,7 +51,7 @@ first_map p f (x ∷ xs) = elim (cases_Bool (p (f x))) [
 ]
 
 -- a name has one place in both
-place_same : (rosters : List Roster) (hosts : List Host) (name : List ℕ) → roster_names rosters ≡ names_of hosts → place_of (roster_names rosters) name ≡ place_named hosts name
+pub place_same : (rosters : List Roster) (hosts : List Host) (name : List ℕ) → roster_names rosters ≡ names_of hosts → place_of (roster_names rosters) name ≡ place_named hosts name
 place_same rosters hosts name same =
     ap (λ names. place_of names name) same
     ∙ rw (first_map (λ (n : List ℕ). bytes_eq n name) (λ (h : Host). h.name) hosts, length-map hosts (λ (h : Host). h.name)) refl
@@ -78,7 +78,7 @@ peer_from : (on : Bool) (asked : Result ℕ RuleName) (peer : ℕ) → (if on th
 peer_from true asked peer is = (refl, is)
 peer_from false asked peer is = cc
 
-bar_from : (on : Bool) (asked : Result ℕ RuleName) (name : RuleName) → (if on then asked else Err LinkOff) ≡ Err name → ((on ≡ true) × (asked ≡ Err name)) ⊎ ((on ≡ false) × (LinkOff ≡ name))
+pub bar_from : (on : Bool) (asked : Result ℕ RuleName) (name : RuleName) → (if on then asked else Err LinkOff) ≡ Err name → ((on ≡ true) × (asked ≡ Err name)) ⊎ ((on ≡ false) × (LinkOff ≡ name))
 bar_from true asked name is = inl (refl, is)
 bar_from false asked name is = inr (refl, let same : LinkOff ≡ name = cc in same)
 
@@ -91,7 +91,7 @@ module _ (hosts : List Host) (at : ℕ) (link : Link) where
       (sym other.0 ∙ rw is refl, subst (λ p. eqb p at ≡ false) other.0 other.1)
 
   -- and else there is no other instance
-  asked_none : (name : RuleName) (found : Option ℕ) → place_named hosts link.peer ≡ found → asked_at at found ≡ Err name → (NoLink ≡ name) × (eqb (peer_place hosts at (Some link)) at ≡ true)
+  pub asked_none : (name : RuleName) (found : Option ℕ) → place_named hosts link.peer ≡ found → asked_at at found ≡ Err name → (NoLink ≡ name) × (eqb (peer_place hosts at (Some link)) at ≡ true)
   asked_none name None is asked = (let same : NoLink ≡ name = cc in same, rw is (eqb_same at))
   asked_none name (Some place) is asked = let alone = none_from place name (eqb place at) asked in (alone.0, rw is alone.1)
 

@@ -1,5 +1,5 @@
 -- A course goes on by one line.
-use Rattle.std.proofs.Common.{◌≡◌, ℕ, suc, ◌+◌, true, false, eqb, take, List, [], ◌∷◌, ◌++◌, length, refl, sym, ◌∙◌, ap, subst, inl, inr, arith, append_assoc, append-nil, decimal, length-append, take_at}
+use Rattle.std.proofs.Common.{◌≡◌, ℕ, suc, ◌+◌, true, false, eqb, take, List, [], ◌∷◌, ◌++◌, length, Option, refl, sym, ◌∙◌, ap, subst, inl, inr, arith, append_assoc, append-nil, decimal, length-append, take_at}
 use Rattle.std.proofs.lemmas.Bool.Decides.{eqb_tells}
 use Rattle.std.proofs.lemmas.List.{length-map, map-append}
 use Rattle.misp_outside.specs.Causes.{RoseBy}
@@ -12,6 +12,7 @@ use Rattle.misp_net.specs.Prelude.{Act, AreAmong, AreDone, AreKept, Done, HasRun
 use Rattle.misp_net.specs.Acts.{Does, acts_done, outputs_done}
 use Rattle.misp_net.specs.Carrying.{HasCarried, carry_faults}
 use Rattle.misp_net.specs.Meaning.{meanings_of, AreAsFormed}
+use Rattle.misp_net.specs.Passing.{Trail}
 use Rattle.misp_net.specs.Running.{CutLine}
 use Rattle.misp_net.specs.Text.{done_text, line_of, text_from}
 use Rattle.misp_effects.specs.Course as courses
@@ -44,7 +45,7 @@ outputs_push : (dones : List Done) (d : Done) → outputs_of (dones ++ d ∷ [])
 outputs_push [] d = append-nil (outputs_done d)
 outputs_push (e ∷ dones) d = ap (λ outputs. outputs_done e ++ outputs) (outputs_push dones d) ∙ sym (append_assoc (outputs_done e) (outputs_of dones) (outputs_done d))
 
-done_push : (lines : List Line) (line : Line) (dones : List Done) (d : Done) → AreDone lines dones → Does line d → AreDone (lines ++ line ∷ []) (dones ++ d ∷ [])
+pub done_push : (lines : List Line) (line : Line) (dones : List Done) (d : Done) → AreDone lines dones → Does line d → AreDone (lines ++ line ∷ []) (dones ++ d ∷ [])
 done_push [] line [] d all does = (does, tt)
 done_push [] line (e ∷ dones) d all does = absurd all
 done_push (l ∷ lines) line [] d all does = absurd all
@@ -63,6 +64,15 @@ text_push number (e ∷ dones) d =
     let count : (number + 1) + length dones ≡ number + suc (length dones) = omega arith in
     let same = ap (λ n. line_of n d) count in
     grind (arith, append_assoc, rest, same)
+
+-- the text of the lines and one more
+pub text_more : (lines : List Line) (dones : List Done) (d : Done) (before after : List ℕ) → AreDone lines dones → before ≡ text_from 1 dones → after ≡ before ++ line_of (1 + length lines) d
+    → after ≡ text_from 1 (dones ++ d ∷ [])
+text_more lines dones d before after done so_far text =
+    text
+    ∙ ap (λ t. t ++ line_of (1 + length lines) d) so_far
+    ∙ ap (λ n. text_from 1 dones ++ line_of (1 + n) d) (sym (done_long lines dones done))
+    ∙ sym (text_push 1 dones d)
 
 pub none_run : (hosts : List Host) (old : List KeeperState) → HasRun hosts [] old old []
 none_run hosts old = record {
@@ -89,11 +99,7 @@ one_more hosts lines line old mid new before after d run does is text_is =
     record {
       dones = run.dones ++ d ∷ [];
       done = done_push lines line run.dones d run.done does;
-      text_is =
-          text_is
-          ∙ ap (λ text. text ++ line_of (1 + length lines) d) run.text_is
-          ∙ ap (λ n. text_from 1 run.dones ++ line_of (1 + n) d) (sym (done_long lines run.dones run.done))
-          ∙ sym (text_push 1 run.dones d);
+      text_is = text_more lines run.dones d before after run.done run.text_is text_is;
       ran = more_done hosts lines line old mid new run.dones d run.ran is;
       formed =
           subst (λ acts. AreAsFormed hosts acts (outputs_of (run.dones ++ d ∷ []))) (sym (acts_push run.dones d))
@@ -135,33 +141,42 @@ pub none_ran : (hosts : List Host) (lines : List Line) (old new : List KeeperSta
 none_ran hosts lines old new kept =
     record { count = 0; dones = []; done = tt; ran = run_kept (all_kept old) (no_lines Seen Output seen_in spelled stop_in old) kept }
 
+module _ (before more lines : List Line) (line : Line) (all : before ++ line ∷ more ≡ lines) where
+  -- the lines before one, and those with it
+  pub first_lines : take (length before) lines ≡ before
+  first_lines = ap (take (length before)) (sym all) ∙ take_at before (line ∷ more) (length before) refl
+
+  pub next_lines : take (length before + 1) lines ≡ before ++ line ∷ []
+  next_lines =
+      let whole : (before ++ line ∷ []) ++ more ≡ lines = append_assoc before (line ∷ []) more ∙ all in
+      let long : length (before ++ line ∷ []) ≡ length before + 1 = length-append before (line ∷ []) in
+      ap (take (length before + 1)) (sym whole) ∙ take_at (before ++ line ∷ []) more (length before + 1) long
+
 -- these were, and perhaps the next, which is not written
-pub some_ran : (hosts : List Host) (before more lines : List Line) (line : Line) (old mid new : List KeeperState) (text : List ℕ) → HasRun hosts before old mid text
-    → before ++ line ∷ more ≡ lines → CutLine hosts line mid new → IsCut hosts lines old new
-some_ran hosts before more lines line old mid new text run all (inl kept) =
-    let first : take (length before) lines ≡ before = ap (take (length before)) (sym all) ∙ take_at before (line ∷ more) (length before) refl in
+pub some_ran : (hosts : List Host) (before more lines : List Line) (line : Line) (old mid new : List KeeperState) (text : List ℕ) (told after : Option Trail) → HasRun hosts before old mid text
+    → before ++ line ∷ more ≡ lines → CutLine hosts line mid new told after → IsCut hosts lines old new
+some_ran hosts before more lines line old mid new text told after run all (inl (kept, same)) =
     record {
       count = length before;
       dones = run.dones;
-      done = subst (λ front. AreDone front run.dones) (sym first) run.done;
+      done = subst (λ front. AreDone front run.dones) (sym (first_lines before more lines line all)) run.done;
       ran = run_kept (all_kept old) run.ran kept;
     }
-some_ran hosts before more lines line old mid new text run all (inr (d, does, is)) =
-    let whole : (before ++ line ∷ []) ++ more ≡ lines = append_assoc before (line ∷ []) more ∙ all in
-    let long : length (before ++ line ∷ []) ≡ length before + 1 = length-append before (line ∷ []) in
-    let first : take (length before + 1) lines ≡ before ++ line ∷ [] = ap (take (length before + 1)) (sym whole) ∙ take_at (before ++ line ∷ []) more (length before + 1) long in
+some_ran hosts before more lines line old mid new text told after run all (inr (d, does, is, passed)) =
     record {
       count = length before + 1;
       dones = run.dones ++ d ∷ [];
-      done = subst (λ front. AreDone front (run.dones ++ d ∷ [])) (sym first) (done_push before line run.dones d run.done does);
+      done = subst (λ front. AreDone front (run.dones ++ d ∷ [])) (sym (next_lines before more lines line all)) (done_push before line run.dones d run.done does);
       ran = more_done hosts before line old mid new run.dones d run.ran is;
     }
+
+pub all_lines : (lines : List Line) → take (length lines) lines ≡ lines
+all_lines lines = ap (take (length lines)) (sym (append-nil lines)) ∙ take_at lines [] (length lines) refl
 
 -- all were
 pub all_ran : (hosts : List Host) (lines : List Line) (old new : List KeeperState) (dones : List Done) → AreDone lines dones → Ran hosts (acts_of dones) old new (outputs_of dones) → IsCut hosts lines old new
 all_ran hosts lines old new dones done run =
-    let all : take (length lines) lines ≡ lines = ap (take (length lines)) (sym (append-nil lines)) ∙ take_at lines [] (length lines) refl in
-    record { count = length lines; dones = dones; done = subst (λ front. AreDone front dones) (sym all) done; ran = run }
+    record { count = length lines; dones = dones; done = subst (λ front. AreDone front dones) (sym (all_lines lines)) done; ran = run }
 
 -- ---- what a line writes
 

@@ -1,5 +1,5 @@
 -- What a line did, by what came of it at its instance.
-use Rattle.std.proofs.Common.{◌≡◌, ◌⊎◌, ℕ, ◌<◌, [], ◌∷◌, ◌++◌, List, length, map, get_or, set, Some, None, Result, Ok, Err, OnOk, OnErr, inl, inr, refl, sym, ◌∙◌, ap, subst, arith}
+use Rattle.std.proofs.Common.{◌≡◌, ◌⊎◌, ℕ, ◌<◌, [], ◌∷◌, ◌++◌, List, length, map, get_or, set, Option, Some, None, Result, Ok, Err, OnOk, OnErr, inl, inr, refl, sym, ◌∙◌, ap, subst, arith}
 use Rattle.std.specs.Prelude.{⊤}
 use Rattle.std.proofs.lemmas.List.{length-map, set-get_or}
 use Rattle.misp_outside.specs.Causes.{RoseBy}
@@ -9,15 +9,18 @@ use Rattle.hex.specs.Hex.{encode_lower}
 use Rattle.misp_api.specs.Session.{end_name, end_of}
 use Rattle.misp_api.specs.Turn.{Point}
 use Rattle.misp_effects.proofs.KeeperStates.{all_kept}
+use Rattle.misp_sync.specs.Trail.{GrowsBy}
 use Rattle.misp_net.proofs.Appending.{one_ran}
 use Rattle.misp_net.specs.Prelude.{Act, AreKept, Bad, Done, Host, IsDone, KeeperState, Line, Nothing, Output, Ran, Replied, Seen, Standing, Unanswered, host_of, hosts_of, meaning, seen_in, spelled, states_of, stop_in}
 use Rattle.misp_net.specs.Acts.{Administers, Asks, Does, Idle, IsPlaced, One, Pulls, Session, act, asks_from, outputs_done}
 use Rattle.misp_net.specs.Carrying.{carry_faults}
 use Rattle.misp_net.specs.Lines.{pull_line}
 use Rattle.misp_net.specs.Meaning.{IsAsFormed}
-use Rattle.misp_net.specs.Running.{CutLine, HasSession, IsAct, IsAdministered, IsRequested, RanLine}
+use Rattle.misp_net.specs.Passing.{IsPassed, IsPassedFor, Trail}
+use Rattle.misp_net.specs.Running.{Carried, CutLine, HasSession, IsAct, IsAdministered, IsRequested, RanLine, carried}
 use Rattle.misp_net.specs.Text.{done_text, output_text}
 use Rattle.misp_net.proofs.Carrying.{replies_none, rose_none}
+use Rattle.misp_net.proofs.Growing.{grows_none}
 use Rattle.misp_net.proofs.Turns.{hosts_here, session_done}
 use Rattle.misp_net.proofs.Steps.{one_group, one_read, read_formed, silent_act, turned_output}
 use Rattle.misp_script.specs.Step as commands
@@ -57,15 +60,17 @@ idle_done : (hosts : List Host) (time word : ℕ) (output : Output) (old : List 
     → IsDone hosts (One (act time word (Idle output)) output) old old
 idle_done hosts time word output old none formed = one_done hosts (act time word (Idle output)) old old output (silent_act output old none) formed tt
 
-pub nothing_ran : (time word : ℕ) (hosts : List Host) (old : List KeeperState) (before after : List ℕ) (count : ℕ) → after ≡ before ++ output_text Nothing
-    → RanLine hosts (Ok (record { time = time; word = word; command = commands.Nothing })) old old before after count count
-nothing_ran time word hosts old before after count text =
-    (One (act time word (Idle Nothing)) Nothing, (Nothing, refl), idle_done hosts time word Nothing old refl refl, text, rose_none 0 count count refl (omega arith))
+pub nothing_ran : (time word : ℕ) (hosts : List Host) (old : List KeeperState) (before after : List ℕ) (carry : Carried) → after ≡ before ++ output_text Nothing
+    → RanLine hosts (Ok (record { time = time; word = word; command = commands.Nothing })) old old before after carry carry
+nothing_ran time word hosts old before after carry text =
+    let d : Done = One (act time word (Idle Nothing)) Nothing in
+    (d, (Nothing, refl), idle_done hosts time word Nothing old refl refl, text, rose_none 0 carry.faults carry.faults refl (omega arith), grows_none carry.passed (IsPassedFor hosts old d) refl)
 
-pub bad_ran : (place : ℕ) (hosts : List Host) (old : List KeeperState) (before after : List ℕ) (count : ℕ) → after ≡ before ++ output_text (Bad place)
-    → RanLine hosts (Err (record { place = place })) old old before after count count
-bad_ran place hosts old before after count text =
-    (One (act 0 0 (Idle (Bad place))) (Bad place), (Bad place, refl), idle_done hosts 0 0 (Bad place) old refl refl, text, rose_none 0 count count refl (omega arith))
+pub bad_ran : (place : ℕ) (hosts : List Host) (old : List KeeperState) (before after : List ℕ) (carry : Carried) → after ≡ before ++ output_text (Bad place)
+    → RanLine hosts (Err (record { place = place })) old old before after carry carry
+bad_ran place hosts old before after carry text =
+    let d : Done = One (act 0 0 (Idle (Bad place))) (Bad place) in
+    (d, (Bad place, refl), idle_done hosts 0 0 (Bad place) old refl refl, text, rose_none 0 carry.faults carry.faults refl (omega arith), grows_none carry.passed (IsPassedFor hosts old d) refl)
 
 -- a pull among all keepers is what its line does
 pub pull_done : (time word : ℕ) (hosts : List Host) (line : PullData) (old new : List KeeperState) (output : Output) → line.at < length hosts → IsAct hosts (act time word (Pulls line)) old new output
@@ -73,24 +78,22 @@ pub pull_done : (time word : ℕ) (hosts : List Host) (line : PullData) (old new
 pull_done time word hosts line old new output lt is = ((output, refl), one_done hosts (act time word (Pulls line)) old new output is tt lt)
 
 -- it is written
-pub pull_ran : (time word : ℕ) (hosts : List Host) (line : PullData) (old new : List KeeperState) (output : Output) (before after : List ℕ) (first last : ℕ) → line.at < length hosts
-    → IsAct hosts (act time word (Pulls line)) old new output → after ≡ before ++ output_text output → RoseBy (carry_faults (output ∷ [])) first last
+pub pull_ran : (time word : ℕ) (hosts : List Host) (line : PullData) (old new : List KeeperState) (output : Output) (before after : List ℕ) (first last : Carried) → line.at < length hosts
+    → IsAct hosts (act time word (Pulls line)) old new output → after ≡ before ++ output_text output → RoseBy (carry_faults (output ∷ [])) first.faults last.faults
+    → GrowsBy first.passed last.passed (IsPassed hosts old (Pulls line) output)
     → RanLine hosts (pull_line time word line) old new before after first last
-pull_ran time word hosts line old new output before after first last lt is text rose =
-    let (does, done) = pull_done time word hosts line old new output lt is in (One (act time word (Pulls line)) output, does, done, text, rose)
+pull_ran time word hosts line old new output before after first last lt is text rose passed =
+    let (does, done) = pull_done time word hosts line old new output lt is in (One (act time word (Pulls line)) output, does, done, text, rose, passed)
 
 -- it was done, and is not written
-pub pull_cut : (time word : ℕ) (hosts : List Host) (line : PullData) (old new : List KeeperState) (output : Output) → line.at < length hosts → IsAct hosts (act time word (Pulls line)) old new output
-    → CutLine hosts (pull_line time word line) old new
-pull_cut time word hosts line old new output lt is =
-    let (does, done) = pull_done time word hosts line old new output lt is in inr (One (act time word (Pulls line)) output, does, done)
+pub pull_cut : (time word : ℕ) (hosts : List Host) (line : PullData) (old new : List KeeperState) (output : Output) (first last : Option Trail) → line.at < length hosts → IsAct hosts (act time word (Pulls line)) old new output
+    → GrowsBy first last (IsPassed hosts old (Pulls line) output) → CutLine hosts (pull_line time word line) old new first last
+pull_cut time word hosts line old new output first last lt is passed =
+    let (does, done) = pull_done time word hosts line old new output lt is in inr (One (act time word (Pulls line)) output, does, done, passed)
 
 -- memory ran out before anything was done
-pub cut_kept : (hosts : List Host) (line : Line) (old new : List KeeperState) → AreKept old new → CutLine hosts line old new
-cut_kept hosts line old new kept = inl kept
-
-pub cut_first : (hosts : List Host) (line : Line) (old : List KeeperState) → CutLine hosts line old old
-cut_first hosts line old = inl (all_kept old)
+pub cut_first : (hosts : List Host) (line : Line) (old : List KeeperState) (told : Option Trail) → CutLine hosts line old old told told
+cut_first hosts line old told = inl (all_kept old, refl)
 
 -- ---- at one of the instances
 
@@ -106,47 +109,51 @@ placed old at lt = omega (arith, lt, length-map old host_of)
 
 module _ (old : List Standing) (none new : Standing) (now word : ℕ) where
   -- a request of a line
-  pub request_ran : (r : RequestData) → r.at < length old → (output : Output) (before after : List ℕ) (count : ℕ) → IsRequested now word r (get_or old r.at none) new output
+  pub request_ran : (r : RequestData) → r.at < length old → (output : Output) (before after : List ℕ) (carry : Carried) → IsRequested now word r (get_or old r.at none) new output
       → after ≡ before ++ output_text output
-      → RanLine (hosts_of old) (Ok (record { time = now; word = word; command = commands.Request r })) (states_of old) (states_of (set old r.at new)) before after count count
-  request_ran r lt output before after count (Ok read, left, whole, is, (reply, output_is, answered)) text = (
+      → RanLine (hosts_of old) (Ok (record { time = now; word = word; command = commands.Request r })) (states_of old) (states_of (set old r.at new)) before after carry carry
+  request_ran r lt output before after carry (Ok read, left, whole, is, (reply, output_is, answered)) text = (
     One (act now word (Asks r.at read)) (Replied reply),
     (Ok read, left, whole, is, (Replied reply, refl)),
     one_done (hosts_of old) (act now word (Asks r.at read)) (states_of old) (states_of (set old r.at new)) (Replied reply)
         (one_read now word r.at read old new none reply lt answered) (read_formed now word r.at read old new none reply lt answered) (placed old r.at lt),
     text ∙ ap (λ o. before ++ output_text o) output_is,
-    rose_none _ count count (replies_none (reply ∷ [])) (omega arith),
+    rose_none _ carry.faults carry.faults (replies_none (reply ∷ [])) (omega arith),
+    grows_none carry.passed (IsPassedFor (hosts_of old) (states_of old) (One (act now word (Asks r.at read)) (Replied reply))) refl,
   )
-  request_ran r lt output before after count (Err end, left, whole, is, (output_is, new_is)) text =
+  request_ran r lt output before after carry (Err end, left, whole, is, (output_is, new_is)) text =
       let out : Output = Unanswered (end_of end) in (
         One (act now word (Idle out)) out,
         (Err end, left, whole, is, (out, refl)),
         subst (λ all. IsDone (hosts_of old) (One (act now word (Idle out)) out) (states_of old) (states_of all)) (sym (as_it_was old r.at none new new_is))
             (idle_done (hosts_of old) now word out (states_of old) refl refl),
         text ∙ ap (λ o. before ++ output_text o) output_is,
-        rose_none 0 count count refl (omega arith),
+        rose_none 0 carry.faults carry.faults refl (omega arith),
+        grows_none carry.passed (IsPassedFor (hosts_of old) (states_of old) (One (act now word (Idle out)) out)) refl,
       )
 
   -- a group of a line
-  pub group_ran : (line : GroupData) → line.at < length old → (output : Output) (before after : List ℕ) (count : ℕ) → IsAdministered now line (get_or old line.at none) new output
+  pub group_ran : (line : GroupData) → line.at < length old → (output : Output) (before after : List ℕ) (carry : Carried) → IsAdministered now line (get_or old line.at none) new output
       → after ≡ before ++ output_text output
-      → RanLine (hosts_of old) (Ok (record { time = now; word = word; command = commands.Group line })) (states_of old) (states_of (set old line.at new)) before after count count
-  group_ran line lt output before after count (reply, output_is, did, away, cause) text = (
+      → RanLine (hosts_of old) (Ok (record { time = now; word = word; command = commands.Group line })) (states_of old) (states_of (set old line.at new)) before after carry carry
+  group_ran line lt output before after carry (reply, output_is, did, away, cause) text = (
     One (act now word (Administers line)) (Replied reply),
     (Replied reply, refl),
     one_done (hosts_of old) (act now word (Administers line)) (states_of old) (states_of (set old line.at new)) (Replied reply)
         (one_group now word line old new none reply lt did cause) (turned_output (group_form line.body) (get_or old line.at none) new reply away) (placed old line.at lt),
     text ∙ ap (λ o. before ++ output_text o) output_is,
-    rose_none _ count count (replies_none (reply ∷ [])) (omega arith),
+    rose_none _ carry.faults carry.faults (replies_none (reply ∷ [])) (omega arith),
+    grows_none carry.passed (IsPassedFor (hosts_of old) (states_of old) (One (act now word (Administers line)) (Replied reply))) refl,
   )
 
   -- a session of a line
   module _ (r : RawData) (lt : r.at < length old) where
-    pub session_ran : (Wrote : List ℕ → Type 0) (count : ℕ) → HasSession now word r (get_or old r.at none) new Wrote
+    pub session_ran : (Wrote : List ℕ → Type 0) (carry : Carried) → HasSession now word r (get_or old r.at none) new Wrote
         → (d : Done) × Does (Ok (record { time = now; word = word; command = commands.Raw r })) d
         × IsDone (hosts_of old) d (states_of old) (states_of (set old r.at new)) × Wrote (done_text d)
-        × RoseBy (carry_faults (outputs_done d)) count count
-    session_ran Wrote count (end, left, next, written, session, no_read, no_write, wrote) =
+        × RoseBy (carry_faults (outputs_done d)) carry.faults carry.faults
+        × GrowsBy carry.passed carry.passed (IsPassedFor (hosts_of old) (states_of old) d)
+    session_ran Wrote carry (end, left, next, written, session, no_read, no_write, wrote) =
         let p : Point = record { bytes = r.bytes; instance = get_or old r.at none; word = word; written = [] } in
         let is = session_done now r.at old none lt p (refl, refl) end left new next written session no_read no_write in (
           Session now word r.at is.reads is.replies end.end,
@@ -158,7 +165,8 @@ module _ (old : List Standing) (none new : Standing) (now word : ℕ) where
             among = is.among;
           },
           subst (λ text. Wrote (end_name end.end ++ 32 ∷ encode_lower text)) is.wrote wrote,
-          rose_none _ count count (replies_none is.replies) (omega arith),
+          rose_none _ carry.faults carry.faults (replies_none is.replies) (omega arith),
+          grows_none carry.passed (IsPassedFor (hosts_of old) (states_of old) (Session now word r.at is.reads is.replies end.end)) refl,
         )
 
     pub session_hosts : (Wrote : List ℕ → Type 0) → HasSession now word r (get_or old r.at none) new Wrote → hosts_of (set old r.at new) ≡ hosts_of old
@@ -168,10 +176,10 @@ module _ (old : List Standing) (none new : Standing) (now word : ℕ) where
         hosts_here now r.at old none lt new is.it
 
     -- it was cut short before it began, or after it had ended
-    pub session_cut : ((new ≡ get_or old r.at none) ⊎ HasSession now word r (get_or old r.at none) new (λ _. ⊤))
-        → CutLine (hosts_of old) (Ok (record { time = now; word = word; command = commands.Raw r })) (states_of old) (states_of (set old r.at new))
-    session_cut (inl same) = inl (still_kept old r.at none new same)
-    session_cut (inr went) = let (d, does, is, wrote, rose) = session_ran (λ text. ⊤) 0 went in inr (d, does, is)
+    pub session_cut : (told : Option Trail) → ((new ≡ get_or old r.at none) ⊎ HasSession now word r (get_or old r.at none) new (λ _. ⊤))
+        → CutLine (hosts_of old) (Ok (record { time = now; word = word; command = commands.Raw r })) (states_of old) (states_of (set old r.at new)) told told
+    session_cut told (inl same) = inl (still_kept old r.at none new same, refl)
+    session_cut told (inr went) = let (d, does, is, wrote, rose, passed) = session_ran (λ text. ⊤) (carried 0 told) went in inr (d, does, is, passed)
 
     pub cut_hosts : ((new ≡ get_or old r.at none) ⊎ HasSession now word r (get_or old r.at none) new (λ _. ⊤)) → hosts_of (set old r.at new) ≡ hosts_of old
     cut_hosts (inl same) = ap hosts_of (as_it_was old r.at none new same)

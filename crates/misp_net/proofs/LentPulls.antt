@@ -1,18 +1,23 @@
 -- What a pull between two instances of a list is among the keepers of all.
-use Rattle.std.proofs.Common.{◌≡◌, ◌≢◌, ℕ, ◌<◌, true, false, eqb, nat_eq, List, [], length, get_or, set, None, sym, ◌∙◌, ap, subst, inl, inr, IfSome, length-set, get_or-set_other}
+use Rattle.std.proofs.Common.{◌≡◌, ◌≢◌, ℕ, ◌<◌, true, false, eqb, nat_eq, List, [], length, get_or, set, Option, None, Some, option_map, sym, ◌∙◌, ap, subst, inl, inr, IfSome, length-set, get_or-set_other}
 use Rattle.std.proofs.lemmas.Bool.Decides.{eqb_tells}
 use Rattle.std.proofs.lemmas.List.{get_or-map, map-set}
+use Rattle.misp_orgs.specs.Admin.{link_of}
+use Rattle.misp_orgs.specs.declared.link.Link.{Link}
 use Rattle.misp_outside.specs.KeeperState.{state}
 use Rattle.misp_effects.specs.Effect.{Does}
 use Rattle.misp_effects.specs.KeeperStates.{Lends, state_at}
 use Rattle.misp_core.specs.Standing.{standing}
 use Rattle.misp_sync.specs.Pulled.{pulled}
+use Rattle.misp_sync.specs.Trail.{GrowsBy, IsTrailOver, told_of}
 use Rattle.misp_sync.specs.declared.reply.SyncReply.{SyncReply}
 use Rattle.misp_net.specs.Hosts.{nobody}
-use Rattle.misp_net.specs.Lending.{HavePulled}
-use Rattle.misp_net.specs.Links.{place_of_peer}
-use Rattle.misp_net.specs.Prelude.{Host, PullData, Standing, host_at, host_of, hosts_of, seen_in, spelled, state_of, states_of}
+use Rattle.misp_net.specs.Lending.{HasCarriedPull, HavePulled}
+use Rattle.misp_net.specs.Links.{link_at, place_of_peer}
+use Rattle.misp_net.specs.Passing.{IsPullPassed, Trail, UnlessHere, told_at}
+use Rattle.misp_net.specs.Prelude.{Host, KeeperState, PullData, Standing, host_at, host_of, hosts_of, seen_in, spelled, state_of, states_of}
 use Rattle.misp_net.specs.Running.{IsPulled}
+use Rattle.misp_net.proofs.Growing.{grows_as}
 use Rattle.misp_net.proofs.Steps.{hosts_kept}
 use Rattle.misp_sync.specs.Pulled as pulls
 
@@ -78,3 +83,22 @@ module _ (line : PullData) (peer : ℕ) (old new : List Standing) (reply : SyncR
             subst (λ s. IsPulled (hosts_of old) line reply s (state_of is.mine) (state_at peer (states_of old)) (state_of is.theirs)) (sym (there_state old line.at lt))
             (subst (λ s. IsPulled (hosts_of old) line reply (state_of own) (state_of is.mine) s (state_of is.theirs)) (sym (there_state old peer peer_lt)) met);
       }
+
+-- what passed for it is what passed over its link
+pub lent_passed : (line : PullData) (peer : ℕ) (old : List Standing) (reply : SyncReply) (before after : Option Trail) → line.at < length old → peer < length old → eqb peer line.at ≡ false
+    → peer ≡ place_of_peer (hosts_of old) line.at line.link → ((d : Standing) → HasCarriedPull line.link (get_or old line.at d) (get_or old peer d) reply before after)
+    → GrowsBy before after (IsPullPassed (hosts_of old) (states_of old) line reply)
+lent_passed line peer old reply before after lt peer_lt other place passed =
+    let from : Standing = get_or old peer no_one in
+    let there : Option Link = link_of (get_or old line.at no_one).admin.links line.link in
+    let link_is : link_at (hosts_of old) line.at line.link ≡ there = ap (λ (h : Host). link_of h.admin.links line.link) (get_or-map host_of old line.at no_one nobody lt) in
+    let told_is : told_at (hosts_of old) (states_of old) peer ≡ told_of (Some from) =
+    ap (λ (h : Host). option_map (λ held. (h, held)) (state_at peer (states_of old)).held) (get_or-map host_of old peer no_one nobody peer_lt)
+    ∙ ap (λ (s : KeeperState). option_map (λ held. (host_of from, held)) s.held) (there_state old peer peer_lt) in
+    grows_as before after (IsTrailOver there (told_of (Some from)) reply) (IsPullPassed (hosts_of old) (states_of old) line reply)
+    (λ more is.
+    subst (λ p. UnlessHere (eqb p line.at) (IsTrailOver (link_at (hosts_of old) line.at line.link) (told_at (hosts_of old) (states_of old) p) reply) more) place
+    (subst (λ here. UnlessHere here (IsTrailOver (link_at (hosts_of old) line.at line.link) (told_at (hosts_of old) (states_of old) peer) reply) more) (sym other)
+    (subst (λ (l : Option Link). IsTrailOver l (told_at (hosts_of old) (states_of old) peer) reply more) (sym link_is)
+    (subst (λ told. IsTrailOver there told reply more) (sym told_is) is))))
+    (passed no_one)

@@ -6,6 +6,7 @@ pub mod Commands
 pub mod Courses
 pub mod Doing
 pub mod Fronts
+pub mod Growing
 pub mod Histories
 pub mod Kept
 pub mod Lent
@@ -13,6 +14,7 @@ pub mod LentPulls
 pub mod LineBytes
 pub mod Openings
 pub mod Owning
+pub mod Passing
 pub mod Peers
 pub mod Privacy
 pub mod PullLaw

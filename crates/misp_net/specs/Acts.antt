@@ -1,7 +1,7 @@
 -- What the lines of a script do, one act after another.
 use Rattle.std.specs.Prelude.{◌≡◌, ◌<◌, ℕ, suc, Bool, true, false, List, [], ◌∷◌, ◌++◌, map, Option, Some, None, Result, Ok, Err}
 use Rattle.std.specs.List.{AllByRecursion}
-use Rattle.misp_script.specs.Step.{CommandData, GroupData, PullData, RawData, RequestData}
+use Rattle.misp_script.specs.Step.{CommandData, GroupData, PullData}
 use Rattle.misp_http.specs.Reading.{IsConclusive, IsRead}
 use Rattle.misp_http.specs.Texts.{request_text}
 use Rattle.misp_http.specs.declared.request.Read.{Read}

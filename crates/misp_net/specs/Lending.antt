@@ -1,5 +1,5 @@
 -- What a pull between two instances of one process leaves of them.
-use Rattle.std.specs.Prelude.{◌≡◌, ℕ, List, Some, IfSome, slice_index_or, slice_set}
+use Rattle.std.specs.Prelude.{◌≡◌, ℕ, List, Option, Some, IfSome, slice_index_or, slice_set}
 use Rattle.misp_outside.specs.Causes.{HasCause}
 use Rattle.misp_ids.specs.Same.{Inst}
 use Rattle.misp_orgs.specs.Admin.{link_of}
@@ -10,6 +10,7 @@ use Rattle.misp_core.specs.Prelude.{Standing, host_of, seen_in, spelled}
 use Rattle.misp_sync.specs.Counts.{no_count}
 use Rattle.misp_sync.specs.Pulled.{bar_of, pulled, stop_in, telling}
 use Rattle.misp_sync.specs.Serving.{IsStill}
+use Rattle.misp_sync.specs.Trail.{GrowsBy, IsTrailOver, told_of}
 use Rattle.misp_sync.specs.declared.reply.SyncReply.{SyncReply}
 
 -- nothing was asked: the link refuses it just so, and both are as they were
@@ -49,3 +50,11 @@ pub record HavePulled (link : Inst) (own peer : ℕ) (old new : List Standing) (
   pub went : (d : Standing) → HasPulled link (slice_index_or old own d)
       (slice_index_or old peer d) mine theirs reply
   pub left : new ≡ slice_set (slice_set old own mine) peer theirs
+
+-- The byte strings that what carries tells grew by those of a pull over a link, by the one from the
+-- other as they were.
+abbrev pub HasCarriedPull : Inst → Standing → Standing → SyncReply → Option (List (List ℕ))
+    → Option (List (List ℕ)) → Type 0
+HasCarriedPull link own peer reply before after =
+    GrowsBy before after
+    (IsTrailOver (link_of own.admin.links link) (told_of (Some peer)) reply)

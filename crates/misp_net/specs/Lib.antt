@@ -8,6 +8,7 @@ pub mod Lines
 pub mod Links
 pub mod Meaning
 pub mod Opening
+pub mod Passing
 pub mod Prelude
 pub mod Promise
 pub mod Run

@@ -23,6 +23,7 @@ use Rattle.misp_effects.specs.KeeperStates.{AreKept}
 use Rattle.misp_effects.specs.declared.stop.Side.TheVariants.{Here, There}
 use Rattle.misp_effects.specs.declared.stop.Stop.TheVariants as stops
 use Rattle.misp_sync.specs.Pulled.{pulled}
+use Rattle.misp_sync.specs.Trail.{GrowsBy}
 use Rattle.misp_sync.specs.declared.reply.SyncReply.{SyncReply}
 use Rattle.misp_net.specs.Acts.{Act, Does, Done, outputs_done}
 use Rattle.misp_net.specs.Carrying.{carry_faults}
@@ -30,6 +31,7 @@ use Rattle.misp_net.specs.Hosts.{host_at}
 use Rattle.misp_net.specs.Lines.{Line}
 use Rattle.misp_net.specs.Links.{place_of_peer}
 use Rattle.misp_net.specs.Meaning.{meaning, stop_in}
+use Rattle.misp_net.specs.Passing.{IsPassedFor, Trail}
 use Rattle.misp_net.specs.Run.{IsDone}
 use Rattle.misp_net.specs.Text.{done_text}
 use Rattle.misp_net.specs.declared.line.Output.{Output}
@@ -107,18 +109,30 @@ pub record IsPulled (hosts : List Host) (line : PullData) (reply : SyncReply)
 
 -- ---- lines
 
+-- what carries: how often it has failed, and the byte strings that it answered, where it tells them
+pub record Carried : Type 0 where
+  pub faults : ℕ
+  pub passed : Option Trail
+
+abbrev pub carried : ℕ → Option Trail → Carried
+carried faults passed = record { faults = faults; passed = passed }
+
 -- A line was run over the instances, and wrote this behind what was there. The count of the faults
--- of what carries rose by at least as many as its outputs tell.
+-- of what carries rose by at least as many as its outputs tell, and what is stated passed.
 abbrev pub RanLine : List Host → Line → List KeeperState → List KeeperState
-    → List ℕ → List ℕ → ℕ → ℕ → Type 0
-RanLine hosts line old new before after carried_before carried_after =
+    → List ℕ → List ℕ → Carried → Carried → Type 0
+RanLine hosts line old new before after carry left =
     (d : Done) × Does line d × IsDone hosts d old new × (after ≡ before ++ done_text d)
-    × RoseBy (carry_faults (outputs_done d)) carried_before carried_after
+    × RoseBy (carry_faults (outputs_done d)) carry.faults left.faults
+    × GrowsBy carry.passed left.passed (IsPassedFor hosts old d)
 
 -- memory ran out: it did nothing, or all that it does, and is not written
-abbrev pub CutLine : List Host → Line → List KeeperState → List KeeperState → Type 0
-CutLine hosts line old new =
-    AreKept old new ⊎ ((d : Done) × Does line d × IsDone hosts d old new)
+abbrev pub CutLine : List Host → Line → List KeeperState → List KeeperState
+    → Option Trail → Option Trail → Type 0
+CutLine hosts line old new before after =
+    (AreKept old new × (after ≡ before))
+    ⊎ ((d : Done) × Does line d × IsDone hosts d old new
+    × GrowsBy before after (IsPassedFor hosts old d))
 
 -- why the instances do not open, by why one of them does not
 abbrev pub fault_of : LoadFault → NetFault

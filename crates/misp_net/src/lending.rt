@@ -15,7 +15,7 @@ ghost use Rattle.misp_effects.specs.Effect.{Does};
 ghost use Rattle.misp_effects.specs.declared.stop.Side.TheVariants.{Here, There};
 ghost use Rattle.misp_store.specs.Batches.{spelled};
 ghost use Rattle.misp_store.specs.Seen.{seen_in};
-ghost use Rattle.misp_net.specs.Lending.{HasPulled, HasPulledFrom, HavePulled};
+ghost use Rattle.misp_net.specs.Lending.{HasCarriedPull, HasPulled, HasPulledFrom, HavePulled};
 
 use crate::over_carry::OverCarry;
 use misp_api::Routes;
@@ -77,6 +77,8 @@ fn pull_over<K: Keeper, C: Carry>(
         (stop_in result ≡ Some (stops.Keeper Here)) }
     ensures carry { HasCause (C.faults carry.old) (C.faults carry.new)
         (stop_in result ≡ Some stops.Carry) }
+    ensures passed { HasCarriedPull link.now own.old peer.old result
+        (C.passed carry.old) (C.passed carry.new) }
     ensures name { own.new.name ≡ own.old.name }
     ensures admin { own.new.admin ≡ own.old.admin }
 {
@@ -98,6 +100,8 @@ fn pull_pair<K: Keeper, C: Carry>(
     ensures pulled { HasPulled link.now own.old peer.old own.new peer.new result }
     ensures carry { HasCause (C.faults carry.old) (C.faults carry.new)
         (stop_in result ≡ Some stops.Carry) }
+    ensures passed { HasCarriedPull link.now own.old peer.old result
+        (C.passed carry.old) (C.passed carry.new) }
 {
     pull_over(alloc, routes, own, peer, carry, link, now, word)
 }
@@ -120,6 +124,9 @@ fn pull_from<K: Keeper, C: Carry>(
     ensures room { vec_capacity instances.new ≡ vec_capacity instances.old }
     ensures carry { HasCause (C.faults carry.old) (C.faults carry.new)
         (stop_in result ≡ Some stops.Carry) }
+    ensures passed { (d : Standing) → HasCarriedPull link.now own.old
+        (slice_index_or instances.old.items place d) result
+        (C.passed carry.old) (C.passed carry.new) }
 {
     let peer = &mut instances[place];
     pull_pair(alloc, routes, own, peer, carry, link, now, word)
@@ -145,6 +152,9 @@ pub fn pull_between<K: Keeper, C: Carry>(
     ensures pulled { HavePulled link.now own peer instances.old.items instances.new.items result }
     ensures carry { HasCause (C.faults carry.old) (C.faults carry.new)
         (stop_in result ≡ Some stops.Carry) }
+    ensures passed { (d : Standing) → HasCarriedPull link.now
+        (slice_index_or instances.old.items own d) (slice_index_or instances.old.items peer d)
+        result (C.passed carry.old) (C.passed carry.new) }
 {
     let mut mine = take_out(instances, own);
     let place = place_without(peer, own);

@@ -1,6 +1,6 @@
 //! Writes what the lines of a script come to.
 
-ghost use Rattle.std.specs.Prelude.{◌≡◌, ◌≤◌, ◌<◌, true, [], ◌∷◌, ◌++◌, IfOk, OnOk, OnErr, codes, decimal, drop, take, string_bytes, vec_len, vec_capacity};
+ghost use Rattle.std.specs.Prelude.{◌≡◌, ◌≤◌, ◌<◌, true, [], ◌∷◌, ◌++◌, IfOk, OnOk, OnErr, codes, decimal, drop, take, vec_len, vec_capacity};
 ghost use Rattle.hex.specs.Hex.{encode_lower};
 ghost use Rattle.misp_api.specs.Session.{end_name};
 ghost use Rattle.misp_core.specs.Text.{has_octets, reply_text};

@@ -5,16 +5,18 @@ ghost use Rattle.misp_outside.specs.Causes.{RoseBy};
 ghost use Rattle.misp_script.specs.Directory.{directory_of, roster_names};
 ghost use Rattle.misp_script.specs.Step.{IsPlaced, command_data, step_data, step_of};
 ghost use Rattle.misp_script.specs.Step as commands;
-ghost use Rattle.misp_effects.specs.KeeperStates.{told, AreKept, OneFailed};
+ghost use Rattle.misp_effects.specs.KeeperStates.{told, OneFailed};
 ghost use Rattle.misp_net.specs.Hosts.{described_hosts};
 ghost use Rattle.misp_net.specs.Acts.{Does, Done, outputs_done};
 ghost use Rattle.misp_net.specs.Asking.{names_of};
 ghost use Rattle.misp_net.specs.Carrying.{carry_faults, HasCarried};
-ghost use Rattle.misp_net.specs.Running.{hosts_of, states_of, CutLine, IsAdministered, RanLine};
+ghost use Rattle.misp_net.specs.Passing.{HasPassed, HasPassedFirst, IsPassedFor};
+ghost use Rattle.misp_net.specs.Running.{carried, hosts_of, states_of, CutLine, IsAdministered, RanLine};
 ghost use Rattle.misp_net.specs.Lines.{lines_of};
 ghost use Rattle.misp_store.specs.Sharing.{may_be_sound, may_be_unsound};
+ghost use Rattle.misp_sync.specs.Trail.{GrowsBy};
 ghost use Rattle.misp_net.specs.Opening.{IsUnopened};
-ghost use Rattle.misp_net.specs.Run.{HasRun, IsDone};
+ghost use Rattle.misp_net.specs.Run.{IsDone};
 ghost use Rattle.misp_net.specs.Text.{output_text, line_of};
 ghost use Rattle.misp_net.specs.Promise.{IsPrivate, AreReplied, AreNewest, IsCut};
 
@@ -85,11 +87,14 @@ fn run_step<K: Keeper, C: Carry>(
     ensures ran { OnOk result
         (RanLine (hosts_of instances.old.items) (Ok (step_data step.now))
         (states_of instances.old.items) (states_of instances.new.items)
-        lines.old.items lines.new.items (C.faults carry.old) (C.faults carry.new)) }
+        lines.old.items lines.new.items
+        (carried (C.faults carry.old) (C.passed carry.old))
+        (carried (C.faults carry.new) (C.passed carry.new))) }
     ensures room { OnOk result (vec_len lines.new < vec_capacity lines.new) }
     ensures cut { OnErr result
         (CutLine (hosts_of instances.old.items) (Ok (step_data step.now))
-        (states_of instances.old.items) (states_of instances.new.items)) }
+        (states_of instances.old.items) (states_of instances.new.items)
+        (C.passed carry.old) (C.passed carry.new)) }
     ensures hosts { hosts_of instances.new.items ≡ hosts_of instances.old.items }
     ensures later { C.faults carry.old ≤ C.faults carry.new }
 {
@@ -131,11 +136,14 @@ fn run_line<K: Keeper, C: Carry>(
     ensures ran { OnOk result
         (RanLine (hosts_of instances.old.items) (step_of directory.now line.now)
         (states_of instances.old.items) (states_of instances.new.items)
-        lines.old.items lines.new.items (C.faults carry.old) (C.faults carry.new)) }
+        lines.old.items lines.new.items
+        (carried (C.faults carry.old) (C.passed carry.old))
+        (carried (C.faults carry.new) (C.passed carry.new))) }
     ensures room { OnOk result (vec_len lines.new < vec_capacity lines.new) }
     ensures cut { OnErr result
         (CutLine (hosts_of instances.old.items) (step_of directory.now line.now)
-        (states_of instances.old.items) (states_of instances.new.items)) }
+        (states_of instances.old.items) (states_of instances.new.items)
+        (C.passed carry.old) (C.passed carry.new)) }
     ensures hosts { hosts_of instances.new.items ≡ hosts_of instances.old.items }
     ensures later { C.faults carry.old ≤ C.faults carry.new }
 {
@@ -161,10 +169,13 @@ fn put_line<K: Keeper, C: Carry>(
         × IsDone (hosts_of instances.old.items) d (states_of instances.old.items)
         (states_of instances.new.items)
         × (lines.new.items ≡ lines.old.items ++ line_of number d)
-        × RoseBy (carry_faults (outputs_done d)) (C.faults carry.old) (C.faults carry.new)) }
+        × RoseBy (carry_faults (outputs_done d)) (C.faults carry.old) (C.faults carry.new)
+        × GrowsBy (C.passed carry.old) (C.passed carry.new)
+        (IsPassedFor (hosts_of instances.old.items) (states_of instances.old.items) d)) }
     ensures cut { OnErr result
         (CutLine (hosts_of instances.old.items) (step_of directory.now line.now)
-        (states_of instances.old.items) (states_of instances.new.items)) }
+        (states_of instances.old.items) (states_of instances.new.items)
+        (C.passed carry.old) (C.passed carry.new)) }
     ensures hosts { hosts_of instances.new.items ≡ hosts_of instances.old.items }
     ensures later { C.faults carry.old ≤ C.faults carry.new }
 {
@@ -189,8 +200,16 @@ fn run_lines<K: Keeper, C: Carry>(
         HasCarried (C.faults carry.old) (C.faults carry.new)
         (hosts_of instances.old.items) (lines_of directory.now script.now)
         (states_of instances.old.items) (states_of instances.new.items) lines.items) }
+    ensures passed { IfOk result (λ lines.
+        HasPassed (C.passed carry.old) (C.passed carry.new)
+        (hosts_of instances.old.items) (lines_of directory.now script.now)
+        (states_of instances.old.items) (states_of instances.new.items) lines.items) }
     ensures cut { OnErr result
         (IsCut (hosts_of instances.old.items) (lines_of directory.now script.now)
+        (states_of instances.old.items) (states_of instances.new.items)) }
+    ensures cut_passed { OnErr result
+        (HasPassedFirst (C.passed carry.old) (C.passed carry.new)
+        (hosts_of instances.old.items) (lines_of directory.now script.now)
         (states_of instances.old.items) (states_of instances.new.items)) }
     ensures later { C.faults carry.old ≤ C.faults carry.new }
 {
@@ -263,6 +282,20 @@ pub fn run_net<K: Keeper, C: Carry>(
         (take (length net.instances) (map K.state keepers.old.items))
         (take (length net.instances) (map K.state keepers.new.items)) lines.items) }
     ensures later { C.faults carry.old ≤ C.faults carry.new }
+
+    // What it answered, where it tells that, is for each pull the stated requests with their
+    // replies, from the first on, and all of them where the pull is done. For any other line it is
+    // nothing. Where memory runs out, the same holds of some first lines.
+    ensures passed { IfOk result (λ lines.
+        HasPassed (C.passed carry.old) (C.passed carry.new)
+        (described_hosts net) (lines_of (directory_of net) script.now)
+        (take (length net.instances) (map K.state keepers.old.items))
+        (take (length net.instances) (map K.state keepers.new.items)) lines.items) }
+    ensures cut_passed { result ≡ Err NetFault.NoMemory →
+        HasPassedFirst (C.passed carry.old) (C.passed carry.new)
+        (described_hosts net) (lines_of (directory_of net) script.now)
+        (take (length net.instances) (map K.state keepers.old.items))
+        (take (length net.instances) (map K.state keepers.new.items)) }
 
     // Each keeper is back in its place, and the others are as they were.
     ensures places { vec_len keepers.new ≡ vec_len keepers.old }

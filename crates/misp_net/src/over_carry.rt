@@ -48,6 +48,8 @@ impl<K: Keeper, C: Carry> Wire for OverCarry<'_, K, C> {
 
     ghost through = { λ w. w.peer.ghost_name ∷ w.carry.ghost_name ∷ [] };
 
+    ghost trail = { λ w. C.passed w.carry.now };
+
     ghost faults = { λ w. C.faults w.carry.now };
 
     fn ask(&mut self, alloc: Global, bytes: &[u8]) -> Result<Vec<u8>, WireFault> {

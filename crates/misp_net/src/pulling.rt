@@ -10,12 +10,14 @@ ghost use Rattle.misp_script.specs.Directory.{roster_names};
 ghost use Rattle.misp_script.specs.Step.{pull_data};
 ghost use Rattle.misp_sync.specs.Counts.{no_count};
 ghost use Rattle.misp_sync.specs.Pulled.{stop_in};
+ghost use Rattle.misp_sync.specs.Trail.{GrowsBy};
 ghost use Rattle.misp_sync.specs.declared.reply.SyncReply.TheVariants as replies;
 ghost use Rattle.misp_net.specs.Acts.{Pulls, act};
 ghost use Rattle.misp_net.specs.Asking.{asked_over, names_of};
 ghost use Rattle.misp_net.specs.Lines.{pull_line};
 ghost use Rattle.misp_net.specs.Links.{place_of_peer};
-ghost use Rattle.misp_net.specs.Running.{hosts_of, states_of, CutLine, IsAct, IsPulled, RanLine};
+ghost use Rattle.misp_net.specs.Passing.{IsPullPassed};
+ghost use Rattle.misp_net.specs.Running.{carried, hosts_of, states_of, CutLine, IsAct, IsPulled, RanLine};
 ghost use Rattle.misp_net.specs.declared.line.Output.TheVariants.{Synced};
 
 use crate::lending::pull_between;
@@ -25,7 +27,7 @@ use misp_core::Instance;
 use misp_ids::{NoMemory, Refusal, RuleName, Stamp};
 use misp_outside::{Carry, Keeper};
 use misp_script::{Directory, PullLine};
-use misp_sync::{SyncCount, SyncReply};
+use misp_sync::{SyncCount, SyncReply, usable};
 use std::alloc::Global;
 
 // The place of the peer of a link, or the rule by which a pull over it is refused.
@@ -37,21 +39,10 @@ fn asked<K: Keeper>(
     ensures { result
         ≡ asked_over directory.now line.now.at (link_of instance.now.admin.links line.now.link) }
 {
-    let Some(link) = instance.link(&line.link) else {
-        return Err(RuleName::NoLink);
-    };
-    if !link.on {
-        return Err(RuleName::LinkOff);
-    }
+    let link = usable(instance, &line.link)?;
     match directory.place_of(link.peer.text().as_bytes()) {
-        Some(peer) => {
-            if peer == line.at {
-                Err(RuleName::NoLink)
-            } else {
-                Ok(peer)
-            }
-        }
-        None => Err(RuleName::NoLink),
+        Some(peer) if peer != line.at => Ok(peer),
+        _ => Err(RuleName::NoLink),
     }
 }
 
@@ -60,12 +51,7 @@ fn refused(alloc: Global, name: RuleName) -> SyncReply
     ensures { result ≡ replies.Stopped no_count (bare name) }
 {
     SyncReply::Stopped {
-        count: SyncCount {
-            groups: 0,
-            events: 0,
-            elements: 0,
-            packages: 0,
-        },
+        count: SyncCount::none(),
         cause: Refusal::bare(alloc, name),
     }
 }
@@ -89,6 +75,9 @@ fn lend<K: Keeper, C: Carry>(
         (IsPulled (hosts_of instances.old.items) (pull_data line.now) result) }
     ensures cause { HasCause (C.faults carry.old) (C.faults carry.new)
         (stop_in result ≡ Some stops.Carry) }
+    ensures passed { GrowsBy (C.passed carry.old) (C.passed carry.new)
+        (IsPullPassed (hosts_of instances.old.items) (states_of instances.old.items)
+        (pull_data line.now) result) }
     ensures hosts { hosts_of instances.new.items ≡ hosts_of instances.old.items }
 {
     pull_between(
@@ -114,6 +103,9 @@ fn pull_at<K: Keeper, C: Carry>(
         (states_of instances.old.items) (states_of instances.new.items) (Synced result) }
     ensures cause { HasCause (C.faults carry.old) (C.faults carry.new)
         (stop_in result ≡ Some stops.Carry) }
+    ensures passed { GrowsBy (C.passed carry.old) (C.passed carry.new)
+        (IsPullPassed (hosts_of instances.old.items) (states_of instances.old.items)
+        (pull_data line.now) result) }
     ensures hosts { hosts_of instances.new.items ≡ hosts_of instances.old.items }
 {
     match asked(directory, &instances[line.at], line) {
@@ -139,11 +131,14 @@ pub(crate) fn put_pull<K: Keeper, C: Carry>(
     ensures ran { OnOk result (RanLine (hosts_of instances.old.items)
         (pull_line now word (pull_data line.now))
         (states_of instances.old.items) (states_of instances.new.items)
-        lines.old.items lines.new.items (C.faults carry.old) (C.faults carry.new)) }
+        lines.old.items lines.new.items
+        (carried (C.faults carry.old) (C.passed carry.old))
+        (carried (C.faults carry.new) (C.passed carry.new))) }
     ensures room { OnOk result (vec_len lines.new < vec_capacity lines.new) }
     ensures cut { OnErr result (CutLine (hosts_of instances.old.items)
         (pull_line now word (pull_data line.now))
-        (states_of instances.old.items) (states_of instances.new.items)) }
+        (states_of instances.old.items) (states_of instances.new.items)
+        (C.passed carry.old) (C.passed carry.new)) }
     ensures hosts { hosts_of instances.new.items ≡ hosts_of instances.old.items }
     ensures later { C.faults carry.old ≤ C.faults carry.new }
 {

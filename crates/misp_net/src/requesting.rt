@@ -4,8 +4,6 @@ ghost use Rattle.std.specs.Prelude.{◌≡◌, ◌≢◌, ◌≤◌, ◌<◌, �
 ghost use Rattle.misp_script.specs.Step as commands;
 ghost use Rattle.misp_http.specs.Reading.{IsRead};
 ghost use Rattle.misp_http.specs.Texts.{request_text};
-ghost use Rattle.misp_http.specs.declared.request.Read.{Read as WasRead};
-ghost use Rattle.misp_http.specs.declared.request.ReadEnd.{ReadEnd as NotRead};
 ghost use Rattle.misp_net.specs.Running.{IsRequested};
 ghost use Rattle.misp_net.specs.Text.{output_text};
 

@@ -6,6 +6,7 @@ pub mod Coming
 pub mod Elsewhere
 pub mod EventLoop
 pub mod EventTexts
+pub mod EventTrail
 pub mod Events
 pub mod EventsSent
 pub mod EventsTold
@@ -19,12 +20,14 @@ pub mod JsonTexts
 pub mod Keeping
 pub mod Left
 pub mod Lists
+pub mod ListsTold
 pub mod OwnRows
 pub mod PartLoop
 pub mod Parts
 pub mod PartsTaken
 pub mod PartsTold
 pub mod PeerTold
+pub mod QueryLists
 pub mod ReadReplies
 pub mod RefusalTexts
 pub mod Routes
@@ -33,3 +36,5 @@ pub mod Stands
 pub mod Suiting
 pub mod Synced
 pub mod Takings
+pub mod TrailSteps
+pub mod Trails

@@ -6,3 +6,4 @@ pub mod Replied
 pub mod Serving
 pub mod Steps
 pub mod Telling
+pub mod Trail

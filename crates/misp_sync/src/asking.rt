@@ -1,10 +1,11 @@
 //! Writes the requests that a pull asks with, and sends them.
 
-ghost use Rattle.std.specs.Prelude.{◌≡◌, Err, IfErr, IfOk, MatchResult, string_bytes};
+ghost use Rattle.std.specs.Prelude.{◌≡◌, [], ◌∷◌, Err, IfErr, IfOk, MatchResult, string_bytes};
 ghost use Rattle.misp_outside.specs.Causes.{HasCause};
 ghost use Rattle.misp_sync.specs.Query.{IsPart, part_target, query_text, target_of};
 ghost use Rattle.misp_sync.specs.Replied.{IsCutBy};
 ghost use Rattle.misp_sync.specs.Serving.{IsAnswered, IsStill, Meet};
+ghost use Rattle.misp_sync.specs.Trail.{GrowsBy, IsUnanswered};
 ghost use Rattle.misp_sync.specs.declared.replies.FetchFault.TheVariants as faults;
 
 use crate::query::Query;
@@ -72,6 +73,9 @@ pub(crate) fn ask<W: Wire>(
     ensures answered { Meet (W.peer wire.old) (W.peer wire.new) (λ old new. MatchResult result
         (λ reply. IsAnswered key.now query.now old new reply.items)
         (λ fault. IsCutBy fault × IsStill old new)) }
+    ensures trail { GrowsBy (W.trail wire.old) (W.trail wire.new) (λ more. MatchResult result
+        (λ reply. more ≡ query_text key.now query.now ∷ reply.items ∷ [])
+        (λ _. IsUnanswered (query_text key.now query.now) more)) }
     ensures cut { IfErr result IsCutBy }
     ensures through { W.through wire.new ≡ W.through wire.old }
     ensures cause { HasCause (W.faults wire.old) (W.faults wire.new)

@@ -1,6 +1,6 @@
 //! Asks a peer, and reads what it replies.
 
-ghost use Rattle.std.specs.Prelude.{◌≡◌, Err, IfErr, IfOk};
+ghost use Rattle.std.specs.Prelude.{◌≡◌, [], ◌∷◌, Err, IfErr, IfOk};
 ghost use Rattle.std.specs.List.{AllByRecursion};
 ghost use Rattle.misp_ids.specs.Refusal.{bare};
 ghost use Rattle.misp_ids.specs.declared.refusal.RuleName.TheVariants as rules;
@@ -11,6 +11,7 @@ ghost use Rattle.misp_core.specs.Sound.{IsListed};
 ghost use Rattle.misp_sync.specs.Replied.{Gives, IsBrought, IsOwn, ReadsReplyBy, events_in, groups_in, is_wanted, package_in};
 ghost use Rattle.misp_sync.specs.Serving.{Meet};
 ghost use Rattle.misp_sync.specs.Telling.{IsFetchCause, IsFetched, events_told, groups_told, part_told};
+ghost use Rattle.misp_sync.specs.Trail.{AsksFor, AsksForList, GrowsBy, told_of};
 ghost use Rattle.misp_sync.specs.declared.query.Query.TheVariants as queries;
 ghost use Rattle.misp_sync.specs.declared.replies.FetchFault.TheVariants as faults;
 
@@ -51,6 +52,8 @@ fn groups_brought<W: Wire>(
 ) -> Result<Vec<Group>, FetchFault>
     ensures told { Meet (W.peer wire.old) (W.peer wire.new)
         (IsBrought (λ groups. groups.items) groups_told key.now queries.Groups result) }
+    ensures trail { GrowsBy (W.trail wire.old) (W.trail wire.new)
+        (AsksFor key.now (told_of (W.peer wire.old)) (queries.Groups ∷ []) result) }
     ensures through { W.through wire.new ≡ W.through wire.old }
     ensures cause { HasCause (W.faults wire.old) (W.faults wire.new)
         (result ≡ Err faults.Link) }
@@ -84,6 +87,8 @@ fn events_brought<W: Wire>(
 ) -> Result<Vec<EventParts>, FetchFault>
     ensures told { Meet (W.peer wire.old) (W.peer wire.new)
         (IsBrought (λ events. events.items) events_told key.now queries.Events result) }
+    ensures trail { GrowsBy (W.trail wire.old) (W.trail wire.new)
+        (AsksForList (λ events. events.items) key.now (told_of (W.peer wire.old)) result) }
     ensures through { W.through wire.new ≡ W.through wire.old }
     ensures cause { HasCause (W.faults wire.old) (W.faults wire.new)
         (result ≡ Err faults.Link) }
@@ -152,6 +157,8 @@ fn part_brought<W: Wire>(
 ) -> Result<Package, FetchFault>
     ensures told { Meet (W.peer wire.old) (W.peer wire.new)
         (IsBrought (λ p. p) (part_told event part) key.now (queries.Part event part) result) }
+    ensures trail { GrowsBy (W.trail wire.old) (W.trail wire.new)
+        (AsksFor key.now (told_of (W.peer wire.old)) (queries.Part event part ∷ []) result) }
     ensures through { W.through wire.new ≡ W.through wire.old }
     ensures cause { HasCause (W.faults wire.old) (W.faults wire.new)
         (result ≡ Err faults.Link) }
@@ -172,6 +179,8 @@ pub(crate) fn fetch_groups<W: Wire>(
 ) -> Result<Vec<Group>, Refusal>
     ensures told { Meet (W.peer wire.old) (W.peer wire.new)
         (IsFetched (λ groups. groups.items) groups_told key.now queries.Groups result) }
+    ensures trail { GrowsBy (W.trail wire.old) (W.trail wire.new)
+        (AsksFor key.now (told_of (W.peer wire.old)) (queries.Groups ∷ []) result) }
     ensures through { W.through wire.new ≡ W.through wire.old }
     ensures cause { HasCause (W.faults wire.old) (W.faults wire.new)
         (result ≡ Err (bare rules.LinkFault)) }
@@ -191,6 +200,8 @@ pub(crate) fn fetch_events<W: Wire>(
 ) -> Result<Vec<EventParts>, Refusal>
     ensures told { Meet (W.peer wire.old) (W.peer wire.new)
         (IsFetched (λ events. events.items) events_told key.now queries.Events result) }
+    ensures trail { GrowsBy (W.trail wire.old) (W.trail wire.new)
+        (AsksForList (λ events. events.items) key.now (told_of (W.peer wire.old)) result) }
     ensures through { W.through wire.new ≡ W.through wire.old }
     ensures cause { HasCause (W.faults wire.old) (W.faults wire.new)
         (result ≡ Err (bare rules.LinkFault)) }
@@ -212,6 +223,8 @@ pub(crate) fn fetch_part<W: Wire>(
 ) -> Result<Package, Refusal>
     ensures told { Meet (W.peer wire.old) (W.peer wire.new)
         (IsFetched (λ p. p) (part_told event part) key.now (queries.Part event part) result) }
+    ensures trail { GrowsBy (W.trail wire.old) (W.trail wire.new)
+        (AsksFor key.now (told_of (W.peer wire.old)) (queries.Part event part ∷ []) result) }
     ensures through { W.through wire.new ≡ W.through wire.old }
     ensures cause { HasCause (W.faults wire.old) (W.faults wire.new)
         (result ≡ Err (bare rules.LinkFault)) }

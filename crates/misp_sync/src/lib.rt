@@ -15,7 +15,7 @@ mod wire;
 
 pub use count::SyncCount;
 pub use laws::an_instance_pulls_by_the_history;
-pub use pulling::pull;
+pub use pulling::{pull, usable};
 pub use query::Query;
 pub use reply::SyncReply;
 pub use wire::Wire;

@@ -1,6 +1,6 @@
 //! Pulls.
 
-ghost use Rattle.std.specs.Prelude.{◌≡◌, ◌∷◌, true, List, map, Option, None, Some, IfSome, drop, length};
+ghost use Rattle.std.specs.Prelude.{◌≡◌, [], ◌∷◌, true, List, map, Option, None, Some, IfSome, drop, length};
 ghost use Rattle.misp_elem.specs.declared.row.RowFields.{RowFields};
 ghost use Rattle.misp_ids.specs.Uid.{IsUid};
 ghost use Rattle.misp_ids.specs.declared.uid.EventId.{EventId as Event};
@@ -25,10 +25,12 @@ ghost use Rattle.misp_store.specs.declared.reach.Reach.TheVariants as reach;
 ghost use Rattle.misp_core.specs.Sound.{by_event};
 ghost use Rattle.misp_core.specs.Standing.{Standing, host_of};
 ghost use Rattle.misp_sync.specs.Counts.{no_count};
-ghost use Rattle.misp_sync.specs.Pulled.{bar_of, ends, event_taken, events_sent, events_taken, pulled, pulled_by, rows_pulled, stop_in, telling};
+ghost use Rattle.misp_sync.specs.Pulled.{bar_of, ends, event_taken, events_sent, events_taken, pulled, pulled_by, reply_of, rows_pulled, stop_in, telling};
 ghost use Rattle.misp_sync.specs.Serving.{IsStill, Meet};
 ghost use Rattle.misp_sync.specs.Steps.{AreSent, AreTaken, IsPartTaken, IsStep, IsUnread, Sends, Takes, Tell, cause_of, listed_of, parts_coming, stand, stop_of_keeper, usable_link};
 ghost use Rattle.misp_sync.specs.Telling.{stop_refusal};
+ghost use Rattle.misp_sync.specs.Trail.{AsksFor, GrowsBy, IsPullTrail, IsRowsTrail, IsTrailOver, part_queries, parts_from, told_of};
+ghost use Rattle.misp_sync.specs.declared.query.Query.TheVariants as queries;
 ghost use Rattle.misp_sync.specs.declared.reply.SyncReply.{SyncReply as Told};
 ghost use Rattle.misp_sync.specs.declared.reply.SyncReply.TheVariants as replies;
 
@@ -68,6 +70,8 @@ fn take_part<K: Keeper, W: Wire>(
         (stand instance.old (W.peer wire.old) (W.faults wire.old) (W.through wire.old))
         (stand instance.new (W.peer wire.new) (W.faults wire.new) (W.through wire.new))
         (cause_of result) }
+    ensures trail { GrowsBy (W.trail wire.old) (W.trail wire.new)
+        (AsksFor key.now (told_of (W.peer wire.old)) (queries.Part event part ∷ []) result) }
     ensures taken { (w : Owner) (rows first : List RowFields) (all more : List (List RowFields))
         (next : Effect (Option Cause)) (own there : Held) (peer : Standing) →
         Tell (stand instance.old (W.peer wire.old) (W.faults wire.old) (W.through wire.old))
@@ -104,6 +108,9 @@ fn take_parts<K: Keeper, W: Wire>(
         (stand instance.old (W.peer wire.old) (W.faults wire.old) (W.through wire.old))
         (stand instance.new (W.peer wire.new) (W.faults wire.new) (W.through wire.new))
         (cause_of result) }
+    ensures trail { GrowsBy (W.trail wire.old) (W.trail wire.new)
+        (AsksFor key.now (told_of (W.peer wire.old))
+        (parts_from listed.now.event 0 listed.now.parts) result) }
     ensures taken { (w : Owner) (rows : List RowFields) (all : List (List RowFields))
         (next : Effect (Option Cause)) (own there : Held) (peer : Standing) →
         Tell (stand instance.old (W.peer wire.old) (W.faults wire.old) (W.through wire.old))
@@ -132,6 +139,7 @@ fn take_parts<K: Keeper, W: Wire>(
     }
     Ok(())
 }
+
 // The refusal that names a row which does not decode, or that of memory.
 fn bad_row(alloc: Global, name: &[u8]) -> Refusal
     ensures { IsUnread (faults.BadRow name.now) result }
@@ -170,6 +178,9 @@ fn take_event<K: Keeper, W: Wire>(
         (stand instance.old (W.peer wire.old) (W.faults wire.old) (W.through wire.old))
         (stand instance.new (W.peer wire.new) (W.faults wire.new) (W.through wire.new))
         (cause_of result) }
+    ensures trail { GrowsBy (W.trail wire.old) (W.trail wire.new)
+        (AsksFor key.now (told_of (W.peer wire.old))
+        (parts_from listed.now.event 0 listed.now.parts) result) }
     ensures taken { (all : List (List RowFields)) (next : Effect (Option Cause))
         (own there : Held) (peer : Standing) →
         Tell (stand instance.old (W.peer wire.old) (W.faults wire.old) (W.through wire.old))
@@ -200,6 +211,8 @@ fn take_events<K: Keeper, W: Wire>(
         (stand instance.old (W.peer wire.old) (W.faults wire.old) (W.through wire.old))
         (stand instance.new (W.peer wire.new) (W.faults wire.new) (W.through wire.new))
         (cause_of result) }
+    ensures trail { GrowsBy (W.trail wire.old) (W.trail wire.new)
+        (AsksFor key.now (told_of (W.peer wire.old)) (part_queries events.now) result) }
     ensures taken { (all : List (Event × List (List RowFields))) (own there : Held)
         (peer : Standing) →
         Tell (stand instance.old (W.peer wire.old) (W.faults wire.old) (W.through wire.old))
@@ -230,6 +243,8 @@ fn take_rows<K: Keeper, W: Wire>(
         (stand instance.old (W.peer wire.old) (W.faults wire.old) (W.through wire.old))
         (stand instance.new (W.peer wire.new) (W.faults wire.new) (W.through wire.new))
         (cause_of result) }
+    ensures trail { GrowsBy (W.trail wire.old) (W.trail wire.new)
+        (IsRowsTrail key.now (told_of (W.peer wire.old)) (reply_of no_count (cause_of result))) }
     ensures taken { (caller : CallerFields) (own there : Held) (peer : Standing) →
         Tell (stand instance.old (W.peer wire.old) (W.faults wire.old) (W.through wire.old))
         own peer there → who_of peer.admin key.now ≡ Some caller →
@@ -257,6 +272,8 @@ fn take_all<K: Keeper, W: Wire>(
         (stand instance.old (W.peer wire.old) (W.faults wire.old) (W.through wire.old))
         (stand instance.new (W.peer wire.new) (W.faults wire.new) (W.through wire.new))
         (cause_of result) }
+    ensures trail { GrowsBy (W.trail wire.old) (W.trail wire.new)
+        (IsPullTrail key.now (told_of (W.peer wire.old)) (reply_of no_count (cause_of result))) }
     ensures taken { (own there : Held) (peer : Standing) →
         Tell (stand instance.old (W.peer wire.old) (W.faults wire.old) (W.through wire.old))
         own peer there → Takes (pulled_by instance.old.name holder.now (host_of peer)
@@ -276,8 +293,9 @@ fn take_all<K: Keeper, W: Wire>(
     }
 }
 
-// The link of a name, where it can be used.
-fn usable<K: Keeper>(instance: &Instance<K>, name: &InstId) -> Result<Link, RuleName>
+/// The link of a name, where it can be used; or the rule by which a synchronisation over it is
+/// refused.
+pub fn usable<K: Keeper>(instance: &Instance<K>, name: &InstId) -> Result<Link, RuleName>
     ensures { result ≡ usable_link (link_of instance.now.admin.links name.now) }
 {
     match instance.link(name) {
@@ -314,6 +332,12 @@ pub fn pull<K: Keeper, W: Wire>(
         (stop_in result ≡ Some (stops.Keeper Here)) }
     ensures link { HasCause (W.faults wire.old) (W.faults wire.new)
         (stop_in result ≡ Some stops.Carry) }
+
+    // What was asked and answered are the stated requests and their replies, from the first on, and
+    // all of them where it is done.
+    ensures trail { GrowsBy (W.trail wire.old) (W.trail wire.new)
+        (IsTrailOver (link_of instance.old.admin.links link.now) (told_of (W.peer wire.old))
+        result) }
     ensures through { W.through wire.new ≡ W.through wire.old }
     ensures name { instance.new.name ≡ instance.old.name }
     ensures admin { instance.new.admin ≡ instance.old.admin }

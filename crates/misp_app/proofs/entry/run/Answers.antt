@@ -5,7 +5,7 @@ use Rattle.misp_words.specs.Words.{ServeData, serve_data}
 use Rattle.misp_net.specs.Prelude.{Description}
 use Rattle.misp_app.specs.Hosting.{HasServed}
 use Rattle.misp_app.specs.Source.{described, host_named}
-use Rattle.misp_app.proofs.Cutting.{cut_unread}
+use Rattle.misp_app.proofs.Cutting.{cut_unread, passing_unread}
 use Rattle.misp_app.proofs.Finishing.{finishes}
 use Rattle.misp_app.proofs.Hosted.{none_read, one_keeper, served_here, unread_memory, words_read}
 use Rattle.misp_app.proofs.entry.run.Goals as goal
@@ -28,6 +28,12 @@ returns-in-Err-OutOfMemory-clause-cut g c = λ net is. cut_unread (g.S.Source.le
 
 pub returns-in-Err-clause-cut : goal.returns-in-Err-clause-cut
 returns-in-Err-clause-cut g c = λ net is. cut_unread (g.S.Source.left c.args.source.now) (map g.K.Keeper.state c.args.keepers.now.items)
+
+pub returns-in-Err-OutOfMemory-clause-cut_passed : goal.returns-in-Err-OutOfMemory-clause-cut_passed
+returns-in-Err-OutOfMemory-clause-cut_passed g c = λ net is. passing_unread (g.C.Carry.passed c.args.carry.now) (g.S.Source.left c.args.source.now) (map g.K.Keeper.state c.args.keepers.now.items)
+
+pub returns-in-Err-clause-cut_passed : goal.returns-in-Err-clause-cut_passed
+returns-in-Err-clause-cut_passed g c = λ net is. passing_unread (g.C.Carry.passed c.args.carry.now) (g.S.Source.left c.args.source.now) (map g.K.Keeper.state c.args.keepers.now.items)
 
 pub returns-in-Err-OutOfMemory-clause-served : goal.returns-in-Err-OutOfMemory-clause-served
 returns-in-Err-OutOfMemory-clause-served g c = λ asked time word back coming is ready has.

@@ -7,8 +7,9 @@ use Rattle.misp_net.proofs.Openings.{if_err}
 use Rattle.misp_net.specs.Asking.{names_of}
 use Rattle.misp_net.proofs.Asking.{names_described}
 use Rattle.misp_net.proofs.Courses.{none_ran}
+use Rattle.misp_net.proofs.Passing.{none_passing}
 use Rattle.misp_net.proofs.Privacy.{is_private, are_replied, are_newest}
-use Rattle.misp_net.proofs.Fronts.{AreInFront, opened_long, carried_in_front, run_in_front, cut_in_front, others_kept}
+use Rattle.misp_net.proofs.Fronts.{AreInFront, opened_long, carried_in_front, passed_in_front, passing_in_front, run_in_front, cut_in_front, others_kept}
 use Rattle.misp_net.proofs.net.run_net.Goals as goal
 
 -- the instances are before the other keepers, before and after
@@ -69,6 +70,15 @@ returns-clause-carried g c =
     (omega (arith, c.run_lines-lines.ensures.places, c.run_lines-lines.new.instances.ok.0, c.in_ok-instances.instances.ok.0)) c.close_all.ensures in
     carried_in_front front (rw (← c.in_ok-directory.ensures) c.in_ok-lines.ensures.ran)
 
+pub returns-clause-passed : goal.returns-clause-passed
+returns-clause-passed g c =
+    let front = in_front c.args.net c.in_ok-instances.instances.items c.run_lines-lines.new.instances.items (map g.K.Keeper.state c.open_all.new.keepers.items)
+    (map g.K.Keeper.state c.args.keepers.now.items) (map g.K.Keeper.state c.close_all.new.keepers.items) (vec_len c.into_vec.result)
+    (c.into_vec.result.ok.0 ∙ ap length c.into_vec.ensures) (c.in_ok-instances.ensures.hosts ∙ ap (map described_host) c.into_vec.ensures)
+    c.in_ok-instances.ensures.opened c.in_ok-instances.ensures.rest
+    (omega (arith, c.run_lines-lines.ensures.places, c.run_lines-lines.new.instances.ok.0, c.in_ok-instances.instances.ok.0)) c.close_all.ensures in
+    passed_in_front front (rw (← c.in_ok-directory.ensures) c.in_ok-lines.ensures.passed)
+
 pub returns-clause-others : goal.returns-clause-others
 returns-clause-others g c =
     let front = in_front c.args.net c.in_ok-instances.instances.items c.run_lines-lines.new.instances.items (map g.K.Keeper.state c.open_all.new.keepers.items)
@@ -95,6 +105,15 @@ returns-in_err-lines-clause-cut g c =
     c.in_ok-instances.ensures.opened c.in_ok-instances.ensures.rest
     (omega (arith, c.run_lines-lines.ensures.places, c.run_lines-lines.new.instances.ok.0, c.in_ok-instances.instances.ok.0)) c.close_all.ensures in
     λ is. cut_in_front front (rw (← c.in_ok-directory.ensures) c.in_err-lines.ensures.cut)
+
+pub returns-in_err-lines-clause-cut_passed : goal.returns-in_err-lines-clause-cut_passed
+returns-in_err-lines-clause-cut_passed g c =
+    let front = in_front c.args.net c.in_ok-instances.instances.items c.run_lines-lines.new.instances.items (map g.K.Keeper.state c.open_all.new.keepers.items)
+    (map g.K.Keeper.state c.args.keepers.now.items) (map g.K.Keeper.state c.close_all.new.keepers.items) (vec_len c.into_vec.result)
+    (c.into_vec.result.ok.0 ∙ ap length c.into_vec.ensures) (c.in_ok-instances.ensures.hosts ∙ ap (map described_host) c.into_vec.ensures)
+    c.in_ok-instances.ensures.opened c.in_ok-instances.ensures.rest
+    (omega (arith, c.run_lines-lines.ensures.places, c.run_lines-lines.new.instances.ok.0, c.in_ok-instances.instances.ok.0)) c.close_all.ensures in
+    λ is. passing_in_front front (rw (← c.in_ok-directory.ensures) c.in_err-lines.ensures.cut_passed)
 
 -- ---- the directory has the names of the instances, and there are as many keepers as before
 
@@ -158,3 +177,12 @@ returns-in_err-routes-clause-cut g c = λ is. none_ran _ _ _ _ (all_kept _)
 
 pub returns-in_err-instances-clause-cut : goal.returns-in_err-instances-clause-cut
 returns-in_err-instances-clause-cut g c = λ is. none_ran _ _ _ _ (kept_take (length c.args.net.instances) _ _ c.in_err-instances.ensures.back)
+
+pub returns-in_err-directory-clause-cut_passed : goal.returns-in_err-directory-clause-cut_passed
+returns-in_err-directory-clause-cut_passed g c = λ is. none_passing _ _ _ _ _ (all_kept _)
+
+pub returns-in_err-routes-clause-cut_passed : goal.returns-in_err-routes-clause-cut_passed
+returns-in_err-routes-clause-cut_passed g c = λ is. none_passing _ _ _ _ _ (all_kept _)
+
+pub returns-in_err-instances-clause-cut_passed : goal.returns-in_err-instances-clause-cut_passed
+returns-in_err-instances-clause-cut_passed g c = λ is. none_passing _ _ _ _ _ (kept_take (length c.args.net.instances) _ _ c.in_err-instances.ensures.back)

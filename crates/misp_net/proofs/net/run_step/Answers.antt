@@ -1,4 +1,4 @@
-use Rattle.std.proofs.Common.{◌≡◌, ◌<◌, ◌++◌, ℕ, Ok, inl, subst}
+use Rattle.std.proofs.Common.{◌≡◌, ◌<◌, ◌++◌, ℕ, Ok, inl, refl, subst}
 use Rattle.misp_script.specs.declared.step.Command.{Command}
 use Rattle.misp_script.specs.declared.step.RequestLine.{RequestLine}
 use Rattle.misp_script.specs.declared.step.PullLine.{PullLine}
@@ -7,6 +7,7 @@ use Rattle.misp_script.specs.declared.step.GroupLine.{GroupLine}
 use Rattle.misp_script.specs.Step.{IsPlaced, request_data, raw_data, group_data, command_data, step_data}
 use Rattle.misp_effects.proofs.KeeperStates.{kept_set}
 use Rattle.misp_net.specs.Prelude.{hosts_of, state_of, states_of}
+use Rattle.misp_net.specs.Running.{carried}
 use Rattle.misp_net.proofs.Doing.{always_err, both_ways, cut_first, cut_hosts, group_ran, nothing_ran, on_err, on_ok, request_ran, session_cut, session_hosts, session_ran}
 use Rattle.misp_net.proofs.Steps.{hosts_kept}
 use Rattle.misp_net.proofs.net.run_step.Goals as goal
@@ -16,10 +17,10 @@ use Rattle.misp_net.proofs.net.run_step.Goals as goal
 pub returns-in-Nothing-clause-ran : goal.returns-in-Nothing-clause-ran
 returns-in-Nothing-clause-ran g c =
     rw c.in-Nothing.is
-    (on_ok c.put_nothing.result (nothing_ran c.args.step.now.time c.args.step.now.word (hosts_of c.args.instances.now.items) (states_of c.args.instances.now.items) _ _ (g.C.Carry.faults c.args.carry.now)) c.put_nothing.ensures.text)
+    (on_ok c.put_nothing.result (nothing_ran c.args.step.now.time c.args.step.now.word (hosts_of c.args.instances.now.items) (states_of c.args.instances.now.items) _ _ (carried (g.C.Carry.faults c.args.carry.now) (g.C.Carry.passed c.args.carry.now))) c.put_nothing.ensures.text)
 
 pub returns-in-Nothing-clause-cut : goal.returns-in-Nothing-clause-cut
-returns-in-Nothing-clause-cut g c = always_err c.put_nothing.result (cut_first (hosts_of c.args.instances.now.items) (Ok (step_data c.args.step.now)) (states_of c.args.instances.now.items))
+returns-in-Nothing-clause-cut g c = always_err c.put_nothing.result (cut_first (hosts_of c.args.instances.now.items) (Ok (step_data c.args.step.now)) (states_of c.args.instances.now.items) (g.C.Carry.passed c.args.carry.now))
 
 -- ---- a request
 
@@ -30,7 +31,7 @@ pub returns-in_ok-put_request-in-Request-clause-ran : goal.returns-in_ok-put_req
 returns-in_ok-put_request-in-Request-clause-ran g c =
     rw c.in-Request.is
     (request_ran c.args.instances.now.items c.index_mut-instance.result.now c.put_request.new.instance c.args.step.now.time c.args.step.now.word (request_data c.in-Request.request)
-    (request_within _ _ _ _ c.requires.placed c.in-Request.is c.args.instances.now.ok.0) c.in_ok-put_request-in-Request.field-0 _ _ (g.C.Carry.faults c.args.carry.now)
+    (request_within _ _ _ _ c.requires.placed c.in-Request.is c.args.instances.now.ok.0) c.in_ok-put_request-in-Request.field-0 _ _ (carried (g.C.Carry.faults c.args.carry.now) (g.C.Carry.passed c.args.carry.now))
     (rw (← c.index_mut-instance.ensures.value) c.in_ok-put_request-in-Request.ensures.requested) c.in_ok-put_request-in-Request.ensures.text)
 
 pub returns-in_ok-put_request-in-Request-clause-hosts : goal.returns-in_ok-put_request-in-Request-clause-hosts
@@ -43,9 +44,12 @@ returns-in_ok-put_request-in-Request-clause-hosts g c =
 pub returns-in_err-put_request-in-Request-clause-cut : goal.returns-in_err-put_request-in-Request-clause-cut
 returns-in_err-put_request-in-Request-clause-cut g c =
     always_err c.from_residual.result
-    (inl (kept_set state_of c.args.instances.now.items c.in-Request.request.at c.put_request.new.instance c.index_mut-instance.result.now
-    (request_within _ _ _ _ c.requires.placed c.in-Request.is c.args.instances.now.ok.0)
-    (rw (← c.index_mut-instance.ensures.value) c.in_err-put_request-in-Request.ensures.kept) (rw (← c.index_mut-instance.ensures.value) c.in_err-put_request-in-Request.ensures.later)))
+    (inl (
+      kept_set state_of c.args.instances.now.items c.in-Request.request.at c.put_request.new.instance c.index_mut-instance.result.now
+          (request_within _ _ _ _ c.requires.placed c.in-Request.is c.args.instances.now.ok.0)
+          (rw (← c.index_mut-instance.ensures.value) c.in_err-put_request-in-Request.ensures.kept) (rw (← c.index_mut-instance.ensures.value) c.in_err-put_request-in-Request.ensures.later),
+      refl,
+    ))
 
 pub returns-in_err-put_request-in-Request-clause-hosts : goal.returns-in_err-put_request-in-Request-clause-hosts
 returns-in_err-put_request-in-Request-clause-hosts g c =
@@ -64,7 +68,7 @@ returns-in-Raw-clause-ran g c =
     (on_ok c.put_raw.result
     (λ went.
     session_ran c.args.instances.now.items c.index_mut-instance-in-Raw.result.now c.put_raw.new.instance c.args.step.now.time c.args.step.now.word (raw_data c.in-Raw.raw)
-    (raw_within _ _ _ _ c.requires.placed c.in-Raw.is c.args.instances.now.ok.0) (λ text. c.put_raw.new.lines.items ≡ c.args.lines.now.items ++ text) (g.C.Carry.faults c.args.carry.now)
+    (raw_within _ _ _ _ c.requires.placed c.in-Raw.is c.args.instances.now.ok.0) (λ text. c.put_raw.new.lines.items ≡ c.args.lines.now.items ++ text) (carried (g.C.Carry.faults c.args.carry.now) (g.C.Carry.passed c.args.carry.now))
     (rw (← c.index_mut-instance-in-Raw.ensures.value) went))
     c.put_raw.ensures.text)
 
@@ -74,7 +78,7 @@ returns-in-Raw-clause-cut g c =
     (on_err c.put_raw.result
     (λ went.
     session_cut c.args.instances.now.items c.index_mut-instance-in-Raw.result.now c.put_raw.new.instance c.args.step.now.time c.args.step.now.word (raw_data c.in-Raw.raw)
-    (raw_within _ _ _ _ c.requires.placed c.in-Raw.is c.args.instances.now.ok.0) (rw (← c.index_mut-instance-in-Raw.ensures.value) went))
+    (raw_within _ _ _ _ c.requires.placed c.in-Raw.is c.args.instances.now.ok.0) (g.C.Carry.passed c.args.carry.now) (rw (← c.index_mut-instance-in-Raw.ensures.value) went))
     c.put_raw.ensures.cut)
 
 pub returns-in-Raw-clause-hosts : goal.returns-in-Raw-clause-hosts
@@ -97,7 +101,7 @@ pub returns-in_ok-put_group-in-Group-clause-ran : goal.returns-in_ok-put_group-i
 returns-in_ok-put_group-in-Group-clause-ran g c =
     rw c.in-Group.is
     (group_ran c.args.instances.now.items c.index_mut-instance-in-Group.result.now c.put_group.new.instance c.args.step.now.time c.args.step.now.word (group_data c.in-Group.group)
-    (group_within _ _ _ _ c.requires.placed c.in-Group.is c.args.instances.now.ok.0) c.in_ok-put_group-in-Group.field-0 _ _ (g.C.Carry.faults c.args.carry.now)
+    (group_within _ _ _ _ c.requires.placed c.in-Group.is c.args.instances.now.ok.0) c.in_ok-put_group-in-Group.field-0 _ _ (carried (g.C.Carry.faults c.args.carry.now) (g.C.Carry.passed c.args.carry.now))
     (rw (← c.index_mut-instance-in-Group.ensures.value) c.in_ok-put_group-in-Group.ensures.administered) c.in_ok-put_group-in-Group.ensures.text)
 
 pub returns-in_ok-put_group-in-Group-clause-hosts : goal.returns-in_ok-put_group-in-Group-clause-hosts
@@ -109,9 +113,12 @@ returns-in_ok-put_group-in-Group-clause-hosts g c =
 pub returns-in_err-put_group-in-Group-clause-cut : goal.returns-in_err-put_group-in-Group-clause-cut
 returns-in_err-put_group-in-Group-clause-cut g c =
     always_err c.from_residual-in_err-put_group-in-Group.result
-    (inl (kept_set state_of c.args.instances.now.items c.in-Group.group.at c.put_group.new.instance c.index_mut-instance-in-Group.result.now
-    (group_within _ _ _ _ c.requires.placed c.in-Group.is c.args.instances.now.ok.0)
-    (rw (← c.index_mut-instance-in-Group.ensures.value) c.in_err-put_group-in-Group.ensures.kept) (rw (← c.index_mut-instance-in-Group.ensures.value) c.in_err-put_group-in-Group.ensures.later)))
+    (inl (
+      kept_set state_of c.args.instances.now.items c.in-Group.group.at c.put_group.new.instance c.index_mut-instance-in-Group.result.now
+          (group_within _ _ _ _ c.requires.placed c.in-Group.is c.args.instances.now.ok.0)
+          (rw (← c.index_mut-instance-in-Group.ensures.value) c.in_err-put_group-in-Group.ensures.kept) (rw (← c.index_mut-instance-in-Group.ensures.value) c.in_err-put_group-in-Group.ensures.later),
+      refl,
+    ))
 
 pub returns-in_err-put_group-in-Group-clause-hosts : goal.returns-in_err-put_group-in-Group-clause-hosts
 returns-in_err-put_group-in-Group-clause-hosts g c =

@@ -2,9 +2,12 @@ use Rattle.std.proofs.Common.{◌<◌, ◌∙◌, ap, subst, sym}
 use Rattle.misp_orgs.specs.Admin.{link_of}
 use Rattle.misp_script.specs.Step.{pull_data}
 use Rattle.misp_net.specs.Acts.{Pulls, act}
+use Rattle.misp_net.specs.Passing.{IsPullPassed}
 use Rattle.misp_net.specs.Prelude.{Standing, Synced, hosts_of, states_of}
 use Rattle.misp_net.specs.Running.{IsAct}
 use Rattle.misp_net.proofs.Asking.{asked_peer, inside_states, link_there, peer_states, refused_act}
+use Rattle.misp_net.proofs.Growing.{grows_none}
+use Rattle.misp_net.proofs.Passing.{refused_passed}
 use Rattle.misp_net.proofs.Pulls.{lent_pulled}
 use Rattle.misp_net.proofs.pulling.pull_at.Goals as goal
 
@@ -41,3 +44,14 @@ returns-in-Err-clause-act g c =
     let olds = states_of c.args.instances.now.items in
     subst (λ reply. IsAct hosts (act c.args.now c.args.word (Pulls (pull_data c.args.line.now))) olds olds (Synced reply)) (sym c.refused.ensures)
     (refused_act c.args.directory.now hosts c.args.now c.args.word (pull_data c.args.line.now) olds c.in-Err.name c.requires.names _ there (sym c.in-Err.ensures))
+
+-- nothing passed
+pub returns-in-Err-clause-passed : goal.returns-in-Err-clause-passed
+returns-in-Err-clause-passed g c =
+    let lt = subst (λ n. c.args.line.now.at < n) c.args.instances.now.ok.0 c.requires.inside in
+    let there = link_there c.args.instances.now.items c.index.result.now c.args.line.now.at c.args.line.now.link lt
+    ∙ ap (λ (i : Standing). link_of i.admin.links c.args.line.now.link) (sym c.index.ensures) in
+    let hosts = hosts_of c.args.instances.now.items in
+    let olds = states_of c.args.instances.now.items in
+    grows_none (g.C.Carry.passed c.args.carry.now) (IsPullPassed hosts olds (pull_data c.args.line.now) c.refused.result)
+    (refused_passed c.args.directory.now hosts olds (pull_data c.args.line.now) c.refused.result c.in-Err.name c.requires.names _ there (sym c.in-Err.ensures))

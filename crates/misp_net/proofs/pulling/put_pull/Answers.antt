@@ -1,5 +1,6 @@
 use Rattle.misp_script.specs.Step.{pull_data}
 use Rattle.misp_net.specs.Prelude.{Synced, hosts_of, states_of}
+use Rattle.misp_net.specs.Running.{carried}
 use Rattle.misp_net.proofs.Asking.{carry_told, inside_hosts}
 use Rattle.misp_net.proofs.Doing.{always_err, on_ok, pull_cut, pull_ran}
 use Rattle.misp_net.proofs.pulling.put_pull.Goals as goal
@@ -9,9 +10,10 @@ returns-clause-ran g c =
     on_ok c.put_synced.result
     (λ text.
     pull_ran c.args.now c.args.word (hosts_of c.args.instances.now.items) (pull_data c.args.line.now) (states_of c.args.instances.now.items) (states_of c.pull_at-reply.new.instances.items)
-    (Synced c.pull_at-reply.result) c.args.lines.now.items c.put_synced.new.lines.items (g.C.Carry.faults c.args.carry.now) (g.C.Carry.faults c.pull_at-reply.new.carry)
+    (Synced c.pull_at-reply.result) c.args.lines.now.items c.put_synced.new.lines.items
+    (carried (g.C.Carry.faults c.args.carry.now) (g.C.Carry.passed c.args.carry.now)) (carried (g.C.Carry.faults c.pull_at-reply.new.carry) (g.C.Carry.passed c.pull_at-reply.new.carry))
     (inside_hosts c.args.instances.now.items c.args.line.now.at (rw (← c.args.instances.now.ok.0) c.requires.inside)) c.pull_at-reply.ensures.act text
-    (carry_told c.pull_at-reply.result _ _ c.pull_at-reply.ensures.cause))
+    (carry_told c.pull_at-reply.result _ _ c.pull_at-reply.ensures.cause) c.pull_at-reply.ensures.passed)
     c.put_synced.ensures.text
 
 -- it was done, and is not written
@@ -19,5 +21,5 @@ pub returns-clause-cut : goal.returns-clause-cut
 returns-clause-cut g c =
     always_err c.put_synced.result
     (pull_cut c.args.now c.args.word (hosts_of c.args.instances.now.items) (pull_data c.args.line.now) (states_of c.args.instances.now.items) (states_of c.pull_at-reply.new.instances.items)
-    (Synced c.pull_at-reply.result)
-    (inside_hosts c.args.instances.now.items c.args.line.now.at (rw (← c.args.instances.now.ok.0) c.requires.inside)) c.pull_at-reply.ensures.act)
+    (Synced c.pull_at-reply.result) (g.C.Carry.passed c.args.carry.now) (g.C.Carry.passed c.pull_at-reply.new.carry)
+    (inside_hosts c.args.instances.now.items c.args.line.now.at (rw (← c.args.instances.now.ok.0) c.requires.inside)) c.pull_at-reply.ensures.act c.pull_at-reply.ensures.passed)

@@ -8,6 +8,8 @@ use Rattle.misp_sync.specs.Telling.{events_told}
 use Rattle.misp_sync.specs.declared.query.Query.{Query}
 use Rattle.misp_sync.proofs.Brought.{answered, meet_all}
 use Rattle.misp_sync.proofs.EventsTold.{events_fit}
+use Rattle.misp_sync.specs.Trail.{told_of}
+use Rattle.misp_sync.proofs.ListsTold.{list_failed, list_replied, lists_where}
 use Rattle.misp_sync.proofs.fetching.events_brought.Goals as goal
 
 pub returns-in-Ok-clause-told : goal.returns-in-Ok-clause-told
@@ -20,3 +22,14 @@ returns-in-Ok-clause-told g c =
     (IsBrought {A = Vec EventParts Global} (λ events. events.items) events_told key Query.Events c.events_replied.result)
     (λ old new a. answered {X = Vec EventParts Global} (λ events. events.items) (AllByRecursion IsListed) events_told events_in key Query.Events old new (events_fit key old new) bytes small a c.events_replied.result c.events_replied.ensures.each (rw c.deref.ensures.value at c.events_replied.ensures.read))
     c.in-Ok.ensures.answered
+
+pub returns-in-Ok-clause-trail : goal.returns-in-Ok-clause-trail
+returns-in-Ok-clause-trail g c =
+    list_replied {A = Vec EventParts Global} (λ events. events.items) c.args.key.now (g.W.Wire.trail c.args.wire.now) (g.W.Wire.trail c.ask.new.wire)
+    (g.W.Wire.peer c.args.wire.now) (g.W.Wire.peer c.ask.new.wire) c.in-Ok.bytes.items c.events_replied.result c.in-Ok.ensures.answered (rw c.deref.ensures.value at c.events_replied.ensures.read)
+    (lists_where {A = Vec EventParts Global} (λ events. events.items) c.args.key.now (g.W.Wire.peer c.args.wire.now) (g.W.Wire.peer c.ask.new.wire) c.events_replied.result (returns-in-Ok-clause-told g c))
+    c.in-Ok.ensures.trail
+
+pub returns-in-Err-clause-trail : goal.returns-in-Err-clause-trail
+returns-in-Err-clause-trail g c =
+    list_failed {A = Vec EventParts Global} (λ events. events.items) c.args.key.now (g.W.Wire.trail c.args.wire.now) (g.W.Wire.trail c.ask.new.wire) (told_of (g.W.Wire.peer c.args.wire.now)) c.in-Err.fault c.in-Err.ensures.trail

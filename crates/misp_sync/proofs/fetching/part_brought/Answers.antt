@@ -7,6 +7,8 @@ use Rattle.misp_sync.specs.Telling.{part_told}
 use Rattle.misp_sync.specs.declared.query.Query.{Query}
 use Rattle.misp_sync.proofs.Brought.{answered, meet_all}
 use Rattle.misp_sync.proofs.PartsTold.{part_fit}
+use Rattle.misp_sync.specs.Trail.{told_of}
+use Rattle.misp_sync.proofs.Trails.{asks_failed, asks_replied}
 use Rattle.misp_sync.proofs.fetching.part_brought.Goals as goal
 
 pub returns-in-Ok-clause-told : goal.returns-in-Ok-clause-told
@@ -21,3 +23,12 @@ returns-in-Ok-clause-told g c =
     (IsBrought {A = PackageFields} (λ p. p) (part_told event part) key (Query.Part event part) c.part_replied.result)
     (λ old new a. answered {X = PackageFields} (λ p. p) IsPackage (part_told event part) (package_in event part) key (Query.Part event part) old new (part_fit event part key old new) bytes small a c.part_replied.result c.part_replied.ensures.fits (rw c.deref.ensures.value at c.part_replied.ensures.read))
     c.in-Ok.ensures.answered
+
+pub returns-in-Ok-clause-trail : goal.returns-in-Ok-clause-trail
+returns-in-Ok-clause-trail g c =
+    asks_replied c.args.key.now (Query.Part c.args.event c.args.part) (g.W.Wire.trail c.args.wire.now) (g.W.Wire.trail c.ask.new.wire) (g.W.Wire.peer c.args.wire.now) (g.W.Wire.peer c.ask.new.wire)
+    c.in-Ok.bytes.items c.part_replied.result c.in-Ok.ensures.answered c.in-Ok.ensures.trail
+
+pub returns-in-Err-clause-trail : goal.returns-in-Err-clause-trail
+returns-in-Err-clause-trail g c =
+    asks_failed PackageFields c.args.key.now (Query.Part c.args.event c.args.part) (g.W.Wire.trail c.args.wire.now) (g.W.Wire.trail c.ask.new.wire) (told_of (g.W.Wire.peer c.args.wire.now)) c.in-Err.fault c.in-Err.ensures.trail

@@ -1,10 +1,10 @@
 -- What is shown of the taking of groups and rows.
-use Rattle.std.proofs.Common.{Global, IfSome, None, Ok, Err, Vec, ap, option_map, refl, subst, ◌∙◌, ◌≡◌, length}
+use Rattle.std.proofs.Common.{[], ◌∷◌, Global, IfSome, None, Ok, Err, Vec, ap, option_map, refl, subst, ◌∙◌, ◌≡◌, length}
 use Rattle.std.specs.List.{AllByRecursion}
 use Rattle.misp_groups.specs.Changes.{take_groups}
 use Rattle.misp_groups.specs.Group.{IsGroup}
 use Rattle.misp_orgs.specs.Admin.{who_of}
-use Rattle.misp_core.specs.Prelude.{Group, groups_of, host_of}
+use Rattle.misp_core.specs.Prelude.{Group, Refusal, groups_of, host_of}
 use Rattle.misp_core.specs.Taking.{groups_taken, with_groups_taken}
 use Rattle.misp_sync.specs.Serving.{Meet}
 use Rattle.misp_sync.specs.Steps.{IsStep, stand, stop_of_keeper}
@@ -12,6 +12,9 @@ use Rattle.misp_sync.specs.Telling.{IsFetched, groups_told}
 use Rattle.misp_sync.specs.declared.query.Query.{Query}
 use Rattle.misp_sync.proofs.GroupsSent.{all_barred, all_came, all_ended, groups_fetched, rows_said}
 use Rattle.misp_sync.proofs.Standings.{groups_tell, step_done, step_fetched, step_stopped, step_then}
+use Rattle.misp_sync.specs.Trail.{AsksFor, told_of}
+use Rattle.misp_sync.proofs.TrailSteps.{all_asked, groups_alone}
+use Rattle.misp_sync.proofs.Trails.{tells_on}
 use Rattle.misp_sync.proofs.pulling.take_all.Goals as goal
 
 pub returns-in-Err-clause-step : goal.returns-in-Err-clause-step
@@ -69,3 +72,22 @@ pub returns-in-Err-take_groups-clause-taken : goal.returns-in-Err-take_groups-cl
 returns-in-Err-take_groups-clause-taken g c = λ own there peer tell.
     all_barred c.args.instance.now.name c.args.holder.now (host_of peer) own there (stop_of_keeper c.in-Err-take_groups.fault) (who_of peer.admin c.args.key.now) c.stopped.result _ _ c.stopped.ensures
     (c.in-Err-take_groups.ensures.err ∙ tell.own_is)
+
+pub returns-in-Err-clause-trail : goal.returns-in-Err-clause-trail
+returns-in-Err-clause-trail g c =
+    groups_alone c.args.key.now (told_of (g.W.Wire.peer c.args.wire.now)) (g.W.Wire.trail c.args.wire.now) (g.W.Wire.trail c.fetch_groups.new.wire)
+    (AsksFor {A = Vec Group Global} c.args.key.now (told_of (g.W.Wire.peer c.args.wire.now)) (Query.Groups ∷ []) (Err c.in-Err.cause)) c.in-Err.cause (λ x h. h.0) c.in-Err.ensures.trail
+
+pub returns-in-Err-take_groups-clause-trail : goal.returns-in-Err-take_groups-clause-trail
+returns-in-Err-take_groups-clause-trail g c =
+    groups_alone c.args.key.now (told_of (g.W.Wire.peer c.args.wire.now)) (g.W.Wire.trail c.args.wire.now) (g.W.Wire.trail c.fetch_groups.new.wire)
+    (AsksFor {E = Refusal} c.args.key.now (told_of (g.W.Wire.peer c.args.wire.now)) (Query.Groups ∷ []) (Ok c.in-Ok.groups)) c.stopped.result (λ x h. h.0) c.in-Ok.ensures.trail
+
+pub returns-in-Ok-take_groups-clause-trail : goal.returns-in-Ok-take_groups-clause-trail
+returns-in-Ok-take_groups-clause-trail g c =
+    let told = c.in-Ok.ensures in
+    let step =
+    step_fetched (λ (groups : Vec Group Global). groups.items) groups_told groups_tell c.args.key.now Query.Groups (Ok c.in-Ok.groups) c.args.instance.now _ _ _ _ _ _ told.told told.through told.cause told.why in
+    all_asked c.args.key.now (told_of (g.W.Wire.peer c.args.wire.now)) (told_of (g.W.Wire.peer c.fetch_groups.new.wire))
+    (tells_on (g.W.Wire.peer c.args.wire.now) (g.W.Wire.peer c.fetch_groups.new.wire) None step.peer)
+    (g.W.Wire.trail c.args.wire.now) (g.W.Wire.trail c.fetch_groups.new.wire) (g.W.Wire.trail c.take_rows.new.wire) c.in-Ok.groups c.take_rows.result told.trail c.take_rows.ensures.trail

@@ -1,10 +1,12 @@
 -- What is shown of the taking of an event.
-use Rattle.std.proofs.Common.{◌<◌, ◌^◌, rules, ◌∙◌, IfSome, subst}
+use Rattle.std.proofs.Common.{◌<◌, ◌^◌, Err, rules, ◌∙◌, IfSome, subst}
 use Rattle.misp_store.specs.Loading.{NamesFault}
 use Rattle.misp_store.specs.declared.reach.Reach.{Reach}
 use Rattle.misp_core.specs.Prelude.{seen_in}
 use Rattle.misp_sync.proofs.EventLoop.{event_landed, event_unread, step_unread}
 use Rattle.misp_sync.proofs.Standings.{step_done, step_then}
+use Rattle.misp_sync.specs.Trail.{AsksFor, parts_from, told_of}
+use Rattle.misp_sync.proofs.Trails.{grows_none}
 use Rattle.misp_sync.proofs.pulling.take_event.Goals as goal
 
 pub returns-in-Ok-clause-step : goal.returns-in-Ok-clause-step
@@ -29,3 +31,8 @@ returns-in-Err-clause-taken g c = λ all next own there peer tell sends count.
     let took = c.in-Err.ensures in
     event_unread c.args.instance.now.name c.args.holder.now c.args.listed.now.event all next own c.in-Err.fault c.unread.result _ _ c.unread.ensures (took.held ∙ tell.own_is)
     (subst (λ held. IfSome held (λ held. NamesFault ((seen_in held).rows (Reach.Own c.args.holder.now c.args.listed.now.event)) c.in-Err.fault)) tell.own_is took.bad)
+
+pub returns-in-Err-clause-trail : goal.returns-in-Err-clause-trail
+returns-in-Err-clause-trail g c =
+    grows_none (g.W.Wire.trail c.args.wire.now)
+    (AsksFor {A = Unit {0}} c.args.key.now (told_of (g.W.Wire.peer c.args.wire.now)) (parts_from c.args.listed.now.event 0 c.args.listed.now.parts) (Err c.unread.result)) (tt, tt)

@@ -1,7 +1,9 @@
 -- What is shown of the taking of a package.
-use Rattle.std.proofs.Common.{Ok, Err, subst, ◌∙◌}
+use Rattle.std.proofs.Common.{[], ◌∷◌, Ok, Err, subst, ◌∙◌}
+use Rattle.misp_package.specs.declared.landing.Landing.{Landing}
 use Rattle.misp_rules.specs.Package.{IsPackage}
 use Rattle.misp_rules.specs.declared.package.PackageFields.{PackageFields as Package}
+use Rattle.misp_core.specs.Prelude.{Refusal}
 use Rattle.misp_sync.specs.Steps.{stop_of_keeper}
 use Rattle.misp_sync.specs.Serving.{Meet}
 use Rattle.misp_sync.specs.Telling.{IsFetched, part_told}
@@ -9,6 +11,8 @@ use Rattle.misp_sync.specs.declared.query.Query.{Query}
 use Rattle.misp_sync.proofs.PartsTaken.{part_came, part_failed, part_stopped, slice_of_drop}
 use Rattle.misp_sync.proofs.PeerTold.{part_fetched}
 use Rattle.misp_sync.proofs.Standings.{part_tell, step_done, step_fetched, step_stopped, step_then}
+use Rattle.misp_sync.specs.Trail.{told_of}
+use Rattle.misp_sync.proofs.Trails.{asks_then_ends}
 use Rattle.misp_sync.proofs.pulling.take_part.Goals as goal
 
 pub returns-in-Err-clause-step : goal.returns-in-Err-clause-step
@@ -56,3 +60,8 @@ pub returns-clause-taken : goal.returns-clause-taken
 returns-clause-taken g c = λ w rows first all more next own there peer tell sends at owner lands.
     part_stopped c.args.instance.now.name w c.args.event rows first more next own (stop_of_keeper c.in-Err-take_package.fault) c.stopped.result _ _ c.stopped.ensures
     (c.in-Err-take_package.ensures.err ∙ tell.own_is)
+
+pub returns-clause-trail : goal.returns-clause-trail
+returns-clause-trail g c =
+    asks_then_ends Landing Refusal c.args.key.now (told_of (g.W.Wire.peer c.args.wire.now)) (Query.Part c.args.event c.args.part ∷ []) (g.W.Wire.trail c.args.wire.now) (g.W.Wire.trail c.fetch_part.new.wire) c.in-Ok.package c.stopped.result
+    c.in-Ok.ensures.trail

@@ -1,5 +1,5 @@
 -- What is shown of the taking of rows.
-use Rattle.std.proofs.Common.{Global, Ok, Err, Some, Vec, subst, refl}
+use Rattle.std.proofs.Common.{Global, None, Ok, Err, Some, Vec, subst, refl}
 use Rattle.misp_core.specs.declared.reply.EventParts.{EventParts}
 use Rattle.misp_core.specs.Prelude.{host_of, seen_in}
 use Rattle.misp_store.specs.declared.reach.Reach.{Reach}
@@ -10,6 +10,9 @@ use Rattle.misp_sync.specs.declared.query.Query.{Query}
 use Rattle.misp_sync.proofs.EventsSent.{list_fetched, list_in_order, rows_came, rows_failed}
 use Rattle.misp_sync.proofs.PartLoop.{tell_then}
 use Rattle.misp_sync.proofs.Standings.{events_tell, step_fetched, step_then}
+use Rattle.misp_sync.specs.Trail.{told_of}
+use Rattle.misp_sync.proofs.TrailSteps.{rows_asked, rows_unlisted}
+use Rattle.misp_sync.proofs.Trails.{tells_on}
 use Rattle.misp_sync.proofs.pulling.take_rows.Goals as goal
 
 pub returns-in-Ok-clause-step : goal.returns-in-Ok-clause-step
@@ -46,3 +49,18 @@ returns-in-Err-clause-taken g c = λ caller own there peer tell who permitted.
     (subst (λ x. Meet x (g.W.Wire.peer c.fetch_events.new.wire)
     (IsFetched (λ (events : Vec EventParts Global). events.items) events_told c.args.key.now Query.Events (Err c.in-Err.cause))) tell.peer_is c.in-Err.ensures.told))
     tell.own_is
+
+pub returns-in-Ok-clause-trail : goal.returns-in-Ok-clause-trail
+returns-in-Ok-clause-trail g c =
+    let told = c.in-Ok.ensures in
+    let step =
+    step_fetched (λ events. events.items) events_told events_tell c.args.key.now Query.Events (Ok c.in-Ok.events) c.args.instance.now _ _ _ _ _ _ told.told told.through told.cause told.why in
+    rows_asked c.args.key.now (told_of (g.W.Wire.peer c.args.wire.now)) (told_of (g.W.Wire.peer c.fetch_events.new.wire))
+    (tells_on (g.W.Wire.peer c.args.wire.now) (g.W.Wire.peer c.fetch_events.new.wire) None step.peer)
+    (g.W.Wire.trail c.args.wire.now) (g.W.Wire.trail c.fetch_events.new.wire) (g.W.Wire.trail c.take_events.new.wire)
+    (λ (events : Vec EventParts Global). events.items) c.in-Ok.events c.take_events.result told.trail (rw c.deref.ensures.value at c.take_events.ensures.trail)
+
+pub returns-in-Err-clause-trail : goal.returns-in-Err-clause-trail
+returns-in-Err-clause-trail g c =
+    rows_unlisted c.args.key.now (told_of (g.W.Wire.peer c.args.wire.now)) (g.W.Wire.trail c.args.wire.now) (g.W.Wire.trail c.fetch_events.new.wire)
+    (λ (events : Vec EventParts Global). events.items) c.in-Err.cause c.in-Err.ensures.trail

@@ -1,0 +1,153 @@
+-- What passed for lines, one after another.
+use Rattle.std.proofs.Common.{◌≡◌, ℕ, zero, suc, ◌+◌, List, [], ◌∷◌, ◌++◌, length, Bool, true, false, eqb, Option, Some, None, Err, inl, inr, refl, sym, ◌∙◌, ap, subst, arith}
+use Rattle.misp_ids.specs.declared.refusal.RuleName.{RuleName}
+use Rattle.misp_orgs.specs.declared.link.Link.{Link}
+use Rattle.misp_script.specs.Directory.{Roster, place_of, roster_names}
+use Rattle.misp_effects.specs.KeeperStates.{state_at}
+use Rattle.misp_effects.proofs.Courses.{run_kept}
+use Rattle.misp_effects.proofs.KeeperStates.{all_kept}
+use Rattle.misp_sync.specs.Trail.{GrowsBy, IfOn, IsPullTrail, IsTrailOver}
+use Rattle.misp_sync.specs.declared.reply.SyncReply.{SyncReply}
+use Rattle.misp_net.specs.Acts.{Administers, Asks, Deed, Does, Idle, One, Pulls, Session}
+use Rattle.misp_net.specs.Asking.{asked_at, asked_over, names_of}
+use Rattle.misp_net.specs.Links.{link_at, peer_place, place_named, place_of_peer}
+use Rattle.misp_net.specs.Passing.{HasPassed, HasPassedFirst, IsPassed, IsPassedFor, IsPullPassed, Passes, Trail, UnlessHere, told_at}
+use Rattle.misp_net.specs.Prelude.{AreDone, AreKept, Bad, Done, Host, IsDone, KeeperState, Line, Nothing, Output, PullData, Replied, Synced, Unanswered}
+use Rattle.misp_net.specs.Running.{CutLine}
+use Rattle.misp_net.specs.Text.{line_of}
+use Rattle.misp_net.proofs.Asking.{asked_none, bar_from, place_same}
+use Rattle.misp_net.proofs.Courses.{all_lines, done_push, first_lines, next_lines, text_more}
+use Rattle.misp_net.proofs.Growing.{grows_as}
+
+-- ---- a pull of which nobody is asked
+
+unless_none : (here : Bool) (P : Trail → Type 0) → P [] → UnlessHere here P []
+unless_none true P holds = refl
+unless_none false P holds = holds
+
+-- nothing passes for it
+pub refused_passed : (rosters : List Roster) (hosts : List Host) (old : List KeeperState) (line : PullData) (reply : SyncReply) (name : RuleName) → roster_names rosters ≡ names_of hosts
+    → (link : Option Link) → link_at hosts line.at line.link ≡ link → asked_over rosters line.at link ≡ Err name → IsPullPassed hosts old line reply []
+refused_passed rosters hosts old line reply name same None is asked =
+    let peer = told_at hosts old (place_of_peer hosts line.at line.link) in
+    unless_none (eqb (place_of_peer hosts line.at line.link) line.at) (IsTrailOver (link_at hosts line.at line.link) peer reply)
+    (subst (λ (l : Option Link). IsTrailOver l peer reply []) (sym is) refl)
+refused_passed rosters hosts old line reply name same (Some link) is asked =
+    let peer = told_at hosts old (place_of_peer hosts line.at line.link) in
+    elim (bar_from link.on (asked_at line.at (place_of (roster_names rosters) link.peer)) name asked) [
+      | inl open_ ↦
+          let alone = asked_none hosts line.at link name (place_named hosts link.peer) refl (ap (asked_at line.at) (sym (place_same rosters hosts link.peer same)) ∙ open_.1) in
+          subst (λ here. UnlessHere here (IsTrailOver (link_at hosts line.at line.link) peer reply) [])
+          (sym (ap (λ (l : Option Link). eqb (peer_place hosts line.at l) line.at) is ∙ alone.1)) refl
+      | inr off ↦
+          unless_none (eqb (place_of_peer hosts line.at line.link) line.at) (IsTrailOver (link_at hosts line.at line.link) peer reply)
+          (subst (λ (l : Option Link). IsTrailOver l peer reply []) (sym is) (subst (λ on. IfOn on (IsPullTrail link.key peer reply) []) (sym off.0) refl))
+    ]
+
+-- ---- over keepers that tell the same
+
+kept_then : (old mid new : List KeeperState) → AreKept old mid → AreKept mid new → AreKept old new
+kept_then [] [] [] first then = tt
+kept_then [] [] (t ∷ new) first then = absurd then
+kept_then [] (m ∷ mid) new first then = absurd first
+kept_then (s ∷ old) [] new first then = absurd first
+kept_then (s ∷ old) (m ∷ mid) [] first then = absurd then
+kept_then (s ∷ old) (m ∷ mid) (t ∷ new) first then =
+    (record { told_same = then.0.told_same ∙ first.0.told_same; later = omega (arith, first.0.later, then.0.later) }, kept_then old mid new first.1 then.1)
+
+state_kept : (place : ℕ) (old new : List KeeperState) → AreKept old new → (state_at place new).held ≡ (state_at place old).held
+state_kept place [] [] kept = refl
+state_kept place [] (t ∷ new) kept = absurd kept
+state_kept place (s ∷ old) [] kept = absurd kept
+state_kept zero (s ∷ old) (t ∷ new) kept = kept.0.told_same
+state_kept (suc place) (s ∷ old) (t ∷ new) kept = state_kept place old new kept.1
+
+module _ (hosts : List Host) (old new : List KeeperState) (kept : AreKept old new) where
+  told_kept : (place : ℕ) → told_at hosts new place ≡ told_at hosts old place
+  told_kept place = rw (state_kept place old new kept) refl
+
+  deed_kept : (deed : Deed) (output : Output) (trail : Trail) → IsPassed hosts new deed output trail → IsPassed hosts old deed output trail
+  deed_kept (Idle put) output trail is = is
+  deed_kept (Asks at read) output trail is = is
+  deed_kept (Administers group) output trail is = is
+  deed_kept (Pulls line) (Bad place) trail is = is
+  deed_kept (Pulls line) Nothing trail is = is
+  deed_kept (Pulls line) (Replied reply) trail is = is
+  deed_kept (Pulls line) (Unanswered end) trail is = is
+  deed_kept (Pulls line) (Synced reply) trail is =
+      let peer : ℕ = place_of_peer hosts line.at line.link in
+      subst (λ told. UnlessHere (eqb peer line.at) (IsTrailOver (link_at hosts line.at line.link) told reply) trail) (told_kept peer) is
+
+  passed_kept : (d : Done) (trail : Trail) → IsPassedFor hosts new d trail → IsPassedFor hosts old d trail
+  passed_kept (One act output) trail is = deed_kept act.deed output trail is
+  passed_kept (Session time word at reads replies end) trail is = is
+
+  done_kept : (d : Done) (after : List KeeperState) → IsDone hosts d new after → IsDone hosts d old after
+  done_kept d after is = record { ran = run_kept kept is.ran (all_kept after); formed = is.formed; among = is.among }
+
+  pub passes_kept : (dones : List Done) (after : List KeeperState) (first last : Option Trail) → Passes hosts dones new after first last → Passes hosts dones old after first last
+  passes_kept [] after first last (stay, same) = (kept_then old new after kept stay, same)
+  passes_kept (d ∷ dones) after first last (left, between, is, grows, rest) =
+      (left, between, done_kept d left is, grows_as first between (IsPassedFor hosts new d) (IsPassedFor hosts old d) (passed_kept d) grows, rest)
+
+-- ---- one line more
+
+pub none_passed : (hosts : List Host) (old : List KeeperState) (told : Option Trail) → HasPassed told told hosts [] old old []
+none_passed hosts old told = record { dones = []; done = tt; text_is = refl; passed = (all_kept old, refl) }
+
+-- after these it passes for one more
+pub passes_more : (hosts : List Host) (dones : List Done) (d : Done) (old mid new : List KeeperState) (first next last : Option Trail) → Passes hosts dones old mid first next → IsDone hosts d mid new
+    → GrowsBy next last (IsPassedFor hosts mid d) → Passes hosts (dones ++ d ∷ []) old new first last
+passes_more hosts [] d old mid new first next last (kept, same) is grows =
+    passes_kept hosts old mid kept (d ∷ []) new first last (new, last, is, subst (λ told. GrowsBy told last (IsPassedFor hosts mid d)) same grows, (all_kept new, refl))
+passes_more hosts (e ∷ dones) d old mid new first next last (left, between, was, grew, rest) is grows =
+    (left, between, was, grew, passes_more hosts dones d left mid new between next last rest is grows)
+
+pub passed_more : (hosts : List Host) (lines : List Line) (line : Line) (old mid new : List KeeperState) (before after : List ℕ) (d : Done) (first next last : Option Trail)
+    → HasPassed first next hosts lines old mid before → Does line d → IsDone hosts d mid new → after ≡ before ++ line_of (1 + length lines) d
+    → GrowsBy next last (IsPassedFor hosts mid d) → HasPassed first last hosts (lines ++ line ∷ []) old new after
+passed_more hosts lines line old mid new before after d first next last so_far does is text grows = record {
+  dones = so_far.dones ++ d ∷ [];
+  done = done_push lines line so_far.dones d so_far.done does;
+  text_is = text_more lines so_far.dones d before after so_far.done so_far.text_is text;
+  passed = passes_more hosts so_far.dones d old mid new first next last so_far.passed is grows;
+}
+
+-- ---- cut short
+
+-- what follows does nothing
+passes_still : (hosts : List Host) (dones : List Done) (old mid new : List KeeperState) (first next last : Option Trail) → Passes hosts dones old mid first next → AreKept mid new → last ≡ next
+    → Passes hosts dones old new first last
+passes_still hosts [] old mid new first next last (stay, was) kept same = (kept_then old mid new stay kept, same ∙ was)
+passes_still hosts (d ∷ dones) old mid new first next last (left, between, is, grows, rest) kept same =
+    (left, between, is, grows, passes_still hosts dones left mid new between next last rest kept same)
+
+-- no line was run
+pub none_passing : (hosts : List Host) (lines : List Line) (old new : List KeeperState) (told : Option Trail) → AreKept old new → HasPassedFirst told told hosts lines old new
+none_passing hosts lines old new told kept = record { count = 0; dones = []; done = tt; passed = (kept, refl) }
+
+-- these were, and perhaps the next, which is not written
+pub some_passing : (hosts : List Host) (before more lines : List Line) (line : Line) (old mid new : List KeeperState) (text : List ℕ) (first next last : Option Trail)
+    → HasPassed first next hosts before old mid text → before ++ line ∷ more ≡ lines → CutLine hosts line mid new next last → HasPassedFirst first last hosts lines old new
+some_passing hosts before more lines line old mid new text first next last so_far all (inl (kept, same)) = record {
+  count = length before;
+  dones = so_far.dones;
+  done = subst (λ front. AreDone front so_far.dones) (sym (first_lines before more lines line all)) so_far.done;
+  passed = passes_still hosts so_far.dones old mid new first next last so_far.passed kept same;
+}
+some_passing hosts before more lines line old mid new text first next last so_far all (inr (d, does, is, grows)) = record {
+  count = length before + 1;
+  dones = so_far.dones ++ d ∷ [];
+  done = subst (λ front. AreDone front (so_far.dones ++ d ∷ [])) (sym (next_lines before more lines line all)) (done_push before line so_far.dones d so_far.done does);
+  passed = passes_more hosts so_far.dones d old mid new first next last so_far.passed is grows;
+}
+
+-- all were
+pub all_passing : (hosts : List Host) (lines : List Line) (old new : List KeeperState) (text : List ℕ) (first last : Option Trail) → HasPassed first last hosts lines old new text
+    → HasPassedFirst first last hosts lines old new
+all_passing hosts lines old new text first last so_far = record {
+  count = length lines;
+  dones = so_far.dones;
+  done = subst (λ front. AreDone front so_far.dones) (sym (all_lines lines)) so_far.done;
+  passed = so_far.passed;
+}

@@ -1,0 +1,73 @@
+-- What passed between the instances for the lines of a script, as bytes in their order.
+use Rattle.std.specs.Prelude.{◌≡◌, ℕ, ◌==◌, Bool, true, false, List, [], ◌∷◌, Option, option_map, take}
+use Rattle.misp_script.specs.Step.{PullData}
+use Rattle.misp_effects.specs.KeeperStates.{AreKept, state_at}
+use Rattle.misp_core.specs.Prelude.{Held, Host, KeeperState}
+use Rattle.misp_sync.specs.Trail.{GrowsBy, IsTrailOver}
+use Rattle.misp_sync.specs.declared.reply.SyncReply.{SyncReply}
+use Rattle.misp_net.specs.Acts.{AreDone, Deed, Done, Pulls}
+use Rattle.misp_net.specs.Hosts.{host_at}
+use Rattle.misp_net.specs.Lines.{Line}
+use Rattle.misp_net.specs.Links.{link_at, place_of_peer}
+use Rattle.misp_net.specs.Run.{IsDone}
+use Rattle.misp_net.specs.Text.{text_from}
+use Rattle.misp_net.specs.declared.line.Output.{Output}
+use Rattle.misp_net.specs.declared.line.Output.TheVariants.{Synced}
+
+-- the byte strings that carried what an act asked and was answered
+abbrev pub Trail : Type 0
+Trail = List (List ℕ)
+
+-- who the instance of a place is, and what its keeper holds, where it tells that
+abbrev pub told_at : List Host → List KeeperState → ℕ → Option (Host × Held)
+told_at hosts states place =
+    option_map (λ held. (host_at place hosts, held)) (state_at place states).held
+
+-- where a link leads to no other instance, nothing passed
+abbrev pub UnlessHere : Bool → (Trail → Type 0) → Trail → Type 0
+UnlessHere true P trail = trail ≡ []
+UnlessHere false P trail = P trail
+
+-- For a pull its requests and their replies passed, each once, from the first on, and all of them
+-- where it is done. These keepers were there before it.
+abbrev pub IsPullPassed : List Host → List KeeperState → PullData → SyncReply → Trail → Type 0
+IsPullPassed hosts old line reply trail =
+    UnlessHere (place_of_peer hosts line.at line.link == line.at)
+    (IsTrailOver (link_at hosts line.at line.link)
+    (told_at hosts old (place_of_peer hosts line.at line.link)) reply) trail
+
+-- for any other deed nothing passed
+abbrev pub IsPassed : List Host → List KeeperState → Deed → Output → Trail → Type 0
+IsPassed hosts old (Pulls line) (Synced reply) trail = IsPullPassed hosts old line reply trail
+IsPassed hosts old deed output trail = trail ≡ []
+
+abbrev pub IsPassedFor : List Host → List KeeperState → Done → Trail → Type 0
+IsPassedFor hosts old (Done.One act output) trail = IsPassed hosts old act.deed output trail
+IsPassedFor hosts old (Done.Session time word at reads replies end) trail = trail ≡ []
+
+-- One line after another was done over what the one before it left, and these byte strings passed
+-- for it. What is held at the end is what the last of them left.
+abbrev pub Passes : List Host → List Done → List KeeperState → List KeeperState
+    → Option Trail → Option Trail → Type 0
+Passes hosts [] old new before after = AreKept old new × (after ≡ before)
+Passes hosts (d ∷ dones) old new before after =
+    (left : List KeeperState) × (between : Option Trail) × IsDone hosts d old left
+    × GrowsBy before between (IsPassedFor hosts old d)
+    × Passes hosts dones left new between after
+
+-- The lines ran so, and wrote this text.
+pub record HasPassed (before after : Option Trail) (hosts : List Host) (lines : List Line)
+    (old new : List KeeperState) (text : List ℕ) : Type 0 where
+  pub dones : List Done
+  pub done : AreDone lines dones
+  pub text_is : text ≡ text_from 1 dones
+  pub passed : Passes hosts dones old new before after
+
+-- The run was cut short: some first lines did this, and the keepers and what passed are as they
+-- left them.
+pub record HasPassedFirst (before after : Option Trail) (hosts : List Host) (lines : List Line)
+    (old new : List KeeperState) : Type 0 where
+  pub count : ℕ
+  pub dones : List Done
+  pub done : AreDone (take count lines) dones
+  pub passed : Passes hosts dones old new before after
