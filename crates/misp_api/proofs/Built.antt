@@ -15,8 +15,9 @@ use Rattle.misp_rules.specs.declared.change.Change.{Change}
 use Rattle.misp_core.specs.Answers.{IsAdded, IsBuilt}
 use Rattle.misp_core.specs.Prelude.{Ask, EventId, View}
 use Rattle.misp_api.specs.declared.route.Route.{Route}
-use Rattle.misp_api.specs.Request.{ask_of, formed, event_in, event_edit_in, attribute_edit_in, object_edit_in, parts_in, tag_in, untag_in, proposal_in, judgement_in, sighting_in}
+use Rattle.misp_api.specs.Request.{ask_of, formed, event_in, event_edit_in, attribute_edit_in, object_edit_in, parts_in, tag_in, untag_in, proposal_in, judgement_in, sighting_in, package_in}
 use Rattle.misp_api.specs.Request as request
+use Rattle.misp_api.proofs.Handed.{package_built}
 
 pub event_is_added : (word : ℕ) (d : Data) (s : SubmissionFields) → event_at word d ≡ Ok s → IsAdded s
 unfolding event_at
@@ -66,6 +67,7 @@ ask_is P said read (Route.Untag event place) body word = read (untag_in event pl
 ask_is P said read (Route.Propose event target) body word = read (proposal_in event target body word) (made_built Ask.Propose (proposal_at event target word) (λ d x h. tt) body)
 ask_is P said read (Route.Judge event accept) body word = read (judgement_in event accept body) (made_built (λ name. Ask.Judge event name accept) judgement_at (λ d x h. tt) body)
 ask_is P said read (Route.Sight event target) body word = read (sighting_in event target body word) (made_built (Ask.Sight event target) (sighting_at word) (λ d x h. tt) body)
+ask_is P said read Route.TakePart body word = read (package_in body) (package_built body)
 ask_is P said read Route.Groups body word = said Ask.Groups tt
 ask_is P said read Route.SyncGroups body word = said Ask.SyncGroups tt
 ask_is P said read Route.SyncEvents body word = said Ask.SyncEvents tt

@@ -6,11 +6,11 @@ use Rattle.misp_http.specs.Reading.{IsRead}
 use Rattle.misp_http.specs.declared.request.Read.{Read}
 use Rattle.misp_http.specs.declared.request.ReadEnd.{ReadEnd}
 use Rattle.misp_http.proofs.Readings.{one_reading}
-use Rattle.misp_core.specs.Sound.{IsSound}
+use Rattle.misp_core.specs.Sound.{IsSound, IsWorded}
 use Rattle.misp_api.specs.Prelude.{Reply, Standing}
 use Rattle.misp_core.specs.Text.{http_text}
 use Rattle.misp_api.specs.Answering.{IsPull}
-use Rattle.misp_api.specs.Exchange.{IsExchanged, IsWorded}
+use Rattle.misp_api.specs.Exchange.{IsExchanged}
 use Rattle.misp_api.specs.Sending.{IsAnswered, read_form}
 use Rattle.misp_api.specs.Turn.{closes}
 

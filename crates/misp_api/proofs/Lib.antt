@@ -3,6 +3,7 @@ pub mod Built
 pub mod Exchanges
 pub mod Formed
 pub mod Forms
+pub mod Handed
 pub mod HttpTexts
 pub mod Replying
 pub mod Pulls

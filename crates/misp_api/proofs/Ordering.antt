@@ -68,7 +68,8 @@ in_scene admin s Ask.Groups built = refl
 in_scene admin s Ask.SyncGroups built = refl
 in_scene admin s Ask.SyncEvents built = refl
 in_scene admin s (Ask.SyncPart event n) built = by_part admin s event n (pulled_part s event n)
-in_scene admin s ask built = absurd built
+in_scene admin s (Ask.TakePart p) built = refl
+in_scene admin s Ask.Index built = absurd built
 
 -- over what is read for it, by whether the role permits the ask
 by_rows : (host : Host) (now : ℕ) (it : Asked) (groups : List Group) (may : Bool) (rows : Result (List Row) (List ℕ)) → IsBuilt it.1

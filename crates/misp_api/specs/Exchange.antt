@@ -1,19 +1,13 @@
 -- What bytes are replied over a wire of one process.
-use Rattle.std.specs.Prelude.{◌≡◌, ℕ, true, List}
-use Rattle.std.specs.Str.{is_utf8}
+use Rattle.std.specs.Prelude.{◌≡◌, ℕ, List}
 use Rattle.misp_http.specs.declared.request.Read.{Read}
 use Rattle.misp_core.specs.Prelude.{Standing}
-use Rattle.misp_core.specs.Sound.{IsSound}
+use Rattle.misp_core.specs.Sound.{IsSound, IsWorded}
 use Rattle.misp_core.specs.Text.{http_text}
 use Rattle.misp_core.specs.declared.reply.Reply.{Reply}
 use Rattle.misp_api.specs.Answering.{IsPull}
 use Rattle.misp_api.specs.Sending.{IsAnswered, read_form}
 use Rattle.misp_api.specs.Turn.{closes}
-
--- what a refusal says of its place is text
-abbrev pub IsWorded : Reply → Type 0
-IsWorded (Reply.Ok answer) = Unit {0}
-IsWorded (Reply.Refused refusal) = is_utf8 refusal.place ≡ true
 
 -- what was read was replied so, and these are the bytes of the reply; what a pull is replied can be
 -- read back from its text

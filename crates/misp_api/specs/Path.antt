@@ -50,6 +50,7 @@ paths =
     ∷ (codes "/sync/groups", PathKind.SyncGroups)
     ∷ (codes "/sync/events", PathKind.SyncEvents)
     ∷ (codes "/sync/part/{event}/{part}", PathKind.SyncPart)
+    ∷ (codes "/sync/part", PathKind.TakePart)
     ∷ []
 
 -- what the first pattern is for that fits the path

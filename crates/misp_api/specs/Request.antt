@@ -1,5 +1,6 @@
 -- What a request is and asks, or the rule that its form breaks.
-use Rattle.std.specs.Prelude.{◌≡◌, ℕ, Bool, List, ◌∷◌, ◌++◌, Option, Some, None, Result, Ok, Err}
+use Rattle.std.specs.Prelude.{◌≡◌, ℕ, Bool, nat_lt, List, ◌∷◌, ◌++◌, codes, Option, Some, None, Result, Ok, Err, if◌then◌else◌}
+use Rattle.std.specs.List.{list_all}
 use Rattle.misp_fields.specs.Needs.{need_words}
 use Rattle.misp_elem.specs.Prelude.{ElemId}
 use Rattle.misp_elem.specs.declared.key.Place.{Place}
@@ -9,7 +10,9 @@ use Rattle.misp_format.specs.Edits.{event_edit_at, attribute_edit_at, object_edi
 use Rattle.misp_format.specs.Statements.{proposal_at, judgement_at, sighting_at}
 use Rattle.misp_format.specs.Tables.{parts_at, tag_body_at}
 use Rattle.misp_format.specs.declared.reading.parts.PartForm.{PartForm}
+use Rattle.misp_package.specs.PackageReading.{package_of_bytes}
 use Rattle.misp_rules.specs.declared.change.Change.{Change}
+use Rattle.misp_rules.specs.declared.package.PackageFields.{PackageFields}
 use Rattle.misp_core.specs.Prelude.{Ask, EventId, FormatFault, Refusal, RuleName, View, bare}
 use Rattle.misp_api.specs.declared.route.Route.{Route}
 use Rattle.misp_api.specs.declared.request.AskFault.{AskFault}
@@ -109,6 +112,24 @@ abbrev pub sighting_in : EventId → Place → List ℕ → ℕ → rows.Reading
 sighting_in event target body word =
     json_in body >>= λ d. ask_from (Ask.Sight event target) (sighting_at word d)
 
+-- whether a number is that of a byte
+abbrev pub is_byte : ℕ → Bool
+is_byte number = nat_lt number 256
+
+-- the fault of a body that is no package
+abbrev pub no_package : FormatFault
+no_package = FormatFault.BadField (codes "package") Need.Row
+
+-- the handing in of the package that was read
+abbrev pub handed : Result PackageFields ℕ → rows.Reading Ask
+handed (Ok p) = Ok (Ask.TakePart p)
+handed (Err left) = Err no_package
+
+-- that of the package that a body is; what is not all bytes is none
+abbrev pub package_in : List ℕ → rows.Reading Ask
+package_in body =
+    if list_all is_byte body then handed (package_of_bytes body) else Err no_package
+
 -- ---- asks
 
 -- what a request of this route asks is in its body
@@ -150,6 +171,7 @@ ask_of (Route.Untag event place) body word = formed (untag_in event place body)
 ask_of (Route.Propose event target) body word = formed (proposal_in event target body word)
 ask_of (Route.Judge event accept) body word = formed (judgement_in event accept body)
 ask_of (Route.Sight event target) body word = formed (sighting_in event target body word)
+ask_of Route.TakePart body word = formed (package_in body)
 ask_of Route.Groups body word = Ok Ask.Groups
 ask_of Route.SyncGroups body word = Ok Ask.SyncGroups
 ask_of Route.SyncEvents body word = Ok Ask.SyncEvents

@@ -103,6 +103,7 @@ route_with PathKind.AddEvent ids = alone Route.AddEvent ids
 route_with PathKind.Groups ids = alone Route.Groups ids
 route_with PathKind.SyncGroups ids = alone Route.SyncGroups ids
 route_with PathKind.SyncEvents ids = alone Route.SyncEvents ids
+route_with PathKind.TakePart ids = alone Route.TakePart ids
 route_with PathKind.ViewEvent ids = option_map (λ p. Route.ViewEvent p.0 p.1) (copy_in ids)
 route_with PathKind.EditEvent ids = option_map Route.EditEvent (event_in ids)
 route_with PathKind.DeleteEvent ids = option_map Route.DeleteEvent (event_in ids)

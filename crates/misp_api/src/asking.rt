@@ -8,16 +8,18 @@ ghost use Rattle.misp_rules.specs.declared.ask.Ask.{Ask as SomeAsk};
 ghost use Rattle.misp_rules.specs.declared.ask.Ask.TheVariants as asks;
 ghost use Rattle.misp_rules.specs.declared.change.Change.TheVariants as changes;
 ghost use Rattle.misp_core.specs.Answers.{IsBuilt};
-ghost use Rattle.misp_api.specs.Request.{Gives, ReadsBody, formed, event_in, event_edit_in, attribute_edit_in, object_edit_in, parts_in, tag_in, untag_in, proposal_in, judgement_in, sighting_in, ask_of};
+ghost use Rattle.misp_api.specs.Request.{Gives, ReadsBody, formed, event_in, event_edit_in, attribute_edit_in, object_edit_in, parts_in, tag_in, untag_in, proposal_in, judgement_in, sighting_in, package_in, ask_of};
 
 use crate::request::{AskFault, fault};
 use crate::route::Route;
-use misp_elem::Place;
+use misp_elem::{DecodeFault, Place};
+use misp_fields::Need;
 use misp_format::{
     FormatFault, PartForm, read_attribute_edit, read_event, read_event_edit, read_json,
     read_judgement, read_object_edit, read_parts, read_proposal, read_sighting, read_tag,
 };
-use misp_ids::{ElemId, EventId};
+use misp_ids::{ElemId, EventId, Text};
+use misp_package::read_package;
 use misp_rules::{Ask, AttributePlace, Change, ElementPlace, NewTag, Parts, TaggedPlace};
 use std::alloc::Global;
 
@@ -172,6 +174,21 @@ fn sighting_in(
     })
 }
 
+// The handing in of the package that a body is.
+fn package_in(alloc: Global, body: &[u8]) -> Result<Ask, FormatFault>
+    ensures reads { rows.Gives result (package_in body.now) }
+    ensures built { IfOk result IsBuilt }
+{
+    match read_package(alloc, body) {
+        Ok(package) => Ok(Ask::TakePart(package)),
+        Err(DecodeFault::BadRow { .. }) => Err(FormatFault::BadField {
+            path: Text::of(String::from_str(alloc, "package")?),
+            need: Need::Row,
+        }),
+        Err(DecodeFault::NoMemory) => Err(FormatFault::NoMemory),
+    }
+}
+
 // What was read, or why its form refuses it.
 fn formed(alloc: Global, read: Result<Ask, FormatFault>) -> Result<Ask, AskFault>
     requires { IfOk read IsBuilt }
@@ -258,6 +275,7 @@ fn body_ask(alloc: Global, route: Route, body: &[u8], word: u128) -> Result<Ask,
         Route::Sight(event, target) => {
             formed(alloc, sighting_in(alloc, event, target, body, word))
         }
+        Route::TakePart => formed(alloc, package_in(alloc, body)),
         _ => unreachable!(),
     }
 }

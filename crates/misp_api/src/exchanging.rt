@@ -4,10 +4,10 @@ ghost use Rattle.std.specs.Prelude.{◌≡◌, ◌≢◌, ◌≤◌, ◌++◌, �
 ghost use Rattle.misp_http.specs.Reading.{IsRead};
 ghost use Rattle.misp_http.specs.declared.request.Read.{Read as WasRead};
 ghost use Rattle.misp_http.specs.declared.request.ReadEnd.{ReadEnd as NotRead};
-ghost use Rattle.misp_core.specs.Sound.{IsSound};
+ghost use Rattle.misp_core.specs.Sound.{IsSound, IsWorded};
 ghost use Rattle.misp_core.specs.Text.{http_text, reply_text};
 ghost use Rattle.misp_api.specs.Answering.{IsPull};
-ghost use Rattle.misp_api.specs.Exchange.{IsExchanged, IsWorded};
+ghost use Rattle.misp_api.specs.Exchange.{IsExchanged};
 ghost use Rattle.misp_api.specs.Sending.{IsAnswered, read_form};
 
 use crate::answering::answer;

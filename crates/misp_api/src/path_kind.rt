@@ -26,11 +26,12 @@ pub enum PathKind {
     SyncGroups,
     SyncEvents,
     SyncPart,
+    TakePart,
 }
 
 /// The patterns of paths, each with what it is for. A name in braces is an identifier, or the number
 /// of a part.
-pub(crate) const PATHS: [(&str, PathKind); 34] = [
+pub(crate) const PATHS: [(&str, PathKind); 35] = [
     ("/events/view/{event}", PathKind::ViewEvent),
     ("/events/view/{event}/{owner}", PathKind::ViewEvent),
     ("/events/add", PathKind::AddEvent),
@@ -89,4 +90,5 @@ pub(crate) const PATHS: [(&str, PathKind); 34] = [
     ("/sync/groups", PathKind::SyncGroups),
     ("/sync/events", PathKind::SyncEvents),
     ("/sync/part/{event}/{part}", PathKind::SyncPart),
+    ("/sync/part", PathKind::TakePart),
 ];

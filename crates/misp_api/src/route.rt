@@ -45,6 +45,8 @@ pub enum Route {
     SyncEvents,
     /// A package that a pull brings of an event.
     SyncPart(EventId, u32),
+    /// A package that is handed in.
+    TakePart,
 }
 
 /// What stands before the first `?`.
@@ -193,6 +195,7 @@ fn route_with(kind: PathKind, ids: PathIds) -> Option<Route>
         PathKind::Groups => alone(Route::Groups, ids),
         PathKind::SyncGroups => alone(Route::SyncGroups, ids),
         PathKind::SyncEvents => alone(Route::SyncEvents, ids),
+        PathKind::TakePart => alone(Route::TakePart, ids),
         PathKind::ViewEvent => {
             let (event, owner) = copy_in(ids)?;
             Some(Route::ViewEvent(event, owner))

@@ -1,6 +1,6 @@
 //! Serves connections, one after another.
 
-ghost use Rattle.std.specs.Prelude.{◌≡◌, ◌<◌, ◌^◌, ◌+◌, ◌++◌, ℕ, List, Some, All, Err, OnOk, OnErr, IfOk, IfErr, decimal};
+ghost use Rattle.std.specs.Prelude.{◌≡◌, ◌<◌, ◌^◌, ◌+◌, ℕ, List, Some, All, Err, OnOk, OnErr, IfOk, IfErr};
 ghost use Rattle.std.specs.Io.KnownBytes.{Appends};
 ghost use Rattle.misp_outside.specs.Causes.{HasCause};
 ghost use Rattle.misp_outside.specs.Wires.{Connection};

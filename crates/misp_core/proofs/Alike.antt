@@ -1,11 +1,11 @@
 -- Two scenes in which an ask comes to the same: over the rows within its reach and over all, and whatever the number of its act and the partner of its caller's key.
-use Rattle.std.proofs.Common.{◌≡◌, ℕ, List, [], ◌∷◌, false, Option, refl, ap, ◌∙◌, map, cond, arith}
+use Rattle.std.proofs.Common.{◌≡◌, ℕ, List, [], ◌∷◌, false, Option, refl, ap, sym, ◌∙◌, map, cond, arith}
 use Rattle.misp_outside.specs.Held.{rows_named}
 use Rattle.misp_effects.specs.Effect.{effect}
 use Rattle.misp_rules.proofs.Prelude.{event_rows, length-map, map-map, ok_answer, uid}
 use Rattle.misp_rules.specs.Answers.{concerning}
 use Rattle.misp_rules.specs.Pulling.{pulled_groups}
-use Rattle.misp_rules.specs.Machine.{event_asked, event_changed, pulls}
+use Rattle.misp_rules.specs.Machine.{event_asked, event_changed, hands_in, pulls}
 use Rattle.misp_rules.specs.Numbers.{scene_as, version_as, versions_as, reply_as}
 use Rattle.misp_rules.proofs.OneEventChanges.{ask_of_event}
 use Rattle.misp_rules.proofs.Numbers.{accepted_alike, accepted_as}
@@ -18,8 +18,9 @@ use Rattle.misp_store.specs.Raw.{raw_row}
 use Rattle.misp_store.specs.declared.reach.Reach.{Reach}
 use Rattle.misp_store.proofs.HeldRows.{rows_filtered}
 use Rattle.misp_core.specs.Prelude.{Admin, Answer, IsBuilt, Reply, reach_of, reply_in, seeing, writes_in}
-use Rattle.misp_core.specs.Answers.{reply_of, event_saved, greatest, saved}
+use Rattle.misp_core.specs.Answers.{reply_of, rows_brought, event_saved, greatest, saved}
 use Rattle.misp_core.specs.Effects.{asked, row_batches}
+use Rattle.misp_core.proofs.HandedAsks.{handed_alike, handed_of_event}
 use Rattle.misp_rules.specs.Answers as model
 
 -- ---- rows of a name
@@ -42,16 +43,25 @@ table_within (Reach.Own o e) rows = named_rows o e rows
 table_within (Reach.Event e) rows = event_rows e rows
 table_within Reach.All rows = rows
 
-module _ (admin : Admin) (s : Scene) (rows others : List Row) (ask : Ask) (alike : IsAlike (seeing s rows) (seeing s others) ask) where
+-- what is not handed in is brought as it was written
+pub fresh_brought : (s : Scene) (ask : Ask) → hands_in ask ≡ false → rows_brought s ask ≡ map fresh_row (brings s ask)
+unfolding hands_in
+fresh_brought s (Ask.TakePart part) alone = absurd cc
+fresh_brought s ask alone = refl
+
+module _ (admin : Admin) (s : Scene) (rows others : List Row) (ask : Ask) (alone : hands_in ask ≡ false) (alike : IsAlike (seeing s rows) (seeing s others) ask) where
   reply_alike : (r : model.Reply) → reply_of admin (seeing s rows) ask r ≡ reply_of admin (seeing s others) ask r
   reply_alike (model.Refused rule) = ap Reply.Refused (alike.refusals rule)
   reply_alike r = refl
+
+  brought_alike : rows_brought (seeing s rows) ask ≡ rows_brought (seeing s others) ask
+  brought_alike = fresh_brought (seeing s rows) ask alone ∙ ap (map fresh_row) alike.same.brought ∙ sym (fresh_brought (seeing s others) ask alone)
 
   asked_alike : asked admin (seeing s rows) ask ≡ asked admin (seeing s others) ask
   unfolding reply_in writes_in
   asked_alike = λ i.
       effect ((reply_alike (answer (seeing s rows) ask) ∙ ap (reply_of admin (seeing s others) ask) alike.same.answers) i)
-      (row_batches (cond (alike.same.accepted i) (map fresh_row (alike.same.brought i)) []))
+      (row_batches (cond (alike.same.accepted i) (brought_alike i) []))
 
 -- the groups are told whatever the rows are
 groups_alike : (admin : Admin) (s : Scene) (rows others : List Row) → asked admin (seeing s rows) Ask.Groups ≡ asked admin (seeing s others) Ask.Groups
@@ -64,17 +74,18 @@ pulled_groups_alike admin s rows others = refl
 
 -- what is asked comes to the same over the rows within its reach as over all
 pub own_alike : (admin : Admin) (rows : List Row) (s : Scene) (ask : Ask) → IsBuilt ask → asked admin (seeing s (table_within (reach_of s.by ask) rows)) ask ≡ asked admin (seeing s rows) ask
-unfolding event_asked
-own_alike admin rows s (View e owner) built = asked_alike admin s (event_rows e rows) rows (View e owner) (record { same = ask_of_event e rows s (View e owner) refl; refusals = λ rule. refl })
-own_alike admin rows s (Ask.Change (AddEvent b)) built = asked_alike admin s (named_rows s.by b.event rows) rows (Ask.Change (AddEvent b)) (add_named b rows s)
-own_alike admin rows s (Ask.Change c) built = asked_alike admin s (event_rows (event_changed c) rows) rows (Ask.Change c) (change_of_event rows s c)
-own_alike admin rows s (Ask.Propose d) built = asked_alike admin s (event_rows d.event rows) rows (Ask.Propose d) (record { same = ask_of_event d.event rows s (Ask.Propose d) refl; refusals = λ rule. refl })
-own_alike admin rows s (Ask.Judge e n accept) built = asked_alike admin s (event_rows e rows) rows (Ask.Judge e n accept) (record { same = ask_of_event e rows s (Ask.Judge e n accept) refl; refusals = λ rule. refl })
-own_alike admin rows s (Ask.Sight e t d) built = asked_alike admin s (event_rows e rows) rows (Ask.Sight e t d) (record { same = ask_of_event e rows s (Ask.Sight e t d) refl; refusals = λ rule. refl })
+unfolding event_asked hands_in
+own_alike admin rows s (View e owner) built = asked_alike admin s (event_rows e rows) rows (View e owner) refl (record { same = ask_of_event e rows s (View e owner) refl; refusals = λ rule. refl })
+own_alike admin rows s (Ask.Change (AddEvent b)) built = asked_alike admin s (named_rows s.by b.event rows) rows (Ask.Change (AddEvent b)) refl (add_named b rows s)
+own_alike admin rows s (Ask.Change c) built = asked_alike admin s (event_rows (event_changed c) rows) rows (Ask.Change c) refl (change_of_event rows s c)
+own_alike admin rows s (Ask.Propose d) built = asked_alike admin s (event_rows d.event rows) rows (Ask.Propose d) refl (record { same = ask_of_event d.event rows s (Ask.Propose d) refl; refusals = λ rule. refl })
+own_alike admin rows s (Ask.Judge e n accept) built = asked_alike admin s (event_rows e rows) rows (Ask.Judge e n accept) refl (record { same = ask_of_event e rows s (Ask.Judge e n accept) refl; refusals = λ rule. refl })
+own_alike admin rows s (Ask.Sight e t d) built = asked_alike admin s (event_rows e rows) rows (Ask.Sight e t d) refl (record { same = ask_of_event e rows s (Ask.Sight e t d) refl; refusals = λ rule. refl })
 own_alike admin rows s Ask.Groups built = groups_alike admin s [] rows
 own_alike admin rows s Ask.SyncGroups built = pulled_groups_alike admin s [] rows
 own_alike admin rows s Ask.SyncEvents built = refl
-own_alike admin rows s (Ask.SyncPart e n) built = asked_alike admin s (event_rows e rows) rows (Ask.SyncPart e n) (record { same = ask_of_event e rows s (Ask.SyncPart e n) refl; refusals = λ rule. refl })
+own_alike admin rows s (Ask.SyncPart e n) built = asked_alike admin s (event_rows e rows) rows (Ask.SyncPart e n) refl (record { same = ask_of_event e rows s (Ask.SyncPart e n) refl; refusals = λ rule. refl })
+own_alike admin rows s (Ask.TakePart p) built = handed_of_event admin s rows p built
 own_alike admin rows s ask built = absurd built
 
 -- ---- the number of an act
@@ -97,12 +108,17 @@ module _ (n : ℕ) (s : Scene) (admin : Admin) (ask : Ask) where
   reply_same (model.Saved vs) = saved_as n (reach_of s.by ask) vs
   reply_same r = refl
 
-  -- what is asked comes to the same
-  pub asked_as : asked admin (scene_as n s) ask ≡ asked admin s ask
+  plain_as : hands_in ask ≡ false → asked admin (scene_as n s) ask ≡ asked admin s ask
   unfolding reply_in writes_in
-  asked_as = λ i.
+  plain_as alone = λ i.
       effect ((ap (reply_of admin (scene_as n s) ask) (answer_as n s ask) ∙ reply_same (answer s ask)) i)
-      (row_batches (cond (accepted_as n s ask i) (fresh_as n s ask i) []))
+      (row_batches (cond (accepted_as n s ask i) ((fresh_brought (scene_as n s) ask alone ∙ fresh_as n s ask ∙ sym (fresh_brought s ask alone)) i) []))
+
+-- what is asked comes to the same
+pub asked_as : (n : ℕ) (s : Scene) (admin : Admin) (ask : Ask) → asked admin (scene_as n s) ask ≡ asked admin s ask
+unfolding hands_in
+asked_as n s admin (Ask.TakePart p) = handed_alike admin (scene_as n s) s p refl refl refl refl
+asked_as n s admin ask = plain_as n s admin ask refl
 
 -- ---- the partner of the caller's key
 
@@ -116,12 +132,14 @@ module _ (n : ℕ) (partner : Option Inst) (s : Scene) (admin : Admin) (ask : As
   reply_by (model.Saved vs) = saved_as n (reach_of s.by ask) vs
   reply_by r = refl
 
-  asked_by : asked admin partnered ask ≡ asked admin s ask
+  plain_by : hands_in ask ≡ false → asked admin partnered ask ≡ asked admin s ask
   unfolding reply_in writes_in
-  asked_by = λ i.
+  plain_by alone = λ i.
       effect ((ap (reply_of admin partnered ask) (answer_alike n partner s ask plain) ∙ reply_by (answer s ask)) i)
-      (row_batches (cond (accepted_alike n partner s ask plain i) (fresh_alike n partner s ask i) []))
+      (row_batches (cond (accepted_alike n partner s ask plain i) ((fresh_brought partnered ask alone ∙ fresh_alike n partner s ask ∙ sym (fresh_brought s ask alone)) i) []))
 
 -- what is asked comes to the same with another partner
 pub partner_asked : (partner : Option Inst) (s : Scene) (admin : Admin) (ask : Ask) → pulls ask ≡ false → asked admin (record s { partner = partner }) ask ≡ asked admin s ask
-partner_asked partner s admin ask plain = asked_by s.act partner s admin ask plain
+unfolding hands_in
+partner_asked partner s admin (Ask.TakePart p) plain = handed_alike admin (record s { partner = partner }) s p refl refl refl refl
+partner_asked partner s admin ask plain = plain_by s.act partner s admin ask plain refl

@@ -19,13 +19,14 @@ use Rattle.misp_edit.specs.Refusals.{named, place_of, refusal_of, label_place, u
 use Rattle.misp_edit.specs.declared.fault.AddFault.{AddFault}
 use Rattle.misp_core.specs.Prelude.{Admin, Answer, Ask, Asked, Effect, EventId, Group, Host, IsBuilt, IsRefused, OrgId, Plan, Refusal, Reply, Row, RuleName, Scene, View, ask_rules, asked_over, asked_where, bare, fresh_row, reach_of}
 use Rattle.misp_core.specs.Prelude.{refused, reply_in, scene_at, seeing, writes_in}
-use Rattle.misp_core.specs.Answers.{reply_of, greatest, event_parts, event_saved, named_event, saved}
+use Rattle.misp_core.specs.Answers.{reply_of, rows_brought, greatest, event_parts, event_saved, named_event, saved}
 use Rattle.misp_core.specs.declared.reply.EventParts.{EventParts}
 use Rattle.misp_core.specs.Changing.{NamesGroupOf}
 use Rattle.misp_core.specs.Saving.{IsOfEvent, NamesPlace, place_named}
 use Rattle.misp_statements.specs.Saving.{Saves}
 use Rattle.misp_core.specs.Effects.{stop_by, row_batches, asked}
 use Rattle.misp_core.specs.Planning.{batches_of, rows_put, IsPlan, Refuses}
+use Rattle.misp_core.proofs.HandedAsks.{never_refused}
 use Rattle.misp_copies.specs.Barring as barring
 use Rattle.misp_edit.specs.Refusals as edit
 use Rattle.misp_store.specs.Seen as store
@@ -39,17 +40,17 @@ rule_tells_none rule = refl
 
 module _ (admin : Admin) (s : Scene) (ask : Ask) where
   -- what no rule refuses comes to its answer and to what it brings
-  answered : first_rule (ask_rules s ask) ≡ None → asked admin s ask ≡ effect (reply_of admin s ask (ok_answer s ask)) (row_batches (map fresh_row (brings s ask)))
+  answered : first_rule (ask_rules s ask) ≡ None → asked admin s ask ≡ effect (reply_of admin s ask (ok_answer s ask)) (row_batches (rows_brought s ask))
   unfolding reply_in writes_in
-  answered free = λ i. effect (reply_of admin s ask (answer_where s ask free i)) (row_batches (cond (accepted_where s ask free i) (map fresh_row (brings s ask)) []))
+  answered free = λ i. effect (reply_of admin s ask (answer_where s ask free i)) (row_batches (cond (accepted_where s ask free i) (rows_brought s ask) []))
 
   -- what a rule refuses comes to its refusal
   refused_so : (rule : Rule) → first_rule (ask_rules s ask) ≡ Some rule → asked admin s ask ≡ refused (refusal_of s ask rule)
   unfolding reply_in writes_in
-  refused_so rule is = λ i. effect (reply_of admin s ask (refusal_where s ask rule is i)) (row_batches (cond (refused_where s ask rule is i) (map fresh_row (brings s ask)) []))
+  refused_so rule is = λ i. effect (reply_of admin s ask (refusal_where s ask rule is i)) (row_batches (cond (refused_where s ask rule is i) (rows_brought s ask) []))
 
   -- so the one is planned
-  planned : (p : Plan) → first_rule (ask_rules s ask) ≡ None → reply_of admin s ask (ok_answer s ask) ≡ Reply.Ok p.answer → row_batches (map fresh_row (brings s ask)) ≡ batches_of p.batch
+  planned : (p : Plan) → first_rule (ask_rules s ask) ≡ None → reply_of admin s ask (ok_answer s ask) ≡ Reply.Ok p.answer → row_batches (rows_brought s ask) ≡ batches_of p.batch
       → AreRows (rows_put p.batch) → IsPlan p (asked admin s ask)
   planned p free answer batches are = record { is = answered free ∙ (λ i. effect (answer i) (batches i)); are_rows = are }
 
@@ -63,12 +64,12 @@ module _ (admin : Admin) (s : Scene) (ask : Ask) where
           let same : refusal_of s ask rule ≡ refusal = cc in
           record { is = refused_so rule by ∙ ap refused same; no_stop = ap (λ (r : Refusal). stop_by r.name) (sym same) ∙ rule_tells_none rule }
 
-  -- what brings nothing writes nothing
-  writes_none : brings s ask ≡ [] → writes_in s ask ≡ []
+  -- what brings no rows writes none
+  writes_none : rows_brought s ask ≡ [] → writes_in s ask ≡ []
   unfolding writes_in
-  writes_none none = ap (λ vs. cond (is_accepted s ask) (map fresh_row vs) []) none ∙ one (is_accepted s ask)
+  writes_none none = ap (λ rows. cond (is_accepted s ask) rows []) none ∙ one (is_accepted s ask)
     where
-      one : (b : Bool) → cond b (map fresh_row []) [] ≡ []
+      one : (b : Bool) → ◌≡◌ {A = List Row} (cond b [] []) []
       one true = refl
       one false = refl
 
@@ -150,6 +151,11 @@ of_event admin s (Ask.Judge e n accept) event h = ap (λ x. event_saved x (judge
 of_event admin s (Ask.Sight e t d) event h = ap (λ x. event_saved x (sight_writes s e t d)) h
 of_event admin s ask event h = absurd h
 
+-- and the rows that it writes are as they were written
+fresh_brought : (s : Scene) (ask : Ask) (event : EventId) → IsOfEvent ask event → rows_brought s ask ≡ map fresh_row (brings s ask)
+fresh_brought s (Ask.TakePart part) event of = absurd of
+fresh_brought s ask event of = refl
+
 -- the fault of the first rule
 first_is : (rules : List (Bool × Rule)) (fault : ChangeFault) (name : RuleName) → barring.Refuses rules fault → Some name ≡ rule_named fault → first_rule rules ≡ rule_of fault
 unfolding rule_of
@@ -168,7 +174,7 @@ module _ (admin : Admin) (s : Scene) (ask : Ask) where
       ∙ ap (λ (rs : List Row). Reply.Ok (Answer.Saved (length rs) event (greatest (map (λ (row : Row). row.stamp) rs)))) saves.1
       ∙ rows_saved event (brings s ask)
       ))
-      (ap row_batches (sym saves.1) ∙ sym batches) (subst AreRows (sym put) are)
+      (ap row_batches (fresh_brought s ask event of ∙ sym saves.1) ∙ sym batches) (subst AreRows (sym put) are)
 
   -- the refusal of a fault
   pub by_fault : (fault : ChangeFault) (name : RuleName) (place : List ℕ) → barring.Refuses (ask_rules s ask) fault → NamesPlace s ask fault → Some name ≡ rule_named fault → place ≡ place_named fault
@@ -184,7 +190,7 @@ module _ (admin : Admin) (s : Scene) (ask : Ask) where
 
   -- what refuses it writes nothing
   refused_of_event : (event : EventId) → IsOfEvent ask event → (rule : Option Rule) → first_rule (ask_rules s ask) ≡ rule → IsRefused (asked admin s ask).reply → (asked admin s ask).batches ≡ []
-  refused_of_event event of None free is = absurd (subst (λ (e : Effect Reply). IsRefused e.reply) (answered admin s ask free ∙ ap (λ r. effect r (row_batches (map fresh_row (brings s ask)))) (of_event admin s ask event of)) is)
+  refused_of_event event of None free is = absurd (subst (λ (e : Effect Reply). IsRefused e.reply) (answered admin s ask free ∙ ap (λ r. effect r (row_batches (rows_brought s ask))) (of_event admin s ask event of)) is)
   refused_of_event event of (Some rule) by is = ap (λ (e : Effect Reply). e.batches) (refused_so admin s ask rule by)
 
 -- ---- changes
@@ -247,6 +253,7 @@ refused_alone admin s Ask.Groups built is = ap row_batches (writes_none admin s 
 refused_alone admin s Ask.SyncGroups built is = ap row_batches (writes_none admin s Ask.SyncGroups refl)
 refused_alone admin s Ask.SyncEvents built is = ap row_batches (writes_none admin s Ask.SyncEvents refl)
 refused_alone admin s (Ask.SyncPart event n) built is = ap row_batches (writes_none admin s (Ask.SyncPart event n) refl)
+refused_alone admin s (Ask.TakePart part) built is = absurd (never_refused admin s part is)
 refused_alone admin s ask built is = absurd built
 
 -- the same over what is read

@@ -1,24 +1,31 @@
 -- A request to an instance whose keeper holds the tables is an act of the history.
-use Rattle.std.proofs.Common.{◌≡◌, ℕ, List, [], ◌∷◌, Bool, true, false, ltb, refl, sym, ap, subst, ◌∙◌, map, cond, Ok, inl, inr}
+use Rattle.std.proofs.Common.{◌≡◌, ℕ, List, [], ◌∷◌, ◌++◌, Bool, true, false, ltb, refl, sym, ap, subst, ◌∙◌, map, cond, Ok, inl, inr}
 use Rattle.std.proofs.lemmas.Bool.{cases_Bool}
 use Rattle.misp_outside.specs.Held.{rows_of, rows_named, put_rows, put_admins, with_batch}
 use Rattle.misp_groups.specs.Groups.{by_name}
 use Rattle.misp_rules.proofs.Prelude.{AreRows, brings, event_rows, is_accepted, put_all, uid}
 use Rattle.misp_rules.specs.Machine.{hands_in}
 use Rattle.misp_rules.proofs.Owners.{brings_here}
+use Rattle.misp_rules.specs.Answers.{taken_rows}
+use Rattle.misp_rules.specs.Package.{IsPackage}
+use Rattle.misp_rules.specs.declared.package.PackageFields.{PackageFields as Package}
 use Rattle.misp_history.specs.Acts.{Net, scene, known_at}
 use Rattle.misp_history.proofs.Steps.{step_accepted, step_refused}
 use Rattle.misp_history.proofs.Elsewhere.{tables_elsewhere}
 use Rattle.misp_history.proofs.Puts.{put_ask}
+use Rattle.misp_history.proofs.HandedIn.{handed_merged}
+use Rattle.misp_history.specs.Merging.{merged}
 use Rattle.misp_edit.proofs.OwnCopy.{named_rows}
 use Rattle.misp_store.specs.Raw.{raw_row, rows_in}
 use Rattle.misp_store.specs.Sharing.{or_none}
 use Rattle.misp_store.specs.declared.reach.Reach.{Reach}
 use Rattle.misp_store.proofs.HeldRows.{rows_again, rows_of_event, rows_kept, rows_put, rows_put_held}
-use Rattle.misp_core.specs.Prelude.{AllByRecursion, AreReadable, Ask, Asked, Effect, EventId, Group, Held, Host, Inst, IsBuilt, IsGroup, IsStrictlySortedBy, Keeps, OrgId, Reply, Row, Scene, World, asked_over, asked_where, fresh_row}
+use Rattle.misp_core.specs.Prelude.{AllByRecursion, AreReadable, Ask, Asked, Effect, EventId, Group, Held, Host, Inst, IsBuilt, IsGroup, IsStrictlySortedBy, Keeps, OrgId, Reply, Row, Scene, World, asked_over, asked_where}
 use Rattle.misp_core.specs.Prelude.{groups_in, groups_of, left, list_all, put_batches, reach_of, same_inst, scene_at, seen_in, spelled, step, tables, writes_in}
 use Rattle.misp_core.specs.Effects.{row_batches, asked}
+use Rattle.misp_core.specs.Answers.{rows_brought}
 use Rattle.misp_core.specs.Keeping.{caller_at, act_at}
+use Rattle.misp_core.proofs.HandedRows.{handed_table, newer_rows, taken_known}
 use Rattle.misp_core.proofs.Alike.{rows_of_name, named_rows_kept, table_within, own_alike, asked_as}
 use Rattle.misp_history.specs.Acts as model
 
@@ -72,14 +79,8 @@ module _ (w : World) (host : Host) (now : ℕ) (it : Asked) (held : Held) (built
   unfolding scene known_at
   told_there n = over_all ∙ sym (asked_as n (scene 0 w (act_at host now it) (caller_at host.admin it.0)) host.admin it.1)
 
--- no request that is built hands in a package
-built_alone : (a : Ask) → IsBuilt a → hands_in a ≡ false
-unfolding hands_in
-built_alone (Ask.TakePart part) built = absurd built
-built_alone a built = refl
-
 -- rows that are put in their batch
-rows_left : (rows : List Row) (held : Held) → put_batches (map spelled (row_batches rows)) held ≡ record held { rows = put_rows (map raw_row rows) held.rows }
+pub rows_left : (rows : List Row) (held : Held) → put_batches (map spelled (row_batches rows)) held ≡ record held { rows = put_rows (map raw_row rows) held.rows }
 unfolding with_batch put_rows put_admins
 rows_left [] held = refl
 rows_left (row ∷ rows) held = refl
@@ -96,17 +97,31 @@ module _ (net : Net) (n : ℕ) (w : World) (host : Host) (now : ℕ) (it : Asked
   after = step net n w (act_at host now it)
 
   -- an accepted request writes what it brings, and a refused one nothing
-  written_where : (is : Bool) → is_accepted there it.1 ≡ is → writes_in there it.1 ≡ cond is (map fresh_row (brings there it.1)) []
+  written_where : (is : Bool) → is_accepted there it.1 ≡ is → writes_in there it.1 ≡ cond is (rows_brought there it.1) []
   unfolding writes_in
-  written_where is e = ap (λ t. cond t (map fresh_row (brings there it.1)) []) e
+  written_where is e = ap (λ t. cond t (rows_brought there it.1) []) e
+
+  -- what a package brings that is handed in is merged
+  package_put : (p : Package) → IsPackage p → tables (w.log ++ brings there (Ask.TakePart p)) host.name ≡ put_all (rows_brought there (Ask.TakePart p)) (tables w.log host.name)
+  unfolding scene known_at brings taken_rows merged
+  package_put p packs =
+      handed_merged n w.log host.name it.0.org (w.groups host.name) p.rows (handed_table it.0.org p packs)
+      ∙ sym (ap (λ rows. put_all rows (tables w.log host.name)) (newer_rows there p.rows ∙ taken_known it.0.org p packs host.name (w.groups host.name) (tables w.log host.name)))
+
+  -- what an accepted request brings is put
+  brought_put : (ask : Ask) → IsBuilt ask → list_all (λ v. ltb v.act n) w.log ≡ true → is_accepted there ask ≡ true
+      → tables (w.log ++ brings there ask) host.name ≡ put_all (rows_brought there ask) (tables w.log host.name)
+  unfolding scene known_at hands_in
+  brought_put (Ask.TakePart p) built older is = package_put p built
+  brought_put ask built older is = put_ask there w.log refl older ask refl is
 
   -- the tables after the act are those before with what it writes
-  tables_left : hands_in it.1 ≡ false → list_all (λ v. ltb v.act n) w.log ≡ true → tables after.log host.name ≡ put_all (writes_in there it.1) (tables w.log host.name)
+  tables_left : IsBuilt it.1 → list_all (λ v. ltb v.act n) w.log ≡ true → tables after.log host.name ≡ put_all (writes_in there it.1) (tables w.log host.name)
   unfolding put_all scene known_at
-  tables_left alone older = elim (cases_Bool (is_accepted there it.1)) [
+  tables_left built older = elim (cases_Bool (is_accepted there it.1)) [
     | inl yes_ ↦
         ap (λ (v : World). tables v.log host.name) (step_accepted net n w (act_at host now it) (caller_at host.admin it.0) it.1 refl yes_)
-        ∙ put_ask there w.log refl older it.1 alone yes_
+        ∙ brought_put it.1 built older yes_
         ∙ sym (ap (λ rows. put_all rows (tables w.log host.name)) (written_where true yes_))
     | inr no_ ↦
         ap (λ (v : World). tables v.log host.name) (step_refused net n w (act_at host now it) (caller_at host.admin it.0) it.1 refl no_)
@@ -134,7 +149,7 @@ module _ (net : Net) (n : ℕ) (w : World) (host : Host) (now : ℕ) (it : Asked
   rows_there held built older keeps fits =
       let rows : List Row = writes_in there it.1 in
       let are : AreRows rows = rows_fit rows fits in
-      let left_is : tables after.log host.name ≡ put_all rows (tables w.log host.name) = tables_left (built_alone it.1 built) older in
+      let left_is : tables after.log host.name ≡ put_all rows (tables w.log host.name) = tables_left built older in
       subst (Keeps host.name after) (sym (rows_left rows held))
       (keeps_by host.name after (record held { rows = put_rows (map raw_row rows) held.rows }) _ _ left_is (ap (λ (groups : Inst → List Group). groups host.name) same_groups)
       (ap (put_rows (map raw_row rows)) keeps.rows ∙ rows_put_held rows (tables w.log host.name) are keeps.are_rows) (rows_put rows (tables w.log host.name) are keeps.are_rows)

@@ -16,7 +16,7 @@ use Rattle.misp_core.specs.Keeping.{act_of}
 use Rattle.misp_core.proofs.Keeping.{keeps_by, groups_there}
 use Rattle.misp_core.specs.Administering as core
 
-same_apart : (i j : Inst) → same_inst i j ≡ false → same_inst j i ≡ false
+pub same_apart : (i j : Inst) → same_inst i j ≡ false → same_inst j i ≡ false
 unfolding same_inst
 same_apart i j apart = elim (cases_Bool (same_inst j i)) [
   | inl same ↦ absurd (
@@ -39,7 +39,7 @@ pub fails_there : (here : Inst) (w : World) (by : OrgId) (add : Bool) (g : Group
 fails_there here w by add g held keeps = ap (λ gs. is_some (why_not add gs by g.id)) (groups_there here w held keeps) ∙ fails_where add (w.groups here) by g keeps.ascend
 
 -- the keeper holds these groups, and the tables as before
-keeps_groups : (here : Inst) (w v : World) (held : Held) (gs : List Group) → Keeps here w held → v.log ≡ w.log → v.groups here ≡ gs → AllByRecursion IsGroup gs → IsStrictlySortedBy by_name gs
+pub keeps_groups : (here : Inst) (w v : World) (held : Held) (gs : List Group) → Keeps here w held → v.log ≡ w.log → v.groups here ≡ gs → AllByRecursion IsGroup gs → IsStrictlySortedBy by_name gs
     → (new : Held) → new.rows ≡ held.rows → groups_in new.admin ≡ Ok gs → Keeps here v new
 keeps_groups here w v held gs keeps log is are up new rows groups =
     keeps_by here v new (tables w.log here) gs (ap (λ l. tables l here) log) is (rows ∙ keeps.rows) keeps.are_rows groups are up

@@ -1,4 +1,6 @@
 pub mod Decisions
+pub mod HandedRows
+pub mod HandedAsks
 pub mod Carried
 pub mod Answered
 pub mod Alike
@@ -12,3 +14,6 @@ pub mod OwnRows
 pub mod TakenRows
 pub mod Listed
 pub mod TakenGroups
+pub mod HandedGroups
+pub mod Arriving
+pub mod Sending

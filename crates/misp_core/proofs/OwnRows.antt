@@ -1,15 +1,17 @@
 -- A landing looks at the rows of its owner alone, so that it is that of all rows of the event.
-use Rattle.std.proofs.Common.{◌≡◌, ℕ, nat_eq, List, [], ◌∷◌, ◌++◌, length, take_at, bytes_eq, Bool, true, false, refl, sym, ap, subst, ◌∙◌, ◌&&◌, cond, Option, Some, None, Result, Ok, Err, IfOk, IfSome, filter, leb, not}
+use Rattle.std.proofs.Common.{◌≡◌, ℕ, nat_eq, List, [], ◌∷◌, ◌++◌, bytes_eq, Bool, true, false, refl, sym, ap, subst, ◌∙◌, ◌&&◌, cond, Option, Some, None, Result, Ok, Err, IfOk, IfSome, filter, leb, not}
 use Rattle.std.specs.List.{starts_with}
 use Rattle.misp_lists.proofs.Lists.{any_cut, filter_twice}
 use Rattle.misp_outside.specs.declared.row.RawRow.{RawRow}
 use Rattle.misp_outside.specs.Held.{rows_named, rows_of}
 use Rattle.misp_elem.specs.Prelude.{key, row_of}
 use Rattle.misp_rules.proofs.Prelude.{EventId, Inst, Key, OrgId, Row, and_parts, bytes_eq-Decides, event_key, has_copy, has_gone, has_home, is_row_of, is_tombstone, list_any, name_bytes, row_of_name, uid}
+use Rattle.misp_rules.proofs.Spelled.{begins_with_itself}
 use Rattle.misp_copies.specs.Copies.{copy_state, state_by}
 use Rattle.misp_package.specs.Landing.{IsLanding}
 use Rattle.misp_package.specs.declared.landing.Landing.{Landing}
 use Rattle.misp_store.specs.Raw.{onto, row_in, row_read, rows_in, stands_under}
+use Rattle.misp_store.proofs.TableRows.{onto_parts}
 use Rattle.misp_core.specs.Prelude.{Held}
 use Rattle.misp_core.specs.Taking.{IsLandingAt, IsLandingOf}
 
@@ -28,13 +30,6 @@ read_name raw (Ok x) r e = one (stands_under raw x) refl e
 name_held : (raw : RawRow) (r : Row) → row_in raw ≡ Some r → raw.name ≡ name_bytes r
 unfolding row_in
 name_held raw r e = read_name raw (row_of raw.bytes) r e
-
--- the first row and the others
-first_read : (name : List ℕ) (found : Option Row) (others : Result (List Row) (List ℕ)) (rows : List Row) → onto name found others ≡ Ok rows
-    → (p : Row × List Row) × (found ≡ Some p.0) × (others ≡ Ok p.1) × (p.0 ∷ p.1 ≡ rows)
-first_read name None others rows e = absurd cc
-first_read name (Some x) (Err first) rows e = absurd cc
-first_read name (Some x) (Ok rest) rows e = ((x, rest), refl, refl, cc)
 
 module _ (front : List ℕ) where
   -- held under a name that begins so
@@ -59,7 +54,7 @@ module _ (front : List ℕ) where
   read_so [] [] e = refl
   read_so [] (r ∷ rows) e = absurd cc
   read_so (raw ∷ raws) rows e =
-      let p = first_read raw.name (row_in raw) (rows_in raws) rows e in
+      let p = onto_parts raw.name (row_in raw) (rows_in raws) rows e in
       let same : held_so raw ≡ named_so p.0.0 = ap (λ name. starts_with nat_eq name front) (name_held raw p.0.0 p.1) in
       subst (λ rs. rows_in (filter held_so (raw ∷ raws)) ≡ Ok (filter named_so rs)) p.3
       (one_more (held_so raw) (named_so p.0.0) raw (filter held_so raws) p.0.0 (filter named_so p.0.1) same p.1 (read_so raws p.0.1 p.2))
@@ -70,9 +65,6 @@ module _ (front : List ℕ) where
   read_of_event e raws rows are = ap rows_in (sym (filter_twice _ held_so raws)) ∙ read_so (rows_of e raws) rows are
 
 -- ---- landings
-
-begins_with_itself : (bytes rest : List ℕ) → starts_with nat_eq (bytes ++ rest) bytes ≡ true
-begins_with_itself bytes rest = ap (bytes_eq bytes) (take_at bytes rest (length bytes) refl) ∙ (bytes_eq-Decides bytes bytes).1 refl
 
 module _ (w : OrgId) (rows : List Row) where
   -- of a name that begins with the bytes of the owner

@@ -1,27 +1,22 @@
 -- What a pull brings of the rows of one event is what it brings of all.
-use Rattle.std.proofs.Common.{◌≡◌, ℕ, zero, suc, ◌+◌, ◌<◌, List, [], ◌∷◌, Option, Some, None, Bool, false, ◌&&◌, Contains, ap, arith, eqb, filter_map, get_or, length, map, ◌≤◌, option_to_list, ◌++◌, take, option_map, refl, subst, sym, true, ◌∙◌}
+use Rattle.std.proofs.Common.{◌≡◌, ℕ, zero, suc, ◌+◌, ◌<◌, List, [], ◌∷◌, Option, Some, None, Contains, ap, arith, eqb, filter_map, get_or, length, map, ◌≤◌, option_to_list, ◌++◌, take, option_map, refl, subst, sym, true, ◌∙◌}
 use Rattle.std.specs.List.{cons_option, dedup, slice_get}
 use Rattle.std.proofs.lemmas.List.{length-map, take_more}
 use Rattle.std.proofs.lemmas.List.Elements.{filter_map-append}
 use Rattle.misp_lists.specs.Order.{in_order}
-use Rattle.misp_lists.proofs.Distinct.{distinct_map}
-use Rattle.misp_lists.proofs.Elements.{map_from, of_part}
-use Rattle.misp_lists.proofs.Lists.{all-map, all_of_kept}
 use Rattle.misp_rules.specs.Machine.{event_number, event_rows, seeing}
 use Rattle.misp_rules.specs.Package.{nobody}
-use Rattle.misp_rules.specs.Packing.{arrived, packages}
-use Rattle.misp_rules.specs.Passing.{passes}
+use Rattle.misp_rules.specs.Packing.{packages}
 use Rattle.misp_rules.specs.Pulling.{arriving_by, pull_route, pulled_events, pulled_part, pulled_rows}
 use Rattle.misp_rules.specs.declared.package.PackageFields.{PackageFields as Package}
-use Rattle.misp_rules.proofs.Prelude.{EventId, Inst, IsDistinct, IsTable, Row, Scene, event_of, in_one_cell, is_known, known, list_all, part_is_table, same_event, same_org, same_org-refl}
+use Rattle.misp_rules.proofs.Prelude.{EventId, Inst, IsDistinct, IsTable, Row, Scene, event_of, list_all, same_event, same_org}
 use Rattle.misp_history.specs.Merging.{arriving_rows, passing_rows}
 use Rattle.misp_history.proofs.Moving.{arriving_here}
 use Rattle.misp_package.specs.Packing.{AreNumbered, AreNumberedFrom}
-use Rattle.misp_package.proofs.KeyOrders.{one_key}
-use Rattle.misp_package.proofs.Once.{keys_once}
 use Rattle.misp_core.specs.Answers.{event_parts}
 use Rattle.misp_core.specs.Pulling.{IsByEvent, event_at, parts_where}
 use Rattle.misp_core.specs.declared.reply.EventParts.{EventParts}
+use Rattle.misp_core.proofs.Arriving.{arriving_apart, arriving_from, arriving_nobodys, part_ours, part_table}
 use Rattle.misp_core.proofs.Numbered.{numbers_ascend, numbers_reach}
 use Rattle.misp_core.proofs.PulledEvents.{events_counted}
 
@@ -53,42 +48,21 @@ module _ (s : Scene) where
 
   -- what it brings is nobody's, each key once
   pub pulled_nobodys : (rows : List Row) → list_all (λ row. same_org row.owner nobody) (pulled_rows (seeing s rows)) ≡ true
-  unfolding arriving_rows arrived
   pulled_nobodys rows =
       by_partner s.partner refl (λ none. ap (list_all (λ row. same_org row.owner nobody)) (pulled_none none rows))
-      (λ p is. ap (list_all (λ row. same_org row.owner nobody)) (pulled_by p is rows)
-      ∙ all-map (λ row. same_org row.owner nobody) (arrived (pull_route s p)) (λ row. same_org-refl nobody) (passing_rows rows s.groups (pull_route s p)))
+      (λ p is. ap (list_all (λ row. same_org row.owner nobody)) (pulled_by p is rows) ∙ arriving_nobodys rows s.groups (pull_route s p) refl)
 
   pub pulled_table : (rows : List Row) → IsTable rows → IsTable (pulled_rows (seeing s rows))
-  unfolding arriving_rows arrived IsDistinct in_one_cell
+  unfolding IsDistinct
   pulled_table rows table =
       by_partner s.partner refl (λ none. subst IsTable (sym (pulled_none none rows)) tt)
-      (λ p is. subst IsTable (sym (pulled_by p is rows))
-      (distinct_map (arrived (pull_route s p)) one_key in_one_cell (λ a b h. ap (λ t. same_org nobody nobody && t) h ∙ none (same_org nobody nobody)) (passing_rows rows s.groups (pull_route s p)) (keys_once rows s.groups (pull_route s p) table)))
-    where
-      none : (b : Bool) → (b && false) ≡ false
-      none true = refl
-      none false = refl
+      (λ p is. subst IsTable (sym (pulled_by p is rows)) (arriving_apart rows s.groups (pull_route s p) table))
 
   -- what comes of a row that is here
   pub pulled_from : (rows : List Row) (x : Row) → Contains (pulled_rows (seeing s rows)) x → (r : Row) × (Contains rows r × (event_number r ≡ event_number x))
-  unfolding arriving_rows passing_rows known arrived event_number
   pulled_from rows x m =
       by_partner s.partner refl (λ none. let k = subst (λ l. Contains l x) (pulled_none none rows) m in let lt = k.1 in absurd (omega arith))
-      (λ p is.
-      let f = map_from (arrived (pull_route s p)) (passing_rows rows s.groups (pull_route s p)) x (subst (λ l. Contains l x) (pulled_by p is rows) m) in
-      let goes = of_part (passes (known rows s.groups s.at s.by) s.groups (pull_route s p)) (known rows s.groups s.at s.by) f.0 f.1.0 in
-      let seen = of_part (is_known rows s.groups s.at s.by) rows f.0 goes.1 in
-      (f.0, (seen.1, ap (λ (r : Row). (event_of r.key).0.0) f.1.1)))
-
-  -- ---- the packages of an event
-
-  -- all rows of an event are of it, and a table
-  pub rows_ours : (e : EventId) (rows : List Row) → list_all (λ row. same_event (event_of row.key) e) (event_rows e rows) ≡ true
-  rows_ours e rows = all_of_kept (λ row. same_event (event_of row.key) e) (λ row. same_event (event_of row.key) e) (λ x h. h) rows
-
-  pub rows_table : (e : EventId) (rows : List Row) → IsTable rows → IsTable (event_rows e rows)
-  rows_table e rows table = part_is_table (λ row. same_event (event_of row.key) e) rows table
+      (λ p is. arriving_from rows s.groups (pull_route s p) x (subst (λ l. Contains l x) (pulled_by p is rows) m))
 
   -- ---- all events
 
@@ -124,12 +98,6 @@ unfolding packages in_order
 none_packed = refl
 
 module _ (s : Scene) (e : EventId) (rows part : List Row) (table : IsTable rows) (is : part ≡ event_rows e rows) where
-  its_table : IsTable part
-  its_table = subst IsTable (sym is) (rows_table s e rows table)
-
-  its_ours : list_all (λ row. same_event (event_of row.key) e) part ≡ true
-  its_ours = ap (list_all (λ row. same_event (event_of row.key) e)) is ∙ rows_ours s e rows
-
   its_packages : packages (pulled_rows (seeing s part)) ≡ packages (event_rows e (pulled_rows (seeing s rows)))
   its_packages = ap packages (ap (λ l. pulled_rows (seeing s l)) is ∙ pulled_here s e rows)
 
@@ -137,12 +105,12 @@ module _ (s : Scene) (e : EventId) (rows part : List Row) (table : IsTable rows)
   pub part_is : (n : ℕ) (ps : List Package) → (IsTable part → list_all (λ row. same_event (event_of row.key) e) part ≡ true → map (λ p. p.rows) ps ≡ packages (pulled_rows (seeing s part)))
       → AreNumbered e ps → pulled_part (seeing s rows) e n ≡ slice_get ps n
   unfolding pulled_part
-  part_is n ps packed numbered = part_numbered e n ps (packages (event_rows e (pulled_rows (seeing s rows)))) numbered (packed its_table its_ours ∙ its_packages)
+  part_is n ps packed numbered = part_numbered e n ps (packages (event_rows e (pulled_rows (seeing s rows)))) numbered (packed (part_table e rows part is table) (part_ours e rows part is) ∙ its_packages)
 
   -- and how many there are
   pub count_is : (found : Option EventParts) → (IsTable part → list_all (λ row. same_event (event_of row.key) e) part ≡ true → found ≡ parts_where e (length (packages (pulled_rows (seeing s part)))))
       → found ≡ parts_where e (length (packages (event_rows e (pulled_rows (seeing s rows)))))
-  count_is found told = told its_table its_ours ∙ ap (λ all. parts_where e (length all)) its_packages
+  count_is found told = told (part_table e rows part is table) (part_ours e rows part is) ∙ ap (λ all. parts_where e (length all)) its_packages
 
 -- one number more
 single : {Y : Type 0} (o : Option Y) → option_to_list o ≡ cons_option o []

@@ -136,7 +136,7 @@ module _ (arr : List Row) (owned : list_all (λ row. same_org row.owner nobody) 
       (same_org-sound a.owner nobody (all_has (λ row. same_org row.owner nobody) arr a owned m) ∙ sym (same_org-sound b.owner nobody (all_has (λ row. same_org row.owner nobody) arr b owned n)))
       (own_key a h ∙ ap (λ i. event_key (event_at i)) (eqb-true _ _ s) ∙ sym (own_key b k))) table)
 
-  own_ascend : IsStrictlySortedBy nat_cmp (map event_number owns)
+  pub own_ascend : IsStrictlySortedBy nat_cmp (map event_number owns)
   own_ascend = subst (IsStrictlySortedBy nat_cmp) (sym own_numbers)
       (ascend_in_order nat_cmp nat_cmp_total ltb (λ x y h. grind (arith, nat_tests)) (λ x y h. grind (arith, nat_tests)) eqb (λ x y. grind (arith, nat_tests)) (map event_number (filter is_own arr)) apart)
 
@@ -165,11 +165,15 @@ module _ (arr : List Row) (owned : list_all (λ row. same_org row.owner nobody) 
         subst (Contains (map event_number owns)) (ap (λ (e : EventId). e.0.0) (same_event-sound (event_of f.0.key) (event_at n) part.0))
         (map_has event_number owns f.0 (kept_has is_own sorted f.0 (in_order_has stands_before arr f.0 part.1) f.1.1))
 
-    -- the own rows that arrive, in their order, are of the events of which there is a package
+    -- the numbers of the events of which there is a package are those of the own rows that arrive, in their order
+    pub numbers_packed : filter (has count) numbers ≡ map event_number owns
+    numbers_packed = same_numbers (filter (has count) numbers) (map event_number owns) (IsStrictlySortedBy-filter nat_cmp (has count) numbers up) own_ascend to_own of_own
+
+    -- and so are the events
     pub events_counted : filter_map (λ n. parts_where (event_at n) (count n)) numbers ≡ map event_parts (map (λ row. (event_of row.key, length (packages (event_rows (event_of row.key) arr)))) owns)
     unfolding event_number
     events_counted =
         told_kept count numbers
-        ∙ ap (map (counted count)) (same_numbers (filter (has count) numbers) (map event_number owns) (IsStrictlySortedBy-filter nat_cmp (has count) numbers up) own_ascend to_own of_own)
+        ∙ ap (map (counted count)) numbers_packed
         ∙ map_twice event_number (counted count) (λ row. record { event = event_of row.key; parts = length (packages (event_rows (event_of row.key) arr)) }) (λ row. refl) owns
         ∙ sym (map_twice (λ row. (event_of row.key, length (packages (event_rows (event_of row.key) arr)))) event_parts (λ row. record { event = event_of row.key; parts = length (packages (event_rows (event_of row.key) arr)) }) (λ row. refl) owns)

@@ -1,10 +1,12 @@
 -- What a request is answered where nothing stops it, and what it writes.
-use Rattle.std.specs.Prelude.{◌≡◌, ℕ, true, cond, is_some, List, [], map, length, fold, max, unwrap_or}
+use Rattle.std.specs.Prelude.{◌≡◌, ℕ, true, false, cond, is_some, List, [], map, length, fold, max, unwrap_or}
 use Rattle.hex.specs.Hex.{encode_lower}
 use Rattle.misp_ids.specs.Refusal.{bare}
 use Rattle.misp_orgs.specs.Keys.{CallerFields as Caller}
 use Rattle.misp_orgs.specs.Org.{name_of}
 use Rattle.misp_rules.specs.Prelude.{EventId, Group, OrgId, Row, Scene, Submission, Version, VisibleEvent, answer, brings, date_of, is_accepted}
+use Rattle.misp_rules.specs.Answers.{newer}
+use Rattle.misp_rules.specs.Package.{IsPackage}
 use Rattle.misp_rules.specs.declared.ask.Ask.{Ask}
 use Rattle.misp_rules.specs.declared.change.Change.TheVariants.{AddEvent}
 use Rattle.misp_history.specs.History.{fresh_row}
@@ -25,10 +27,10 @@ use Rattle.misp_rules.specs.Answers as model
 abbrev pub IsAdded : Submission → Type 0
 IsAdded b = is_some b.body ≡ true
 
--- the asks that are built: all but the index and packages that are handed in
+-- the asks that are built: all but the index; what is handed in is a package
 abbrev pub IsBuilt : Ask → Type 0
 IsBuilt Ask.Index = ⊥
-IsBuilt (Ask.TakePart part) = ⊥
+IsBuilt (Ask.TakePart part) = IsPackage part
 IsBuilt (Ask.Change (AddEvent b)) = IsAdded b
 IsBuilt ask = Unit {0}
 
@@ -95,12 +97,34 @@ reply_of admin s ask (model.Parts events) =
     Reply.Ok (Answer.Parts (map event_parts events))
 reply_of admin s ask (model.Packed p) = Reply.Ok (Answer.Part p)
 reply_of admin s ask (model.Saved vs) = saved (reach_of s.by ask) vs
+reply_of admin s ask (model.Taken n) = Reply.Ok (Answer.Taken n)
 reply_of admin s ask _ = Reply.Refused (bare RuleName.NoRoute)
 
 -- the reply to an ask in these surroundings
 unfoldable pub reply_in : Admin → Scene → Ask → Reply
 reply_in admin s ask = reply_of admin s ask (answer s ask)
 
+-- ---- rows
+
+-- a version that was handed in, as a row
+abbrev pub handed_row : Version → Row
+handed_row v =
+    record {
+      owner = v.owner;
+      key = v.key;
+      stamp = v.stamp;
+      label = v.label;
+      held = false;
+      carried = true;
+      content = v.content;
+    }
+
+-- what an ask brings, as rows: of a package what is newer, as it is handed in, and of any other ask
+-- all of it, as it was written
+abbrev pub rows_brought : Scene → Ask → List Row
+rows_brought s (Ask.TakePart part) = map handed_row (newer s (brings s (Ask.TakePart part)))
+rows_brought s ask = map fresh_row (brings s ask)
+
 -- the rows that it writes
 unfoldable pub writes_in : Scene → Ask → List Row
-writes_in s ask = cond (is_accepted s ask) (map fresh_row (brings s ask)) []
+writes_in s ask = cond (is_accepted s ask) (rows_brought s ask) []

@@ -4,12 +4,14 @@ pub mod Answers
 pub mod Changing
 pub mod Effects
 pub mod EventList
+pub mod HandedGroups
 pub mod Handing
 pub mod Keeping
 pub mod Planning
 pub mod Prelude
 pub mod Pulling
 pub mod Saving
+pub mod Sending
 pub mod Sound
 pub mod Standing
 pub mod Taking

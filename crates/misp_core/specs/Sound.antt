@@ -1,7 +1,8 @@
 -- Replies that are read back from their texts.
-use Rattle.std.specs.Prelude.{◌^◌, ◌-◌, List}
+use Rattle.std.specs.Prelude.{◌≡◌, ◌^◌, ◌-◌, true, List}
 use Rattle.std.specs.List.{AllByRecursion}
 use Rattle.std.specs.List.Sorted.{IsStrictlySortedBy}
+use Rattle.std.specs.Str.{is_utf8}
 use Rattle.misp_ids.specs.Uid.{IsUid}
 use Rattle.misp_lists.specs.Prelude.{Ordering, nat_cmp}
 use Rattle.misp_elem.specs.Fields.{IsBetween}
@@ -35,3 +36,8 @@ IsSoundAnswer answer = Unit {0}
 abbrev pub IsSound : Reply → Type 0
 IsSound (Reply.Ok answer) = IsSoundAnswer answer
 IsSound (Reply.Refused refusal) = Unit {0}
+
+-- what a refusal says of its place is text
+abbrev pub IsWorded : Reply → Type 0
+IsWorded (Reply.Ok answer) = Unit {0}
+IsWorded (Reply.Refused refusal) = is_utf8 refusal.place ≡ true

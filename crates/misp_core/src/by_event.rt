@@ -6,11 +6,12 @@ ghost use Rattle.std.specs.List.Sorted.{IsStrictlySortedBy};
 ghost use Rattle.misp_lists.specs.Prelude.{nat_cmp};
 ghost use Rattle.misp_elem.specs.Parents.{event_of};
 ghost use Rattle.misp_ids.specs.Same.{same_event};
+ghost use Rattle.misp_ids.specs.Uid.{IsUid};
 ghost use Rattle.misp_rules.specs.Machine.{event_number, event_rows};
-ghost use Rattle.misp_core.specs.Pulling.{IsByEvent, Rises};
+ghost use Rattle.misp_core.specs.Pulling.{IsByEvent, Rises, event_at};
 
 use misp_elem::{NoMemory, Row};
-use misp_ids::EventId;
+use misp_ids::{EventId, Uid};
 use std::alloc::Global;
 
 // The number of a row's event.
@@ -78,4 +79,12 @@ pub(crate) fn events_of(alloc: Global, list: &[Row]) -> Result<Vec<u128>, NoMemo
     let mut events = numbers(alloc, list)?;
     events.dedup();
     Ok(events)
+}
+
+/// The event of a number.
+pub(crate) fn event_at(number: u128) -> EventId
+    ensures event { result ≡ event_at number }
+    ensures fits { IsUid result.0 }
+{
+    EventId(Uid(number))
 }

@@ -15,6 +15,7 @@ ghost use Rattle.misp_core.specs.Planning.{Plans, stop_planned};
 
 use crate::ahead::Ahead;
 use crate::changing::plan_change;
+use crate::handing_in::plan_package;
 use crate::naming::name_text;
 use crate::planning::{NoPlan, Plan, told};
 use crate::pulling::{plan_event_list, plan_part, plan_pulled_groups};
@@ -141,6 +142,7 @@ pub(crate) fn plan_request(
         Ask::SyncGroups => plan_pulled_groups(alloc, site),
         Ask::SyncEvents => plan_event_list(alloc, site, rows),
         Ask::SyncPart { event, part } => plan_part(alloc, site, &event, part, rows, kept),
+        Ask::TakePart(part) => plan_package(alloc, site, &part, rows),
         _ => unreachable!(),
     }
 }

@@ -1,6 +1,6 @@
 //! An instance over a keeper.
 
-ghost use Rattle.std.specs.Prelude.{◌≡◌, ◌≤◌, false, true, Err, length, List, IfOk, IfErr, IfSome, OnOk, OnErr, IsOk, Ok, option_map};
+ghost use Rattle.std.specs.Prelude.{◌≡◌, ◌≤◌, false, true, Err, filter, length, List, IfOk, IfErr, IfSome, OnOk, OnErr, IsOk, Ok, option_map};
 ghost use Rattle.std.specs.List.{AllByRecursion};
 ghost use Rattle.misp_outside.specs.Causes.{HasCause};
 ghost use Rattle.misp_outside.specs.Held.{with_batch};
@@ -11,10 +11,16 @@ ghost use Rattle.misp_core.specs.Answers.{IsBuilt};
 ghost use Rattle.misp_core.specs.Standing.{standing, host_of};
 ghost use Rattle.misp_store.specs.Loading.{NamesFault};
 ghost use Rattle.misp_rules.specs.Machine.{pulls};
-ghost use Rattle.misp_rules.specs.Permission.{is_permitted, forbidden};
+ghost use Rattle.misp_rules.specs.Package.{IsPackage};
+ghost use Rattle.misp_rules.specs.Permission.{is_permitted, forbidden, no_permission};
 ghost use Rattle.misp_core.specs.Effects.{requested, by_keeper};
 ghost use Rattle.misp_core.specs.Planning.{Plans, IsPlanned, batch_of, stop_planned, IsBarred};
 ghost use Rattle.misp_core.specs.Administering.{administered};
+ghost use Rattle.misp_core.specs.HandedGroups.{groups_handed};
+ghost use Rattle.misp_orgs.specs.Roles.{permits};
+ghost use Rattle.misp_orgs.specs.declared.role.Perm.{Perm};
+ghost use Rattle.misp_core.specs.Pulling.{carries_to};
+ghost use Rattle.misp_core.specs.Sending.{packages_pushed};
 ghost use Rattle.misp_core.specs.Sound.{IsSoundAnswer};
 ghost use Rattle.misp_core.specs.Taking.{IsLandingAt, IsLandingOf, groups_taken, handed_rows, package_taken, with_groups_taken, with_package};
 ghost use Rattle.misp_ids.specs.declared.uid.OrgId.{OrgId as Owner};
@@ -31,14 +37,16 @@ use crate::administering::plan_group;
 use crate::ahead::{Ahead, take_kept};
 use crate::answering::{forbidden, unread};
 use crate::decide::plan_request;
+use crate::handing_in::plan_groups;
 use crate::planning::{Batch, NoPlan, Plan};
-use crate::pulling::show_part;
+use crate::pulling::{carrying, show_part};
+use crate::pushing::{load_outgoing, way_from};
 use crate::settling::settle;
 use crate::site::Site;
 use crate::taking::{Landed, load_landing, take_package};
 use crate::taking_groups::take_groups;
 use misp_groups::{Group, Groups};
-use misp_ids::{ApiKey, EventId, InstId, OrgId, Stamp};
+use misp_ids::{ApiKey, EventId, InstId, NoMemory, OrgId, Stamp};
 use misp_orgs::{Admin, Caller, Link, may};
 use misp_outside::{Keeper, KeeperFault};
 use misp_package::Landing;
@@ -199,6 +207,25 @@ impl<K: Keeper> Instance<K> {
         plan_group(alloc, &self.groups, now, by, group, add)
     }
 
+    /// Plans what it comes to that a caller hands in groups. Nothing is put.
+    pub fn plan_handed_groups(
+        &self,
+        alloc: Global,
+        caller: &Caller,
+        coming: Vec<Group>,
+    ) -> Result<Plan, NoPlan>
+        // Those are put that are taken, and their number is told.
+        ensures planned { IfSome self.now.held (λ held.
+            Plans result (groups_handed caller.now coming.items (groups_of held))) }
+
+        // What the role of the caller forbids is refused just so.
+        ensures forbidden { permits caller.now.role Perm.Sync ≡ false →
+            IsBarred (no_permission Perm.Sync) self.now self.now result }
+        ensures no_fault { stop_planned result ≡ by_keeper → ⊥ }
+    {
+        plan_groups(alloc, &self.groups, caller, coming)
+    }
+
     /// Takes all memory for a batch, and puts it; or puts nothing.
     pub fn settle(&mut self, alloc: Global, put: Batch) -> Result<(), KeeperFault>
         ensures put { OnOk result
@@ -303,5 +330,48 @@ impl<K: Keeper> Instance<K> {
     {
         self.ahead = None;
         take_groups(&mut self.keeper, &mut self.groups, alloc, coming)
+    }
+
+    /// The groups that carry to an instance what an organisation takes there, in their order.
+    pub fn carrying_groups(
+        &self,
+        alloc: Global,
+        org: &OrgId,
+        dest: &InstId,
+    ) -> Result<Vec<Group>, NoMemory>
+        ensures all { IfSome self.now.held (λ held. IfOk result (λ groups.
+            groups.items ≡ filter (carries_to org.now dest.now) (groups_of held))) }
+        ensures fits { IfOk result (λ groups. AllByRecursion IsGroup groups.items) }
+    {
+        carrying(alloc, &self.groups, org, dest)
+    }
+
+    /// The packages of all that passes by a push to an instance for an organisation, event after
+    /// event. All rows are read once.
+    pub fn pushed_packages(
+        &mut self,
+        alloc: Global,
+        org: &OrgId,
+        dest: &InstId,
+    ) -> Result<Vec<Package>, LoadFault>
+        // They are those of all rows that are held, and all of these decode.
+        ensures packed { IfOk result (λ all. IfSome self.old.held (λ held.
+            (rows : List RowFields) → (seen_in held).rows reach.All ≡ Ok rows → all.items
+            ≡ packages_pushed self.old.name (groups_of held) org.now dest.now rows)) }
+        ensures read { OnOk result
+            (IfSome self.old.held (λ held. IsOk ((seen_in held).rows reach.All))) }
+        ensures each { IfOk result (λ all. AllByRecursion IsPackage all.items) }
+
+        // Of the rows that are read, it names the first that does not decode.
+        ensures bad { IfErr result (λ fault. IfSome self.old.held (λ held.
+            NamesFault ((seen_in held).rows reach.All) fault)) }
+        ensures held { self.new.held ≡ self.old.held }
+        ensures cause { HasCause self.old.faults self.new.faults
+            (result ≡ Err faults.KeeperFault) }
+        ensures name { self.new.name ≡ self.old.name }
+        ensures admin { self.new.admin ≡ self.old.admin }
+    {
+        let via = way_from(&self.name, &self.groups, org, dest);
+        load_outgoing(&mut self.keeper, alloc, &via)
     }
 }

@@ -1,11 +1,14 @@
 //! Laws of what an instance answers.
 
-ghost use Rattle.std.specs.Prelude.{◌≡◌, ℕ, Bool, [], true, false, is_some, ltb};
+ghost use Rattle.std.specs.Prelude.{◌≡◌, ℕ, Bool, List, [], true, false, is_some, ltb};
 ghost use Rattle.std.specs.List.{list_all};
 ghost use Rattle.misp_ids.specs.declared.uid.OrgId.{OrgId};
 ghost use Rattle.misp_groups.specs.declared.group.GroupFields.{GroupFields as Group};
 ghost use Rattle.misp_rules.specs.declared.ask.Ask.{Ask};
 ghost use Rattle.misp_orgs.specs.Admin.{AdminFields as Admin};
+ghost use Rattle.misp_orgs.specs.Keys.{CallerFields as Caller};
+ghost use Rattle.misp_orgs.specs.Roles.{permits};
+ghost use Rattle.misp_orgs.specs.declared.role.Perm.{Perm};
 ghost use Rattle.misp_outside.specs.Held.{Held};
 ghost use Rattle.misp_effects.specs.Batches.{AreReadable};
 ghost use Rattle.misp_effects.specs.Effect.{left};
@@ -15,7 +18,7 @@ ghost use Rattle.misp_history.specs.History.{tables};
 ghost use Rattle.misp_rules.specs.Scene.{Scene};
 ghost use Rattle.misp_rules.specs.Numbers.{scene_as};
 ghost use Rattle.misp_history.specs.Acts.{World, Net, scene, step};
-ghost use Rattle.misp_groups.specs.Changes.{administration_fails};
+ghost use Rattle.misp_groups.specs.Changes.{administration_fails, count_taken};
 ghost use Rattle.misp_groups.specs.Groups.{why_not};
 ghost use Rattle.misp_store.specs.Batches.{spelled};
 ghost use Rattle.misp_store.specs.Seen.{Seen, seen_in};
@@ -24,6 +27,9 @@ ghost use Rattle.misp_core.specs.Answers.{Asked, IsBuilt};
 ghost use Rattle.misp_core.specs.Effects.{IsRefused, asked, asked_where};
 ghost use Rattle.misp_core.specs.Standing.{Host};
 ghost use Rattle.misp_core.specs.Administering.{administered};
+ghost use Rattle.misp_core.specs.HandedGroups.{act_handing, groups_handed};
+ghost use Rattle.misp_core.specs.declared.reply.Answer.{Answer};
+ghost use Rattle.misp_core.specs.declared.reply.Reply.{Reply};
 ghost use Rattle.misp_core.specs.Keeping.{Keeps, act_at, act_of, caller_at};
 
 use misp_format::a_group_is_read_from_its_text;
@@ -82,6 +88,33 @@ pub fn an_instance_is_administered_by_the_history()
         (held : Held) → Keeps here w held →
         is_some (why_not add (groups_of held) by g.id)
         ≡ administration_fails by add g (w.groups here) }
+{
+    a_group_is_read_from_its_text();
+}
+
+/// Where a keeper holds the groups of its instance, groups that a caller hands in come to what the
+/// history says, which counts those that are taken. The keeper afterwards holds the groups after
+/// the act. No tables and no groups elsewhere change.
+pub fn groups_are_handed_in_by_the_history()
+    ensures told { (here : Inst) (w : World) (caller : Caller) (coming : List Group)
+        (held : Held) → Keeps here w held → groups_handed caller coming (groups_of held)
+        ≡ groups_handed caller coming (w.groups here) }
+    ensures counted { (here : Inst) (w : World) (caller : Caller) (coming : List Group) →
+        permits caller.role Perm.Sync ≡ true →
+        (groups_handed caller coming (w.groups here)).reply
+        ≡ Reply.Ok (Answer.Taken (count_taken (w.groups here) coming)) }
+    ensures left { (net : Net) (n : ℕ) (w : World) (host : Host) (now : Stamp) (caller : Caller)
+        (coming : List Group) (held : Held) → permits caller.role Perm.Sync ≡ true →
+        Keeps host.name w held →
+        AreReadable (groups_handed caller coming (groups_of held)).batches →
+        Keeps host.name (step net n w (act_handing host now caller coming))
+        (left spelled (groups_handed caller coming (groups_of held)) held) }
+    ensures tables { (net : Net) (n : ℕ) (w : World) (host : Host) (now : Stamp)
+        (caller : Caller) (coming : List Group) →
+        (step net n w (act_handing host now caller coming)).log ≡ w.log }
+    ensures elsewhere { (net : Net) (n : ℕ) (w : World) (host : Host) (now : Stamp)
+        (caller : Caller) (coming : List Group) (j : Inst) → same_inst host.name j ≡ false →
+        (step net n w (act_handing host now caller coming)).groups j ≡ w.groups j }
 {
     a_group_is_read_from_its_text();
 }

@@ -8,11 +8,13 @@ mod answering;
 mod by_event;
 mod changing;
 mod decide;
+mod handing_in;
 mod instance;
 mod laws;
 mod naming;
 mod planning;
 mod pulling;
+mod pushing;
 mod reply;
 mod saving;
 mod settling;
@@ -25,6 +27,7 @@ pub use instance::Instance;
 pub use laws::{
     a_refused_request_writes_nothing, a_request_is_replied_without_its_number,
     an_instance_answers_by_the_history, an_instance_is_administered_by_the_history,
+    groups_are_handed_in_by_the_history,
 };
 pub use misp_store::LoadFault;
 pub use planning::{Batch, NoPlan, Plan};

@@ -5,7 +5,6 @@ ghost use Rattle.std.specs.List.{AllByRecursion, list_all};
 ghost use Rattle.misp_elem.specs.declared.row.RowFields.{RowFields};
 ghost use Rattle.misp_elem.specs.Parents.{event_of};
 ghost use Rattle.misp_ids.specs.Same.{same_event};
-ghost use Rattle.misp_ids.specs.Uid.{IsUid};
 ghost use Rattle.misp_groups.specs.Group.{IsGroup};
 ghost use Rattle.misp_rules.specs.declared.ask.Ask.TheVariants as asks;
 ghost use Rattle.misp_rules.specs.Machine.{seeing};
@@ -20,18 +19,18 @@ ghost use Rattle.misp_core.specs.Answers.{event_parts};
 ghost use Rattle.misp_core.specs.Effects.{asked, by_keeper};
 ghost use Rattle.misp_core.specs.Handing.{knowing, pull_scene};
 ghost use Rattle.misp_core.specs.Planning.{Plans, stop_planned};
-ghost use Rattle.misp_core.specs.Pulling.{IsByEvent, IsCountOf, Rises, carries_to, event_at, parts_where};
+ghost use Rattle.misp_core.specs.Pulling.{IsByEvent, IsCountOf, Rises, carries_to, parts_where};
 ghost use Rattle.misp_core.specs.Sound.{AreListed, IsSoundAnswer};
 ghost use Rattle.misp_core.specs.declared.reply.Answer.{Answer as Answered};
 
 use crate::ahead::Ahead;
-use crate::by_event::{by_event, events_of, of_event, part};
+use crate::by_event::{by_event, event_at, events_of, of_event, part};
 use crate::planning::{NoPlan, Plan, told};
 use crate::reply::{Answer, EventParts};
 use crate::site::{Site, asker, partner};
 use misp_elem::{NoMemory, Row};
 use misp_groups::{Group, Groups, carries};
-use misp_ids::{EventId, InstId, Items, OrgId, Refusal, RuleName, Uid, Way};
+use misp_ids::{EventId, InstId, Items, OrgId, Refusal, RuleName, Way};
 use misp_package::{Via, outgoing};
 use misp_rules::Package;
 use std::alloc::Global;
@@ -45,8 +44,8 @@ fn copy_of(group: &Group) -> Result<Group, NoMemory>
     group.copied()
 }
 
-// Those of the groups that carry what the organisation takes to the instance, in their order.
-fn carrying(
+/// Those of the groups that carry what the organisation takes to the instance, in their order.
+pub(crate) fn carrying(
     alloc: Global,
     groups: &Groups,
     org: &OrgId,
@@ -208,14 +207,6 @@ fn put(events: &mut Vec<EventParts>, more: Option<EventParts>) -> Result<(), NoM
         events.push(parts)?;
     }
     Ok(())
-}
-
-// The event of a number.
-fn event_at(number: u128) -> EventId
-    ensures event { result ≡ event_at number }
-    ensures fits { IsUid result.0 }
-{
-    EventId(Uid(number))
 }
 
 // The events of which a pull brings something, over a list of rows by events.

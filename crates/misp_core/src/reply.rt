@@ -31,7 +31,7 @@ pub enum Answer {
     Event(VisibleEvent),
     /// The groups that concern the caller, or that a pull brings.
     Groups(Items<Group>),
-    /// So many groups were taken.
+    /// So many groups were taken, or so many rows of a package.
     Taken(u64),
     /// The events of which a pull brings something, in their order.
     Parts(Items<EventParts>),

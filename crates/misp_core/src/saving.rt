@@ -22,8 +22,8 @@ use misp_elem::{NoMemory, Row};
 use misp_ids::{EventId, Items, Refusal, Stamp, Text};
 use std::alloc::Global;
 
-// Rows are put in one batch, and no rows in none.
-fn rows_put(alloc: Global, rows: Vec<Row>) -> Option<Batch>
+/// Rows are put in one batch, and no rows in none.
+pub(crate) fn rows_put(alloc: Global, rows: Vec<Row>) -> Option<Batch>
     ensures batches { batches_of result ≡ row_batches rows.items }
     ensures rows { rows_put result ≡ rows.items }
 {

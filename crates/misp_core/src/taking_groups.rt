@@ -52,8 +52,12 @@ fn take_one(known: &mut Groups, taken: &mut Vec<Group>, group: Group) -> Result<
     }
 }
 
-// Those of the groups that are taken, one after another, where these are known.
-fn taken_of(alloc: Global, groups: &Groups, coming: Vec<Group>) -> Result<Vec<Group>, NoMemory>
+/// Those of the groups that are taken, one after another, where these are known.
+pub(crate) fn taken_of(
+    alloc: Global,
+    groups: &Groups,
+    coming: Vec<Group>,
+) -> Result<Vec<Group>, NoMemory>
     ensures { IfOk result (λ taken. taken.items ≡ groups_taken groups.now coming.items) }
 {
     let mut known = copy_of(alloc, groups)?;
@@ -64,10 +68,11 @@ fn taken_of(alloc: Global, groups: &Groups, coming: Vec<Group>) -> Result<Vec<Gr
     Ok(taken)
 }
 
-// These groups together, and no rows.
-fn groups_alone(alloc: Global, groups: Vec<Group>) -> Batch
+/// These groups together, and no rows.
+pub(crate) fn groups_alone(alloc: Global, groups: Vec<Group>) -> Batch
     ensures batch { batch_of result ≡ batch [] groups.items }
     ensures groups { result.groups ≡ groups.items }
+    ensures rows { result.rows ≡ [] }
 {
     Batch {
         rows: Items::of(Vec::new(alloc)),

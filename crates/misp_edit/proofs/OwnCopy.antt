@@ -1,13 +1,14 @@
 -- An addition is refused, answered and written from what its caller has of the event as from all rows.
-use Rattle.std.proofs.Common.{◌≡◌, ℕ, List, [], ◌∷◌, ◌++◌, Bool, true, false, length, nat_eq, refl, sym, ap, subst, ◌∙◌, map, eqb, arith, ◌&&◌, ◌||◌, not, Option, Some, None, option_map, option_to_list, is_some, bytes_eq, filter}
-use Rattle.std.proofs.Common.{filter_map, find, take_at}
+use Rattle.std.proofs.Common.{◌≡◌, ℕ, List, [], ◌∷◌, ◌++◌, Bool, true, false, nat_eq, refl, sym, ap, subst, ◌∙◌, map, eqb, arith, ◌&&◌, ◌||◌, not, Option, Some, None, option_map, option_to_list, is_some, filter}
+use Rattle.std.proofs.Common.{filter_map, find}
 use Rattle.std.specs.List.{starts_with}
 use Rattle.misp_elem.specs.Spelling.{key}
 use Rattle.misp_rules.proofs.Prelude.{Content, ElementExists, ElemId, EventExists, EventGone, EventId, Group, GroupNotUsable, Inst, Key, Label, OrgId, Place, Reference, ReferenceDraft, Row, Rule, Saved, Scene, Submission, all_same}
-use Rattle.misp_rules.proofs.Prelude.{and_from, and_parts, answer, any_cut, ask_rules, brings, bytes_eq-Decides, change_rules, change_writes, event_is_closed, event_kept, event_key, event_of, event_written, filter_within, find_within}
+use Rattle.misp_rules.proofs.Prelude.{and_from, and_parts, answer, any_cut, ask_rules, brings, change_rules, change_writes, event_is_closed, event_kept, event_key, event_of, event_written, filter_within, find_within}
 use Rattle.misp_rules.proofs.Prelude.{granted, has_copy, has_gone, has_target, holds_copy, in_order, is_accepted, is_deleted, is_known, is_live, is_place_of, is_row_of, is_taken, is_target_key, is_tombstone, known, list_any, name_bytes}
 use Rattle.misp_rules.proofs.Prelude.{nat_tests, new_event, of_event, ok_answer, or_left, parents, part_version, parts_written, place_in, reference_key, reference_version, same_event, same_key-keeps, same_org, same_org-refl}
 use Rattle.misp_rules.proofs.Prelude.{same_org-sound, seeing, takes_uuid, target_in_copy, target_of, uid, uuid_at, written}
+use Rattle.misp_rules.proofs.Spelled.{begins_with_itself}
 use Rattle.misp_rules.specs.Scene.{holds_tombstone}
 use Rattle.misp_rules.specs.Machine.{is_of_copy}
 use Rattle.misp_rules.proofs.ShownHere.{key_here}
@@ -144,9 +145,6 @@ module _ (b : Submission) (s : Scene) where
 -- the rows of an event whose names begin with the bytes of an organisation
 abbrev pub named_rows : OrgId → EventId → List Row → List Row
 named_rows o e rows = filter (λ r. same_event (event_of r.key) e && starts_with nat_eq (name_bytes r) (uid o.0)) rows
-
-begins_with_itself : (bytes rest : List ℕ) → starts_with nat_eq (bytes ++ rest) bytes ≡ true
-begins_with_itself bytes rest = ap (bytes_eq bytes) (take_at bytes rest (length bytes) refl) ∙ (bytes_eq-Decides bytes bytes).1 refl
 
 module _ (o : OrgId) (e : EventId) where
   -- what the organisation has of the event is so named

@@ -44,7 +44,7 @@ faults_push stop_in place (a ∷ ms) m [] output each = absurd (omega arith)
 faults_push stop_in place (a ∷ ms) m (o ∷ outputs) output each = omega (arith, faults_push stop_in place ms m outputs output (omega arith))
 
 -- a count that rose twice rose by both together
-rose_more : (m n before mid now : ℕ) → RoseBy m before mid → RoseBy n mid now → RoseBy (m + n) before now
+pub rose_more : (m n before mid now : ℕ) → RoseBy m before mid → RoseBy n mid now → RoseBy (m + n) before now
 rose_more m n before mid now first then = omega arith
 
 -- before the first command

@@ -52,14 +52,14 @@ whole_returned g =
 
 -- ---- its text is UTF-8
 
-uuid_utf8 : (u : Uid) → IsUtf8 (text_of u)
+pub uuid_utf8 : (u : Uid) → IsUtf8 (text_of u)
 uuid_utf8 u = IsUtf8-from_ascii (text_of u) (hyphenated_ascii lower (bytes_of u) (inl refl))
 
 org_utf8 : (o : GroupOrg) → IsOrg o → IsText (group_org_data o)
 unfolding group_org_data
 org_utf8 o h = (refl, ((refl, (IsUtf8-from_is_utf8 o.name h.1, (refl, (uuid_utf8 o.org.0, tt)))), (refl, (tt, tt))))
 
-url_utf8 : (name : List ℕ) → IsUtf8 name → IsUtf8 (server_url name)
+pub url_utf8 : (name : List ℕ) → IsUtf8 name → IsUtf8 (server_url name)
 url_utf8 name h = IsUtf8-append (codes "http://") _ (IsUtf8-are_ascii (codes "http://") refl) (IsUtf8-append name (codes "/") h (IsUtf8-are_ascii (codes "/") refl))
 
 server_utf8 : (s : GroupServer) → IsServer s → IsText (group_server_data s)
@@ -68,7 +68,7 @@ server_utf8 s h =
     let name = IsUtf8-inst_name s.name h in
     (refl, ((refl, (name, (refl, (url_utf8 s.name name, tt)))), (refl, (tt, tt))))
 
-number_utf8 : (n : ℕ) → n ≤ LAST_SECOND → IsUtf8 (decimal n)
+pub number_utf8 : (n : ℕ) → n ≤ LAST_SECOND → IsUtf8 (decimal n)
 number_utf8 n h =
     let large : LAST_SECOND < 2 ^ 64 = lit< tt in
     IsUtf8-from_ascii (decimal n) (IsAscii-decimal n (omega arith))

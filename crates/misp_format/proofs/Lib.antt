@@ -7,14 +7,14 @@ mod EventBack
 mod Fitting
 mod GroupBack
 mod GroupNames
-mod GroupTexts
+pub mod GroupTexts
 mod Grouped
 mod Kept
-mod ReadBack
+pub mod ReadBack
 mod RowFacts
 mod StandardFacts
 mod Statements
 mod Tags
 mod TagsBack
 mod Texts
-mod Utf8
+pub mod Utf8

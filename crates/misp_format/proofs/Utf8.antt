@@ -31,7 +31,7 @@ comma true = IsUtf8-are_ascii (44 ∷ []) refl
 comma false = IsUtf8-nil
 
 -- after a byte of the grammar
-behind : (byte : ℕ) (text : List ℕ) → are_ascii (byte ∷ []) ≡ true → IsUtf8 text → IsUtf8 (byte ∷ text)
+pub behind : (byte : ℕ) (text : List ℕ) → are_ascii (byte ∷ []) ≡ true → IsUtf8 text → IsUtf8 (byte ∷ text)
 behind byte text ascii h = IsUtf8-append (byte ∷ []) text (IsUtf8-are_ascii (byte ∷ []) ascii) h
 
 mutual

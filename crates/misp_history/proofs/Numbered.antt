@@ -18,7 +18,7 @@ newest_within p i before (v ∷ after) h =
     cond_both (same_inst v.at i && is_newest before v after) _ _ (λ us. list_all p us ≡ true) (λ e. and_from _ _ (and_parts _ _ h).0 later) (λ e. later)
 
 -- what moves keeps the number of its act
-moved_within : (m n : ℕ) (r : Route) (vs : List Version) → list_all (is_below m) vs ≡ true → list_all (is_below m) (map (moved n r) vs) ≡ true
+pub moved_within : (m n : ℕ) (r : Route) (vs : List Version) → list_all (is_below m) vs ≡ true → list_all (is_below m) (map (moved n r) vs) ≡ true
 unfolding moved
 moved_within m n r [] h = refl
 moved_within m n r (v ∷ vs) h = and_from _ _ (and_parts _ _ h).0 (moved_within m n r vs (and_parts _ _ h).1)

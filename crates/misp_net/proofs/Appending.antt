@@ -7,6 +7,7 @@ use Rattle.misp_effects.specs.Effect.{Outcome, stop_of}
 use Rattle.misp_effects.specs.KeeperStates.{count_at}
 use Rattle.misp_effects.specs.Run.{output_of, tables_after, outputs_of, tables_left, AreFit, fault_at, faults_at}
 use Rattle.misp_effects.specs.Course.{IsAct, HasRun}
+use Rattle.misp_effects.proofs.Courses.{rose_more}
 
 module _ {S A : Type 0} (seen_in : Held → S) (spelled : Spelling) where
   -- what is put out by these commands and those
@@ -44,9 +45,6 @@ faults_append stop_in place (m ∷ ms) ns [] last each = absurd (omega arith)
 faults_append stop_in place (m ∷ ms) ns (o ∷ first) last each = omega (arith, faults_append stop_in place ms ns first last (omega arith))
 
 -- a count that rose twice rose by both together
-rose_more : (m n before mid now : ℕ) → RoseBy m before mid → RoseBy n mid now → RoseBy (m + n) before now
-rose_more m n before mid now first then = omega arith
-
 module _ (S A : Type 0) (seen_in : Held → S) (spelled : Spelling) (stop_in : A → Option Stop) where
   -- one command
   pub one_ran : (m : Meaning S A) (old new : List KeeperState) (output : A) → IsAct S A seen_in spelled stop_in m old new output → HasRun S A seen_in spelled stop_in (m ∷ []) old new (output ∷ [])

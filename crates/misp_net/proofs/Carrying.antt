@@ -14,9 +14,6 @@ pub rose_none : (n before after : ℕ) → n ≡ 0 → before ≤ after → Rose
 rose_none n before after none later = omega (arith, none, later)
 
 -- a count that rose twice rose by both together
-pub rose_more : (m n before mid now : ℕ) → RoseBy m before mid → RoseBy n mid now → RoseBy (m + n) before now
-rose_more m n before mid now first more = omega arith
-
 pub faults_append : (outputs more : List Output) → carry_faults (outputs ++ more) ≡ carry_faults outputs + carry_faults more
 faults_append [] more = omega arith
 faults_append (output ∷ outputs) more = omega (arith, faults_append outputs more)

@@ -4,9 +4,9 @@ use Rattle.std.proofs.lemmas.Bool.Decides.{eqb_tells}
 use Rattle.std.proofs.lemmas.List.{length-map, map-append}
 use Rattle.misp_outside.specs.Causes.{RoseBy}
 use Rattle.misp_effects.specs.Meanings.{Meaning}
-use Rattle.misp_effects.proofs.Courses.{no_lines, run_kept}
+use Rattle.misp_effects.proofs.Courses.{no_lines, rose_more, run_kept}
 use Rattle.misp_net.proofs.Appending.{more_ran}
-use Rattle.misp_net.proofs.Carrying.{faults_append, rose_more, rose_none}
+use Rattle.misp_net.proofs.Carrying.{faults_append, rose_none}
 use Rattle.misp_effects.proofs.KeeperStates.{all_kept}
 use Rattle.misp_net.specs.Prelude.{Act, AreAmong, AreDone, AreKept, Done, HasRun, Host, IsCut, IsDone, KeeperState, Line, Output, Ran, Seen, acts_of, meaning, outputs_of, seen_in, spelled, stop_in}
 use Rattle.misp_net.specs.Acts.{Does, acts_done, outputs_done}

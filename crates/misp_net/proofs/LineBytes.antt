@@ -1,5 +1,5 @@
 -- The bytes of a line, read from a source and written to a sink that never fail.
-use Rattle.std.proofs.Common.{◌≡◌, ◌≢◌, ℕ, List, [], ◌∷◌, ◌++◌, append_assoc, Option, Some, Result, IfSome, Ok, Err, refl, ◌∙◌, ap, subst, arith}
+use Rattle.std.proofs.Common.{◌≡◌, ◌≢◌, ℕ, List, [], ◌∷◌, ◌++◌, append_assoc, Option, Some, Result, Ok, Err, refl, ◌∙◌, ap, subst}
 use Rattle.std.specs.Io.KnownBytes.{prepend_known}
 use Rattle.hex.specs.Hex.{decode_of, encode_lower}
 use Rattle.misp_outside.specs.Causes.{HasCause}
@@ -11,17 +11,9 @@ use Rattle.misp_api.specs.Session.{Session, end_name}
 use Rattle.misp_api.specs.Turn.{IsAt, Point}
 use Rattle.misp_api.specs.declared.sessions.End.{End}
 use Rattle.misp_api.specs.declared.sessions.SessionEnd.{SessionEnd}
+use Rattle.misp_api.proofs.Exchanges.{never_fails}
 use Rattle.misp_net.specs.Prelude.{Standing}
 use Rattle.misp_net.specs.Running.{HasSession}
-
--- an end that counts no fault has none
-pub never_fails : {Failed : Type 0} → HasCause 0 0 Failed → Failed → ⊥
-never_fails cause failed = absurd (omega (arith, cause.rose failed))
-
--- what is read of a source that has the bytes of a text
-pub read_of : (front left text : List ℕ) (result : Result Read ReadEnd) (after : Option (List ℕ)) → front ≡ [] → left ≡ text
-    → IfSome (prepend_known front (Some left)) (λ bytes. IsRead bytes result after) → IsRead text result after
-read_of front left text result after none same is = subst (λ bytes. IsRead bytes result after) ((λ i. none i ++ same i)) is
 
 -- and what was read is read, by whatever name
 pub read_as : (text : List ℕ) (read other : Read) (left : Option (List ℕ)) → read ≡ other → IsRead text (Ok read) left → IsRead text (Ok other) left

@@ -6,12 +6,12 @@ use Rattle.misp_effects.specs.Effect.{shown, under}
 use Rattle.misp_effects.specs.Run.{effect_in, effect_of}
 use Rattle.misp_rules.specs.Prelude.{Version, is_row_of, list_any}
 use Rattle.misp_history.specs.Acts.{Net}
-use Rattle.misp_history.specs.Passing.{Route, moved, passing}
+use Rattle.misp_history.specs.Passing.{Route, passing}
 use Rattle.misp_history.specs.Outcomes.{coming, first_brought, step_partly, synced_partly}
 use Rattle.misp_history.specs.Acts.{synced_groups}
 use Rattle.misp_history.proofs.Adding.{below_next}
-use Rattle.misp_history.proofs.Numbered.{newest_within, step_below}
-use Rattle.misp_history.proofs.Prelude.{all-filter, all_both, and_from, and_parts, known_there, newest, newest_from, passes, row_of}
+use Rattle.misp_history.proofs.Numbered.{moved_within, newest_within, step_below}
+use Rattle.misp_history.proofs.Prelude.{all-filter, all_both, known_there, newest, newest_from, passes, row_of}
 use Rattle.misp_core.specs.Prelude.{AreReadable, Held, Host, Inst, World, left, list_all, put_batches, spelled}
 use Rattle.misp_sync.specs.History.{applied, pull_act, route_of}
 use Rattle.misp_sync.specs.Pulled.{pulled}
@@ -33,11 +33,6 @@ abbrev is_below : ℕ → Version → Bool
 is_below n v = ltb v.act n
 
 -- what moves keeps the number of its act
-moved_within : (m n : ℕ) (r : Route) (vs : List Version) → list_all (is_below m) vs ≡ true → list_all (is_below m) (map (moved n r) vs) ≡ true
-unfolding moved
-moved_within m n r [] h = refl
-moved_within m n r (v ∷ vs) h = and_from _ _ (and_parts _ _ h).0 (moved_within m n r vs (and_parts _ _ h).1)
-
 -- what comes is of acts that were
 coming_below : (m n : ℕ) (w : World) (r : Route) → list_all (is_below m) w.log ≡ true → list_all (is_below m) (coming n w r) ≡ true
 unfolding coming passing newest

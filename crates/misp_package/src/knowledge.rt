@@ -1,11 +1,11 @@
 //! What the organisation of a synchronisation knows at its sender, and what of it is granted.
 
-ghost use Rattle.std.specs.Prelude.{◌≡◌, ◌||◌, map, IfOk, OnOk};
+ghost use Rattle.std.specs.Prelude.{◌≡◌, not, ◌||◌, map, IfOk, OnOk};
 ghost use Rattle.std.specs.List.{filter};
 ghost use Rattle.misp_ids.specs.Same.{same_org};
 ghost use Rattle.misp_elem.specs.Row.{AreRows, IsRow};
 ghost use Rattle.misp_copies.specs.Grants.{granted_in};
-ghost use Rattle.misp_package.specs.Knowledge.{is_known_in, granted_to};
+ghost use Rattle.misp_package.specs.Knowledge.{is_known_in, granted_of_known};
 
 use misp_copies::{Grants, Viewer, is_same_org};
 use misp_elem::Row;
@@ -42,15 +42,15 @@ pub(crate) fn known<'a>(
     Ok(list)
 }
 
-// Whether the row is granted to the organisation.
-#[tactic(auto, unfolding(crate::specs::Knowledge::granted_to))]
+// Whether a row that the organisation knows is granted to it. Of those of other owners all are.
+#[tactic(auto, unfolding(crate::specs::Knowledge::granted_of_known, crate::specs::Knowledge::granted_to))]
 fn is_granted(grants: &Grants, who: &Viewer, row: &Row) -> bool
-    ensures { result ≡ granted_to grants.now who.now row.now }
+    ensures { result ≡ granted_of_known grants.now who.now row.now }
 {
-    grants.has(who, row)
+    !is_same_org(&row.owner, &who.org) || grants.has(who, row)
 }
 
-/// Those of the rows that are granted to it.
+/// Those of the rows that it knows that are granted to it.
 pub(crate) fn granted<'a>(
     alloc: Global,
     known: &[&'a Row],
@@ -58,7 +58,7 @@ pub(crate) fn granted<'a>(
     who: &Viewer,
 ) -> Result<Vec<&'a Row>, NoMemory>
     ensures { IfOk result (λ list. map (λ r. r.now) list.items
-        ≡ filter (granted_to grants.now who.now) (map (λ r. r.now) known.now)) }
+        ≡ filter (granted_of_known grants.now who.now) (map (λ r. r.now) known.now)) }
 {
     let mut list = Vec::new(alloc);
     for row in known {

@@ -14,6 +14,7 @@ pub mod Owners
 pub mod Passing
 pub mod Plain_requests
 pub mod Prelude
+pub mod RowRanks
 pub mod Scenes
 pub mod ShownHere
 pub mod Spelled

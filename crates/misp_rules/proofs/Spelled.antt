@@ -1,5 +1,7 @@
 -- A key has one spelling by numbers, and that is no other key's.
-use Rattle.std.proofs.Common.{◌≡◌, ℕ, List, ◌++◌, sym, ◌∙◌, append_assoc, [], ◌∷◌, ap, refl, arith, length}
+use Rattle.std.proofs.Common.{◌≡◌, ℕ, nat_eq, true, List, ◌++◌, sym, ◌∙◌, append_assoc, [], ◌∷◌, ap, refl, arith, length, take_at, bytes_eq}
+use Rattle.std.specs.List.{starts_with}
+use Rattle.std.proofs.lemmas.Slice.Eq.{bytes_eq-Decides}
 use Rattle.misp_lists.proofs.Lists.{head_of, tail_of}
 use Rattle.misp_rules.specs.Prelude.{Attribute, Element, ElemId, Event, EventId, Inst, Key, Object, ObjectAttribute, OrgId, Place, Proposal, ProposalName, Reference, Sighting, Verdict, spell}
 use Rattle.misp_rules.specs.RowOrder.{spell_place, spell_inst, spell_name}
@@ -116,3 +118,7 @@ spells (Sighting e t i o u) (Element f q) h = apart _ _ _ _ h (λ e. omega (arit
 spells (Sighting e t i o u) (Reference f y s v) h = apart _ _ _ _ h (λ e. omega (arith, e))
 spells (Sighting e t i o u) (Proposal f m) h = apart _ _ _ _ h (λ e. omega (arith, e))
 spells (Sighting e t i o u) (Verdict f m j w) h = apart _ _ _ _ h (λ e. omega (arith, e))
+
+-- bytes with more behind them begin with these
+pub begins_with_itself : (bytes rest : List ℕ) → starts_with nat_eq (bytes ++ rest) bytes ≡ true
+begins_with_itself bytes rest = ap (bytes_eq bytes) (take_at bytes rest (length bytes) refl) ∙ (bytes_eq-Decides bytes bytes).1 refl

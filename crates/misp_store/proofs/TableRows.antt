@@ -49,7 +49,7 @@ apart : (a b : RawRow) (x y : Row) → row_in a ≡ Some x → row_in b ≡ Some
 apart a b x y f g h = false_from_ne_true _ (λ c. false≢true (sym (not_before a b (name_is a x f ∙ one_name x y c ∙ sym (name_is b y g))) ∙ h))
 
 -- the first row and the others
-onto_parts : (name : List ℕ) (found : Option Row) (others : Result (List Row) (List ℕ)) (rows : List Row) → onto name found others ≡ Ok rows
+pub onto_parts : (name : List ℕ) (found : Option Row) (others : Result (List Row) (List ℕ)) (rows : List Row) → onto name found others ≡ Ok rows
     → (p : Row × List Row) × (found ≡ Some p.0) × (others ≡ Ok p.1) × (p.0 ∷ p.1 ≡ rows)
 onto_parts name None others rows e = absurd cc
 onto_parts name (Some x) (Err first) rows e = absurd cc

@@ -9,11 +9,12 @@ use Rattle.misp_rules.proofs.Prelude.{EventId, OrgId, Row, event_of, nat_tests, 
 use Rattle.misp_store.specs.Raw.{raw_row, rows_in}
 use Rattle.misp_core.specs.Effects.{row_batches}
 use Rattle.misp_core.specs.Prelude.{spelled}
+use Rattle.misp_core.proofs.Keeping.{rows_left}
 use Rattle.misp_sync.specs.Steps.{IsBeside}
 
 -- ---- what is left out
 
-put_out : {X : Type 0} (before : X → X → Bool) (q : X → Bool) (x : X) (ys : List X) → q x ≡ false → filter q (put before x ys) ≡ filter q ys
+pub put_out : {X : Type 0} (before : X → X → Bool) (q : X → Bool) (x : X) (ys : List X) → q x ≡ false → filter q (put before x ys) ≡ filter q ys
 unfolding put
 put_out before q x [] out = grind (arith, out)
 put_out before q x (y ∷ ys) out = grind (arith, out, put_out before q x ys out)
@@ -48,12 +49,6 @@ module _ (e other : EventId) (front : List ℕ) (apart : same_event e other ≡ 
 
 -- ---- batches of rows
 
--- rows are put in their batch
-pub rows_put_so : (rows : List Row) (held : Held) → put_batches (map spelled (row_batches rows)) held ≡ record held { rows = put_rows (map raw_row rows) held.rows }
-unfolding with_batch put_rows put_admins
-rows_put_so [] held = refl
-rows_put_so (row ∷ rows) held = refl
-
 -- and so where an empty batch is put for no rows
 pub batch_put_so : (rows : List Row) (held : Held) → with_batch (spelled (batch rows [])) held ≡ put_batches (map spelled (row_batches rows)) held
 unfolding with_batch put_rows put_admins
@@ -64,7 +59,7 @@ batch_put_so (row ∷ rows) held = refl
 
 pub beside_put : (w : OrgId) (e : EventId) (rows : List Row) (held : Held) → list_all (λ row. same_event (event_of row.key) e) rows ≡ true
     → IsBeside w e held (put_batches (map spelled (row_batches rows)) held)
-beside_put w e rows held are = subst (IsBeside w e held) (sym (rows_put_so rows held)) (record {
+beside_put w e rows held are = subst (IsBeside w e held) (sym (rows_left rows held)) (record {
   groups = refl;
   rows = λ other apart. ap rows_in (named_kept e other (uid w.0) apart rows are held.rows);
 })

@@ -30,11 +30,11 @@ meet_all (Some old) (Some new) P Q h met = h old new met
 
 -- ---- the bytes of a reply
 
-status_good : (reply : Reply) → IsReplyStatus (status_of reply)
+pub status_good : (reply : Reply) → IsReplyStatus (status_of reply)
 status_good (Reply.Ok answer) = refl
 status_good (Reply.Refused refusal) = status_is refusal.name
 
-body_short : (reply : Reply) (bytes : List ℕ) → bytes ≡ http_text reply true → length bytes < 2 ^ 63 → length (body_text reply) < 2 ^ 63
+pub body_short : (reply : Reply) (bytes : List ℕ) → bytes ≡ http_text reply true → length bytes < 2 ^ 63 → length (body_text reply) < 2 ^ 63
 body_short reply bytes e small =
     let same : length bytes ≡ length (http_text reply true) = ap length e in
     let inside = body_within (status_of reply) (kind_of reply) (body_text reply) true in
@@ -68,6 +68,7 @@ module _ {X A : Type 0} (view : X → A) (told : Reply → Result A Refusal) (ke
   cut FetchFault.Groups fails = inl (h FetchFault.Groups fails)
   cut FetchFault.Events fails = inl (h FetchFault.Events fails)
   cut FetchFault.Package fails = inl (h FetchFault.Package fails)
+  cut FetchFault.Taken fails = inl (h FetchFault.Taken fails)
   cut (FetchFault.Refused status rule) fails = inl (h (FetchFault.Refused status rule) fails)
 
 brought : {X A : Type 0} (view : X → A) (Fit : A → Type 0) (told : Reply → Result A Refusal) (key : List ℕ) (query : Query) (old new : Standing) (result : Result X FetchFault) (read : Result A FetchFault)

@@ -1,7 +1,5 @@
--- A pull changes no other instance.
-use Rattle.std.proofs.Common.{◌≡◌, ℕ, zero, suc, true, false, Option, Some, None, refl, sym, ap, ◌∙◌, inl, inr}
-use Rattle.std.proofs.lemmas.Bool.{cases_Bool}
-use Rattle.std.proofs.lemmas.Slice.Eq.{bytes_eq-Decides}
+-- A synchronisation changes no other instance.
+use Rattle.std.proofs.Common.{◌≡◌, ℕ, zero, suc, true, false, Option, Some, None, refl, ap, ◌∙◌}
 use Rattle.misp_ids.specs.declared.label.Way.{Way}
 use Rattle.misp_orgs.specs.Admin.{link_of}
 use Rattle.misp_effects.specs.Effect.{Outcome, Stopped, Went}
@@ -13,20 +11,9 @@ use Rattle.misp_history.specs.Passing.{Route}
 use Rattle.misp_history.proofs.Merging.{stopped_elsewhere, synced_elsewhere}
 use Rattle.misp_history.proofs.Steps.{with_groups_elsewhere}
 use Rattle.misp_core.specs.Prelude.{Host}
-use Rattle.misp_sync.specs.History.{applied, pull_act, route_of}
+use Rattle.misp_core.proofs.KeepingGroups.{same_apart}
+use Rattle.misp_sync.specs.History.{applied, pull_act, route_of, sync_act}
 use Rattle.misp_sync.proofs.Routes.{IsBetween, between_over, world_by, world_is, world_none}
-
-same_apart : (i j : Inst) → same_inst i j ≡ false → same_inst j i ≡ false
-unfolding same_inst
-same_apart i j apart = elim (cases_Bool (same_inst j i)) [
-  | inl same ↦ absurd (
-      let equal : j ≡ i = (bytes_eq-Decides j i).0 same in
-      let again : same_inst i j ≡ true = (bytes_eq-Decides i j).1 (sym equal) in
-      let never : true ≡ false = sym again ∙ apart in
-      cc
-      )
-  | inr other ↦ other
-]
 
 module _ (n : ℕ) (w : World) (here peer j : Inst) (apart : same_inst here j ≡ false) where
   tables_by : (outcome : Outcome) (o : Option Route) → IsBetween here peer o → tables (world_by n w outcome o).log j ≡ tables w.log j
@@ -42,16 +29,20 @@ module _ (n : ℕ) (w : World) (here peer j : Inst) (apart : same_inst here j �
   groups_by (Stopped stop zero lost) (Some r) h = refl
   groups_by (Stopped stop (suc p) lost) (Some r) h = with_groups_elsewhere w.groups r.into j _ (same_apart r.into j (ap (λ i. same_inst i j) h.0 ∙ apart))
 
+-- no tables and no groups change but of the instance that it goes into
+module _ (net : Net) (n now : ℕ) (w : World) (way : Way) (here link into from j : Inst) (outcome : Outcome) (o : Option Route)
+    (e : net way here link w.groups ≡ o) (between : IsBetween into from o) (apart : same_inst into j ≡ false) where
+  pub tables_after : tables (step_partly net n w (sync_act way here now link) (applied outcome)).log j ≡ tables w.log j
+  tables_after = ap (λ (v : World). tables v.log j) (world_is net n now w way here link outcome o e) ∙ tables_by n w into from j apart outcome o between
+
+  pub groups_after : (step_partly net n w (sync_act way here now link) (applied outcome)).groups j ≡ w.groups j
+  groups_after = ap (λ (v : World). v.groups j) (world_is net n now w way here link outcome o e) ∙ groups_by n w into from j apart outcome o between
+
+-- of a pull
 module _ (net : Net) (n now : ℕ) (w : World) (here peer : Host) (link j : Inst) (outcome : Outcome)
     (e : net Way.Pull here.name link w.groups ≡ route_of here link peer) (apart : same_inst here.name j ≡ false) where
-  -- no tables of another instance change
   pub tables_elsewhere : tables (step_partly net n w (pull_act here.name now link) (applied outcome)).log j ≡ tables w.log j
-  tables_elsewhere =
-      ap (λ (v : World). tables v.log j) (world_is net n now w here.name link outcome (route_of here link peer) e)
-      ∙ tables_by n w here.name peer.name j apart outcome (route_of here link peer) (between_over here.name peer (link_of here.admin.links link))
+  tables_elsewhere = tables_after net n now w Way.Pull here.name link here.name peer.name j outcome (route_of here link peer) e (between_over here.name peer (link_of here.admin.links link)) apart
 
-  -- and no groups
   pub groups_elsewhere : (step_partly net n w (pull_act here.name now link) (applied outcome)).groups j ≡ w.groups j
-  groups_elsewhere =
-      ap (λ (v : World). v.groups j) (world_is net n now w here.name link outcome (route_of here link peer) e)
-      ∙ groups_by n w here.name peer.name j apart outcome (route_of here link peer) (between_over here.name peer (link_of here.admin.links link))
+  groups_elsewhere = groups_after net n now w Way.Pull here.name link here.name peer.name j outcome (route_of here link peer) e (between_over here.name peer (link_of here.admin.links link)) apart

@@ -32,19 +32,19 @@ use Rattle.misp_sync.proofs.Takings.{takes_end, takes_none, takes_stop, takes_th
 
 -- ---- rows that are not read
 
-unread_here : (fault : LoadFault) (refusal : Refusal) → IsUnread fault refusal → stop_by refusal ≡ Some (Stop.Keeper Here) → fault ≡ LoadFault.KeeperFault
+pub unread_here : (fault : LoadFault) (refusal : Refusal) → IsUnread fault refusal → stop_by refusal ≡ Some (Stop.Keeper Here) → fault ≡ LoadFault.KeeperFault
 unread_here LoadFault.KeeperFault refusal is h = refl
 unread_here LoadFault.NoMemory refusal is h = let memory : stop_by refusal ≡ Some (Stop.Memory Here) = ap stop_by is in absurd cc
 unread_here (LoadFault.BadRow name) refusal (inl is) h = let none : stop_by refusal ≡ None = ap stop_by is in absurd cc
 unread_here (LoadFault.BadRow name) refusal (inr is) h = let memory : stop_by refusal ≡ Some (Stop.Memory Here) = ap stop_by is in absurd cc
 
-unread_there : (fault : LoadFault) (refusal : Refusal) → IsUnread fault refusal → stop_by refusal ≡ Some (Stop.Keeper There) → ⊥
+pub unread_there : (fault : LoadFault) (refusal : Refusal) → IsUnread fault refusal → stop_by refusal ≡ Some (Stop.Keeper There) → ⊥
 unread_there LoadFault.KeeperFault refusal is h = let keeper : stop_by refusal ≡ Some (Stop.Keeper Here) = ap stop_by is in absurd cc
 unread_there LoadFault.NoMemory refusal is h = let memory : stop_by refusal ≡ Some (Stop.Memory Here) = ap stop_by is in absurd cc
 unread_there (LoadFault.BadRow name) refusal (inl is) h = let none : stop_by refusal ≡ None = ap stop_by is in absurd cc
 unread_there (LoadFault.BadRow name) refusal (inr is) h = let memory : stop_by refusal ≡ Some (Stop.Memory Here) = ap stop_by is in absurd cc
 
-unread_carry : (fault : LoadFault) (refusal : Refusal) → IsUnread fault refusal → stop_by refusal ≡ Some Stop.Carry → ⊥
+pub unread_carry : (fault : LoadFault) (refusal : Refusal) → IsUnread fault refusal → stop_by refusal ≡ Some Stop.Carry → ⊥
 unread_carry LoadFault.KeeperFault refusal is h = let keeper : stop_by refusal ≡ Some (Stop.Keeper Here) = ap stop_by is in absurd cc
 unread_carry LoadFault.NoMemory refusal is h = let memory : stop_by refusal ≡ Some (Stop.Memory Here) = ap stop_by is in absurd cc
 unread_carry (LoadFault.BadRow name) refusal (inl is) h = let none : stop_by refusal ≡ None = ap stop_by is in absurd cc

@@ -75,6 +75,24 @@ module _ (i : Inst) (w : OrgId) (groups : List Group) (rows coming : List Row) (
         ap (λ e. same_event e (event_of y.key)) (its_rows (event_of x.key) f.0 z f.1.0 f.1.1).1 ∙ all_of (λ y. same_event (event_of x.key) (event_of y.key) ≡ false) xs y apart m)
   ]
 
+  -- the events' own rows that come, in their order, are of other events each
+  abbrev owns : List Row
+  owns = filter is_own (in_order stands_before coming)
+
+  all_ours : list_all (λ row. same_org row.owner w) coming ≡ true
+  unfolding arrives
+  all_ours = all_implies (arrives w) (λ row. same_org row.owner w) (λ row h. (and_parts _ _ h).0) coming owned
+
+  pub own_apart : IsDistinct (λ (a b : Row). same_event (event_of a.key) (event_of b.key)) owns
+  unfolding is_own
+  own_apart =
+      distinct_part in_one_cell (λ a b. same_event (event_of a.key) (event_of b.key)) is_own (in_order stands_before coming)
+      (λ a b m n h k s. one_cell a b
+      (same_org-sound a.owner w (all_has _ coming a all_ours (from_in_order stands_before coming a m))
+      ∙ sym (same_org-sound b.owner w (all_has _ coming b all_ours (from_in_order stands_before coming b n))))
+      (same_key-sound a.key (event_key (event_of a.key)) h ∙ ap event_key (same_event-sound (event_of a.key) (event_of b.key) s) ∙ sym (same_key-sound b.key (event_key (event_of b.key)) k)))
+      (apart_in_order in_one_cell row_cell_back stands_before coming table)
+
   module _ (sent : EventId → List (List Row)) (is : (e : EventId) → map (map (handed w)) (sent e) ≡ of_event e) (own : Seen) (tells : (e : EventId) → Tells own e) where
     -- of the packages of an event
     event_is : (so : List Row) (x : Row) (xs : List Row) (more : Effect (Option Refusal)) → Clear so (x ∷ xs)
@@ -102,23 +120,6 @@ module _ (i : Inst) (w : OrgId) (groups : List Group) (rows coming : List Row) (
         event_is so x xs (events_taken i w groups own (map (λ x. (event_of x.key, sent (event_of x.key))) xs)) clear
         ∙ ap (behind_all (as_batches (parts test so ps))) (events_so (so ++ brought test so ps) xs apart.1 (clear_next so xs x apart.0 clear))
         ∙ ap (effect None) (sym (map-append (λ rows. batch rows []) (parts test so ps) (parts test (so ++ brought test so ps) rest)) ∙ ap as_batches (sym (parts_append test so ps rest)))
-
-    abbrev owns : List Row
-    owns = filter is_own (in_order stands_before coming)
-
-    all_ours : list_all (λ row. same_org row.owner w) coming ≡ true
-    unfolding arrives
-    all_ours = all_implies (arrives w) (λ row. same_org row.owner w) (λ row h. (and_parts _ _ h).0) coming owned
-
-    own_apart : IsDistinct (λ (a b : Row). same_event (event_of a.key) (event_of b.key)) owns
-    unfolding is_own
-    own_apart =
-        distinct_part in_one_cell (λ a b. same_event (event_of a.key) (event_of b.key)) is_own (in_order stands_before coming)
-        (λ a b m n h k s. one_cell a b
-        (same_org-sound a.owner w (all_has _ coming a all_ours (from_in_order stands_before coming a m))
-        ∙ sym (same_org-sound b.owner w (all_has _ coming b all_ours (from_in_order stands_before coming b n))))
-        (same_key-sound a.key (event_key (event_of a.key)) h ∙ ap event_key (same_event-sound (event_of a.key) (event_of b.key) s) ∙ sym (same_key-sound b.key (event_key (event_of b.key)) k)))
-        (apart_in_order in_one_cell row_cell_back stands_before coming table)
 
     -- all events in their order
     pub events_are : events_taken i w groups own (map (λ x. (event_of x.key, sent (event_of x.key))) owns) ≡ whole (parts test [] (packages coming))

@@ -16,6 +16,7 @@ use Rattle.misp_rules.specs.Scene.{first_rule}
 use Rattle.misp_rules.specs.declared.ask.Ask.{Ask}
 use Rattle.misp_store.specs.Raw.{onto, row_in, row_read, rows_in, stands_under}
 use Rattle.misp_store.specs.declared.reach.Reach.{Reach}
+use Rattle.misp_store.proofs.TableRows.{onto_parts}
 use Rattle.misp_core.specs.Answers.{bad_row, event_parts, reply_in}
 use Rattle.misp_core.specs.Effects.{Did, asked_over, asked_where, refused}
 use Rattle.misp_core.specs.Prelude.{Caller, EventId, Group, Host, Inst, OrgId, Row, Scene, Standing, forbidden, groups_of, host_of, is_permitted, scene_at, seeing, seen_in}
@@ -37,13 +38,6 @@ use Rattle.misp_sync.proofs.PeerTold.{Fetches, brought, fetched}
 use Rattle.misp_sync.proofs.Takings.{takes_end, takes_stop}
 
 -- ---- rows of one event among all
-
--- the first row and the others
-first_read : (name : List ℕ) (found : Option Row) (others : Result (List Row) (List ℕ)) (rows : List Row) → onto name found others ≡ Ok rows
-    → (p : Row × List Row) × (found ≡ Some p.0) × (others ≡ Ok p.1) × (p.0 ∷ p.1 ≡ rows)
-first_read name None others rows e = absurd cc
-first_read name (Some x) (Err first) rows e = absurd cc
-first_read name (Some x) (Ok rest) rows e = ((x, rest), refl, refl, cc)
 
 -- what is read there has the event under which it is held
 read_event : (raw : RawRow) (read : Result Row ℕ) (r : Row) → row_read raw read ≡ Some r → event_of r.key ≡ raw.event
@@ -78,7 +72,7 @@ module _ (e : EventId) where
   read_so [] [] h = refl
   read_so [] (r ∷ rows) h = absurd cc
   read_so (raw ∷ raws) rows h =
-      let p = first_read raw.name (row_in raw) (rows_in raws) rows h in
+      let p = onto_parts raw.name (row_in raw) (rows_in raws) rows h in
       subst (λ rs. rows_in (rows_of e (raw ∷ raws)) ≡ Ok (event_rows e rs)) p.3
       (one_more (raw.event.0.0 == e.0.0) (same_event (event_of p.0.0.key) e) raw (rows_of e raws) p.0.0 (event_rows e p.0.1)
       (same_number raw.event (event_of p.0.0.key) (event_held raw p.0.0 p.1)) p.1 (read_so raws p.0.1 p.2))

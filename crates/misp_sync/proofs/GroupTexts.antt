@@ -1,20 +1,12 @@
 -- The list of groups is read from its text.
-use Rattle.std.proofs.Common.{◌≡◌, ℕ, ◌<◌, ◌≤◌, ◌^◌, List, [], ◌∷◌, map, Some, Ok, IsUtf8, refl, sym, ap, ◌∙◌, arith, lit<, codes, decimal, inl, option_map, option_and_then}
+use Rattle.std.proofs.Common.{◌≡◌, ℕ, ◌≤◌, List, [], ◌∷◌, map, Some, Ok, IsUtf8, refl, sym, ap, ◌∙◌, arith, option_map, option_and_then}
 use Rattle.std.specs.Result.{result_ok}
-use Rattle.std.proofs.lemmas.Fmt.{IsAscii-decimal}
-use Rattle.std.proofs.lemmas.Str.{IsUtf8-append, IsUtf8-from_ascii}
-use Rattle.json.proofs.Printed.Utf8.{IsUtf8-are_ascii}
 use Rattle.serde_json.specs.Data.{Data, array, depth, items_depth}
 use Rattle.serde_json.specs.Read.{of_items, of_json}
 use Rattle.serde_json.specs.View.{items_of}
 use Rattle.serde_json.specs.Written.{items_outline, outline}
-use Rattle.uuid.specs.Text.{lower}
-use Rattle.uuid.proofs.TextLemmas.{hyphenated_ascii}
 use Rattle.misp_lists.proofs.Prelude.{AllByRecursion, IsUtf8-from_is_utf8}
 use Rattle.misp_lists.specs.Reading.{◌>>=◌}
-use Rattle.misp_ids.specs.Uid.{bytes_of, text_of}
-use Rattle.misp_ids.specs.declared.stamp.TheConstants.{LAST_SECOND}
-use Rattle.misp_ids.specs.declared.uid.Uid.{Uid}
 use Rattle.misp_ids.proofs.NamesLemmas.{IsUtf8-inst_name}
 use Rattle.misp_groups.specs.Group.{IsGroup, IsOrg, IsServer}
 use Rattle.misp_groups.specs.declared.group.GroupFields.{GroupFields as Group}
@@ -25,7 +17,8 @@ use Rattle.misp_format.specs.GroupText.{group_in_text}
 use Rattle.misp_format.specs.Groups.{group_body_at}
 use Rattle.misp_format.specs.Json.{json_in}
 use Rattle.misp_format.specs.Rows.{Reading}
-use Rattle.misp_format.specs.WholeGroup.{group_org_data, group_server_data, group_text, groups_text, server_url, uncarried, whole_group_data}
+use Rattle.misp_format.specs.WholeGroup.{group_org_data, group_server_data, group_text, groups_text, uncarried, whole_group_data}
+use Rattle.misp_format.proofs.GroupTexts.{number_utf8, url_utf8, uuid_utf8}
 use Rattle.misp_sync.specs.Replied.{groups_at, groups_from, groups_in, in_text, or_fault}
 use Rattle.misp_sync.specs.declared.replies.FetchFault.{FetchFault}
 use Rattle.misp_sync.proofs.JsonTexts.{IsPlain, are_plain, plain_read}
@@ -46,15 +39,9 @@ items_shallow n one h (x ∷ xs) =
 
 -- ---- organisations and instances
 
-uuid_utf8 : (u : Uid) → IsUtf8 (text_of u)
-uuid_utf8 u = IsUtf8-from_ascii (text_of u) (hyphenated_ascii lower (bytes_of u) (inl refl))
-
 org_plain : (o : GroupOrg) → IsOrg o → IsPlain (group_org_data o)
 unfolding group_org_data
 org_plain o h = (refl, ((refl, (IsUtf8-from_is_utf8 o.name h.1, (refl, (uuid_utf8 o.org.0, tt)))), (refl, (tt, tt))))
-
-url_utf8 : (name : List ℕ) → IsUtf8 name → IsUtf8 (server_url name)
-url_utf8 name h = IsUtf8-append (codes "http://") _ (IsUtf8-are_ascii (codes "http://") refl) (IsUtf8-append name (codes "/") h (IsUtf8-are_ascii (codes "/") refl))
 
 server_plain : (s : GroupServer) → IsServer s → IsPlain (group_server_data s)
 unfolding group_server_data
@@ -79,11 +66,6 @@ unfolding group_server_data
 server_shallow s = omega arith
 
 -- ---- a group
-
-number_utf8 : (n : ℕ) → n ≤ LAST_SECOND → IsUtf8 (decimal n)
-number_utf8 n h =
-    let large : LAST_SECOND < 2 ^ 64 = lit< tt in
-    IsUtf8-from_ascii (decimal n) (IsAscii-decimal n (omega arith))
 
 whole_plain : (g : Group) → IsGroup g → IsPlain (whole_group_data g)
 unfolding whole_group_data

@@ -1,51 +1,22 @@
 -- The text of data whose numbers are small counts is read to the data.
-use Rattle.std.proofs.Common.{◌≡◌, ℕ, ◌<◌, ◌≤◌, ◌^◌, Bool, true, false, List, [], ◌∷◌, map, Option, Some, None, Ok, IsUtf8, decimal, refl, sym, ap, ap₂, ◌∙◌, suc, max, option_and_then, append-nil, if◌then◌else◌}
+use Rattle.std.proofs.Common.{◌≡◌, ◌<◌, ◌≤◌, ◌^◌, Bool, true, false, List, [], ◌∷◌, map, Some, None, Ok, IsUtf8, decimal, refl, ap, ◌∙◌, if◌then◌else◌}
 use Rattle.std.specs.Prelude.{⊤}
 use Rattle.std.proofs.lemmas.Fmt.{IsAscii-decimal}
 use Rattle.std.proofs.lemmas.Str.{IsUtf8-append, IsUtf8-from_ascii, IsUtf8-nil}
 use Rattle.json.specs.Print.{quoted}
-use Rattle.json.specs.Tree.{HasNumbers, ItemsHaveNumbers, MembersHaveNumbers, json_tokens}
-use Rattle.json.specs.Lex.{tokens}
-use Rattle.json.specs.Token.{Token}
-use Rattle.json.proofs.Printed.Tokens.{tokens-print}
-use Rattle.json.proofs.Printed.Trees.{value-json_tokens, ArePrintable-json_tokens}
-use Rattle.serde_json.proofs.Texts.{print-outline}
+use Rattle.json.specs.Tree.{HasNumbers, ItemsHaveNumbers, MembersHaveNumbers}
 use Rattle.json.specs.Json as json
 use Rattle.json.specs.Tree as tree
 use Rattle.json.proofs.Printed.Decimals.{IsNumber-decimal}
 use Rattle.json.proofs.Printed.Utf8.{are_ascii, IsUtf8-are_ascii, IsUtf8-quoted, IsUtf8-boolean}
-use Rattle.serde_json.specs.Data.{Data, Items, Members, Num, unsigned, negative, float, null, boolean, number, string, array, object, no_items, item, no_members, member, depth, items_depth, members_depth}
+use Rattle.serde_json.specs.Data.{Data, Items, Members, Num, unsigned, negative, float, null, boolean, number, string, array, object, no_items, item, no_members, member, depth}
 use Rattle.serde_json.specs.Read.{max_depth, of_json, read}
 use Rattle.serde_json.specs.View.{items_of}
 use Rattle.serde_json.specs.Written.{comma_if, compact_text, items_outline, items_text, members_outline, members_text, outline}
 use Rattle.misp_lists.proofs.Prelude.{AllByRecursion, is_utf8, is_utf8-from_IsUtf8}
 use Rattle.misp_format.specs.Json.{json_in, json_or_fault}
-
--- ---- text without a fault is read
-
-mutual
-  outline_depth : (d : Data) → tree.depth (outline d) ≡ depth d
-  outline_depth (array ds) = ap suc (outline_items_depth ds)
-  outline_depth (object ms) = ap suc (outline_members_depth ms)
-  outline_depth _ = refl
-
-  outline_items_depth : (ds : Items) → tree.items_depth (items_outline ds) ≡ items_depth ds
-  outline_items_depth no_items = refl
-  outline_items_depth (item d ds) = ap₂ max (outline_depth d) (outline_items_depth ds)
-
-  outline_members_depth : (ms : Members) → tree.members_depth (members_outline ms) ≡ members_depth ms
-  outline_members_depth no_members = refl
-  outline_members_depth (member k d ms) = ap₂ max (outline_depth d) (outline_members_depth ms)
-
--- the data of what was read of the tokens
-abbrev whole : Option (json.Json × List Token) → Option Data
-whole o = option_and_then of_json (option_and_then (λ p. json.if_last p.0 p.1) o)
-
-read_again : (d : Data) → HasNumbers (outline d) → of_json (outline d) ≡ Some d → depth d ≤ max_depth → read (compact_text d) ≡ Some d
-read_again d numbers back shallow =
-    let written : tokens (compact_text d) ≡ json_tokens (outline d) =
-    ap tokens (sym (print-outline d)) ∙ tokens-print (json_tokens (outline d)) (ArePrintable-json_tokens (outline d) numbers) in
-    ap whole (ap (json.value max_depth) (written ∙ sym (append-nil _)) ∙ value-json_tokens (outline d) max_depth [] (rw (outline_depth d) shallow)) ∙ back
+use Rattle.misp_format.proofs.ReadBack.{read_again}
+use Rattle.misp_format.proofs.Utf8.{behind}
 
 -- ---- data whose text is plain
 
@@ -77,10 +48,6 @@ abbrev mutual
 comma : (later : Bool) → IsUtf8 (comma_if later)
 comma true = IsUtf8-are_ascii (44 ∷ []) refl
 comma false = IsUtf8-nil
-
--- after a byte of the grammar
-behind : (byte : ℕ) (text : List ℕ) → are_ascii (byte ∷ []) ≡ true → IsUtf8 text → IsUtf8 (byte ∷ text)
-behind byte text ascii h = IsUtf8-append (byte ∷ []) text (IsUtf8-are_ascii (byte ∷ []) ascii) h
 
 count_utf8 : (n : Num) → IsCount n → IsUtf8 (compact_text (number n))
 count_utf8 (unsigned n) h = IsUtf8-from_ascii (decimal n) (IsAscii-decimal n h)

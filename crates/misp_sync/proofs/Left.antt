@@ -1,4 +1,4 @@
--- What a keeper holds after a pull is what it is to hold after the act, whatever stopped it.
+-- What a keeper holds after a synchronisation is what it is to hold after the act, whatever stopped it.
 use Rattle.std.proofs.Common.{◌≡◌, ℕ, zero, suc, true, false, List, [], ◌∷◌, Option, Some, None, refl, sym, ap, subst, ◌∙◌, inl, inr, map, take}
 use Rattle.misp_ids.specs.declared.label.Way.{Way}
 use Rattle.misp_orgs.specs.Admin.{link_of}
@@ -19,7 +19,7 @@ use Rattle.misp_store.specs.Batches.{spelled}
 use Rattle.misp_store.proofs.GroupRows.{AreReadBack}
 use Rattle.misp_core.specs.Prelude.{AllByRecursion, Host, Keeps, seen_in}
 use Rattle.misp_core.specs.Taking.{groups_taken}
-use Rattle.misp_sync.specs.History.{applied, pull_act, route_of}
+use Rattle.misp_sync.specs.History.{applied, pull_act, route_of, sync_act}
 use Rattle.misp_sync.specs.Pulled.{pulled, pulled_over, telling}
 use Rattle.misp_sync.proofs.Bringing.{done_put, joined, joined_all, joined_first, partly_put, parts}
 use Rattle.misp_sync.proofs.Coming.{batches_by, carried_by, groups_after}
@@ -112,18 +112,22 @@ module _ (back : AreReadBack) (n : ℕ) (w : World) (here peer : Inst) (held : H
       let same : world_by n w outcome o ≡ w = ap (world_by n w outcome) e.1 ∙ world_none n w outcome in
       subst (λ (v : World). Keeps here v (put_batches (map spelled (put_under outcome bs)) held)) (sym same) (subst (Keeps here w) (sym none) keeps)
 
--- the keeper holds what it is to hold after the act, whatever stopped it
+-- the keeper of the instance that a synchronisation goes into holds what it is to hold after the act, whatever stopped it
+pub left_under : AreReadBack → (net : Net) (n now : ℕ) (w : World) (way : Way) (here link into from : Inst) (held : Held) (outcome : Outcome) (o : Option Route) (bs put : List Batch) → Keeps into w held → AreRows (tables w.log from)
+    → net way here link w.groups ≡ o → IsBetween into from o → Comes w bs o → put ≡ put_under outcome bs → AreReadable put
+    → Keeps into (step_partly net n w (sync_act way here now link) (applied outcome)) (put_batches (map spelled put) held)
+left_under back net n now w way here link into from held outcome o bs put keeps are e between comes is fits =
+    subst (λ (v : World). Keeps into v (put_batches (map spelled put) held)) (sym (world_is net n now w way here link outcome o e))
+    (subst (λ bs. Keeps into (world_by n w outcome o) (put_batches (map spelled bs) held)) (sym is) (left_where back n w into from held keeps are o bs between comes outcome (subst AreReadable is fits)))
+
+-- of a pull
 pub left_there : AreReadBack → (net : Net) (n now : ℕ) (w : World) (here peer : Host) (link : Inst) (own there : Held) (outcome : Outcome) → Keeps here.name w own → Keeps peer.name w there
     → net Way.Pull here.name link w.groups ≡ route_of here link peer → AreReadable (under telling outcome (pulled here link peer (seen_in own) (seen_in there))).batches
     → Keeps here.name (step_partly net n w (pull_act here.name now link) (applied outcome)) (left spelled (under telling outcome (pulled here link peer (seen_in own) (seen_in there))) own)
 unfolding pulled
-left_there back net n now w here peer link own there outcome keeps peers e fits =
+left_there back net n now w here peer link own there outcome keeps peers e =
     let found : Option Link = link_of here.admin.links link in
-    let bs : List Batch = (pulled_over here.name found peer (seen_in own) (seen_in there)).batches in
-    let is : (under telling outcome (pulled here link peer (seen_in own) (seen_in there))).batches ≡ put_under outcome bs = under_is outcome (pulled here link peer (seen_in own) (seen_in there)) in
-    let v : step_partly net n w (pull_act here.name now link) (applied outcome) ≡ world_by n w outcome (route_of here link peer) =
-    world_is net n now w here.name link outcome (route_of here link peer) e in
-    subst (λ (v : World). Keeps here.name v (put_batches (map spelled (under telling outcome (pulled here link peer (seen_in own) (seen_in there))).batches) own)) (sym v)
-    (subst (λ bs. Keeps here.name (world_by n w outcome (route_of here link peer)) (put_batches (map spelled bs) own)) (sym is)
-    (left_where back n w here.name peer.name own keeps peers.are_rows (route_of here link peer) bs (between_over here.name peer found)
-    (comes_over here.name peer w peers.are_rows (seen_in own) (seen_in there) (held_sees w here.name peer own there keeps peers) found) outcome (subst AreReadable is fits)))
+    left_under back net n now w Way.Pull here.name link here.name peer.name own outcome (route_of here link peer) (pulled_over here.name found peer (seen_in own) (seen_in there)).batches
+    (under telling outcome (pulled here link peer (seen_in own) (seen_in there))).batches keeps peers.are_rows e (between_over here.name peer found)
+    (comes_over here.name peer w peers.are_rows (seen_in own) (seen_in there) (held_sees w here.name peer own there keeps peers) found)
+    (under_is outcome (pulled here link peer (seen_in own) (seen_in there)))

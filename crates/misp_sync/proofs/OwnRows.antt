@@ -1,14 +1,15 @@
--- What is taken for a holder is told by its own rows of the event as by all rows.
-use Rattle.std.proofs.Common.{◌≡◌, ◌&&◌, ◌||◌, not, ℕ, Bool, true, List, ◌++◌, Contains, bytes_eq, leb, length, nat_eq, refl, ap, subst, ◌∙◌, take_at}
+-- What is taken for a holder is told by its own rows of the event, and by all rows of the event, as by all rows.
+use Rattle.std.proofs.Common.{◌≡◌, ◌&&◌, ◌||◌, not, Bool, true, List, ◌++◌, Contains, filter, leb, nat_eq, refl, ap, subst, ◌∙◌}
 use Rattle.std.specs.List.{starts_with}
 use Rattle.misp_lists.proofs.Lists.{and_where, any_agree, any_cut}
 use Rattle.misp_lists.proofs.Elements.{all_has}
 use Rattle.misp_outside.specs.Held.{Held, rows_named}
 use Rattle.misp_elem.specs.Prelude.{key}
 use Rattle.misp_groups.specs.Audience.{label_is_known}
-use Rattle.misp_rules.proofs.Prelude.{EventId, Group, Inst, IsTable, Key, OrgId, Row, all_implies, and_from, and_parts, bytes_eq-Decides, event_key, event_of}
+use Rattle.misp_rules.proofs.Prelude.{EventId, Group, Inst, IsTable, Key, OrgId, Row, all_implies, and_from, and_parts, event_key, event_of}
 use Rattle.misp_rules.proofs.Prelude.{has_copy, has_gone, has_home, is_made_at, is_row_of, is_statement, is_tombstone, list_all, list_any, name_bytes, row_of_name, same_event, same_event-refl}
 use Rattle.misp_rules.proofs.Prelude.{same_key, same_key-sound, same_org, same_org-sound, uid}
+use Rattle.misp_rules.proofs.Spelled.{begins_with_itself}
 use Rattle.misp_history.specs.Acts.{World}
 use Rattle.misp_history.specs.History.{tables}
 use Rattle.misp_history.specs.Merging.{arrives, counts_row, has_event_row, is_newer_row, is_taken, is_welcome_row}
@@ -21,14 +22,15 @@ use Rattle.misp_core.proofs.Alike.{named_rows_kept, rows_of_name, table_within}
 use Rattle.misp_sync.specs.History.{seen_of}
 use Rattle.misp_sync.proofs.Events.{Tells}
 
--- a row of the owner of a key of the event is among those that are so named
-begins_with_itself : (bytes rest : List ℕ) → starts_with nat_eq (bytes ++ rest) bytes ≡ true
-begins_with_itself bytes rest = ap (bytes_eq bytes) (take_at bytes rest (length bytes) refl) ∙ (bytes_eq-Decides bytes bytes).1 refl
+-- a row of the owner of a key of the event is of the event
+pub event_so : (w : OrgId) (e : EventId) (k : Key) (r : Row) → event_of k ≡ e → is_row_of w k r ≡ true → same_event (event_of r.key) e ≡ true
+event_so w e k r of h = ap (λ j. same_event (event_of j) e) (row_of_name w k r h).1 ∙ ap (λ f. same_event f e) of ∙ same_event-refl e
 
+-- and is among those that are so named
 named_so : (w : OrgId) (e : EventId) (k : Key) (r : Row) → event_of k ≡ e → is_row_of w k r ≡ true → (same_event (event_of r.key) e && starts_with nat_eq (name_bytes r) (uid w.0)) ≡ true
 unfolding name_bytes
 named_so w e k r of h =
-    and_from _ _ (ap (λ j. same_event (event_of j) e) (row_of_name w k r h).1 ∙ ap (λ f. same_event f e) of ∙ same_event-refl e)
+    and_from _ _ (event_so w e k r of h)
     (ap (λ o. starts_with nat_eq (uid o.0 ++ key r.key) (uid w.0)) (row_of_name w k r h).0 ∙ begins_with_itself (uid w.0) (key r.key))
 
 module _ (i : Inst) (w : OrgId) (groups : List Group) (rows coming : List Row) (table : IsTable coming) (owned : list_all (arrives w) coming ≡ true) where
@@ -36,13 +38,14 @@ module _ (i : Inst) (w : OrgId) (groups : List Group) (rows coming : List Row) (
   unfolding arrives
   all_ours = all_implies (arrives w) (λ row. same_org row.owner w) (λ row h. (and_parts _ _ h).0) coming owned
 
-  module _ (e : EventId) where
+  -- of the rows a part that has all rows of the owner of keys of the event
+  module _ (e : EventId) (in_part : Row → Bool) (has : (k : Key) (r : Row) → event_of k ≡ e → is_row_of w k r ≡ true → in_part r ≡ true) where
     abbrev own : List Row
-    own = table_within (Reach.Own w e) rows
+    own = filter in_part rows
 
     -- what a test finds at a key of the event
     any_here : (o : OrgId) (k : Key) (test : Row → Bool) → o ≡ w → event_of k ≡ e → list_any (λ r. is_row_of o k r && test r) own ≡ list_any (λ r. is_row_of o k r && test r) rows
-    any_here o k test same of = any_cut _ _ (λ r h. named_so w e k r of (subst (λ v. is_row_of v k r ≡ true) same (and_parts _ _ h).0)) rows
+    any_here o k test same of = any_cut _ _ (λ r h. has k r of (subst (λ v. is_row_of v k r ≡ true) same (and_parts _ _ h).0)) rows
 
     own_key : (x : Row) → event_of x.key ≡ e → event_of (event_key (event_of x.key)) ≡ e
     own_key x of = event_of_own (event_of x.key) ∙ of
@@ -59,7 +62,7 @@ module _ (i : Inst) (w : OrgId) (groups : List Group) (rows coming : List Row) (
         any_agree _ _ (λ r. same_org r.owner w)
         (λ r h. and_where (same_key r.key k) _ _ (λ g. welcome_here r (same_org-sound r.owner w h) (ap event_of (same_key-sound r.key k g) ∙ of))) coming all_ours
 
-    taken_here : (x : Row) → Contains coming x → event_of x.key ≡ e → is_taken i own groups coming x ≡ is_taken i rows groups coming x
+    pub taken_here : (x : Row) → Contains coming x → event_of x.key ≡ e → is_taken i own groups coming x ≡ is_taken i rows groups coming x
     unfolding is_taken counts_row has_event_row has_copy is_newer_row
     taken_here x m of =
         let same : x.owner ≡ w = same_org-sound x.owner w (all_has (λ row. same_org row.owner w) coming x all_ours m) in
@@ -77,7 +80,7 @@ module _ (here : Inst) (v : World) (w : OrgId) (groups : List Group) (coming : L
         ∙ ap rows_in (rows_of_name w e (tables v.log here))
         ∙ rows_again _ (named_rows_kept w e (tables v.log here) keeps.are_rows)
         );
-    same = λ x m of. taken_here here w groups (tables v.log here) coming table owned e x m of;
+    same = taken_here here w groups (tables v.log here) coming table owned e _ (named_so w e);
   }
 
   pub history_tells : (e : EventId) → Tells here w groups (tables v.log here) coming table owned (seen_of v here) e

@@ -30,7 +30,7 @@ use Rattle.misp_sync.proofs.Takings.{takes_put, takes_stop}
 -- ---- rows of a package, as they are handed in
 
 module _ (w : OrgId) (owner : IsUid w.0) (e : EventId) where
-  packed_parts : (row : Row) → is_packed e row ≡ true → (same_event (event_of row.key) e ≡ true) × (row.carried ≡ true)
+  pub packed_parts : (row : Row) → is_packed e row ≡ true → (same_event (event_of row.key) e ≡ true) × (row.carried ≡ true)
   unfolding same_event
   packed_parts row h =
       let one = and_parts (eqb (event_of row.key).0.0 e.0.0 && eqb row.owner.0.0 0 && row.carried) (not row.held) h in
@@ -44,14 +44,14 @@ module _ (w : OrgId) (owner : IsUid w.0) (e : EventId) where
       let both = and_parts (is_packed e row) (list_all (is_packed e) rows) packed in
       (handed_is_row w row row.content owner are.0 (packed_parts row both.0).1 refl, handed_rows_are rows both.1 are.1)
 
-  handed_of_event : (rows : List Row) → list_all (is_packed e) rows ≡ true → list_all (λ row. same_event (event_of row.key) e) (map (handed w) rows) ≡ true
+  pub handed_of_event : (rows : List Row) → list_all (is_packed e) rows ≡ true → list_all (λ row. same_event (event_of row.key) e) (map (handed w) rows) ≡ true
   unfolding handed
   handed_of_event [] packed = refl
   handed_of_event (row ∷ rows) packed =
       let both = and_parts (is_packed e row) (list_all (is_packed e) rows) packed in
       and_from _ _ (packed_parts row both.0).0 (handed_of_event rows both.1)
 
-all_filtered : (p q : Row → Bool) (rows : List Row) → list_all p rows ≡ true → list_all p (filter q rows) ≡ true
+pub all_filtered : (p q : Row → Bool) (rows : List Row) → list_all p rows ≡ true → list_all p (filter q rows) ≡ true
 all_filtered p q [] are = refl
 all_filtered p q (row ∷ rows) are =
     let both = and_parts (p row) (list_all p rows) are in
@@ -74,7 +74,7 @@ rows_more t e n = cond (n == 0) t (with_rows (with_groups t 0) e n)
 not_zero : (n : ℕ) → (suc n == 0) ≡ false
 not_zero n = grind (arith, nat_tests)
 
-counted_rows : (t : Tally) (e : EventId) (rows : List Row) → list_all (λ row. same_event (event_of row.key) e) rows ≡ true → rows_more t e (length rows) ≡ tally t (row_batches rows)
+pub counted_rows : (t : Tally) (e : EventId) (rows : List Row) → list_all (λ row. same_event (event_of row.key) e) rows ≡ true → rows_more t e (length rows) ≡ tally t (row_batches rows)
 unfolding tally
 counted_rows t e [] are = refl
 counted_rows t e (row ∷ rows) are =

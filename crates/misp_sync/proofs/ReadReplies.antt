@@ -53,4 +53,5 @@ read_err seen view reads bytes FetchFault.Body h = λ status body is.
 read_err seen view reads bytes FetchFault.Groups h = absurd h
 read_err seen view reads bytes FetchFault.Events h = absurd h
 read_err seen view reads bytes FetchFault.Package h = absurd h
+read_err seen view reads bytes FetchFault.Taken h = absurd h
 read_err seen view reads bytes (FetchFault.Refused s rule) h = λ status body is. refused_as reads bytes (FetchFault.Refused s rule) status body h is

@@ -1,4 +1,4 @@
--- The route of a pull, its batches, and the state after the act.
+-- The route of a pull, its batches, and the state after a synchronisation.
 use Rattle.std.proofs.Common.{◌≡◌, ◌⊎◌, ℕ, zero, suc, Bool, true, false, List, [], Option, Some, None, refl, ap, if◌then◌else◌, inl, inr, take}
 use Rattle.misp_ids.specs.declared.label.Way.{Way}
 use Rattle.misp_orgs.specs.Admin.{who_of}
@@ -12,7 +12,7 @@ use Rattle.misp_history.specs.History.{tables}
 use Rattle.misp_history.specs.Outcomes.{step_partly, synced_partly}
 use Rattle.misp_history.specs.Passing.{Route}
 use Rattle.misp_core.specs.Prelude.{Ask, Caller, Effect, Host, Refusal, RuleName, Seen, bare, forbidden, is_permitted}
-use Rattle.misp_sync.specs.History.{applied, pull_act, route_by, route_for, route_over}
+use Rattle.misp_sync.specs.History.{applied, route_by, route_for, route_over, sync_act}
 use Rattle.misp_sync.specs.Pulled.{ends, pulled_by, all_pulled, events_sent, groups_sent, pulled_over, telling}
 use Rattle.misp_sync.specs.Telling.{peer_refused}
 use Rattle.misp_sync.specs.declared.reply.SyncReply.{SyncReply}
@@ -29,11 +29,11 @@ IsBetween here peer (Some r) = (r.into ≡ here) × (r.from ≡ peer)
 abbrev pub Comes : World → List Batch → Option Route → Type 0
 Comes w bs o = (bs ≡ batches_by w o) ⊎ ((bs ≡ []) × (o ≡ None))
 
-comes_if : (w : World) (b : Bool) (x y : Effect (Option Refusal)) (o : Option Route) → Comes w x.batches o → y.batches ≡ [] → Comes w (if b then x else y).batches (if b then o else None)
+pub comes_if : (w : World) (b : Bool) (x y : Effect (Option Refusal)) (o : Option Route) → Comes w x.batches o → y.batches ≡ [] → Comes w (if b then x else y).batches (if b then o else None)
 comes_if w true x y o c e = c
 comes_if w false x y o c e = inr (e, refl)
 
-between_if : (here peer : Inst) (b : Bool) (o : Option Route) → IsBetween here peer o → IsBetween here peer (if b then o else None)
+pub between_if : (here peer : Inst) (b : Bool) (o : Option Route) → IsBetween here peer o → IsBetween here peer (if b then o else None)
 between_if here peer true o h = h
 between_if here peer false o h = tt
 
@@ -73,12 +73,12 @@ world_by n w Went o = elim o as (λ x. World) [ None ↦ w | Some r ↦ synced n
 world_by n w (Stopped stop zero lost) o = elim o as (λ x. World) [ None ↦ w | Some r ↦ synced_partly n w r false 0 ]
 world_by n w (Stopped stop (suc p) lost) o = elim o as (λ x. World) [ None ↦ w | Some r ↦ synced_partly n w r true p ]
 
-pub world_is : (net : Net) (n now : ℕ) (w : World) (here link : Inst) (outcome : Outcome) (o : Option Route) → net Way.Pull here link w.groups ≡ o
-    → step_partly net n w (pull_act here now link) (applied outcome) ≡ world_by n w outcome o
+pub world_is : (net : Net) (n now : ℕ) (w : World) (way : Way) (here link : Inst) (outcome : Outcome) (o : Option Route) → net way here link w.groups ≡ o
+    → step_partly net n w (sync_act way here now link) (applied outcome) ≡ world_by n w outcome o
 unfolding step_partly step
-world_is net n now w here link Went o e = ap (λ (o : Option Route). elim o as (λ x. World) [ None ↦ w | Some r ↦ synced n w r ]) e
-world_is net n now w here link (Stopped stop zero lost) o e = ap (λ (o : Option Route). elim o as (λ x. World) [ None ↦ w | Some r ↦ synced_partly n w r false 0 ]) e
-world_is net n now w here link (Stopped stop (suc p) lost) o e = ap (λ (o : Option Route). elim o as (λ x. World) [ None ↦ w | Some r ↦ synced_partly n w r true p ]) e
+world_is net n now w way here link Went o e = ap (λ (o : Option Route). elim o as (λ x. World) [ None ↦ w | Some r ↦ synced n w r ]) e
+world_is net n now w way here link (Stopped stop zero lost) o e = ap (λ (o : Option Route). elim o as (λ x. World) [ None ↦ w | Some r ↦ synced_partly n w r false 0 ]) e
+world_is net n now w way here link (Stopped stop (suc p) lost) o e = ap (λ (o : Option Route). elim o as (λ x. World) [ None ↦ w | Some r ↦ synced_partly n w r true p ]) e
 
 -- the batches that were put
 abbrev pub put_under : Outcome → List Batch → List Batch

@@ -50,7 +50,7 @@ groups_ascend groups [] up = up
 groups_ascend groups (g ∷ gs) up = groups_ascend (put_group g groups) gs (sorted_put g groups up)
 
 module _ (back : AreReadBack) where
-  groups_put : (gs : List Group) → AllByRecursion IsGroup gs → (rows : List AdminRow) (groups : List Group) → groups_in rows ≡ Ok groups
+  pub groups_put : (gs : List Group) → AllByRecursion IsGroup gs → (rows : List AdminRow) (groups : List Group) → groups_in rows ≡ Ok groups
       → groups_in (put_admins (map group_row gs) rows) ≡ Ok (put_groups groups gs)
   unfolding put_admins put_groups
   groups_put [] are rows groups e = e

@@ -14,22 +14,22 @@ use Rattle.misp_sync.specs.declared.count.Tally.{Tally}
 
 -- ---- lists of batches
 
-put_more : (xs ys : List Batch) (held : Held) → put_batches (map spelled (xs ++ ys)) held ≡ put_batches (map spelled ys) (put_batches (map spelled xs) held)
+pub put_more : (xs ys : List Batch) (held : Held) → put_batches (map spelled (xs ++ ys)) held ≡ put_batches (map spelled ys) (put_batches (map spelled xs) held)
 put_more [] ys held = refl
 put_more (x ∷ xs) ys held = put_more xs ys _
 
-tally_more : (xs ys : List Batch) (t : Tally) → tally t (xs ++ ys) ≡ tally (tally t xs) ys
+pub tally_more : (xs ys : List Batch) (t : Tally) → tally t (xs ++ ys) ≡ tally (tally t xs) ys
 unfolding tally
 tally_more [] ys t = refl
 tally_more (x ∷ xs) ys t = tally_more xs ys (counted t x)
 
-fits_more : (xs ys : List Batch) → AreReadable xs → AreReadable ys → AreReadable (xs ++ ys)
+pub fits_more : (xs ys : List Batch) → AreReadable xs → AreReadable ys → AreReadable (xs ++ ys)
 fits_more [] ys h k = k
 fits_more (x ∷ xs) ys h k = (h.0, fits_more xs ys h.1 k)
 
 -- ---- ends
 
-ends_then : (e mid rest : Effect (Option Refusal)) (xs ys : List Batch) (cause : Option Refusal) → e ≡ behind_all xs mid → Ends mid rest ys cause → Ends e rest (xs ++ ys) cause
+pub ends_then : (e mid rest : Effect (Option Refusal)) (xs ys : List Batch) (cause : Option Refusal) → e ≡ behind_all xs mid → Ends mid rest ys cause → Ends e rest (xs ++ ys) cause
 ends_then e mid rest xs ys None is end =
     is ∙ ap (behind_all xs) end ∙ (λ i. record { reply = rest.reply; batches = sym (append_assoc xs ys rest.batches) i })
 ends_then e mid rest xs ys (Some refusal) is (inl end) = inl (record { all = is ∙ ap (behind_all xs) end.all; no_stop = end.no_stop })

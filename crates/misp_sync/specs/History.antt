@@ -1,16 +1,21 @@
--- A pull in a network: its act of the history, and what of it was applied.
-use Rattle.std.specs.Prelude.{ℕ, zero, suc, false, true, Option, None, Some, Ok, if◌then◌else◌}
+-- A pull and a push in a network: their acts of the history, and what of these was applied.
+use Rattle.std.specs.Prelude.{ℕ, zero, suc, false, true, List, filter, Option, None, Some, Ok, if◌then◌else◌}
 use Rattle.misp_ids.specs.declared.label.Way.{Way}
 use Rattle.misp_orgs.specs.Admin.{link_of, who_of}
+use Rattle.misp_orgs.specs.Roles.{permits}
 use Rattle.misp_orgs.specs.declared.link.Link.{Link}
+use Rattle.misp_orgs.specs.declared.role.Perm.{Perm}
 use Rattle.misp_effects.specs.Effect.{Outcome, Stopped, Went}
+use Rattle.misp_format.specs.WholeGroup.{groups_text}
 use Rattle.misp_history.specs.Outcomes.{Whole}
 use Rattle.misp_history.specs.Passing.{Route}
-use Rattle.misp_core.specs.Prelude.{Ask, Caller, Host, Inst, OrgId, Seen, World, is_permitted, tables}
+use Rattle.misp_core.specs.Prelude.{Ask, Caller, Group, Host, Inst, OrgId, Seen, World, is_permitted, tables}
+use Rattle.misp_core.specs.Pulling.{carries_to}
+use Rattle.misp_sync.specs.Handing.{is_short}
 use Rattle.misp_history.specs.Acts as model
 use Rattle.misp_history.specs.Outcomes as parts
 
--- ---- routes
+-- ---- routes of pulls
 
 -- of a pull from the peer, for an organisation, by a key for this instance, to this holder here
 abbrev pub pull_route : Inst → OrgId → Host → OrgId → Inst → Route
@@ -44,11 +49,54 @@ route_over here (Some link) peer =
 abbrev pub route_of : Host → Inst → Host → Option Route
 route_of here link peer = route_over here.name (link_of here.admin.links link) peer
 
+-- ---- routes of pushes
+
+-- of a push over a link to the peer, where this organisation holds what comes
+abbrev pub push_route_to : Inst → Link → Host → OrgId → Route
+push_route_to here link peer holder =
+    record {
+      way = Way.Push;
+      from = here;
+      «for» = link.push_org;
+      dest = link.peer;
+      into = peer.name;
+      holder = holder;
+    }
+
+-- a key with which nobody may hand in there has none
+abbrev pub push_route_by : Inst → Link → Host → Option Caller → Option Route
+push_route_by here link peer None = None
+push_route_by here link peer (Some caller) =
+    if permits caller.role Perm.Sync then Some (push_route_to here link peer caller.org) else None
+
+-- where the text of those of these groups that carry is too long there is none
+abbrev pub push_route_with : Inst → Link → Host → List Group → Option Route
+push_route_with here link peer groups =
+    if is_short (groups_text (filter (carries_to link.push_org link.peer) groups)) then
+    push_route_by here link peer (who_of peer.admin link.key) else None
+
+-- a link that is not there or is off has none
+abbrev pub push_route_over : Inst → Option Link → Host → List Group → Option Route
+push_route_over here None peer groups = None
+push_route_over here (Some link) peer groups =
+    if link.on then push_route_with here link peer groups else None
+
+-- these being the groups of the instance
+abbrev pub push_route_of : Host → Inst → Host → List Group → Option Route
+push_route_of here link peer groups =
+    push_route_over here.name (link_of here.admin.links link) peer groups
+
 -- ---- acts
 
+-- a synchronisation on this way
+abbrev pub sync_act : Way → Inst → ℕ → Inst → model.Act
+sync_act way here now link = record { at = here; now = now; command = model.Syncs way link }
+
 abbrev pub pull_act : Inst → ℕ → Inst → model.Act
-pull_act here now link =
-    record { at = here; now = now; command = model.Syncs Way.Pull link }
+pull_act = sync_act Way.Pull
+
+abbrev pub push_act : Inst → ℕ → Inst → model.Act
+push_act = sync_act Way.Push
 
 -- what was applied of an act: the first batch of a synchronisation has its groups, and each
 -- further one is a package

@@ -1,6 +1,10 @@
 pub mod Counts
+pub mod Handing
 pub mod History
 pub mod Pulled
+pub mod PushSteps
+pub mod PushTrail
+pub mod Pushed
 pub mod Query
 pub mod Replied
 pub mod Serving

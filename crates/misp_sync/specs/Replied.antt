@@ -39,6 +39,7 @@ refusal_of FetchFault.Body = garbled (codes "body")
 refusal_of FetchFault.Groups = garbled (codes "groups")
 refusal_of FetchFault.Events = garbled (codes "events")
 refusal_of FetchFault.Package = garbled (codes "package")
+refusal_of FetchFault.Taken = garbled (codes "taken")
 refusal_of (FetchFault.Refused status rule) = peer_words status rule
 
 -- it is this one, unless memory ran out for it
@@ -58,6 +59,7 @@ Fails FetchFault.Body read = read ≡ Err FetchFault.Body
 Fails FetchFault.Groups read = read ≡ Err FetchFault.Groups
 Fails FetchFault.Events read = read ≡ Err FetchFault.Events
 Fails FetchFault.Package read = read ≡ Err FetchFault.Package
+Fails FetchFault.Taken read = read ≡ Err FetchFault.Taken
 Fails (FetchFault.Refused status rule) read = read ≡ Err (FetchFault.Refused status rule)
 
 -- the fault is this one, unless memory ran out
@@ -117,6 +119,7 @@ ReadsBody view bytes (Err FetchFault.Link) = ⊥
 ReadsBody view bytes (Err FetchFault.Groups) = ⊥
 ReadsBody view bytes (Err FetchFault.Events) = ⊥
 ReadsBody view bytes (Err FetchFault.Package) = ⊥
+ReadsBody view bytes (Err FetchFault.Taken) = ⊥
 
 -- what is read so of a reply
 abbrev pub told_by : {A : Type 0} → (List ℕ → Result A FetchFault) → ℕ → List ℕ
@@ -225,6 +228,22 @@ wanted event part (Err left) = Err FetchFault.Package
 -- PACKAGE: what a body spells
 unfoldable pub package_in : EventId → ℕ → List ℕ → Result Package FetchFault
 package_in event part body = wanted event part (package_of_bytes body)
+
+-- ---- what was taken
+
+-- a number of no more than so many
+abbrev pub at_most : ℕ → ℕ → Option ℕ
+at_most most n = if nat_le n most then Some n else None
+
+-- the member that is the number of those that were taken
+unfoldable pub taken_at : ℕ → Data → Option ℕ
+taken_at most d =
+    option_and_then (λ v. option_and_then (at_most most) (result_ok (number_of v)))
+    (member_of (codes "taken") d)
+
+-- TAKEN: how many a body tells, of at most so many
+unfoldable pub taken_in : ℕ → List ℕ → Result ℕ FetchFault
+taken_in most body = or_fault FetchFault.Taken (in_json (taken_at most) (json_in body))
 
 -- ---- replies
 

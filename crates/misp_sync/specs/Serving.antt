@@ -1,11 +1,10 @@
 -- What a peer answers that a pull asks.
 use Rattle.std.specs.Prelude.{◌≡◌, ◌≤◌, ℕ, true, List, Option, Some, None, IfSome}
-use Rattle.std.specs.Str.{is_utf8}
 use Rattle.misp_outside.specs.Causes.{HasCause}
 use Rattle.misp_orgs.specs.Admin.{who_of}
 use Rattle.misp_core.specs.Effects.{by_keeper}
 use Rattle.misp_core.specs.Prelude.{Caller, Did, Effect, Host, RuleName, Seen, Standing, bare, host_of, refused, requested, seen_in, stop_in}
-use Rattle.misp_core.specs.Sound.{IsSound}
+use Rattle.misp_core.specs.Sound.{IsSound, IsWorded}
 use Rattle.misp_core.specs.declared.reply.Reply.{Reply}
 use Rattle.misp_core.specs.Text.{http_text}
 use Rattle.misp_sync.specs.Query.{ask_of}
@@ -26,11 +25,6 @@ pub record IsStill (old new : Standing) : Type 0 where
   pub admin : new.admin ≡ old.admin
   pub held : new.held ≡ old.held
   pub later : old.faults ≤ new.faults
-
--- what a refusal says of the place is text
-abbrev pub IsWorded : Reply → Type 0
-IsWorded (Reply.Ok answer) = Unit {0}
-IsWorded (Reply.Refused refusal) = is_utf8 refusal.place ≡ true
 
 -- It was replied so to a query, at some moment. Where the keeper tells, the reply is the stated
 -- function of what is held.

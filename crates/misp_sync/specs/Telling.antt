@@ -1,5 +1,5 @@
 -- What a reply tells the puller, and what stops a synchronisation.
-use Rattle.std.specs.Prelude.{◌≡◌, ◌⊎◌, ◌==◌, ◌&&◌, ℕ, List, ◌∷◌, ◌++◌, codes, decimal, bytes_eq, map, Option, Some, None, Result, Ok, Err, if◌then◌else◌}
+use Rattle.std.specs.Prelude.{◌≡◌, ◌⊎◌, ◌==◌, ◌&&◌, ℕ, List, ◌∷◌, ◌++◌, codes, decimal, bytes_eq, nat_le, map, Option, Some, None, Result, Ok, Err, if◌then◌else◌}
 use Rattle.misp_ids.specs.Refusal.{rule_number, rule_status}
 use Rattle.misp_effects.specs.declared.stop.Side.TheVariants.{Here, There}
 use Rattle.misp_effects.specs.declared.stop.Stop.{Stop}
@@ -50,6 +50,13 @@ abbrev pub part_told : EventId → ℕ → Reply → Result Package Refusal
 part_told event part (Reply.Ok (Answer.Part p)) = asked_for event part p
 part_told event part (Reply.Ok answer) = Err (garbled (codes "package"))
 part_told event part (Reply.Refused refusal) = Err (peer_refused refusal)
+
+-- how many were taken, of at most so many
+abbrev pub taken_told : ℕ → Reply → Result ℕ Refusal
+taken_told most (Reply.Ok (Answer.Taken n)) =
+    if nat_le n most then Ok n else Err (garbled (codes "taken"))
+taken_told most (Reply.Ok answer) = Err (garbled (codes "taken"))
+taken_told most (Reply.Refused refusal) = Err (peer_refused refusal)
 
 -- ---- stops
 

@@ -13,8 +13,9 @@ ghost use Rattle.misp_store.specs.Batches.{spelled};
 ghost use Rattle.misp_store.specs.Seen.{seen_in};
 ghost use Rattle.misp_core.specs.Keeping.{Keeps};
 ghost use Rattle.misp_core.specs.Standing.{Host};
-ghost use Rattle.misp_sync.specs.History.{applied, pull_act, route_of, seen_of};
+ghost use Rattle.misp_sync.specs.History.{applied, pull_act, push_act, push_route_of, route_of, seen_of};
 ghost use Rattle.misp_sync.specs.Pulled.{pulled, telling};
+ghost use Rattle.misp_sync.specs.Pushed.{push_telling, pushed};
 
 use misp_format::a_group_is_read_from_its_text;
 
@@ -44,6 +45,39 @@ pub fn an_instance_pulls_by_the_history()
         (outcome : Outcome) → net ways.Pull here.name link w.groups ≡ route_of here link peer →
         same_inst here.name j ≡ false →
         (step_partly net n w (pull_act here.name now link) (applied outcome)).groups j
+        ≡ w.groups j }
+{
+    a_group_is_read_from_its_text();
+}
+
+/// Where the keepers of two instances hold their tables and groups, a push of the one to the other
+/// comes to what the history says. Whatever stopped it, the keeper of the other holds afterwards what
+/// it is to hold after the act. No tables and no groups elsewhere change.
+pub fn an_instance_pushes_by_the_history()
+    ensures told { (w : World) (here peer : Host) (link : Inst) (own there : Held) →
+        Keeps here.name w own → Keeps peer.name w there →
+        pushed here link peer (seen_in own) (seen_in there)
+        ≡ pushed here link peer (seen_of w here.name) (seen_of w peer.name) }
+    ensures left { (net : Net) (n now : ℕ) (w : World) (here peer : Host) (link : Inst)
+        (own there : Held) (outcome : Outcome) →
+        Keeps here.name w own → Keeps peer.name w there →
+        net ways.Push here.name link w.groups ≡ push_route_of here link peer (w.groups here.name) →
+        AreReadable (under push_telling outcome
+        (pushed here link peer (seen_in own) (seen_in there))).batches →
+        Keeps peer.name (step_partly net n w (push_act here.name now link) (applied outcome))
+        (left spelled (under push_telling outcome
+        (pushed here link peer (seen_in own) (seen_in there))) there) }
+    ensures elsewhere { (net : Net) (n now : ℕ) (w : World) (here peer : Host) (link j : Inst)
+        (outcome : Outcome) →
+        net ways.Push here.name link w.groups ≡ push_route_of here link peer (w.groups here.name) →
+        same_inst peer.name j ≡ false →
+        tables (step_partly net n w (push_act here.name now link) (applied outcome)).log j
+        ≡ tables w.log j }
+    ensures groups { (net : Net) (n now : ℕ) (w : World) (here peer : Host) (link j : Inst)
+        (outcome : Outcome) →
+        net ways.Push here.name link w.groups ≡ push_route_of here link peer (w.groups here.name) →
+        same_inst peer.name j ≡ false →
+        (step_partly net n w (push_act here.name now link) (applied outcome)).groups j
         ≡ w.groups j }
 {
     a_group_is_read_from_its_text();

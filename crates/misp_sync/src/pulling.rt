@@ -20,14 +20,13 @@ ghost use Rattle.misp_package.specs.Landing.{IsLanding};
 ghost use Rattle.misp_store.specs.Batches.{spelled};
 ghost use Rattle.misp_store.specs.Seen.{seen_in};
 ghost use Rattle.misp_store.specs.Sharing.{groups_of};
-ghost use Rattle.misp_store.specs.declared.fault.LoadFault.TheVariants as faults;
 ghost use Rattle.misp_store.specs.declared.reach.Reach.TheVariants as reach;
 ghost use Rattle.misp_core.specs.Sound.{by_event};
 ghost use Rattle.misp_core.specs.Standing.{Standing, host_of};
 ghost use Rattle.misp_sync.specs.Counts.{no_count};
 ghost use Rattle.misp_sync.specs.Pulled.{bar_of, ends, event_taken, events_sent, events_taken, pulled, pulled_by, reply_of, rows_pulled, stop_in, telling};
 ghost use Rattle.misp_sync.specs.Serving.{IsStill, Meet};
-ghost use Rattle.misp_sync.specs.Steps.{AreSent, AreTaken, IsPartTaken, IsStep, IsUnread, Sends, Takes, Tell, cause_of, listed_of, parts_coming, stand, stop_of_keeper, usable_link};
+ghost use Rattle.misp_sync.specs.Steps.{AreSent, AreTaken, IsPartTaken, IsStep, Sends, Takes, Tell, cause_of, listed_of, parts_coming, stand, stop_of_keeper, usable_link};
 ghost use Rattle.misp_sync.specs.Telling.{stop_refusal};
 ghost use Rattle.misp_sync.specs.Trail.{AsksFor, GrowsBy, IsPullTrail, IsRowsTrail, IsTrailOver, part_queries, parts_from, told_of};
 ghost use Rattle.misp_sync.specs.declared.query.Query.TheVariants as queries;
@@ -37,9 +36,10 @@ ghost use Rattle.misp_sync.specs.declared.reply.SyncReply.TheVariants as replies
 use crate::count::{SyncCount, Tally};
 use crate::fetching::{fetch_events, fetch_groups, fetch_part};
 use crate::reply::SyncReply;
+use crate::unread::unread;
 use crate::wire::Wire;
-use misp_core::{EventParts, Instance, LoadFault};
-use misp_ids::{ApiKey, EventId, InstId, OrgId, Refusal, RuleName, Text};
+use misp_core::{EventParts, Instance};
+use misp_ids::{ApiKey, EventId, InstId, OrgId, Refusal, RuleName};
 use misp_orgs::Link;
 use misp_outside::{Keeper, KeeperFault};
 use misp_package::Landing;
@@ -138,30 +138,6 @@ fn take_parts<K: Keeper, W: Wire>(
         }
     }
     Ok(())
-}
-
-// The refusal that names a row which does not decode, or that of memory.
-fn bad_row(alloc: Global, name: &[u8]) -> Refusal
-    ensures { IsUnread (faults.BadRow name.now) result }
-{
-    match hex::encode(alloc, name) {
-        Ok(place) => Refusal {
-            name: RuleName::BadRow,
-            place: Text::of(place),
-        },
-        Err(_) => Refusal::bare(alloc, RuleName::NoMemory),
-    }
-}
-
-// The refusal of rows that were not read here.
-fn unread(alloc: Global, fault: LoadFault) -> Refusal
-    ensures { IsUnread fault result }
-{
-    match fault {
-        LoadFault::KeeperFault => Refusal::bare(alloc, RuleName::KeeperFault),
-        LoadFault::BadRow { name } => bad_row(alloc, name.as_slice()),
-        LoadFault::NoMemory => Refusal::bare(alloc, RuleName::NoMemory),
-    }
 }
 
 // Takes the packages of an event for the holder, over the holder's own rows of it.

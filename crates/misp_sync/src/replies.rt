@@ -29,6 +29,8 @@ pub(crate) enum FetchFault {
     Events,
     /// The body is not the package that was asked for.
     Package,
+    /// The body does not tell how many were taken.
+    Taken,
     /// The peer refused with this status, by the rule of this number.
     Refused { status: u16, rule: u64 },
 }
@@ -100,6 +102,7 @@ impl FetchFault {
             FetchFault::Groups => garbled(alloc, "groups"),
             FetchFault::Events => garbled(alloc, "events"),
             FetchFault::Package => garbled(alloc, "package"),
+            FetchFault::Taken => garbled(alloc, "taken"),
             FetchFault::Refused { status, rule } => refused(alloc, status, rule),
         }
     }

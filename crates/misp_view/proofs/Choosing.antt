@@ -1,54 +1,13 @@
 -- The row that none goes before, found in one pass.
-use Rattle.std.proofs.Common.{◌≡◌, ℕ, ◌+◌, ◌<◌, ◌≤◌, length, get_or, take, Bool, true, false, refl, ap, sym, ◌∙◌, cond, List, [], ◌∷◌, ◌++◌, Option, Some, None, arith, ◌&&◌, ◌||◌, not, ltb, eqb, find, filter, take_all, append-nil}
+use Rattle.std.proofs.Common.{◌≡◌, ℕ, ◌+◌, ◌<◌, ◌≤◌, length, get_or, take, Bool, true, false, refl, ap, sym, ◌∙◌, cond, List, [], ◌∷◌, ◌++◌, Option, Some, None, arith, ◌&&◌, ◌||◌, not, find, filter, take_all, append-nil}
 use Rattle.std.specs.Option.{option_or}
 use Rattle.std.proofs.lemmas.Bool.{false≢true, and_right, and_left, and_from, not-true, not_from_false}
-use Rattle.std.proofs.lemmas.Bool.Decides.{nat_tests}
 use Rattle.std.proofs.lemmas.List.Folds.{find-append, list_any-append}
 use Rattle.std.proofs.lemmas.List.Elements.{filter_more}
 use Rattle.misp_lists.proofs.Lists.{any_weaker, find_passes, find_by}
 use Rattle.misp_rules.specs.Prelude.{Row, first_of_all, is_before, list_any}
+use Rattle.misp_rules.proofs.RowRanks.{before_not, before_on, before_past}
 use Rattle.misp_view.specs.View.{IsBestOf, better}
-
--- the order of event rows
-ranks_on : (s t u : ℕ) (a b c : Bool) (x y z : ℕ) →
-    (ltb t s || eqb t s && (b && not a || cond b a (not a) && ltb x y)) ≡ true → (ltb u t || eqb u t && (c && not b || cond c b (not b) && ltb y z)) ≡ true →
-    (ltb u s || eqb u s && (c && not a || cond c a (not a) && ltb x z)) ≡ true
-ranks_on s t u true true true x y z h k = grind (arith, nat_tests)
-ranks_on s t u true true false x y z h k = grind (arith, nat_tests)
-ranks_on s t u true false true x y z h k = grind (arith, nat_tests)
-ranks_on s t u true false false x y z h k = grind (arith, nat_tests)
-ranks_on s t u false true true x y z h k = grind (arith, nat_tests)
-ranks_on s t u false true false x y z h k = grind (arith, nat_tests)
-ranks_on s t u false false true x y z h k = grind (arith, nat_tests)
-ranks_on s t u false false false x y z h k = grind (arith, nat_tests)
-
-ranks_past : (s t u : ℕ) (a b c : Bool) (x y z : ℕ) →
-    (ltb u s || eqb u s && (c && not a || cond c a (not a) && ltb x z)) ≡ true → (ltb u t || eqb u t && (c && not b || cond c b (not b) && ltb y z)) ≡ false →
-    (ltb t s || eqb t s && (b && not a || cond b a (not a) && ltb x y)) ≡ true
-ranks_past s t u true true true x y z h k = grind (arith, nat_tests)
-ranks_past s t u true true false x y z h k = grind (arith, nat_tests)
-ranks_past s t u true false true x y z h k = grind (arith, nat_tests)
-ranks_past s t u true false false x y z h k = grind (arith, nat_tests)
-ranks_past s t u false true true x y z h k = grind (arith, nat_tests)
-ranks_past s t u false true false x y z h k = grind (arith, nat_tests)
-ranks_past s t u false false true x y z h k = grind (arith, nat_tests)
-ranks_past s t u false false false x y z h k = grind (arith, nat_tests)
-
-ranks_not : (s : ℕ) (a : Bool) (x : ℕ) → (ltb s s || eqb s s && (a && not a || cond a a (not a) && ltb x x)) ≡ false
-ranks_not s true x = grind (arith, nat_tests)
-ranks_not s false x = grind (arith, nat_tests)
-
-before_on : (a b c : Row) → is_before a b ≡ true → is_before b c ≡ true → is_before a c ≡ true
-unfolding is_before
-before_on a b c h k = ranks_on a.stamp b.stamp c.stamp a.carried b.carried c.carried a.owner.0.0 b.owner.0.0 c.owner.0.0 h k
-
-before_past : (a b c : Row) → is_before a c ≡ true → is_before b c ≡ false → is_before a b ≡ true
-unfolding is_before
-before_past a b c h k = ranks_past a.stamp b.stamp c.stamp a.carried b.carried c.carried a.owner.0.0 b.owner.0.0 c.owner.0.0 h k
-
-before_not : (a : Row) → is_before a a ≡ false
-unfolding is_before
-before_not a = ranks_not a.stamp a.carried a.owner.0.0
 
 module _ {X : Type 0} where
   -- nothing is found where every element fails by another test

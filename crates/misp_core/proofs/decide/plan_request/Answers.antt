@@ -22,3 +22,6 @@ returns-in-Sight-clause-no_fault c = asks_none c.plan_sighting.result _ c.plan_s
 
 pub returns-in-SyncGroups-clause-no_fault : goal.returns-in-SyncGroups-clause-no_fault
 returns-in-SyncGroups-clause-no_fault c = asks_none c.plan_pulled_groups.result _ (c.plan_pulled_groups.ensures.plan [])
+
+pub returns-in-TakePart-clause-no_fault : goal.returns-in-TakePart-clause-no_fault
+returns-in-TakePart-clause-no_fault c = asks_none c.plan_package.result _ c.plan_package.ensures

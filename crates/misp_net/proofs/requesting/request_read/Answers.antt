@@ -1,5 +1,5 @@
 use Rattle.std.proofs.Common.{◌∙◌}
-use Rattle.misp_net.proofs.LineBytes.{never_fails, read_of}
+use Rattle.misp_api.proofs.Exchanges.{never_fails, read_of}
 use Rattle.misp_net.proofs.requesting.request_read.Goals as goal
 
 pub returns-clause-read : goal.returns-clause-read

@@ -1,0 +1,11 @@
+-- The laws are lemmas of proofs/PushKeeping.antt.
+use Rattle.misp_sync.proofs.PushKeeping.{push_groups, push_left, push_tables, push_told}
+use Rattle.misp_sync.proofs.laws.an_instance_pushes_by_the_history.Goals as goal
+
+pub returns : goal.returns
+returns c = record {
+  told = push_told;
+  left = push_left c.a_group_is_read_from_its_text.ensures;
+  elsewhere = push_tables;
+  groups = push_groups;
+}
