@@ -13,9 +13,11 @@ use Rattle.misp_format.specs.declared.reading.parts.PartForm.{PartForm}
 use Rattle.misp_rules.specs.Parts.{IsParts}
 use Rattle.misp_rules.specs.declared.change.Change.{Change}
 use Rattle.misp_core.specs.Answers.{IsAdded, IsBuilt}
-use Rattle.misp_core.specs.Prelude.{Ask, EventId, View}
+use Rattle.misp_core.specs.Prelude.{Ask, EventId, Group, View}
+use Rattle.misp_api.specs.GroupList.{groups_in}
+use Rattle.misp_api.specs.declared.command.Command.{Command}
 use Rattle.misp_api.specs.declared.route.Route.{Route}
-use Rattle.misp_api.specs.Request.{ask_of, formed, event_in, event_edit_in, attribute_edit_in, object_edit_in, parts_in, tag_in, untag_in, proposal_in, judgement_in, sighting_in, package_in}
+use Rattle.misp_api.specs.Request.{ask_command, command_of, formed, groups_command, event_in, event_edit_in, attribute_edit_in, object_edit_in, parts_in, tag_in, untag_in, proposal_in, judgement_in, sighting_in, package_in}
 use Rattle.misp_api.specs.Request as request
 use Rattle.misp_api.proofs.Handed.{package_built}
 
@@ -41,34 +43,36 @@ made_built : {A : Type 0} (ask : A → Ask) (at : Data → Reading A) → ((d : 
     → json_in body >>= (λ d. request.ask_from ask (at d)) ≡ Ok a → IsBuilt a
 made_built ask at each body = bind_keeps IsBuilt (json_in body) _ (λ d is. bind_keeps IsBuilt (at d) _ (λ x found. ok_keeps IsBuilt _ (each d x found)))
 
--- what holds of each ask that is built, and of each that is read where those that are read are built, holds of every
--- request
-pub ask_is : (P : request.Reading Ask → Type 0) → ((ask : Ask) → IsBuilt ask → P (Ok ask))
-    → ((read : Reading Ask) → ((ask : Ask) → read ≡ Ok ask → IsBuilt ask) → P (formed read)) → (route : Route) (body : List ℕ) (word : ℕ) → P (ask_of route body word)
-unfolding ask_of
-ask_is P said read Route.AddEvent body word = read (event_in body word) (made_built (λ b. Ask.Change (Change.AddEvent b)) (event_at word) (event_is_added word) body)
-ask_is P said read (Route.ViewEvent event owner) body word = said (View event owner) tt
-ask_is P said read (Route.EditEvent event) body word = read (event_edit_in event body) (made_built (λ edit. Ask.Change (Change.EditEvent event edit)) event_edit_at (λ d x h. tt) body)
-ask_is P said read (Route.DeleteEvent event) body word = said (Ask.Change (Change.DeleteEvent event)) tt
-ask_is P said read (Route.Publish event) body word = said (Ask.Change (Change.Publish event)) tt
-ask_is P said read (Route.AddAttributes event object) body word =
+-- what holds of each ask that is built, of each that is read where those that are read are built, and of groups that
+-- are read, holds of every request
+pub command_is : (P : request.Reading Command → Type 0) → ((ask : Ask) → IsBuilt ask → P (Ok (Command.Asks ask)))
+    → ((read : Reading Ask) → ((ask : Ask) → read ≡ Ok ask → IsBuilt ask) → P (formed (ask_command read)))
+    → ((read : Reading (List Group)) → P (formed (groups_command read))) → (route : Route) (body : List ℕ) (word : ℕ) → P (command_of route body word)
+unfolding command_of
+command_is P said read take Route.AddEvent body word = read (event_in body word) (made_built (λ b. Ask.Change (Change.AddEvent b)) (event_at word) (event_is_added word) body)
+command_is P said read take (Route.ViewEvent event owner) body word = said (View event owner) tt
+command_is P said read take (Route.EditEvent event) body word = read (event_edit_in event body) (made_built (λ edit. Ask.Change (Change.EditEvent event edit)) event_edit_at (λ d x h. tt) body)
+command_is P said read take (Route.DeleteEvent event) body word = said (Ask.Change (Change.DeleteEvent event)) tt
+command_is P said read take (Route.Publish event) body word = said (Ask.Change (Change.Publish event)) tt
+command_is P said read take (Route.AddAttributes event object) body word =
     read (parts_in event object PartForm.Attributes body word) (made_built (λ b. Ask.Change (Change.AddParts event b)) (parts_at event object PartForm.Attributes word) (λ d x h. tt) body)
-ask_is P said read (Route.EditAttribute event place) body word = read (attribute_edit_in event place body) (made_built (λ edit. Ask.Change (Change.EditAttribute event place edit)) attribute_edit_at (λ d x h. tt) body)
-ask_is P said read (Route.DeleteAttribute event place) body word = said (Ask.Change (Change.Delete event place)) tt
-ask_is P said read (Route.AddObject event) body word =
+command_is P said read take (Route.EditAttribute event place) body word = read (attribute_edit_in event place body) (made_built (λ edit. Ask.Change (Change.EditAttribute event place edit)) attribute_edit_at (λ d x h. tt) body)
+command_is P said read take (Route.DeleteAttribute event place) body word = said (Ask.Change (Change.Delete event place)) tt
+command_is P said read take (Route.AddObject event) body word =
     read (parts_in event None PartForm.Object body word) (made_built (λ b. Ask.Change (Change.AddParts event b)) (parts_at event None PartForm.Object word) (λ d x h. tt) body)
-ask_is P said read (Route.EditObject event object) body word = read (object_edit_in event object body) (made_built (λ edit. Ask.Change (Change.EditObject event object edit)) object_edit_at (λ d x h. tt) body)
-ask_is P said read (Route.DeleteObject event object) body word = said (Ask.Change (Change.Delete event (Place.Object object))) tt
-ask_is P said read (Route.AddReference event object) body word =
+command_is P said read take (Route.EditObject event object) body word = read (object_edit_in event object body) (made_built (λ edit. Ask.Change (Change.EditObject event object edit)) object_edit_at (λ d x h. tt) body)
+command_is P said read take (Route.DeleteObject event object) body word = said (Ask.Change (Change.Delete event (Place.Object object))) tt
+command_is P said read take (Route.AddReference event object) body word =
     read (parts_in event (Some object) PartForm.Reference body word) (made_built (λ b. Ask.Change (Change.AddParts event b)) (parts_at event (Some object) PartForm.Reference word) (λ d x h. tt) body)
-ask_is P said read (Route.DeleteReference event object reference) body word = said (Ask.Change (Change.DeleteReference event object reference)) tt
-ask_is P said read (Route.Tag event place) body word = read (tag_in event place body) (made_built (λ tag. Ask.Change (Change.Tag event place tag)) tag_body_at (λ d x h. tt) body)
-ask_is P said read (Route.Untag event place) body word = read (untag_in event place body) (made_built (λ tag. Ask.Change (Change.Untag event place tag.name)) tag_body_at (λ d x h. tt) body)
-ask_is P said read (Route.Propose event target) body word = read (proposal_in event target body word) (made_built Ask.Propose (proposal_at event target word) (λ d x h. tt) body)
-ask_is P said read (Route.Judge event accept) body word = read (judgement_in event accept body) (made_built (λ name. Ask.Judge event name accept) judgement_at (λ d x h. tt) body)
-ask_is P said read (Route.Sight event target) body word = read (sighting_in event target body word) (made_built (Ask.Sight event target) (sighting_at word) (λ d x h. tt) body)
-ask_is P said read Route.TakePart body word = read (package_in body) (package_built body)
-ask_is P said read Route.Groups body word = said Ask.Groups tt
-ask_is P said read Route.SyncGroups body word = said Ask.SyncGroups tt
-ask_is P said read Route.SyncEvents body word = said Ask.SyncEvents tt
-ask_is P said read (Route.SyncPart event part) body word = said (Ask.SyncPart event part) tt
+command_is P said read take (Route.DeleteReference event object reference) body word = said (Ask.Change (Change.DeleteReference event object reference)) tt
+command_is P said read take (Route.Tag event place) body word = read (tag_in event place body) (made_built (λ tag. Ask.Change (Change.Tag event place tag)) tag_body_at (λ d x h. tt) body)
+command_is P said read take (Route.Untag event place) body word = read (untag_in event place body) (made_built (λ tag. Ask.Change (Change.Untag event place tag.name)) tag_body_at (λ d x h. tt) body)
+command_is P said read take (Route.Propose event target) body word = read (proposal_in event target body word) (made_built Ask.Propose (proposal_at event target word) (λ d x h. tt) body)
+command_is P said read take (Route.Judge event accept) body word = read (judgement_in event accept body) (made_built (λ name. Ask.Judge event name accept) judgement_at (λ d x h. tt) body)
+command_is P said read take (Route.Sight event target) body word = read (sighting_in event target body word) (made_built (Ask.Sight event target) (sighting_at word) (λ d x h. tt) body)
+command_is P said read take Route.TakePart body word = read (package_in body) (package_built body)
+command_is P said read take Route.TakeGroups body word = take (groups_in body)
+command_is P said read take Route.Groups body word = said Ask.Groups tt
+command_is P said read take Route.SyncGroups body word = said Ask.SyncGroups tt
+command_is P said read take Route.SyncEvents body word = said Ask.SyncEvents tt
+command_is P said read take (Route.SyncPart event part) body word = said (Ask.SyncPart event part) tt

@@ -1,5 +1,6 @@
 -- The one request that bytes are.
-use Rattle.std.proofs.Common.{◌≡◌, ◌≢◌, ◌++◌, ℕ, Bool, List, [], refl, ap, ◌∙◌, subst, arith, Option, Some, Result, Ok, Err, IfOk, IfSome, OnOk}
+use Rattle.std.proofs.Common.{◌≡◌, ◌≢◌, ◌++◌, ℕ, Bool, List, [], refl, ap, ◌∙◌, subst, arith, inl, inr, Option, Some, None, Result, Ok, Err, IfOk, IfSome, OnOk, OnErr}
+use Rattle.std.proofs.lemmas.Option.{IfSome_then}
 use Rattle.std.specs.Io.KnownBytes.{prepend_known}
 use Rattle.misp_outside.specs.Causes.{HasCause}
 use Rattle.misp_http.specs.Reading.{IsRead}
@@ -7,10 +8,11 @@ use Rattle.misp_http.specs.declared.request.Read.{Read}
 use Rattle.misp_http.specs.declared.request.ReadEnd.{ReadEnd}
 use Rattle.misp_http.proofs.Readings.{one_reading}
 use Rattle.misp_core.specs.Sound.{IsSound, IsWorded}
-use Rattle.misp_api.specs.Prelude.{Reply, Standing}
+use Rattle.misp_api.specs.Prelude.{Commanded, Held, Reading, Reply, Standing}
+use Rattle.misp_core.specs.Prelude.{host_of}
 use Rattle.misp_core.specs.Text.{http_text}
-use Rattle.misp_api.specs.Answering.{IsPull}
-use Rattle.misp_api.specs.Exchange.{IsExchanged}
+use Rattle.misp_api.specs.Answering.{IsPull, IsReplied}
+use Rattle.misp_api.specs.Exchange.{IsExchanged, IsLeftSo}
 use Rattle.misp_api.specs.Sending.{IsAnswered, read_form}
 use Rattle.misp_api.specs.Turn.{closes}
 
@@ -52,3 +54,20 @@ pub exchanged : {V E : Type 0} (items : V → List ℕ) (r : Result V E) (now wo
 exchanged items (Ok v) now word read old new reply close closed answered sound worded bytes =
     record { reply = reply; answered = answered; sound = sound; worded = worded; bytes_are = bytes ∙ ap (http_text reply) closed }
 exchanged items (Err short) now word read old new reply close closed answered sound worded bytes = tt
+
+-- ---- where memory runs out
+
+-- what holds unless there is a reply of some kind
+pub unless_told : {V E : Type 0} (r : Result V E) (P : V → Type 0) {Q : Type 0} → (IfOk r P → Q) → OnErr r Q
+unless_told (Ok v) P holds = tt
+unless_told (Err short) P holds = holds tt
+
+-- what is held stays
+pub left_alone : (now : ℕ) (form : Reading Commanded) (i : Standing) (old new : Option Held) → new ≡ old → IfSome old (λ held. IsLeftSo now form i held new)
+left_alone now form i None new same = tt
+left_alone now form i (Some held) new same = inl same
+
+-- or it is what the reply leaves whose bytes were not made
+pub left_replied : (now : ℕ) (form : Reading Commanded) (i : Standing) (old new : Option Held) (reply : Reply) → IfSome old (λ held. IsReplied (host_of i) now form held reply new)
+    → IfSome old (λ held. IsLeftSo now form i held new)
+left_replied now form i old new reply replied = IfSome_then old replied (λ held is. inr (reply, is))

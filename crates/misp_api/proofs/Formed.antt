@@ -2,7 +2,15 @@
 use Rattle.std.proofs.Common.{Err, sym, ◌∙◌, ap}
 use Rattle.misp_api.specs.Prelude.{AskFault, FormatFault, Gives, formed}
 use Rattle.misp_api.specs.Unread.{Refuses}
+use Rattle.misp_format.specs.Rows.{◌>>=◌}
 use Rattle.misp_format.specs.Rows as rows
+
+-- what is made of what is read has its fault
+pub fails_on : {A B : Type 0} (fault : FormatFault) (read : rows.Reading A) (f : A → rows.Reading B) → rows.Fails fault read → rows.Fails fault (read >>= f)
+fails_on FormatFault.NoJson read f fails = ap (λ r. r >>= f) fails
+fails_on FormatFault.NoMemory read f fails = tt
+fails_on (FormatFault.BadField path need) read f fails = ap (λ r. r >>= f) fails
+fails_on (FormatFault.BinaryType path) read f fails = ap (λ r. r >>= f) fails
 
 -- what was not read is refused by its fault
 pub refused_form : {A : Type 0} (fault : FormatFault) (stopped : AskFault) (read : rows.Reading A) → rows.Fails fault read → Refuses fault stopped → Gives (Err stopped) (formed read)

@@ -3,13 +3,20 @@ use Rattle.std.proofs.Common.{◌≡◌, ℕ, Bool, List, [], Option, Some, None
 use Rattle.misp_groups.specs.Groups.{why_not}
 use Rattle.misp_core.specs.Administering.{effect_by}
 use Rattle.misp_core.proofs.Decisions.{refused_puts_none}
-use Rattle.misp_api.specs.Prelude.{Asked, Group, Held, Host, IsRefused, OrgId, Reading, RuleName, grouped, replied, seen_in}
+use Rattle.misp_core.specs.Prelude.{Seen}
+use Rattle.misp_api.specs.Commands.{AsksBuilt}
+use Rattle.misp_api.specs.Prelude.{Caller, Command, Commanded, Group, Held, Host, IsRefused, OrgId, Reading, RuleName, command_effect, grouped, replied, seen_in}
 use Rattle.misp_api.proofs.Forms.{BuiltForm}
 
+command_idle : (host : Host) (now : ℕ) (caller : Caller) (command : Command) (seen : Seen) → AsksBuilt command → IsRefused (command_effect host now caller command seen).reply
+    → (command_effect host now caller command seen).batches ≡ []
+command_idle host now caller (Command.Asks ask) seen built refused = refused_puts_none host now (caller, ask) seen built refused
+command_idle host now caller (Command.TakesGroups groups) seen built refused = absurd refused
+
 -- a request that is refused has no batch
-pub request_idle : (host : Host) (now : ℕ) (form : Reading Asked) (held : Held) → BuiltForm form → IsRefused (replied host now form (seen_in held)).reply
+pub request_idle : (host : Host) (now : ℕ) (form : Reading Commanded) (held : Held) → BuiltForm form → IsRefused (replied host now form (seen_in held)).reply
     → (replied host now form (seen_in held)).batches ≡ []
-request_idle host now (Ok asked) held built refused = refused_puts_none host now asked (seen_in held) built refused
+request_idle host now (Ok it) held built refused = command_idle host now it.0 it.1 (seen_in held) built refused
 request_idle host now (Err refusal) held built refused = refl
 
 rule_idle : (why : Option RuleName) (g : Group) → IsRefused (effect_by why g).reply → (effect_by why g).batches ≡ []

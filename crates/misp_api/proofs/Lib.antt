@@ -5,6 +5,7 @@ pub mod Formed
 pub mod Forms
 pub mod Handed
 pub mod HttpTexts
+pub mod ListedGroups
 pub mod Replying
 pub mod Pulls
 pub mod Runs

@@ -6,17 +6,19 @@ use Rattle.misp_rules.specs.Machine.{event_changed}
 use Rattle.misp_rules.specs.Pulling.{pulled_part}
 use Rattle.misp_rules.specs.declared.package.PackageFields.{PackageFields}
 use Rattle.misp_edit.specs.Refusals.{named}
-use Rattle.misp_core.specs.Prelude.{Admin, Ask, Asked, Caller, Did, Effect, EventId, FormatFault, Group, Held, Host, IsBuilt, OrgId, Row, RuleName, Scene, Standing, View, ask_rules, asked_over, forbidden, groups_of, host_of, is_permitted}
-use Rattle.misp_core.specs.Prelude.{option_map_or, reach_of, refused, reply_in, requested, rule_number, scene_at, seeing, seen_in, stop_in}
+use Rattle.misp_core.specs.Prelude.{Admin, Ask, Asked, Caller, Did, Effect, EventId, FormatFault, Group, Held, Host, IsBuilt, OrgId, Row, RuleName, Scene, Seen, Standing, View, ask_rules, asked_over, host_of}
+use Rattle.misp_core.specs.Prelude.{option_map_or, reach_of, refused, reply_in, rule_number, scene_at, seeing, seen_in, stop_in}
 use Rattle.misp_core.specs.Answers.{reply_of}
 use Rattle.misp_core.specs.Saving.{IsOfEvent}
 use Rattle.misp_core.proofs.Decisions.{of_event}
 use Rattle.misp_core.specs.Effects.{telling}
-use Rattle.misp_api.specs.Prelude.{AskFault, Gives, Reading, Reply, RequestData, Route, ask_of, caller_in, fault_reply, formed, read_of, route_of}
+use Rattle.misp_api.specs.Commands.{AsksBuilt}
+use Rattle.misp_api.specs.Prelude.{AskFault, Command, Commanded, Gives, Reading, Reply, RequestData, Route, barred, caller_in, command_effect, command_of, commanded, fault_reply, formed, is_allowed, read_of, route_of}
+use Rattle.misp_api.specs.Request.{ask_command, groups_command}
 use Rattle.misp_api.specs.Route.{method_of, by_method}
-use Rattle.misp_api.proofs.Built.{ask_is}
+use Rattle.misp_api.proofs.Built.{command_is}
 use Rattle.misp_api.specs.Answering.{by_body, by_key, by_route}
-use Rattle.misp_api.specs.Order.{Ground, first_ground, rule_of, IsInOrder, ground_of, row_grounds, grounds, route_asked, is_refused_by, asked_grounds, order}
+use Rattle.misp_api.specs.Order.{Ground, first_ground, rule_of, IsInOrder, command_grounds, ground_of, row_grounds, grounds, route_asked, is_refused_by, asked_grounds, order}
 use Rattle.misp_effects.specs.Effect as effects
 use Rattle.misp_rules.specs.Scene as asking
 use Rattle.misp_rules.specs.Answers as model
@@ -71,26 +73,38 @@ in_scene admin s (Ask.SyncPart event n) built = by_part admin s event n (pulled_
 in_scene admin s (Ask.TakePart p) built = refl
 in_scene admin s Ask.Index built = absurd built
 
--- over what is read for it, by whether the role permits the ask
-by_rows : (host : Host) (now : ℕ) (it : Asked) (groups : List Group) (may : Bool) (rows : Result (List Row) (List ℕ)) → IsBuilt it.1
-    → rule_of (if may then asked_over host now it groups rows else refused (forbidden it.1)).reply
-    ≡ first_ground ((not may, RuleName.NoPermission) ∷ row_grounds host now it groups rows)
+-- over what is read for it
+by_rows : (host : Host) (now : ℕ) (it : Asked) (groups : List Group) (rows : Result (List Row) (List ℕ)) → IsBuilt it.1
+    → rule_of (asked_over host now it groups rows).reply ≡ first_ground (row_grounds host now it groups rows)
 unfolding first_ground
-by_rows host now it groups false rows built = refl
-by_rows host now it groups true (Err name) built = refl
-by_rows host now it groups true (Ok rows) built = in_scene host.admin (seeing (scene_at host now it.0 groups) rows) it.1 built
+by_rows host now it groups (Err name) built = refl
+by_rows host now it groups (Ok rows) built = in_scene host.admin (seeing (scene_at host now it.0 groups) rows) it.1 built
+
+by_command : (host : Host) (now : ℕ) (caller : Caller) (command : Command) (seen : Seen) → AsksBuilt command
+    → rule_of (command_effect host now caller command seen).reply ≡ first_ground (command_grounds host now caller command seen)
+unfolding first_ground
+by_command host now caller (Command.Asks ask) seen built = by_rows host now (caller, ask) seen.groups (seen.rows (reach_of caller.org ask)) built
+by_command host now caller (Command.TakesGroups groups) seen built = refl
+
+-- by whether the role permits it
+by_role : (host : Host) (now : ℕ) (it : Commanded) (may : Bool) (seen : Seen) → AsksBuilt it.1
+    → rule_of (if may then command_effect host now it.0 it.1 seen else refused (barred it.1)).reply
+    ≡ first_ground ((not may, RuleName.NoPermission) ∷ command_grounds host now it.0 it.1 seen)
+unfolding first_ground
+by_role host now it false seen built = refl
+by_role host now it true seen built = by_command host now it.0 it.1 seen built
 
 -- where nothing stopped it, the reply is that of the effect
 of_effect : (o : effects.Outcome) (e : Effect Reply) → stop_of o ≡ None → (under telling o e).reply ≡ e.reply
 of_effect effects.Went e none = refl
 of_effect (effects.Stopped stop k lost) e none = absurd cc
 
--- of what is asked, over what is held
-in_order : (host : Host) (now : ℕ) (it : Asked) (held : Held) (reply : Reply) (new : Option Held) → IsBuilt it.1
-    → Did (requested host now it (seen_in held)) held reply new → IsInOrder (grounds host now it (seen_in held)) reply
+-- of a command, over what is held
+in_order : (host : Host) (now : ℕ) (it : Commanded) (held : Held) (reply : Reply) (new : Option Held) → AsksBuilt it.1
+    → Did (commanded host now it (seen_in held)) held reply new → IsInOrder (grounds host now it (seen_in held)) reply
 in_order host now it held reply new built did went =
-    ap rule_of (did.reply_is ∙ of_effect did.outcome (requested host now it (seen_in held)) (did.agree ∙ went))
-    ∙ by_rows host now it (groups_of held) (is_permitted it.0 it.1) ((seen_in held).rows (reach_of it.0.org it.1)) built
+    ap rule_of (did.reply_is ∙ of_effect did.outcome (commanded host now it (seen_in held)) (did.agree ∙ went))
+    ∙ by_role host now it (is_allowed it) (seen_in held) built
 
 -- ---- a body is refused by one of three rules, unless memory ran out
 
@@ -104,50 +118,50 @@ abbrev IsNamed : {A : Type 0} → Reading A → Type 0
 IsNamed (Ok x) = Unit {0}
 IsNamed (Err refusal) = stop_in (Reply.Refused refusal) ≡ None → Some refusal.name ≡ first_ground (by_name refusal.name)
 
-asked_named : (read : Result Ask FormatFault) → IsNamed (formed read)
+formed_named : {A : Type 0} (read : Result A FormatFault) → IsNamed (formed read)
 unfolding first_ground
-asked_named (Ok ask) = tt
-asked_named (Err FormatFault.NoJson) = λ went. refl
-asked_named (Err (FormatFault.BadField path need)) = λ went. refl
-asked_named (Err (FormatFault.BinaryType path)) = λ went. refl
-asked_named (Err FormatFault.NoMemory) = λ went. absurd cc
+formed_named (Ok x) = tt
+formed_named (Err FormatFault.NoJson) = λ went. refl
+formed_named (Err (FormatFault.BadField path need)) = λ went. refl
+formed_named (Err (FormatFault.BinaryType path)) = λ went. refl
+formed_named (Err FormatFault.NoMemory) = λ went. absurd cc
 
-ask_named : (route : Route) (body : List ℕ) (word : ℕ) → IsNamed (ask_of route body word)
-ask_named = ask_is IsNamed (λ ask built. tt) (λ read built. asked_named read)
+command_named : (route : Route) (body : List ℕ) (word : ℕ) → IsNamed (command_of route body word)
+command_named = command_is IsNamed (λ ask built. tt) (λ read built. formed_named (ask_command read)) (λ read. formed_named (groups_command read))
 
 -- ---- from the path on
 
 module _ (host : Host) (now : ℕ) (held : Held) where
   -- of what was read the first of these rules is the first of what is asked, and of what was not it is the refusal's
-  abbrev IsFirst : Reading Asked → Option RuleName → Type 0
+  abbrev IsFirst : Reading Commanded → Option RuleName → Type 0
   IsFirst (Ok it) first = first ≡ first_ground (grounds host now it (seen_in held))
   IsFirst (Err refusal) first = stop_in (Reply.Refused refusal) ≡ None → Some refusal.name ≡ first
 
-  abbrev from_body : Reading Ask → List Ground → List Ground
-  from_body ask rest =
-      (is_refused_by RuleName.BadJson ask, RuleName.BadJson)
-      ∷ (is_refused_by RuleName.BadField ask, RuleName.BadField)
-      ∷ (is_refused_by RuleName.BinaryType ask, RuleName.BinaryType) ∷ rest
+  abbrev from_body : Reading Command → List Ground → List Ground
+  from_body read rest =
+      (is_refused_by RuleName.BadJson read, RuleName.BadJson)
+      ∷ (is_refused_by RuleName.BadField read, RuleName.BadField)
+      ∷ (is_refused_by RuleName.BinaryType read, RuleName.BinaryType) ∷ rest
 
-  by_ask : (caller : Caller) (ask : Reading Ask) → IsNamed ask → IsFirst (by_body caller ask) (first_ground (from_body ask (asked_grounds host now (by_body caller ask) held)))
+  by_reading : (caller : Caller) (read : Reading Command) → IsNamed read → IsFirst (by_body caller read) (first_ground (from_body read (asked_grounds host now (by_body caller read) held)))
   unfolding first_ground
-  by_ask caller (Ok ask) named = refl
-  by_ask caller (Err refusal) named = named
+  by_reading caller (Ok command) named = refl
+  by_reading caller (Err refusal) named = named
 
   by_caller : (route : Route) (caller : Option Caller) (body : List ℕ) (word : ℕ)
       → IsFirst (by_key caller route body word)
-      (first_ground ((not (is_some caller), RuleName.NoKey) ∷ from_body (ask_of route body word) (asked_grounds host now (by_key caller route body word) held)))
+      (first_ground ((not (is_some caller), RuleName.NoKey) ∷ from_body (command_of route body word) (asked_grounds host now (by_key caller route body word) held)))
   unfolding first_ground
   by_caller route None body word = λ went. refl
-  by_caller route (Some caller) body word = by_ask caller (ask_of route body word) (ask_named route body word)
+  by_caller route (Some caller) body word = by_reading caller (command_of route body word) (command_named route body word)
 
-  abbrev by_same : Bool → Route → Option Caller → List ℕ → ℕ → Reading Asked
+  abbrev by_same : Bool → Route → Option Caller → List ℕ → ℕ → Reading Commanded
   by_same same route caller body word = by_route (if same then Ok route else Err RuleName.NoMethod) caller body word
 
   by_verb : (same : Bool) (route : Route) (caller : Option Caller) (body : List ℕ) (word : ℕ)
       → IsFirst (by_same same route caller body word)
       (first_ground ((not same, RuleName.NoMethod) ∷ (not (is_some caller), RuleName.NoKey)
-      ∷ from_body (ask_of route body word) (asked_grounds host now (by_same same route caller body word) held)))
+      ∷ from_body (command_of route body word) (asked_grounds host now (by_same same route caller body word) held)))
   unfolding first_ground
   by_verb true route caller body word = by_caller route caller body word
   by_verb false route caller body word = λ went. refl
@@ -158,12 +172,12 @@ module _ (host : Host) (now : ℕ) (held : Held) where
       (not (is_some route), RuleName.NoRoute)
       ∷ (option_map_or (λ r. not (bytes_eq request.method (method_of r))) route false, RuleName.NoMethod)
       ∷ (not (is_some (caller_in host.admin request.key)), RuleName.NoKey)
-      ∷ (option_map_or (λ r. is_refused_by RuleName.BadJson (ask_of r request.body request.word)) route false, RuleName.BadJson)
-      ∷ (option_map_or (λ r. is_refused_by RuleName.BadField (ask_of r request.body request.word)) route false, RuleName.BadField)
-      ∷ (option_map_or (λ r. is_refused_by RuleName.BinaryType (ask_of r request.body request.word)) route false, RuleName.BinaryType)
+      ∷ (option_map_or (λ r. is_refused_by RuleName.BadJson (command_of r request.body request.word)) route false, RuleName.BadJson)
+      ∷ (option_map_or (λ r. is_refused_by RuleName.BadField (command_of r request.body request.word)) route false, RuleName.BadField)
+      ∷ (option_map_or (λ r. is_refused_by RuleName.BinaryType (command_of r request.body request.word)) route false, RuleName.BinaryType)
       ∷ rest
 
-  abbrev read_at : Option Route → RequestData → Reading Asked
+  abbrev read_at : Option Route → RequestData → Reading Commanded
   read_at route request = by_route (by_method request.method route) (caller_in host.admin request.key) request.body request.word
 
   by_path : (route : Option Route) (request : RequestData)
@@ -180,8 +194,8 @@ module _ (host : Host) (now : ℕ) (held : Held) where
 -- ---- of a reply
 
 -- what was read is answered by the instance in its order
-pub order_by_step : (i : Standing) (now : ℕ) (request : RequestData) (it : Asked) (reply : Reply) (old new : Option Held)
-    → read_of i.admin request ≡ Ok it → IsBuilt it.1 → IfSome old (λ held. Did (requested (host_of i) now it (seen_in held)) held reply new)
+pub order_by_step : (i : Standing) (now : ℕ) (request : RequestData) (it : Commanded) (reply : Reply) (old new : Option Held)
+    → read_of i.admin request ≡ Ok it → AsksBuilt it.1 → IfSome old (λ held. Did (commanded (host_of i) now it (seen_in held)) held reply new)
     → IfSome old (λ held. IsInOrder (order (host_of i) now request held) reply)
 order_by_step i now request it reply old new is built answered = IfSome_then old answered (λ held did went.
     in_order (host_of i) now it held reply new built did went

@@ -10,11 +10,11 @@ use Rattle.misp_http.specs.declared.fault.Fault.{Fault}
 use Rattle.misp_http.specs.declared.fault.HeadFault.{HeadFault}
 use Rattle.misp_http.specs.declared.request.Request.{Request}
 use Rattle.misp_http.specs.declared.request.Read.TheVariants as reads
-use Rattle.misp_core.specs.Prelude.{Asked, Held, Host, host_of, refused}
+use Rattle.misp_core.specs.Prelude.{Held, Host, host_of, refused}
 use Rattle.misp_core.specs.Effects.{stop_by}
 use Rattle.misp_core.specs.declared.planning.NoPlan.{NoPlan}
 use Rattle.misp_core.proofs.Carried.{refused_did, stopped_did}
-use Rattle.misp_api.specs.Prelude.{Reading, Reply, RuleName, Standing, by_keeper, form_of, refused_by, replied, seen_in, stop_in}
+use Rattle.misp_api.specs.Prelude.{Commanded, Reading, Reply, RuleName, Standing, by_keeper, form_of, refused_by, replied, seen_in, stop_in}
 use Rattle.misp_api.specs.Answering.{IsReplied}
 use Rattle.misp_api.specs.Refusing.{TurnsAway}
 use Rattle.misp_api.specs.Request.{request_data}
@@ -26,7 +26,7 @@ use Rattle.misp_api.proofs.HttpTexts.{body_behind, long_text, no_memory, text_lo
 -- ---- memory ran out
 
 -- where nothing is put, it may be told that memory ran out
-lost_did : (host : Host) (now : ℕ) (form : Reading Asked) (old new : Option Held) → new ≡ old
+lost_did : (host : Host) (now : ℕ) (form : Reading Commanded) (old new : Option Held) → new ≡ old
     → IfSome old (λ held. IsReplied host now form held (refused_by RuleName.NoMemory) new)
 lost_did host now form None new same = tt
 lost_did host now form (Some held) new same = stopped_did KeeperFault.NoMemory (replied host now form (seen_in held)) (Some held) new same
@@ -38,7 +38,7 @@ lost_turned (Err refusal) old new reply away = record { just = inr refl; no_faul
 -- ---- a request
 
 module _ {E : Type 0} (result : Result Reply E) (now word : ℕ) (request : Request) (old new : Standing) where
-  abbrev form : Reading Asked
+  abbrev form : Reading Commanded
   form = form_of old.admin (request_data word request)
 
   pub request_answered : IfOk result (λ reply. IfSome old.held (λ held. IsReplied (host_of old) now form held reply new.held)) → IfOk result (λ reply. TurnsAway form old new reply)

@@ -15,7 +15,8 @@ use Rattle.misp_core.specs.declared.planning.Plan.{Plan}
 use Rattle.misp_core.specs.declared.planning.NoPlan.{NoPlan}
 use Rattle.misp_store.specs.Prelude.{reach_of}
 use Rattle.misp_store.specs.Seen.{Seen}
-use Rattle.misp_api.specs.Prelude.{Ask, Asked, AskFault, Effect, Group, Held, Host, Reading, Reply, RequestData, Standing, fault_reply, forbidden, form_of, is_permitted, read_of, replied, seen_in}
+use Rattle.misp_api.specs.Commands.{is_pulling}
+use Rattle.misp_api.specs.Prelude.{Ask, Asked, AskFault, Caller, Command, Commanded, Effect, Group, Held, Host, Reading, Reply, RequestData, Standing, barred, command_effect, fault_reply, form_of, is_allowed, read_of, replied, seen_in}
 use Rattle.misp_api.specs.Answering.{IsPull, IsReplied, permitted}
 use Rattle.misp_api.specs.declared.TheConstants.{CHANGE_TEXT}
 use Rattle.misp_api.proofs.Forms.{allowed}
@@ -44,15 +45,19 @@ over_none : (host : Host) (now : ℕ) (it : Asked) (groups : List Group) (read :
 over_none host now it groups (Ok rows) is = ap row_batches (writes_none _ it.1 is)
 over_none host now it groups (Err name) is = refl
 
-replied_none : (host : Host) (now : ℕ) (form : Reading Asked) (seen : Seen) → IsPull form → (replied host now form seen).batches ≡ []
-replied_none host now (Ok it) seen is = over_none host now it seen.groups (seen.rows (reach_of it.0.org it.1)) is
+command_none : (host : Host) (now : ℕ) (caller : Caller) (command : Command) (seen : Seen) → is_pulling command ≡ true → (command_effect host now caller command seen).batches ≡ []
+command_none host now caller (Command.Asks ask) seen is = over_none host now (caller, ask) seen.groups (seen.rows (reach_of caller.org ask)) is
+command_none host now caller (Command.TakesGroups groups) seen is = absurd cc
+
+replied_none : (host : Host) (now : ℕ) (form : Reading Commanded) (seen : Seen) → IsPull form → (replied host now form seen).batches ≡ []
+replied_none host now (Ok it) seen is = command_none host now it.0 it.1 seen is
 replied_none host now (Err refusal) seen is = refl
 
 left_same : (outcome : Outcome) (e : Effect Reply) (held : Held) → e.batches ≡ [] → left spelled (under telling outcome e) held ≡ held
 left_same Went e held none = ap (λ batches. put_batches (map spelled batches) held) none
 left_same (Stopped stop n lost) e held none = refl
 
-pub stays : {E : Type 0} (r : Result Reply E) (host : Host) (now : ℕ) (form : Reading Asked) (old new : Option Held)
+pub stays : {E : Type 0} (r : Result Reply E) (host : Host) (now : ℕ) (form : Reading Commanded) (old new : Option Held)
     → IfOk r (λ reply. IfSome old (λ held. IsReplied host now form held reply new))
     → (IfOk r (λ reply. CHANGE_TEXT < length (reply_text reply)) → new ≡ old) → (old ≡ None → new ≡ None) → IsPull form → new ≡ old
 stays (Ok reply) host now form None new replies kept silent is = silent refl
@@ -80,13 +85,13 @@ barred_sound refusal old new planned bars = elim bars.just [
   | inr e ↦ subst PlansSound (sym e) tt
 ]
 
-by_role : (may : Bool) (asked : Asked) (planned : Result Plan NoPlan) → (may ≡ false → PlansSound planned) → (pulls asked.1 ≡ true → PlansSound planned) → IsPull (allowed may asked) → PlansSound planned
-by_role true asked planned barred sound is = sound is
-by_role false asked planned barred sound is = barred refl
+by_role : (may : Bool) (it : Commanded) (planned : Result Plan NoPlan) → (may ≡ false → PlansSound planned) → (is_pulling it.1 ≡ true → PlansSound planned) → IsPull (allowed may it) → PlansSound planned
+by_role true it planned bars sound is = sound is
+by_role false it planned bars sound is = bars refl
 
-pub sound_told : {E : Type 0} (r : Result Reply E) (old mid : Standing) (request : RequestData) (asked : Asked) (planned : Result Plan NoPlan) → read_of old.admin request ≡ Ok asked
-    → (is_permitted asked.0 asked.1 ≡ false → IsBarred (forbidden asked.1) old mid planned) → (pulls asked.1 ≡ true → PlansSound planned)
+pub sound_told : {E : Type 0} (r : Result Reply E) (old mid : Standing) (request : RequestData) (it : Commanded) (planned : Result Plan NoPlan) → read_of old.admin request ≡ Ok it
+    → (is_allowed it ≡ false → IsBarred (barred it.1) old mid planned) → (is_pulling it.1 ≡ true → PlansSound planned)
     → (PlansSound planned → IfOk r IsSound) → IsPull (form_of old.admin request) → IfOk r IsSound
-sound_told r old mid request asked planned read bars sound told is =
-    told (by_role (is_permitted asked.0 asked.1) asked planned (λ not_. barred_sound (forbidden asked.1) old mid planned (bars not_)) sound
+sound_told r old mid request it planned read bars sound told is =
+    told (by_role (is_allowed it) it planned (λ not_. barred_sound (barred it.1) old mid planned (bars not_)) sound
     (subst (λ form. IsPull (permitted form)) read is))

@@ -3,29 +3,30 @@ use Rattle.std.proofs.Common.{◌≡◌, ◌⊎◌, ℕ, Bool, true, false, List
 use Rattle.std.proofs.lemmas.Option.{IfSome_then}
 use Rattle.misp_effects.specs.declared.stop.Side.TheVariants.{Here}
 use Rattle.misp_effects.specs.Effect.{Stopped}
-use Rattle.misp_core.specs.Prelude.{Did, Refusal, asked_where, bare, host_of, refused, requested}
-use Rattle.misp_api.specs.Prelude.{Admin, Ask, Asked, AskFault, Caller, Effect, FormatFault, Gives, Held, Host, Reading, Reply, RequestData, Route, RuleName, Standing, Stop, ask_of}
-use Rattle.misp_api.specs.Prelude.{by_keeper, caller_in, fault_reply, forbidden, form_of, formed, is_permitted, read_of, replied, route_of, seen_in, stop_in}
-use Rattle.misp_api.specs.Route.{path_of, path_route, method_of, by_method}
-use Rattle.misp_api.proofs.Built.{ask_is}
+use Rattle.misp_core.specs.Prelude.{Did, Refusal, bare, host_of, refused}
+use Rattle.misp_api.specs.Prelude.{Admin, AskFault, Caller, Command, Commanded, Effect, FormatFault, Gives, Held, Host, Reading, Reply, RequestData, Route, RuleName, Standing, Stop, barred, command_of}
+use Rattle.misp_api.specs.Prelude.{by_keeper, caller_in, command_effect, commanded, fault_reply, form_of, formed, is_allowed, read_of, replied, route_of, seen_in, stop_in}
+use Rattle.misp_api.specs.Request.{ask_command, groups_command}
+use Rattle.misp_api.specs.Route.{method_of, route_at, by_method}
+use Rattle.misp_api.proofs.Built.{command_is}
 use Rattle.misp_api.proofs.Forms.{allowed}
 use Rattle.misp_api.specs.Answering.{by_body, by_route, permitted, IsReplied}
 use Rattle.misp_effects.specs.Effect as effects
 
--- what an instance comes to by an ask is what its form comes to, by whether the role permits the ask
-ask_replied : (host : Host) (now : ℕ) (asked : Asked) (may : Bool) (held : Held)
-    → replied host now (allowed may asked) (seen_in held)
-    ≡ (if may then asked_where host now asked (seen_in held) else refused (forbidden asked.1))
-ask_replied host now asked true held = refl
-ask_replied host now asked false held = refl
+-- what an instance comes to by a command is what its form comes to, by whether the role permits it
+command_replied : (host : Host) (now : ℕ) (it : Commanded) (may : Bool) (held : Held)
+    → replied host now (allowed may it) (seen_in held)
+    ≡ (if may then command_effect host now it.0 it.1 (seen_in held) else refused (barred it.1))
+command_replied host now it true held = refl
+command_replied host now it false held = refl
 
--- an ask is answered by the instance
-pub by_step : (i : Standing) (now : ℕ) (request : RequestData) (asked : Asked) (reply : Reply) (old new : Option Held)
-    → read_of i.admin request ≡ Ok asked → IfSome old (λ held. Did (requested (host_of i) now asked (seen_in held)) held reply new)
+-- a command is answered by the instance
+pub by_step : (i : Standing) (now : ℕ) (request : RequestData) (it : Commanded) (reply : Reply) (old new : Option Held)
+    → read_of i.admin request ≡ Ok it → IfSome old (λ held. Did (commanded (host_of i) now it (seen_in held)) held reply new)
     → IfSome old (λ held. IsReplied (host_of i) now (form_of i.admin request) held reply new)
-by_step i now request asked reply old new is answered = IfSome_then old answered (λ held did.
+by_step i now request it reply old new is answered = IfSome_then old answered (λ held did.
     subst (λ read. IsReplied (host_of i) now (permitted read) held reply new) (sym is)
-    (subst (λ e. Did e held reply new) (sym (ask_replied (host_of i) now asked (is_permitted asked.0 asked.1) held)) did))
+    (subst (λ e. Did e held reply new) (sym (command_replied (host_of i) now it (is_allowed it) held)) did))
 
 -- a refusal by the form of a request comes from no keeper, and from memory only where memory ran out
 abbrev pub IsFormal : Refusal → Type 0
@@ -42,11 +43,11 @@ formed_by_form (Err (FormatFault.BadField path need)) = inl refl
 formed_by_form (Err (FormatFault.BinaryType path)) = inl refl
 formed_by_form (Err FormatFault.NoMemory) = inr refl
 
-ask_by_form : (route : Route) (body : List ℕ) (word : ℕ) → ByForm (ask_of route body word)
-ask_by_form = ask_is ByForm (λ ask built. tt) (λ read built. formed_by_form read)
+command_by_form : (route : Route) (body : List ℕ) (word : ℕ) → ByForm (command_of route body word)
+command_by_form = command_is ByForm (λ ask built. tt) (λ read built. formed_by_form (ask_command read)) (λ read. formed_by_form (groups_command read))
 
-body_by_form : (caller : Caller) (read : Reading Ask) → ByForm read → ByForm (by_body caller read)
-body_by_form caller (Ok ask) formed = tt
+body_by_form : (caller : Caller) (read : Reading Command) → ByForm read → ByForm (by_body caller read)
+body_by_form caller (Ok command) formed = tt
 body_by_form caller (Err refusal) formed = formed
 
 -- the rule of a path that is none, or of another method, stops no request
@@ -64,12 +65,12 @@ path_by_form method (Some route) = method_by_form (bytes_eq method (method_of ro
 
 target_by_form : (method target : List ℕ) → ByRoute (route_of method target)
 unfolding route_of
-target_by_form method target = path_by_form method (path_route (path_of target))
+target_by_form method target = path_by_form method (route_at method target)
 
 route_by_form : (route : Result Route RuleName) (caller : Option Caller) (body : List ℕ) (word : ℕ) → ByRoute route → ByForm (by_route route caller body word)
 route_by_form (Err rule) caller body word formed = formed
 route_by_form (Ok route) None body word formed = inl refl
-route_by_form (Ok route) (Some caller) body word formed = body_by_form caller (ask_of route body word) (ask_by_form route body word)
+route_by_form (Ok route) (Some caller) body word formed = body_by_form caller (command_of route body word) (command_by_form route body word)
 
 pub read_by_form : (admin : Admin) (request : RequestData) → ByForm (read_of admin request)
 unfolding read_of

@@ -3,13 +3,14 @@ use Rattle.std.proofs.Common.{◌≡◌, ◌⊎◌, ℕ, false, ◌≤◌, List,
 use Rattle.std.proofs.lemmas.Option.{IfSome_then}
 use Rattle.misp_outside.specs.Causes.{Rose, HasCause}
 use Rattle.misp_effects.specs.Effect.{effect}
-use Rattle.misp_core.specs.Prelude.{AreReadable, Asked, Did, Effect, Held, IsBuilt, IsPlanned, IsRefused, Plans, Standing, forbidden, host_of, is_permitted, left, requested, seen_in, spelled, stop_in}
+use Rattle.misp_core.specs.Prelude.{AreReadable, Did, Effect, Held, IsPlanned, IsRefused, Plans, Standing, host_of, left, seen_in, spelled, stop_in}
 use Rattle.misp_core.specs.Planning.{IsPlan, batches_of, unplanned, stop_planned, IsBarred}
 use Rattle.misp_core.specs.declared.planning.Plan.{Plan}
 use Rattle.misp_core.specs.declared.planning.Batch.{Batch as Put}
 use Rattle.misp_core.specs.declared.planning.NoPlan.{NoPlan}
 use Rattle.misp_core.proofs.Carried.{DidThere, is_planned}
-use Rattle.misp_api.specs.Prelude.{Reply, RequestData, RuleName, by_keeper, form_of, read_of, refused_by}
+use Rattle.misp_api.specs.Commands.{AsksBuilt}
+use Rattle.misp_api.specs.Prelude.{Commanded, Reply, RequestData, RuleName, barred, by_keeper, commanded, form_of, is_allowed, read_of, refused_by}
 use Rattle.misp_api.specs.Order.{IsInOrder, order}
 use Rattle.misp_api.specs.Refusing.{TurnsAway}
 use Rattle.misp_core.specs.Text.{reply_text}
@@ -50,21 +51,21 @@ module _ {E : Type 0} where
   done_there (Err short) comes planned old mid new same plans done = tt
 
   -- what the role forbids is turned away
-  pub turned_told : (r : Result Reply E) (old mid new : Standing) (request : RequestData) (asked : Asked) (planned : Result Plan NoPlan) → read_of old.admin request ≡ Ok asked
-      → (is_permitted asked.0 asked.1 ≡ false → IsBarred (forbidden asked.1) old mid planned)
+  pub turned_told : (r : Result Reply E) (old mid new : Standing) (request : RequestData) (it : Commanded) (planned : Result Plan NoPlan) → read_of old.admin request ≡ Ok it
+      → (is_allowed it ≡ false → IsBarred (barred it.1) old mid planned)
       → IfErr planned (λ why. IfOk r (λ reply. reply ≡ unplanned why)) → OnErr planned (new ≡ mid)
       → IfOk r (λ reply. TurnsAway (form_of old.admin request) old new reply)
-  turned_told (Ok reply) old mid new request asked planned is bars just still =
-      turned_by_step old new request asked reply is (λ not_. turned_there old mid new asked.1 planned reply (bars not_) just still)
-  turned_told (Err short) old mid new request asked planned is bars just still = tt
+  turned_told (Ok reply) old mid new request it planned is bars just still =
+      turned_by_step old new request it reply is (λ not_. turned_there old mid new it.1 planned reply (bars not_) just still)
+  turned_told (Err short) old mid new request it planned is bars just still = tt
 
   -- the same, where memory runs out for its text
-  pub unformed_told : (r : Result Reply E) (old mid new : Standing) (request : RequestData) (asked : Asked) (planned : Result Plan NoPlan) → read_of old.admin request ≡ Ok asked
-      → (is_permitted asked.0 asked.1 ≡ false → IsBarred (forbidden asked.1) old mid planned) → OnErr planned (new ≡ mid)
+  pub unformed_told : (r : Result Reply E) (old mid new : Standing) (request : RequestData) (it : Commanded) (planned : Result Plan NoPlan) → read_of old.admin request ≡ Ok it
+      → (is_allowed it ≡ false → IsBarred (barred it.1) old mid planned) → OnErr planned (new ≡ mid)
       → OnErr r (TurnsAway (form_of old.admin request) old new (refused_by RuleName.NoMemory))
-  unformed_told (Ok reply) old mid new request asked planned is bars still = tt
-  unformed_told (Err short) old mid new request asked planned is bars still =
-      turned_by_step old new request asked (refused_by RuleName.NoMemory) is (λ not_. lost_there old mid new asked.1 planned (bars not_) still)
+  unformed_told (Ok reply) old mid new request it planned is bars still = tt
+  unformed_told (Err short) old mid new request it planned is bars still =
+      turned_by_step old new request it (refused_by RuleName.NoMemory) is (λ not_. lost_there old mid new it.1 planned (bars not_) still)
 
   -- what holds where memory runs out
   pub where_short : (r : Result Reply E) {P : Type 0} → P → OnErr r P
@@ -126,21 +127,21 @@ nothing_did p e (Some held) plans none =
 -- ---- a request that was read
 
 -- what was planned of it was replied
-pub replied_told : {E : Type 0} (r : Result Reply E) (i : Standing) (now : ℕ) (request : RequestData) (asked : Asked) (planned : Result Plan NoPlan) (mid new : Option Held)
-    → read_of i.admin request ≡ Ok asked → mid ≡ i.held
-    → IfSome i.held (λ held. IsPlanned planned (requested (host_of i) now asked (seen_in held)))
+pub replied_told : {E : Type 0} (r : Result Reply E) (i : Standing) (now : ℕ) (request : RequestData) (it : Commanded) (planned : Result Plan NoPlan) (mid new : Option Held)
+    → read_of i.admin request ≡ Ok it → mid ≡ i.held
+    → IfSome i.held (λ held. IsPlanned planned (commanded (host_of i) now it (seen_in held)))
     → ((e : Effect Reply) → IsPlanned planned e → IfOk r (λ reply. DidThere e mid reply new))
     → IfOk r (λ reply. IfSome i.held (λ held. IsReplied (host_of i) now (form_of i.admin request) held reply new))
-replied_told r i now request asked planned mid new is same plans done =
-    of_reply r (λ reply answered. by_step i now request asked reply i.held new is answered)
-    (done_there r (λ held. requested (host_of i) now asked (seen_in held)) planned i.held mid new same plans done)
+replied_told r i now request it planned mid new is same plans done =
+    of_reply r (λ reply answered. by_step i now request it reply i.held new is answered)
+    (done_there r (λ held. commanded (host_of i) now it (seen_in held)) planned i.held mid new same plans done)
 
 -- and by the first of its rules
-pub ordered_told : {E : Type 0} (r : Result Reply E) (i : Standing) (now : ℕ) (request : RequestData) (asked : Asked) (planned : Result Plan NoPlan) (mid new : Option Held)
-    → read_of i.admin request ≡ Ok asked → IsBuilt asked.1 → mid ≡ i.held
-    → IfSome i.held (λ held. IsPlanned planned (requested (host_of i) now asked (seen_in held)))
+pub ordered_told : {E : Type 0} (r : Result Reply E) (i : Standing) (now : ℕ) (request : RequestData) (it : Commanded) (planned : Result Plan NoPlan) (mid new : Option Held)
+    → read_of i.admin request ≡ Ok it → AsksBuilt it.1 → mid ≡ i.held
+    → IfSome i.held (λ held. IsPlanned planned (commanded (host_of i) now it (seen_in held)))
     → ((e : Effect Reply) → IsPlanned planned e → IfOk r (λ reply. DidThere e mid reply new))
     → IfOk r (λ reply. IfSome i.held (λ held. IsInOrder (order (host_of i) now request held) reply))
-ordered_told r i now request asked planned mid new is built same plans done =
-    of_reply r (λ reply answered. order_by_step i now request asked reply i.held new is built answered)
-    (done_there r (λ held. requested (host_of i) now asked (seen_in held)) planned i.held mid new same plans done)
+ordered_told r i now request it planned mid new is built same plans done =
+    of_reply r (λ reply answered. order_by_step i now request it reply i.held new is built answered)
+    (done_there r (λ held. commanded (host_of i) now it (seen_in held)) planned i.held mid new same plans done)

@@ -4,7 +4,7 @@ use Rattle.std.proofs.lemmas.Result.{IfErr-at_err}
 use Rattle.misp_core.specs.Planning.{unplanned, IsBarred}
 use Rattle.misp_core.specs.declared.planning.Plan.{Plan}
 use Rattle.misp_core.specs.declared.planning.NoPlan.{NoPlan}
-use Rattle.misp_api.specs.Prelude.{Ask, Asked, AskFault, Gives, Reading, Reply, RequestData, RuleName, Standing, by_keeper, fault_reply, forbidden, form_of, is_permitted, read_of, refused_by, stop_in}
+use Rattle.misp_api.specs.Prelude.{AskFault, Command, Commanded, Gives, Reading, Reply, RequestData, RuleName, Standing, barred, by_keeper, fault_reply, form_of, is_allowed, read_of, refused_by, stop_in}
 use Rattle.misp_api.specs.Refusing.{IsTurnedAway, TurnsAway}
 use Rattle.misp_api.specs.Answering.{permitted}
 use Rattle.misp_api.proofs.Forms.{allowed}
@@ -33,40 +33,40 @@ turned_unread i request AskFault.NoMemory given = out_of_memory i (form_of i.adm
 
 -- ---- what was read
 
-not_forbidden : (ask : Ask) → stop_in (Reply.Refused (forbidden ask)) ≡ by_keeper → ⊥
-not_forbidden ask is = absurd cc
+not_barred : (command : Command) → stop_in (Reply.Refused (barred command)) ≡ by_keeper → ⊥
+not_barred command is = absurd cc
 
 no_memory : stop_in (refused_by RuleName.NoMemory) ≡ by_keeper → ⊥
 no_memory is = absurd cc
 
 -- what the role forbids is refused just so
-pub turned_there : (old mid new : Standing) (ask : Ask) (planned : Result Plan NoPlan) (reply : Reply) → IsBarred (forbidden ask) old mid planned
-    → IfErr planned (λ no. reply ≡ unplanned no) → OnErr planned (new ≡ mid) → IsTurnedAway (forbidden ask) old new reply
-turned_there old mid new ask planned reply bars is still = elim bars.just [
+pub turned_there : (old mid new : Standing) (command : Command) (planned : Result Plan NoPlan) (reply : Reply) → IsBarred (barred command) old mid planned
+    → IfErr planned (λ no. reply ≡ unplanned no) → OnErr planned (new ≡ mid) → IsTurnedAway (barred command) old new reply
+turned_there old mid new command planned reply bars is still = elim bars.just [
   | inl e ↦
-      let just : reply ≡ Reply.Refused (forbidden ask) = IfErr-at_err (λ no. reply ≡ unplanned no) e is in
-      record { just = inl just; no_fault = λ told. not_forbidden ask (subst (λ r. stop_in r ≡ by_keeper) just told); still = IfErr-at_err (λ no. new ≡ mid) e still ∙ bars.still }
+      let just : reply ≡ Reply.Refused (barred command) = IfErr-at_err (λ no. reply ≡ unplanned no) e is in
+      record { just = inl just; no_fault = λ told. not_barred command (subst (λ r. stop_in r ≡ by_keeper) just told); still = IfErr-at_err (λ no. new ≡ mid) e still ∙ bars.still }
   | inr e ↦
       let just : reply ≡ refused_by RuleName.NoMemory = IfErr-at_err (λ no. reply ≡ unplanned no) e is in
       record { just = inr just; no_fault = λ told. no_memory (subst (λ r. stop_in r ≡ by_keeper) just told); still = IfErr-at_err (λ no. new ≡ mid) e still ∙ bars.still }
 ]
 
 -- and where memory runs out for its text, it stands as it stood
-pub lost_there : (old mid new : Standing) (ask : Ask) (planned : Result Plan NoPlan) → IsBarred (forbidden ask) old mid planned
-    → OnErr planned (new ≡ mid) → IsTurnedAway (forbidden ask) old new (refused_by RuleName.NoMemory)
-lost_there old mid new ask planned bars still = elim bars.just [
+pub lost_there : (old mid new : Standing) (command : Command) (planned : Result Plan NoPlan) → IsBarred (barred command) old mid planned
+    → OnErr planned (new ≡ mid) → IsTurnedAway (barred command) old new (refused_by RuleName.NoMemory)
+lost_there old mid new command planned bars still = elim bars.just [
   | inl e ↦ record { just = inr refl; no_fault = no_memory; still = IfErr-at_err (λ no. new ≡ mid) e still ∙ bars.still }
   | inr e ↦ record { just = inr refl; no_fault = no_memory; still = IfErr-at_err (λ no. new ≡ mid) e still ∙ bars.still }
 ]
 
-by_role : (may : Bool) (asked : Asked) (old new : Standing) (reply : Reply) → (may ≡ false → IsTurnedAway (forbidden asked.1) old new reply) → TurnsAway (allowed may asked) old new reply
-by_role true asked old new reply turned = tt
-by_role false asked old new reply turned = turned refl
+by_role : (may : Bool) (it : Commanded) (old new : Standing) (reply : Reply) → (may ≡ false → IsTurnedAway (barred it.1) old new reply) → TurnsAway (allowed may it) old new reply
+by_role true it old new reply turned = tt
+by_role false it old new reply turned = turned refl
 
-pub turned_by_step : (old new : Standing) (request : RequestData) (asked : Asked) (reply : Reply) → read_of old.admin request ≡ Ok asked
-    → (is_permitted asked.0 asked.1 ≡ false → IsTurnedAway (forbidden asked.1) old new reply) → TurnsAway (form_of old.admin request) old new reply
-turned_by_step old new request asked reply is turned =
-    subst (λ read. TurnsAway (permitted read) old new reply) (sym is) (by_role (is_permitted asked.0 asked.1) asked old new reply turned)
+pub turned_by_step : (old new : Standing) (request : RequestData) (it : Commanded) (reply : Reply) → read_of old.admin request ≡ Ok it
+    → (is_allowed it ≡ false → IsTurnedAway (barred it.1) old new reply) → TurnsAway (form_of old.admin request) old new reply
+turned_by_step old new request it reply is turned =
+    subst (λ read. TurnsAway (permitted read) old new reply) (sym is) (by_role (is_allowed it) it old new reply turned)
 
 -- what was read is not turned away
 pub not_turned : {A : Type 0} (old new : Standing) (read : Reading A) (x : A) (reply : Reply) → read ≡ Ok x → TurnsAway read old new reply

@@ -1,6 +1,8 @@
 pub mod Administering
 pub mod Answering
+pub mod Commands
 pub mod Exchange
+pub mod GroupList
 pub mod Limits
 pub mod Order
 pub mod Path

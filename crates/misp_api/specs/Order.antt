@@ -2,9 +2,10 @@
 use Rattle.std.specs.Prelude.{◌≡◌, ℕ, ◌==◌, Bool, true, false, not, bytes_eq, is_some, List, [], ◌∷◌, map, find, Option, None, Some, Result, Ok, Err, option_map}
 use Rattle.misp_rules.specs.Scene.{Rule}
 use Rattle.misp_edit.specs.Refusals.{named}
-use Rattle.misp_core.specs.Prelude.{Asked, Group, Held, Host, Row, RuleName, Seen, ask_rules, is_permitted, option_map_or, reach_of, rule_number, scene_at, seeing, seen_in, stop_in}
-use Rattle.misp_api.specs.Prelude.{Reading, Reply, RequestData, Route, ask_of, caller_in, read_of}
-use Rattle.misp_api.specs.Route.{path_of, path_route, method_of}
+use Rattle.misp_core.specs.Prelude.{Asked, Group, Held, Host, Row, RuleName, Seen, ask_rules, option_map_or, reach_of, rule_number, scene_at, seeing, seen_in, stop_in}
+use Rattle.misp_api.specs.Commands.{Commanded, is_allowed}
+use Rattle.misp_api.specs.Prelude.{Caller, Command, Reading, Reply, RequestData, Route, caller_in, command_of, read_of}
+use Rattle.misp_api.specs.Route.{method_of, route_at}
 
 -- whether a rule refuses a request, and the rule
 abbrev pub Ground : Type 0
@@ -36,17 +37,22 @@ row_grounds host now it groups (Ok rows) =
     map ground_of (ask_rules (seeing (scene_at host now it.0 groups) rows) it.1)
 row_grounds host now it groups (Err name) = (true, RuleName.BadRow) ∷ []
 
--- of what is asked, where this is seen: first the role of the caller must permit it
-abbrev pub grounds : Host → ℕ → Asked → Seen → List Ground
+-- the same for what is asked; groups that are handed in are refused by none of these
+abbrev pub command_grounds : Host → ℕ → Caller → Command → Seen → List Ground
+command_grounds host now caller (Command.Asks ask) seen =
+    row_grounds host now (caller, ask) seen.groups (seen.rows (reach_of caller.org ask))
+command_grounds host now caller (Command.TakesGroups groups) seen = []
+
+-- of a command, where this is seen: first the role of the caller must permit it
+abbrev pub grounds : Host → ℕ → Commanded → Seen → List Ground
 grounds host now it seen =
-    (not (is_permitted it.0 it.1), RuleName.NoPermission)
-    ∷ row_grounds host now it seen.groups (seen.rows (reach_of it.0.org it.1))
+    (not (is_allowed it), RuleName.NoPermission) ∷ command_grounds host now it.0 it.1 seen
 
 -- ---- from the path on
 
--- what the path of a request is for
+-- what the path of a request is for, by its method where the path is for two things
 abbrev pub route_asked : RequestData → Option Route
-route_asked request = path_route (path_of request.target)
+route_asked request = route_at request.method request.target
 
 -- it is for something, and the method is another
 abbrev pub has_other_method : RequestData → Bool
@@ -61,11 +67,11 @@ is_refused_by rule (Err refusal) = rule_number refusal.name == rule_number rule
 -- the body is not what the path needs, by this rule
 abbrev pub body_breaks : RuleName → RequestData → Bool
 body_breaks rule request =
-    option_map_or (λ route. is_refused_by rule (ask_of route request.body request.word))
+    option_map_or (λ route. is_refused_by rule (command_of route request.body request.word))
     (route_asked request) false
 
--- the rules of what is asked, where it was read
-abbrev pub asked_grounds : Host → ℕ → Reading Asked → Held → List Ground
+-- the rules of the command, where it was read
+abbrev pub asked_grounds : Host → ℕ → Reading Commanded → Held → List Ground
 asked_grounds host now (Ok it) held = grounds host now it (seen_in held)
 asked_grounds host now (Err refusal) held = []
 

@@ -13,7 +13,9 @@ use Rattle.misp_format.specs.declared.reading.parts.PartForm.{PartForm}
 use Rattle.misp_package.specs.PackageReading.{package_of_bytes}
 use Rattle.misp_rules.specs.declared.change.Change.{Change}
 use Rattle.misp_rules.specs.declared.package.PackageFields.{PackageFields}
-use Rattle.misp_core.specs.Prelude.{Ask, EventId, FormatFault, Refusal, RuleName, View, bare}
+use Rattle.misp_core.specs.Prelude.{Ask, EventId, FormatFault, Group, Refusal, RuleName, View, bare}
+use Rattle.misp_api.specs.GroupList.{groups_in}
+use Rattle.misp_api.specs.declared.command.Command.{Command}
 use Rattle.misp_api.specs.declared.route.Route.{Route}
 use Rattle.misp_api.specs.declared.request.AskFault.{AskFault}
 use Rattle.misp_format.specs.Rows as rows
@@ -130,9 +132,21 @@ abbrev pub package_in : List ℕ → rows.Reading Ask
 package_in body =
     if list_all is_byte body then handed (package_of_bytes body) else Err no_package
 
--- ---- asks
+-- ---- commands
 
--- what a request of this route asks is in its body
+-- an ask that was read, as a command
+abbrev pub ask_command : rows.Reading Ask → rows.Reading Command
+ask_command read = read >>= λ ask. Ok (Command.Asks ask)
+
+-- the taking of the groups that were read
+abbrev pub groups_command : rows.Reading (List Group) → rows.Reading Command
+groups_command read = read >>= λ groups. Ok (Command.TakesGroups groups)
+
+-- an ask that is in the path alone
+abbrev pub said : Ask → Reading Command
+said ask = Ok (Command.Asks ask)
+
+-- what a request of this route is, is in its body
 abbrev pub ReadsBody : Route → Type 0
 ReadsBody (Route.ViewEvent event owner) = ⊥
 ReadsBody (Route.DeleteEvent event) = ⊥
@@ -146,33 +160,40 @@ ReadsBody Route.SyncEvents = ⊥
 ReadsBody (Route.SyncPart event part) = ⊥
 ReadsBody route = Unit {0}
 
--- what a request of this route asks
-unfoldable pub ask_of : Route → List ℕ → ℕ → Reading Ask
-ask_of Route.AddEvent body word = formed (event_in body word)
-ask_of (Route.ViewEvent event owner) body word = Ok (View event owner)
-ask_of (Route.EditEvent event) body word = formed (event_edit_in event body)
-ask_of (Route.DeleteEvent event) body word = Ok (Ask.Change (Change.DeleteEvent event))
-ask_of (Route.Publish event) body word = Ok (Ask.Change (Change.Publish event))
-ask_of (Route.AddAttributes event object) body word =
-    formed (parts_in event object PartForm.Attributes body word)
-ask_of (Route.EditAttribute event place) body word = formed (attribute_edit_in event place body)
-ask_of (Route.DeleteAttribute event place) body word = Ok (Ask.Change (Change.Delete event place))
-ask_of (Route.AddObject event) body word =
-    formed (parts_in event None PartForm.Object body word)
-ask_of (Route.EditObject event object) body word = formed (object_edit_in event object body)
-ask_of (Route.DeleteObject event object) body word =
-    Ok (Ask.Change (Change.Delete event (Place.Object object)))
-ask_of (Route.AddReference event object) body word =
-    formed (parts_in event (Some object) PartForm.Reference body word)
-ask_of (Route.DeleteReference event object reference) body word =
-    Ok (Ask.Change (Change.DeleteReference event object reference))
-ask_of (Route.Tag event place) body word = formed (tag_in event place body)
-ask_of (Route.Untag event place) body word = formed (untag_in event place body)
-ask_of (Route.Propose event target) body word = formed (proposal_in event target body word)
-ask_of (Route.Judge event accept) body word = formed (judgement_in event accept body)
-ask_of (Route.Sight event target) body word = formed (sighting_in event target body word)
-ask_of Route.TakePart body word = formed (package_in body)
-ask_of Route.Groups body word = Ok Ask.Groups
-ask_of Route.SyncGroups body word = Ok Ask.SyncGroups
-ask_of Route.SyncEvents body word = Ok Ask.SyncEvents
-ask_of (Route.SyncPart event part) body word = Ok (Ask.SyncPart event part)
+-- what a request of this route is
+unfoldable pub command_of : Route → List ℕ → ℕ → Reading Command
+command_of Route.AddEvent body word = formed (ask_command (event_in body word))
+command_of (Route.ViewEvent event owner) body word = said (View event owner)
+command_of (Route.EditEvent event) body word = formed (ask_command (event_edit_in event body))
+command_of (Route.DeleteEvent event) body word = said (Ask.Change (Change.DeleteEvent event))
+command_of (Route.Publish event) body word = said (Ask.Change (Change.Publish event))
+command_of (Route.AddAttributes event object) body word =
+    formed (ask_command (parts_in event object PartForm.Attributes body word))
+command_of (Route.EditAttribute event place) body word =
+    formed (ask_command (attribute_edit_in event place body))
+command_of (Route.DeleteAttribute event place) body word =
+    said (Ask.Change (Change.Delete event place))
+command_of (Route.AddObject event) body word =
+    formed (ask_command (parts_in event None PartForm.Object body word))
+command_of (Route.EditObject event object) body word =
+    formed (ask_command (object_edit_in event object body))
+command_of (Route.DeleteObject event object) body word =
+    said (Ask.Change (Change.Delete event (Place.Object object)))
+command_of (Route.AddReference event object) body word =
+    formed (ask_command (parts_in event (Some object) PartForm.Reference body word))
+command_of (Route.DeleteReference event object reference) body word =
+    said (Ask.Change (Change.DeleteReference event object reference))
+command_of (Route.Tag event place) body word = formed (ask_command (tag_in event place body))
+command_of (Route.Untag event place) body word = formed (ask_command (untag_in event place body))
+command_of (Route.Propose event target) body word =
+    formed (ask_command (proposal_in event target body word))
+command_of (Route.Judge event accept) body word =
+    formed (ask_command (judgement_in event accept body))
+command_of (Route.Sight event target) body word =
+    formed (ask_command (sighting_in event target body word))
+command_of Route.TakePart body word = formed (ask_command (package_in body))
+command_of Route.TakeGroups body word = formed (groups_command (groups_in body))
+command_of Route.Groups body word = said Ask.Groups
+command_of Route.SyncGroups body word = said Ask.SyncGroups
+command_of Route.SyncEvents body word = said Ask.SyncEvents
+command_of (Route.SyncPart event part) body word = said (Ask.SyncPart event part)

@@ -140,6 +140,16 @@ path_route path = route_in path (kind_of path)
 
 -- ---- routes
 
+-- what a path is for by this method: where groups are pulled they are handed in, too
+abbrev pub at_method : List ℕ → Route → Route
+at_method method Route.SyncGroups =
+    if bytes_eq method (codes "POST") then Route.TakeGroups else Route.SyncGroups
+at_method method route = route
+
+-- what the path of a target is for by this method, whatever is after a `?`
+abbrev pub route_at : List ℕ → List ℕ → Option Route
+route_at method target = option_map (at_method method) (path_route (path_of target))
+
 -- by which method it is asked for
 abbrev pub method_of : Route → List ℕ
 method_of (Route.ViewEvent event owner) = codes "GET"
@@ -154,7 +164,6 @@ abbrev pub by_method : List ℕ → Option Route → Result Route RuleName
 by_method method None = Err NoRoute
 by_method method (Some route) = if bytes_eq method (method_of route) then Ok route else Err NoMethod
 
--- the route of a path and its method, whatever is after a `?`; a path that is none, or another
--- method, is refused
+-- the route of a target and its method; a path that is none, or another method, is refused
 unfoldable pub route_of : List ℕ → List ℕ → Result Route RuleName
-route_of method target = by_method method (path_route (path_of target))
+route_of method target = by_method method (route_at method target)

@@ -4,10 +4,11 @@ use Rattle.misp_outside.specs.Causes.{HasCause}
 use Rattle.misp_http.specs.Faults.{fault_refusal}
 use Rattle.misp_http.specs.declared.request.Read.{Read}
 use Rattle.misp_http.specs.declared.request.Read.TheVariants as reads
-use Rattle.misp_core.specs.Prelude.{Admin, Asked, Standing, host_of, stop_in}
+use Rattle.misp_core.specs.Prelude.{Admin, Standing, host_of, stop_in}
 use Rattle.misp_core.specs.Effects.{by_keeper}
 use Rattle.misp_core.specs.declared.reply.Reply.{Reply}
 use Rattle.misp_api.specs.Answering.{form_of, IsReplied}
+use Rattle.misp_api.specs.Commands.{Commanded}
 use Rattle.misp_api.specs.Refusing.{TurnsAway}
 use Rattle.misp_api.specs.Request.{Reading, request_data}
 use Rattle.misp_core.specs.Text.{http_text}
@@ -15,8 +16,8 @@ use Rattle.misp_api.specs.declared.TheConstants.{REPLY_ROOM}
 
 -- ---- what is replied
 
--- what bytes ask that were read so, as a request of this word; bytes that are none are refused
-abbrev pub read_form : Admin → ℕ → Read → Reading Asked
+-- what bytes are that were read so, as a request of this word; bytes that are none are refused
+abbrev pub read_form : Admin → ℕ → Read → Reading Commanded
 read_form admin word (reads.Request request) = form_of admin (request_data word request)
 read_form admin word (reads.Refused fault) = Err (fault_refusal fault)
 

@@ -1,10 +1,13 @@
 //! Answers a request at an instance.
 
-ghost use Rattle.std.specs.Prelude.{◌≡◌, true, ◌<◌, ◌++◌, Err, IfOk, IsOkAnd, IfSome, OnOk, OnErr, length, vec_len, vec_capacity};
+ghost use Rattle.std.specs.Prelude.{◌≡◌, true, false, ◌<◌, ◌++◌, Err, IfOk, IsOkAnd, IfSome, OnOk, OnErr, length, vec_len, vec_capacity};
 ghost use Rattle.misp_outside.specs.Causes.{HasCause};
-ghost use Rattle.misp_core.specs.Answers.{IsBuilt};
 ghost use Rattle.misp_core.specs.Effects.{stop_in, by_keeper, refused_by, IsRefused};
+ghost use Rattle.misp_core.specs.Planning.{IsBarred, IsPlanned, stop_planned};
+ghost use Rattle.misp_core.specs.Sound.{IsSoundAnswer};
+ghost use Rattle.misp_store.specs.Seen.{seen_in};
 ghost use Rattle.misp_api.specs.Answering.{IsPull, IsReplied, caller_in, form_of, read_of};
+ghost use Rattle.misp_api.specs.Commands.{AsksBuilt, barred, commanded, is_allowed, is_pulling};
 ghost use Rattle.misp_api.specs.Unread.{fault_reply};
 ghost use Rattle.misp_api.specs.Order.{IsInOrder, order};
 ghost use Rattle.misp_core.specs.Sound.{IsSound};
@@ -14,16 +17,16 @@ ghost use Rattle.misp_api.specs.Refusing.{TurnsAway};
 ghost use Rattle.misp_core.specs.Text.{has_octets, reply_text};
 ghost use Rattle.misp_api.specs.declared.TheConstants.{CHANGE_TEXT};
 
-use crate::asking::read_ask;
+use crate::asking::read_command;
+use crate::command::Command;
 use crate::request::AskFault;
 use crate::routes::Routes;
 use crate::telling::{tell, told};
-use misp_core::{Instance, Reply};
+use misp_core::{Instance, NoPlan, Plan, Reply};
 use misp_http::Request;
 use misp_ids::{ApiKey, NoMemory, Refusal, RuleName, Stamp, Text};
 use misp_orgs::Caller;
 use misp_outside::Keeper;
-use misp_rules::Ask;
 use std::alloc::Global;
 
 fn caller<K: Keeper>(instance: &Instance<K>, key: &Option<Text>) -> Option<Caller>
@@ -35,7 +38,8 @@ fn caller<K: Keeper>(instance: &Instance<K>, key: &Option<Text>) -> Option<Calle
     }
 }
 
-// The ask of a request, and whose it is: first its route must be one, then its key, then its body.
+// The command that a request is, and whose it is: first its route must be one, then its key, then
+// its body.
 #[tactic(auto, unfolding(crate::specs::Answering::read_of))]
 fn read<K: Keeper>(
     alloc: Global,
@@ -43,9 +47,9 @@ fn read<K: Keeper>(
     instance: &Instance<K>,
     word: u128,
     request: &Request,
-) -> Result<(Caller, Ask), AskFault>
+) -> Result<(Caller, Command), AskFault>
     ensures read { Gives result (read_of instance.now.admin (request_data word request.now)) }
-    ensures built { IfOk result (λ asked. IsBuilt asked.1) }
+    ensures built { IfOk result (λ it. AsksBuilt it.1) }
 {
     let route = match routes.route(request.method.as_str(), request.target.as_str()) {
         Ok(route) => route,
@@ -54,8 +58,37 @@ fn read<K: Keeper>(
     let Some(caller) = caller(instance, &request.key) else {
         return Err(AskFault::Refused(Refusal::bare(alloc, RuleName::NoKey)));
     };
-    let ask = read_ask(alloc, route, request.body.as_slice(), word)?;
-    Ok((caller, ask))
+    let command = read_command(alloc, route, request.body.as_slice(), word)?;
+    Ok((caller, command))
+}
+
+// Plans what a command of this moment comes to. Nothing is put.
+fn plan<K: Keeper>(
+    alloc: Global,
+    instance: &mut Instance<K>,
+    now: Stamp,
+    caller: &Caller,
+    command: Command,
+) -> Result<Plan, NoPlan>
+    requires { AsksBuilt command }
+    ensures planned { IfSome instance.old.held (λ held. IsPlanned result
+        (commanded (host_of instance.old) now (caller.now, command) (seen_in held))) }
+    ensures barred { is_allowed (caller.now, command) ≡ false →
+        IsBarred (barred command) instance.old instance.new result }
+    ensures sound { is_pulling command ≡ true →
+        IfOk result (λ plan. IsSoundAnswer plan.answer) }
+    ensures held { instance.new.held ≡ instance.old.held }
+    ensures cause { HasCause instance.old.faults instance.new.faults
+        (stop_planned result ≡ by_keeper) }
+    ensures name { instance.new.name ≡ instance.old.name }
+    ensures admin { instance.new.admin ≡ instance.old.admin }
+{
+    match command {
+        Command::Asks(ask) => instance.plan(alloc, now, caller, ask),
+        Command::TakesGroups(groups) => {
+            instance.plan_handed_groups(alloc, caller, groups.into_vec())
+        }
+    }
 }
 
 /// The reply to what was not read.
@@ -124,8 +157,8 @@ pub fn answer<K: Keeper>(
     ensures admin { instance.new.admin ≡ instance.old.admin }
 {
     match read(alloc, routes, instance, word, request) {
-        Ok((caller, ask)) => {
-            let planned = instance.plan(alloc, now, &caller, ask);
+        Ok((caller, command)) => {
+            let planned = plan(alloc, instance, now, &caller, command);
             tell(text, alloc, instance, planned)
         }
         Err(fault) => told(text, alloc, refused(alloc, fault)),

@@ -1,4 +1,4 @@
-//! What a request asks, by its route and body.
+//! What a request is, by its route and body.
 
 ghost use Rattle.std.specs.Prelude.{◌≡◌, true, IfOk};
 ghost use Rattle.misp_elem.specs.declared.key.Place.TheVariants as places;
@@ -8,8 +8,12 @@ ghost use Rattle.misp_rules.specs.declared.ask.Ask.{Ask as SomeAsk};
 ghost use Rattle.misp_rules.specs.declared.ask.Ask.TheVariants as asks;
 ghost use Rattle.misp_rules.specs.declared.change.Change.TheVariants as changes;
 ghost use Rattle.misp_core.specs.Answers.{IsBuilt};
-ghost use Rattle.misp_api.specs.Request.{Gives, ReadsBody, formed, event_in, event_edit_in, attribute_edit_in, object_edit_in, parts_in, tag_in, untag_in, proposal_in, judgement_in, sighting_in, package_in, ask_of};
+ghost use Rattle.misp_api.specs.Commands.{AsksBuilt};
+ghost use Rattle.misp_api.specs.GroupList.{groups_in};
+ghost use Rattle.misp_api.specs.Request.{Gives, ReadsBody, ask_command, groups_command, said, formed, event_in, event_edit_in, attribute_edit_in, object_edit_in, parts_in, tag_in, untag_in, proposal_in, judgement_in, sighting_in, package_in, command_of};
 
+use crate::command::Command;
+use crate::group_list::read_groups;
 use crate::request::{AskFault, fault};
 use crate::route::Route;
 use misp_elem::{DecodeFault, Place};
@@ -18,7 +22,7 @@ use misp_format::{
     FormatFault, PartForm, read_attribute_edit, read_event, read_event_edit, read_json,
     read_judgement, read_object_edit, read_parts, read_proposal, read_sighting, read_tag,
 };
-use misp_ids::{ElemId, EventId, Text};
+use misp_ids::{ElemId, EventId, Items, Text};
 use misp_package::read_package;
 use misp_rules::{Ask, AttributePlace, Change, ElementPlace, NewTag, Parts, TaggedPlace};
 use std::alloc::Global;
@@ -190,16 +194,36 @@ fn package_in(alloc: Global, body: &[u8]) -> Result<Ask, FormatFault>
 }
 
 // What was read, or why its form refuses it.
-fn formed(alloc: Global, read: Result<Ask, FormatFault>) -> Result<Ask, AskFault>
+fn formed(alloc: Global, read: Result<Ask, FormatFault>) -> Result<Command, AskFault>
     requires { IfOk read IsBuilt }
-    ensures ask { (meant : rows.Reading SomeAsk) → rows.Gives read meant →
-        Gives result (formed meant) }
-    ensures built { IfOk result IsBuilt }
+    ensures command { (meant : rows.Reading SomeAsk) → rows.Gives read meant →
+        Gives result (formed (ask_command meant)) }
+    ensures built { IfOk result AsksBuilt }
 {
     match read {
-        Ok(ask) => Ok(ask),
+        Ok(ask) => Ok(Command::Asks(ask)),
         Err(stopped) => Err(fault(alloc, stopped)),
     }
+}
+
+// The taking of the groups that a body is the list of.
+fn groups_command(alloc: Global, body: &[u8]) -> Result<Command, AskFault>
+    ensures command { Gives result (formed (groups_command (groups_in body.now))) }
+    ensures built { IfOk result AsksBuilt }
+{
+    match read_groups(alloc, body) {
+        Ok(groups) => Ok(Command::TakesGroups(Items::of(groups))),
+        Err(stopped) => Err(fault(alloc, stopped)),
+    }
+}
+
+// An ask that is in the path alone.
+fn said(ask: Ask) -> Result<Command, AskFault>
+    requires { IsBuilt ask }
+    ensures command { Gives result (said ask) }
+    ensures built { IfOk result AsksBuilt }
+{
+    Ok(Command::Asks(ask))
 }
 
 // The place of an attribute as that of an element.
@@ -237,12 +261,12 @@ fn delete_reference(event: EventId, object: ElemId, reference: ElemId) -> Ask
     })
 }
 
-// What the body of a request asks, by a route that reads it.
-#[tactic(auto, unfolding(crate::specs::Request::ask_of))]
-fn body_ask(alloc: Global, route: Route, body: &[u8], word: u128) -> Result<Ask, AskFault>
+// What the body of a request makes it, by a route that reads it.
+#[tactic(auto, unfolding(crate::specs::Request::command_of))]
+fn body_command(alloc: Global, route: Route, body: &[u8], word: u128) -> Result<Command, AskFault>
     requires { ReadsBody route }
-    ensures ask { Gives result (ask_of route body.now word) }
-    ensures built { IfOk result IsBuilt }
+    ensures command { Gives result (command_of route body.now word) }
+    ensures built { IfOk result AsksBuilt }
 {
     match route {
         Route::AddEvent => formed(alloc, event_in(alloc, body, word)),
@@ -276,29 +300,35 @@ fn body_ask(alloc: Global, route: Route, body: &[u8], word: u128) -> Result<Ask,
             formed(alloc, sighting_in(alloc, event, target, body, word))
         }
         Route::TakePart => formed(alloc, package_in(alloc, body)),
+        Route::TakeGroups => groups_command(alloc, body),
         _ => unreachable!(),
     }
 }
 
-/// What a request asks. Elements without an identifier get those that are made of `word`.
-#[tactic(auto, unfolding(crate::specs::Request::ask_of))]
-pub fn read_ask(alloc: Global, route: Route, body: &[u8], word: u128) -> Result<Ask, AskFault>
-    ensures ask { Gives result (ask_of route body.now word) }
-    ensures built { IfOk result IsBuilt }
+/// What a request is. Elements without an identifier get those that are made of `word`.
+#[tactic(auto, unfolding(crate::specs::Request::command_of))]
+pub fn read_command(
+    alloc: Global,
+    route: Route,
+    body: &[u8],
+    word: u128,
+) -> Result<Command, AskFault>
+    ensures command { Gives result (command_of route body.now word) }
+    ensures built { IfOk result AsksBuilt }
 {
     match route {
-        Route::ViewEvent(event, owner) => Ok(Ask::View { event, owner }),
-        Route::DeleteEvent(event) => Ok(Ask::Change(Change::DeleteEvent { event })),
-        Route::Publish(event) => Ok(Ask::Change(Change::Publish { event })),
-        Route::DeleteAttribute(event, place) => Ok(delete(event, element_place(place))),
-        Route::DeleteObject(event, object) => Ok(delete(event, object_place(object))),
+        Route::ViewEvent(event, owner) => said(Ask::View { event, owner }),
+        Route::DeleteEvent(event) => said(Ask::Change(Change::DeleteEvent { event })),
+        Route::Publish(event) => said(Ask::Change(Change::Publish { event })),
+        Route::DeleteAttribute(event, place) => said(delete(event, element_place(place))),
+        Route::DeleteObject(event, object) => said(delete(event, object_place(object))),
         Route::DeleteReference(event, object, reference) => {
-            Ok(delete_reference(event, object, reference))
+            said(delete_reference(event, object, reference))
         }
-        Route::Groups => Ok(Ask::Groups),
-        Route::SyncGroups => Ok(Ask::SyncGroups),
-        Route::SyncEvents => Ok(Ask::SyncEvents),
-        Route::SyncPart(event, part) => Ok(Ask::SyncPart { event, part }),
-        _ => body_ask(alloc, route, body, word),
+        Route::Groups => said(Ask::Groups),
+        Route::SyncGroups => said(Ask::SyncGroups),
+        Route::SyncEvents => said(Ask::SyncEvents),
+        Route::SyncPart(event, part) => said(Ask::SyncPart { event, part }),
+        _ => body_command(alloc, route, body, word),
     }
 }

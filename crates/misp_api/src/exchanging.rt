@@ -1,13 +1,13 @@
 //! Answers the bytes of one request, as a wire of one process needs it.
 
-ghost use Rattle.std.specs.Prelude.{◌≡◌, ◌≢◌, ◌≤◌, ◌++◌, ℕ, List, Option, Ok, Err, IfOk, OnOk};
+ghost use Rattle.std.specs.Prelude.{◌≡◌, ◌≢◌, ◌≤◌, ◌++◌, ℕ, List, Option, Ok, Err, IfOk, IfSome, OnOk, OnErr};
 ghost use Rattle.misp_http.specs.Reading.{IsRead};
 ghost use Rattle.misp_http.specs.declared.request.Read.{Read as WasRead};
 ghost use Rattle.misp_http.specs.declared.request.ReadEnd.{ReadEnd as NotRead};
 ghost use Rattle.misp_core.specs.Sound.{IsSound, IsWorded};
 ghost use Rattle.misp_core.specs.Text.{http_text, reply_text};
 ghost use Rattle.misp_api.specs.Answering.{IsPull};
-ghost use Rattle.misp_api.specs.Exchange.{IsExchanged};
+ghost use Rattle.misp_api.specs.Exchange.{IsExchanged, IsLeftSo};
 ghost use Rattle.misp_api.specs.Sending.{IsAnswered, read_form};
 
 use crate::answering::answer;
@@ -43,6 +43,7 @@ fn answer_to<K: Keeper>(
 ) -> Result<Reply, NoMemory>
     ensures text { IfOk result (λ reply. text.new.items ≡ text.old.items ++ reply_text reply) }
     ensures answered { IfOk result (IsAnswered now word read instance.old instance.new) }
+    ensures unwritten { OnErr result (instance.new.held ≡ instance.old.held) }
     ensures sound { IsPull (read_form instance.old.admin word read) → IfOk result IsSound }
     ensures still { IsPull (read_form instance.old.admin word read) →
         instance.new.held ≡ instance.old.held }
@@ -95,6 +96,8 @@ fn reply_to_read<K: Keeper>(
 ) -> Result<Vec<u8>, NoMemory>
     ensures answered { IfOk result (λ bytes.
         IsExchanged now word read instance.old instance.new bytes.items) }
+    ensures left { OnErr result (IfSome instance.old.held (λ held. IsLeftSo now
+        (read_form instance.old.admin word read) instance.old held instance.new.held)) }
     ensures still { IsPull (read_form instance.old.admin word read) →
         instance.new.held ≡ instance.old.held }
     ensures later { instance.old.faults ≤ instance.new.faults }
@@ -131,6 +134,11 @@ pub fn exchange<K: Keeper>(
     // Bytes that are a request, or are refused as none, are answered as it is stated.
     ensures answered { (read : WasRead) (left : Option (List ℕ)) → IsRead bytes.items (Ok read) left
         → IfOk result (λ reply. IsExchanged now word read instance.old instance.new reply.items) }
+
+    // Where memory runs out, what is held is as it was, or what some reply to the request leaves.
+    ensures left { (read : WasRead) (left : Option (List ℕ)) → IsRead bytes.items (Ok read) left
+        → OnErr result (IfSome instance.old.held (λ held. IsLeftSo now
+        (read_form instance.old.admin word read) instance.old held instance.new.held)) }
 
     // What a pull asks and what is refused by its form changes nothing that is held, even where
     // memory runs out.

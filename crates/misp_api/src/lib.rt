@@ -4,8 +4,10 @@
 mod administering;
 mod answering;
 mod asking;
+mod command;
 mod event_list;
 mod exchanging;
+mod group_list;
 mod limits;
 mod path_ids;
 mod path_kind;
@@ -21,7 +23,8 @@ mod turn;
 
 pub use administering::{GroupRequest, administer};
 pub use answering::answer;
-pub use asking::read_ask;
+pub use asking::read_command;
+pub use command::Command;
 pub use exchanging::exchange;
 pub use limits::the_limits_are_as_stated;
 pub use reply::{body_in, has_octets, put_number, put_reply, put_text};

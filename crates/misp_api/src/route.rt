@@ -2,7 +2,8 @@
 
 ghost use Rattle.std.specs.Prelude.{◌≡◌};
 ghost use Rattle.misp_api.specs.Path.{ids_of};
-ghost use Rattle.misp_api.specs.Route.{path_of, event_in, object_in, reference_in, attribute_in, tagged_in, copy_in, parent_in, alone, element_route, route_with, route_by, part_route, route_as, method_of};
+ghost use Rattle.misp_api.specs.declared.route.Route.TheVariants as routes;
+ghost use Rattle.misp_api.specs.Route.{path_of, event_in, object_in, reference_in, attribute_in, tagged_in, copy_in, parent_in, alone, element_route, route_with, route_by, part_route, route_as, at_method, method_of};
 
 use crate::path_ids::{PathIds, ids_of};
 use crate::path_kind::PathKind;
@@ -47,6 +48,8 @@ pub enum Route {
     SyncPart(EventId, u32),
     /// A package that is handed in.
     TakePart,
+    /// Groups that are handed in.
+    TakeGroups,
 }
 
 /// What stands before the first `?`.
@@ -251,6 +254,26 @@ pub(crate) fn route_as(path: &str, kind: PathKind) -> Option<Route>
     match kind {
         PathKind::SyncPart => part_route(path),
         _ => route_by(path, kind),
+    }
+}
+
+fn groups_at_method(method: &str) -> Route
+    ensures { result ≡ at_method method.now routes.SyncGroups }
+{
+    if method == "POST" {
+        Route::TakeGroups
+    } else {
+        Route::SyncGroups
+    }
+}
+
+/// What a path is for by this method: where groups are pulled they are handed in, too.
+pub(crate) fn at_method(method: &str, route: Route) -> Route
+    ensures { result ≡ at_method method.now route }
+{
+    match route {
+        Route::SyncGroups => groups_at_method(method),
+        _ => route,
     }
 }
 

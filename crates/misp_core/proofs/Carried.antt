@@ -1,9 +1,9 @@
 -- What is done where a plan is carried out.
-use Rattle.std.proofs.Common.{◌≡◌, false, List, [], ◌∷◌, refl, ap, sym, subst, ◌∙◌, map, option_map, Option, Some, None, Result, Ok, Err, IfSome, OnOk, OnErr}
+use Rattle.std.proofs.Common.{◌≡◌, false, true, List, [], ◌∷◌, refl, ap, sym, subst, ◌∙◌, map, option_map, Option, Some, None, Result, Ok, Err, IfSome, OnOk, OnErr}
 use Rattle.misp_effects.specs.Prelude.{AdminRow, put_admins, put_groups, with_batch}
 use Rattle.misp_effects.specs.Effect.{effect}
 use Rattle.misp_store.specs.Prelude.{AllByRecursion, AreRows, Batch, Effect, Group, Held, Here, IsGroup, KeeperFault, Stop, groups_in, spelled}
-use Rattle.misp_store.specs.Sharing.{HoldsGroups, group_row, AreStorable}
+use Rattle.misp_store.specs.Sharing.{HoldsGroups, group_row, is_sound, AreStorable}
 use Rattle.misp_store.proofs.GroupRows.{group_put}
 use Rattle.misp_core.specs.Prelude.{Answer, AreReadable, Did, IsPlanned, Plan, Plans, Reply, left, put_batches, refused_by}
 use Rattle.misp_core.specs.Effects.{by_keeper, rule_of_stop}
@@ -104,3 +104,8 @@ pub still_beside : {E : Type 0} (result : Result (Unit {0}) E) (put : Put) (old 
 still_beside (Ok done) put old new groups kept are is same none none_ holds = groups_beside put old new groups kept are is same holds
 still_beside (Err stop) put old new groups kept are is same none none_ holds =
     subst (λ (h : Option Held). HoldsGroups h kept) (sym none) (subst (HoldsGroups old) (sym none_) holds)
+
+-- where the groups are known that are held, every row of the administration is one
+pub sound_held : (held : Option Held) (known : List Group) → HoldsGroups held known → IfSome held (λ h. is_sound h ≡ true)
+sound_held None known holds = tt
+sound_held (Some held) known holds = rw holds refl

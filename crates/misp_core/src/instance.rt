@@ -4,7 +4,7 @@ ghost use Rattle.std.specs.Prelude.{◌≡◌, ◌≤◌, false, true, Err, filt
 ghost use Rattle.std.specs.List.{AllByRecursion};
 ghost use Rattle.misp_outside.specs.Causes.{HasCause};
 ghost use Rattle.misp_outside.specs.Held.{with_batch};
-ghost use Rattle.misp_store.specs.Sharing.{groups_in, groups_of, AreStorable};
+ghost use Rattle.misp_store.specs.Sharing.{groups_in, groups_of, is_sound, AreStorable};
 ghost use Rattle.misp_store.specs.Batches.{spelled};
 ghost use Rattle.misp_store.specs.Seen.{seen_in};
 ghost use Rattle.misp_core.specs.Answers.{IsBuilt};
@@ -138,6 +138,13 @@ impl<K: Keeper> Instance<K> {
         ensures { option_map (λ link. link.now) result ≡ link_of self.now.admin.links name.now }
     {
         self.admin.link(name)
+    }
+
+    /// Shows what holds of every instance: the rows of its administration are groups.
+    pub fn holds_groups_alone(&self)
+        ensures { IfSome self.now.held (λ held. is_sound held ≡ true) }
+    {
+        let _groups = &self.groups;
     }
 
     /// Plans what a request of this moment comes to. Nothing is put.

@@ -1,5 +1,5 @@
--- A request that is written is read back.
-use Rattle.std.proofs.Common.{◌≡◌, ◌^◌, ◌<◌, ◌≤◌, not, ℕ, Bool, true, false, List, [], ◌∷◌, ◌++◌, length, reverse, drop, map, codes, decimal, Option, Some, None, Ok, refl, sym, ap, ◌∙◌, arith, append_assoc, length-append}
+-- A request that is written is read back, or refused for a body that is too long.
+use Rattle.std.proofs.Common.{◌≡◌, ◌^◌, ◌<◌, ◌≤◌, not, ℕ, Bool, true, false, List, [], ◌∷◌, ◌++◌, length, reverse, drop, map, codes, decimal, Option, Some, None, Ok, Err, refl, sym, ap, ◌∙◌, arith, append_assoc, length-append}
 use Rattle.std.specs.Prelude.{All, IfSome, nat_lt}
 use Rattle.std.specs.List.{list_all}
 use Rattle.std.proofs.lemmas.Bool.{and_parts, and_from}
@@ -13,9 +13,10 @@ use Rattle.httparse.proofs.GrammarLemmas.{print_request-append}
 use Rattle.httparse.proofs.TrimLemmas.{AllPass-reverse, trim_ows_space}
 use Rattle.misp_http.specs.Limits.{head_limit, body_limit}
 use Rattle.misp_http.specs.Headers.{values_of, body_length, within_limit, key_of, asks_to_close}
-use Rattle.misp_http.specs.Reading.{request_of}
+use Rattle.misp_http.specs.Reading.{Begins, looked_at, request_of}
 use Rattle.misp_http.specs.Texts.{authorization_line, connection_line, request_text}
-use Rattle.misp_http.specs.ReadBack.{is_visible, IsVisible, IsWritable, IsReadBack}
+use Rattle.misp_http.specs.ReadBack.{is_visible, IsVisible, HasForms, IsWritable, IsReadBack, IsTooLong}
+use Rattle.misp_http.specs.declared.fault.HeadFault.TheVariants.{LongBody}
 use Rattle.misp_http.proofs.Growing.{taken}
 use Rattle.misp_http.proofs.ReplyReadBack.{number, value, content_length_field, connection_fields, content_length_is_field, connection_are_fields, passes, after_digits}
 
@@ -64,19 +65,27 @@ abbrev pairs_of : Option (List ℕ) → ℕ → Bool → List (List ℕ × List 
 pairs_of key n close = map (λ f. (f.name, trim_ows f.raw)) (fields key n close)
 
 in_bounds : (n : ℕ) → n ≤ body_limit → within_limit (Ok n) ≡ Ok n
-in_bounds n small =
-    let test : nat_lt body_limit n ≡ false = less n small in
+in_bounds n most =
+    let test : nat_lt body_limit n ≡ false = less n most in
     rw test refl
   where
     less : (n : ℕ) → n ≤ body_limit → nat_lt body_limit n ≡ false
-    less n small = grind (arith, nat_tests)
+    less n most = grind (arith, nat_tests)
 
-length_is : (key : Option (List ℕ)) (n : ℕ) (close : Bool) → n < 2 ^ 63 → n ≤ body_limit → body_length (pairs_of key n close) ≡ Ok n
+out_of_bounds : (n : ℕ) → body_limit < n → within_limit (Ok n) ≡ Err LongBody
+out_of_bounds n long =
+    let test : nat_lt body_limit n ≡ true = more n long in
+    rw test refl
+  where
+    more : (n : ℕ) → body_limit < n → nat_lt body_limit n ≡ true
+    more n long = grind (arith, nat_tests)
+
+length_is : (key : Option (List ℕ)) (n : ℕ) (close : Bool) → n < 2 ^ 63 → body_length (pairs_of key n close) ≡ within_limit (Ok n)
 unfolding body_length values_of
-length_is None n true small most = rw (value n small, number n small) (in_bounds n most)
-length_is None n false small most = rw (value n small, number n small) (in_bounds n most)
-length_is (Some key) n true small most = rw (value n small, number n small) (in_bounds n most)
-length_is (Some key) n false small most = rw (value n small, number n small) (in_bounds n most)
+length_is None n true small = rw (value n small, number n small) refl
+length_is None n false small = rw (value n small, number n small) refl
+length_is (Some key) n true small = rw (value n small, number n small) refl
+length_is (Some key) n false small = rw (value n small, number n small) refl
 
 key_is : (key : Option (List ℕ)) (n : ℕ) (close : Bool) → IfSome key IsVisible → key_of (pairs_of key n close) ≡ key
 unfolding key_of values_of
@@ -131,30 +140,38 @@ written method target key body close =
     regroup method (codes " ") target (codes " HTTP/1.1\r\n") (authorization_line key) (codes "Content-Length: ") (decimal (length body)) (codes "\r\n") (connection_line close) body
     ∙ sym (printed method target key (length body) close body)
 
--- ---- the request
+-- ---- what is read
 
 parts_are : (method target : List ℕ) (key : Option (List ℕ)) (body all : List ℕ) (close : Bool) → IfSome key IsVisible → all ≡ body → record { method = method; target = target; key = key; body = body; close = close } ≡ request_of (head method target key (length body) close) all
 parts_are method target key body all close shows same =
     rw (same, key_is key (length body) close shows, closing key (length body) close) refl
 
-pub read_back : (method target : List ℕ) (key : Option (List ℕ)) (body : List ℕ) (close : Bool) → IsWritable method target key body close → IsReadBack method target key body close
-read_back method target key body close is = λ rest.
-    let n = length body in
-    let h = head method target key n close in
-    let small : n < 2 ^ 63 = omega (arith, is.small) in
-    let text = written method target key body close in
-    let size : length (print_request h) ≤ head_limit = omega (arith, ap length text, length-append (print_request h) body, is.short) in
-    let all : request_text method target key body close ++ rest ≡ print_request h ++ (body ++ rest) = rw text (append_assoc (print_request h) body rest) in
-    let front = taken head_limit (print_request h) (body ++ rest) size in
-    let after_is : drop (length (print_request h)) (print_request h ++ (body ++ rest)) ≡ body ++ rest = drop_at (print_request h) (body ++ rest) (length (print_request h)) refl in
-    rw all (record {
-      head = h;
-      size = n;
-      framed = record {
-        head = (_, (record { method = is.method_is; target = is.target_is; target_text = is.target_text; minor = omega arith; fields = are_fields key n close small is.key_is }, front));
-        body = length_is key n close small is.small;
-      };
-      whole = rw after_is (omega (arith, length-append body rest));
-      parts = parts_are method target key body _ close is.key_is (rw after_is (take_at body rest n refl));
-      left = ap Some (sym (rw after_is (drop_at body rest n refl)));
-    })
+module _ (method target : List ℕ) (key : Option (List ℕ)) (body : List ℕ) (close : Bool) where
+  abbrev h : RequestHead
+  h = head method target key (length body) close
+
+  whole : (rest : List ℕ) → request_text method target key body close ++ rest ≡ print_request h ++ (body ++ rest)
+  whole rest = rw (written method target key body close) (append_assoc (print_request h) body rest)
+
+  begins : HasForms method target key body close → length body < 2 ^ 63 → (rest : List ℕ) → Begins (looked_at (print_request h ++ (body ++ rest))) h
+  begins is small rest =
+      let size : length (print_request h) ≤ head_limit = omega (arith, ap length (written method target key body close), length-append (print_request h) body, is.short) in
+      (_, (record { method = is.method_is; target = is.target_is; target_text = is.target_text; minor = omega arith; fields = are_fields key (length body) close small is.key_is }, taken head_limit (print_request h) (body ++ rest) size))
+
+  pub read_back : IsWritable method target key body close → IsReadBack method target key body close
+  read_back is = λ rest.
+      let n = length body in
+      let small : n < 2 ^ 63 = omega (arith, is.small) in
+      let after_is : drop (length (print_request h)) (print_request h ++ (body ++ rest)) ≡ body ++ rest = drop_at (print_request h) (body ++ rest) (length (print_request h)) refl in
+      rw (whole rest) (record {
+        head = h;
+        size = n;
+        framed = record { head = begins is.forms small rest; body = length_is key n close small ∙ in_bounds n is.small };
+        whole = rw after_is (omega (arith, length-append body rest));
+        parts = parts_are method target key body _ close is.forms.key_is (rw after_is (take_at body rest n refl));
+        left = ap Some (sym (rw after_is (drop_at body rest n refl)));
+      })
+
+  pub too_long : HasForms method target key body close → body_limit < length body → length body < 2 ^ 63 → IsTooLong method target key body close
+  too_long is long small = λ rest.
+      rw (whole rest) (h, begins is small rest, length_is key (length body) close small ∙ out_of_bounds (length body) long)

@@ -2,7 +2,7 @@
 
 ghost use Rattle.std.specs.Prelude.{◌≡◌, ◌<◌, ◌^◌, ℕ, Bool, List, Option, length};
 ghost use Rattle.misp_http.specs.Limits.{head_limit, header_limit, body_limit};
-ghost use Rattle.misp_http.specs.ReadBack.{IsWritable, IsReadBack};
+ghost use Rattle.misp_http.specs.ReadBack.{HasForms, IsWritable, IsReadBack, IsTooLong};
 ghost use Rattle.misp_http.specs.Reading.{AreOne, LeaveOne};
 ghost use Rattle.misp_http.specs.Reply.{IsReply, IsOneReply};
 ghost use Rattle.misp_http.specs.Texts.{IsReplyStatus, reply_text};
@@ -21,6 +21,14 @@ pub fn bytes_are_one_thing()
 pub fn a_request_is_read_back()
     ensures { (method target : List ℕ) (key : Option (List ℕ)) (body : List ℕ) (close : Bool)
         → IsWritable method target key body close → IsReadBack method target key body close }
+{}
+
+/// A request with a longer body than the limit is refused for that, whatever follows. Every body
+/// in memory is short enough to be written.
+pub fn a_long_request_is_refused()
+    ensures { (method target : List ℕ) (key : Option (List ℕ)) (body : List ℕ) (close : Bool)
+        → HasForms method target key body close → body_limit < length body → length body < 2 ^ 63
+        → IsTooLong method target key body close }
 {}
 
 /// Bytes are at most one reply.

@@ -18,8 +18,8 @@ mod writing;
 pub use fault::{Fault, HeadFault};
 pub use kind::BodyKind;
 pub use laws::{
-    a_reply_is_one_thing, a_reply_is_read_back, a_request_is_read_back, bytes_are_one_thing,
-    the_limits_are_as_stated,
+    a_long_request_is_refused, a_reply_is_one_thing, a_reply_is_read_back, a_request_is_read_back,
+    bytes_are_one_thing, the_limits_are_as_stated,
 };
 pub use printing::{put_reply, reply_bytes, request_bytes};
 pub use reading::read_request;

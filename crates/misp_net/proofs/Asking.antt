@@ -1,4 +1,4 @@
--- Whom a pull asks.
+-- With whom an instance synchronises.
 use Rattle.std.proofs.Common.{◌≡◌, ◌⊎◌, ℕ, ◌<◌, if◌then◌else◌, Bool, true, false, eqb, List, [], ◌∷◌, length, map, get_or, Option, Some, None, Result, Ok, Err, refl, sym, ◌∙◌, ap, subst, inl, inr, arith, bytes_eq}
 use Rattle.std.specs.List.{position_or_len}
 use Rattle.std.proofs.lemmas.Bool.{cases_Bool}
@@ -16,15 +16,15 @@ use Rattle.misp_script.specs.Directory.{Roster, directory_of, place_of, roster_n
 use Rattle.misp_sync.specs.Counts.{no_count}
 use Rattle.misp_sync.specs.declared.reply.SyncReply.{SyncReply}
 use Rattle.misp_sync.specs.declared.reply.SyncReply.TheVariants as replies
-use Rattle.misp_net.specs.Acts.{Pulls, act}
+use Rattle.misp_net.specs.Acts.{Syncs, act}
 use Rattle.misp_net.specs.Asking.{asked_at, asked_over, names_of}
 use Rattle.misp_net.specs.Carrying.{carry_faults, fault_by}
 use Rattle.misp_net.specs.Hosts.{nobody}
 use Rattle.misp_net.specs.Links.{link_at, peer_place, place_named, place_of_peer}
-use Rattle.misp_net.specs.Prelude.{Description, Host, KeeperState, PullData, Standing, Synced, described_host, described_hosts, host_of, hosts_of, state_of, states_of}
+use Rattle.misp_net.specs.Prelude.{Description, Host, KeeperState, SyncData, Standing, Synced, described_host, described_hosts, host_of, hosts_of, state_of, states_of}
 use Rattle.misp_net.specs.Running.{IsAct}
 use Rattle.misp_net.proofs.Peers.{peer_inside}
-use Rattle.misp_net.proofs.Pulls.{alone_act, barred_act}
+use Rattle.misp_net.proofs.Syncs.{alone_act, barred_act}
 use Rattle.misp_sync.specs.Pulled as pulls
 
 -- ---- names
@@ -56,7 +56,7 @@ place_same rosters hosts name same =
     ap (λ names. place_of names name) same
     ∙ rw (first_map (λ (n : List ℕ). bytes_eq n name) (λ (h : Host). h.name) hosts, length-map hosts (λ (h : Host). h.name)) refl
 
--- ---- whom it asks
+-- ---- with whom
 
 eqb_same : (n : ℕ) → eqb n n ≡ true
 eqb_same n = elim (eqb_tells n n) [
@@ -95,7 +95,7 @@ module _ (hosts : List Host) (at : ℕ) (link : Link) where
   asked_none name None is asked = (let same : NoLink ≡ name = cc in same, rw is (eqb_same at))
   asked_none name (Some place) is asked = let alone = none_from place name (eqb place at) asked in (alone.0, rw is alone.1)
 
--- the peer that is asked is the other instance
+-- the peer is the other instance
 pub asked_peer : (rosters : List Roster) (hosts : List Host) (at : ℕ) (name : List ℕ) (peer : ℕ) → roster_names rosters ≡ names_of hosts → (link : Option Link) → link_at hosts at name ≡ link
     → asked_over rosters at link ≡ Ok peer → (peer ≡ place_of_peer hosts at name) × (eqb peer at ≡ false)
 asked_peer rosters hosts at name peer same None is asked = cc
@@ -103,15 +103,15 @@ asked_peer rosters hosts at name peer same (Some link) is asked =
     let (on, found) = peer_from link.on (asked_at at (place_of (roster_names rosters) link.peer)) peer asked in
     rw is (asked_place hosts at link peer (place_named hosts link.peer) refl (ap (asked_at at) (sym (place_same rosters hosts link.peer same)) ∙ found))
 
--- a pull of which nobody is asked is refused, and leaves all keepers as they were
-pub refused_act : (rosters : List Roster) (hosts : List Host) (time word : ℕ) (line : PullData) (old : List KeeperState) (name : RuleName) → roster_names rosters ≡ names_of hosts
+-- a synchronisation with nobody is refused, and leaves all keepers as they were
+pub refused_act : (rosters : List Roster) (hosts : List Host) (time word : ℕ) (line : SyncData) (old : List KeeperState) (name : RuleName) → roster_names rosters ≡ names_of hosts
     → (link : Option Link) → link_at hosts line.at line.link ≡ link → asked_over rosters line.at link ≡ Err name
-    → IsAct hosts (act time word (Pulls line)) old old (Synced (replies.Stopped no_count (bare name)))
+    → IsAct hosts (act time word (Syncs line)) old old (Synced (replies.Stopped no_count (bare name)))
 refused_act rosters hosts time word line old name same None is asked =
     let none : NoLink ≡ name = cc in
-    subst (λ n. IsAct hosts (act time word (Pulls line)) old old (Synced (replies.Stopped no_count (bare n)))) none (barred_act hosts time word line old (bare NoLink) (rw is refl))
+    subst (λ n. IsAct hosts (act time word (Syncs line)) old old (Synced (replies.Stopped no_count (bare n)))) none (barred_act hosts time word line old (bare NoLink) (rw is refl))
 refused_act rosters hosts time word line old name same (Some link) is asked =
-    let by : RuleName → Type 0 = λ n. IsAct hosts (act time word (Pulls line)) old old (Synced (replies.Stopped no_count (bare n))) in
+    let by : RuleName → Type 0 = λ n. IsAct hosts (act time word (Syncs line)) old old (Synced (replies.Stopped no_count (bare n))) in
     elim (bar_from link.on (asked_at line.at (place_of (roster_names rosters) link.peer)) name asked) [
       | inl open_ ↦
           let alone = asked_none hosts line.at link name (place_named hosts link.peer) refl (ap (asked_at line.at) (sym (place_same rosters hosts link.peer same)) ∙ open_.1) in

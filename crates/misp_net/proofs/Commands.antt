@@ -11,24 +11,25 @@ use Rattle.misp_history.proofs.Steps.{step_nothing}
 use Rattle.misp_erasure.specs.Erasure.{cut_world, HasKnown}
 use Rattle.misp_store.specs.Sharing.{groups_of}
 use Rattle.misp_store.proofs.GroupRows.{AreReadBack}
-use Rattle.misp_core.specs.Prelude.{Admin, Asked, Caller, Group}
+use Rattle.misp_core.specs.Prelude.{Admin, Caller, Group}
 use Rattle.misp_api.specs.Answering.{replied}
-use Rattle.misp_api.specs.Prelude.{Reading}
+use Rattle.misp_api.specs.Prelude.{Commanded, Reading}
+use Rattle.misp_api.specs.declared.command.Command.{Command}
 use Rattle.misp_api.specs.Request.{request_data}
 use Rattle.misp_api.specs.Sending.{read_form}
-use Rattle.misp_api.proofs.Forms.{AskedBy, BuiltForm, form_built, form_caller}
+use Rattle.misp_api.proofs.Forms.{AllowedForm, AskedBy, BuiltForm, form_allowed, form_built, form_caller}
 use Rattle.misp_api.proofs.Idle.{request_idle, group_idle}
 use Rattle.misp_net.specs.Prelude.{Act, AreDistinct, Effect, GroupData, Host, OrgId, Outcome, Output, Replied, Reply, Seen, Stopped, Tables, Went, World, group_form, grouped, held_at, host_at, meaning}
-use Rattle.misp_net.specs.Prelude.{PullData, links_of, nothing_held, seen_in, spelled, step, told_output}
-use Rattle.misp_net.specs.Acts.{Deed, Idle, Asks, Administers, Pulls, IsPlaced}
-use Rattle.misp_net.specs.Meaning.{ActMeaning, administering, asking, asks, caller_of, deed_meaning, idle, silent}
+use Rattle.misp_net.specs.Prelude.{SyncData, links_of, nothing_held, seen_in, spelled, step, told_output}
+use Rattle.misp_net.specs.Acts.{Deed, Idle, Asks, Administers, Syncs, IsPlaced}
+use Rattle.misp_net.specs.Meaning.{ActMeaning, administering, asking, asks, caller_of, command_at, deed_meaning, idle, silent}
 use Rattle.misp_net.specs.Run.{output_of, tables_after}
 use Rattle.misp_net.specs.Promise.{IsIdle}
 use Rattle.misp_net.specs.History.{world_after, seen_by, IsHistory, is_asker}
 use Rattle.misp_net.proofs.Owning.{own_reply}
-use Rattle.misp_net.proofs.PullLaw.{IsPullLaw}
-use Rattle.misp_net.proofs.PullsIdle.{pull_idle}
-use Rattle.misp_net.proofs.PullsTold.{pull_left, pull_told}
+use Rattle.misp_net.proofs.SyncLaw.{AreSyncLaws}
+use Rattle.misp_net.proofs.SyncsIdle.{sync_idle}
+use Rattle.misp_net.proofs.SyncsTold.{sync_left, sync_told}
 use Rattle.misp_net.proofs.Telling.{IsLocal, world_whole, world_still, groups_there, request_told, as_before, request_left, group_left}
 use Rattle.misp_sync.specs.History.{applied}
 use Rattle.misp_effects.specs.Run as runs
@@ -37,10 +38,10 @@ use Rattle.misp_history.specs.Acts as model
 -- of an act that asks one of the instances, if it asks any
 pub record ActLaw (hosts : List Host) (among : Type 0) (line : ActMeaning) : Type 0 where
   -- over keepers that hold the tables of the history, it puts out what the history says
-  pub told : IsPullLaw → AreDistinct hosts → among → (n : ℕ) (w : World) (old : Tables) → IsHistory hosts n w old → (outcome : Outcome)
+  pub told : AreSyncLaws → AreDistinct hosts → among → (n : ℕ) (w : World) (old : Tables) → IsHistory hosts n w old → (outcome : Outcome)
       → runs.output_of seen_in outcome line.means old ≡ (effect_of outcome line.means (seen_by hosts w)).reply
   -- and whatever stops it, it leaves what is applied of its act
-  pub left : AreReadBack → IsPullLaw → AreDistinct hosts → among → (n : ℕ) (w : World) (old : Tables) → IsHistory hosts n w old → (outcome : Outcome)
+  pub left : AreReadBack → AreSyncLaws → AreDistinct hosts → among → (n : ℕ) (w : World) (old : Tables) → IsHistory hosts n w old → (outcome : Outcome)
       → AreReadable (effect_in seen_in outcome line.means old).batches
       → IsHistory hosts (suc n) (step_partly (links_of hosts) n w line.act (applied outcome)) (runs.tables_after seen_in spelled outcome line.means old)
   -- what is refused leaves all as it was
@@ -104,8 +105,12 @@ asks_refused : (at : ℕ) (comes : Seen → Effect Reply) (tables : Tables)
 asks_refused at comes tables is Went none = none_put at tables _ (is none)
 asks_refused at comes tables is (Stopped stop k lost) none = none_put at tables [] refl
 
-asking_local : (form : Reading Asked) (host : Host) (caller : Option Caller) → IsLocal (asking form host caller)
-asking_local (Ok asked) host caller = tt
+command_local : (host : Host) (caller : Caller) (command : Command) → IsLocal (command_at host caller command)
+command_local host caller (Command.Asks ask) = tt
+command_local host caller (Command.TakesGroups groups) = tt
+
+asking_local : (form : Reading Commanded) (host : Host) (caller : Option Caller) → IsLocal (asking form host caller)
+asking_local (Ok it) host caller = command_local host it.0 it.1
 asking_local (Err refusal) host None = tt
 asking_local (Err refusal) host (Some caller) = tt
 
@@ -113,10 +118,14 @@ administering_local : (form : Reading Group) (line : GroupData) → IsLocal (adm
 administering_local (Ok g) line = tt
 administering_local (Err refusal) line = tt
 
--- what was read asks what is built, and its caller is the one whose key it has
+-- what was read asks what is built, its role permits it, and its caller is the one whose key it has
 read_built : (admin : Admin) (word : ℕ) (read : Read) → BuiltForm (read_form admin word read)
 read_built admin word (reads.Request request) = form_built admin (request_data word request)
 read_built admin word (reads.Refused fault) = tt
+
+read_allowed : (admin : Admin) (word : ℕ) (read : Read) → AllowedForm (read_form admin word read)
+read_allowed admin word (reads.Request request) = form_allowed admin (request_data word request)
+read_allowed admin word (reads.Refused fault) = tt
 
 read_caller : (admin : Admin) (word : ℕ) (read : Read) → AskedBy (caller_of admin read) (read_form admin word read)
 read_caller admin word (reads.Request request) = form_caller admin (request_data word request)
@@ -132,7 +141,7 @@ read_law hosts time word at read =
           asks_told at (replied host time form) hosts w old (request_told hosts distinct n w old history at time form built inside);
       left = λ back law distinct inside n w old history.
           asks_left at (replied host time form) hosts distinct n w old history _ (asking_local form host (caller_of host.admin read))
-          (request_left hosts distinct n w old history at time form (caller_of host.admin read) built inside);
+          (request_left hosts distinct n w old history back at time form (caller_of host.admin read) built (read_allowed host.admin word read) inside);
       refused = λ outcome tables. asks_refused at (replied host time form) tables (request_idle host time form (held_at at tables) built) outcome;
       own = λ keep closed o w its has.
           ap Replied (own_reply keep closed o hosts w at time form (caller_of host.admin read) (read_caller host.admin word read) its has);
@@ -153,13 +162,13 @@ group_law hosts time word line =
       own = λ keep closed o w its has. absurd cc;
     }
 
--- ---- a pull
+-- ---- a synchronisation
 
-pull_law : (hosts : List Host) (time word : ℕ) (line : PullData) → ActLaw hosts (line.at < length hosts) (deed_meaning hosts time word (Pulls line))
-pull_law hosts time word line = record {
-  told = λ law distinct inside n w old history. pull_told law hosts distinct line inside n w old history;
-  left = λ back law distinct inside n w old history. pull_left law hosts distinct line inside n w old history time;
-  refused = λ outcome tables. pull_idle hosts line outcome tables;
+sync_law : (hosts : List Host) (time word : ℕ) (line : SyncData) → ActLaw hosts (line.at < length hosts) (deed_meaning hosts time word (Syncs line))
+sync_law hosts time word line = record {
+  told = λ law distinct inside n w old history. sync_told law hosts distinct line inside n w old history;
+  left = λ back law distinct inside n w old history. sync_left law hosts distinct line inside n w old history time;
+  refused = λ outcome tables. sync_idle hosts line outcome tables;
   own = λ keep closed o w its has. absurd cc;
 }
 
@@ -170,12 +179,12 @@ deed_law : (hosts : List Host) (time word : ℕ) (deed : Deed) → ActLaw hosts 
 deed_law hosts time word (Idle output) = idle_law hosts _ output time
 deed_law hosts time word (Asks at read) = read_law hosts time word at read
 deed_law hosts time word (Administers line) = group_law hosts time word line
-deed_law hosts time word (Pulls line) = pull_law hosts time word line
+deed_law hosts time word (Syncs line) = sync_law hosts time word line
 
 pub act_law : (hosts : List Host) (a : Act) → ActLaw hosts (IsPlaced (length hosts) a.deed) (meaning hosts a)
 act_law hosts a = deed_law hosts a.time a.word a.deed
 
-module _ (law : IsPullLaw) (hosts : List Host) (distinct : AreDistinct hosts) (n : ℕ) (w : World) (old : Tables) (history : IsHistory hosts n w old) where
+module _ (law : AreSyncLaws) (hosts : List Host) (distinct : AreDistinct hosts) (n : ℕ) (w : World) (old : Tables) (history : IsHistory hosts n w old) where
   -- the act puts out what the history says
   pub output_told : (outcome : Outcome) (act : Act) → IsPlaced (length hosts) act.deed → output_of outcome hosts act old ≡ told_output outcome hosts w act
   output_told outcome act among = (act_law hosts act).told law distinct among n w old history outcome

@@ -3,7 +3,7 @@ use Rattle.std.proofs.Common.{◌≡◌, ◌⊎◌, ℕ, ◌<◌, [], ◌∷◌,
 use Rattle.std.specs.Prelude.{⊤}
 use Rattle.std.proofs.lemmas.List.{length-map, set-get_or}
 use Rattle.misp_outside.specs.Causes.{RoseBy}
-use Rattle.misp_script.specs.Step.{GroupData, PullData, RawData, RequestData}
+use Rattle.misp_script.specs.Step.{GroupData, SyncData, RawData, RequestData}
 use Rattle.misp_api.specs.Administering.{group_form}
 use Rattle.hex.specs.Hex.{encode_lower}
 use Rattle.misp_api.specs.Session.{end_name, end_of}
@@ -12,9 +12,9 @@ use Rattle.misp_effects.proofs.KeeperStates.{all_kept}
 use Rattle.misp_sync.specs.Trail.{GrowsBy}
 use Rattle.misp_net.proofs.Appending.{one_ran}
 use Rattle.misp_net.specs.Prelude.{Act, AreKept, Bad, Done, Host, IsDone, KeeperState, Line, Nothing, Output, Ran, Replied, Seen, Standing, Unanswered, host_of, hosts_of, meaning, seen_in, spelled, states_of, stop_in}
-use Rattle.misp_net.specs.Acts.{Administers, Asks, Does, Idle, IsPlaced, One, Pulls, Session, act, asks_from, outputs_done}
+use Rattle.misp_net.specs.Acts.{Administers, Asks, Does, Idle, IsPlaced, One, Session, Syncs, act, asks_from, outputs_done}
 use Rattle.misp_net.specs.Carrying.{carry_faults}
-use Rattle.misp_net.specs.Lines.{pull_line}
+use Rattle.misp_net.specs.Lines.{sync_line}
 use Rattle.misp_net.specs.Meaning.{IsAsFormed}
 use Rattle.misp_net.specs.Passing.{IsPassed, IsPassedFor, Trail}
 use Rattle.misp_net.specs.Running.{Carried, CutLine, HasSession, IsAct, IsAdministered, IsRequested, RanLine, carried}
@@ -72,24 +72,24 @@ bad_ran place hosts old before after carry text =
     let d : Done = One (act 0 0 (Idle (Bad place))) (Bad place) in
     (d, (Bad place, refl), idle_done hosts 0 0 (Bad place) old refl refl, text, rose_none 0 carry.faults carry.faults refl (omega arith), grows_none carry.passed (IsPassedFor hosts old d) refl)
 
--- a pull among all keepers is what its line does
-pub pull_done : (time word : ℕ) (hosts : List Host) (line : PullData) (old new : List KeeperState) (output : Output) → line.at < length hosts → IsAct hosts (act time word (Pulls line)) old new output
-    → Does (pull_line time word line) (One (act time word (Pulls line)) output) × IsDone hosts (One (act time word (Pulls line)) output) old new
-pull_done time word hosts line old new output lt is = ((output, refl), one_done hosts (act time word (Pulls line)) old new output is tt lt)
+-- a synchronisation among all keepers is what its line does
+pub sync_done : (time word : ℕ) (hosts : List Host) (line : SyncData) (old new : List KeeperState) (output : Output) → line.at < length hosts → IsAct hosts (act time word (Syncs line)) old new output
+    → Does (sync_line time word line) (One (act time word (Syncs line)) output) × IsDone hosts (One (act time word (Syncs line)) output) old new
+sync_done time word hosts line old new output lt is = ((output, refl), one_done hosts (act time word (Syncs line)) old new output is tt lt)
 
 -- it is written
-pub pull_ran : (time word : ℕ) (hosts : List Host) (line : PullData) (old new : List KeeperState) (output : Output) (before after : List ℕ) (first last : Carried) → line.at < length hosts
-    → IsAct hosts (act time word (Pulls line)) old new output → after ≡ before ++ output_text output → RoseBy (carry_faults (output ∷ [])) first.faults last.faults
-    → GrowsBy first.passed last.passed (IsPassed hosts old (Pulls line) output)
-    → RanLine hosts (pull_line time word line) old new before after first last
-pull_ran time word hosts line old new output before after first last lt is text rose passed =
-    let (does, done) = pull_done time word hosts line old new output lt is in (One (act time word (Pulls line)) output, does, done, text, rose, passed)
+pub sync_ran : (time word : ℕ) (hosts : List Host) (line : SyncData) (old new : List KeeperState) (output : Output) (before after : List ℕ) (first last : Carried) → line.at < length hosts
+    → IsAct hosts (act time word (Syncs line)) old new output → after ≡ before ++ output_text output → RoseBy (carry_faults (output ∷ [])) first.faults last.faults
+    → GrowsBy first.passed last.passed (IsPassed hosts old (Syncs line) output)
+    → RanLine hosts (sync_line time word line) old new before after first last
+sync_ran time word hosts line old new output before after first last lt is text rose passed =
+    let (does, done) = sync_done time word hosts line old new output lt is in (One (act time word (Syncs line)) output, does, done, text, rose, passed)
 
 -- it was done, and is not written
-pub pull_cut : (time word : ℕ) (hosts : List Host) (line : PullData) (old new : List KeeperState) (output : Output) (first last : Option Trail) → line.at < length hosts → IsAct hosts (act time word (Pulls line)) old new output
-    → GrowsBy first last (IsPassed hosts old (Pulls line) output) → CutLine hosts (pull_line time word line) old new first last
-pull_cut time word hosts line old new output first last lt is passed =
-    let (does, done) = pull_done time word hosts line old new output lt is in inr (One (act time word (Pulls line)) output, does, done, passed)
+pub sync_cut : (time word : ℕ) (hosts : List Host) (line : SyncData) (old new : List KeeperState) (output : Output) (first last : Option Trail) → line.at < length hosts → IsAct hosts (act time word (Syncs line)) old new output
+    → GrowsBy first last (IsPassed hosts old (Syncs line) output) → CutLine hosts (sync_line time word line) old new first last
+sync_cut time word hosts line old new output first last lt is passed =
+    let (does, done) = sync_done time word hosts line old new output lt is in inr (One (act time word (Syncs line)) output, does, done, passed)
 
 -- memory ran out before anything was done
 pub cut_first : (hosts : List Host) (line : Line) (old : List KeeperState) (told : Option Trail) → CutLine hosts line old old told told

@@ -12,7 +12,7 @@ use Rattle.misp_net.specs.Meaning.{meanings_of}
 use Rattle.misp_net.specs.Run.{tables_after}
 use Rattle.misp_net.specs.History.{world_after, world_left, told_outputs, empty_tables, IsHistory, AreTold, AreHeld}
 use Rattle.misp_net.proofs.Commands.{output_told, act_left}
-use Rattle.misp_net.proofs.PullLaw.{IsPullLaw}
+use Rattle.misp_net.proofs.SyncLaw.{AreSyncLaws}
 
 empty_at : (place : ℕ) (hosts : List Host) → held_at place (empty_tables hosts) ≡ nothing_held
 empty_at zero [] = refl
@@ -29,7 +29,7 @@ at_start hosts = record {
   earlier = refl;
 }
 
-module _ (back : AreReadBack) (law : IsPullLaw) (hosts : List Host) (distinct : AreDistinct hosts) where
+module _ (back : AreReadBack) (law : AreSyncLaws) (hosts : List Host) (distinct : AreDistinct hosts) where
   -- what the lines put out and leave, the first being the n-th
   all_told : (n : ℕ) (w : World) (acts : List Act) (outcomes : List Outcome) (old : Tables) → length outcomes ≡ length acts
       → AreAmong (length hosts) acts → IsHistory hosts n w old → AreFit seen_in spelled (meanings_of hosts acts) outcomes old

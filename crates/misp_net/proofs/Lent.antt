@@ -10,7 +10,7 @@ use Rattle.misp_sync.specs.declared.reply.SyncReply.{SyncReply}
 use Rattle.misp_net.specs.Lending.{IsHeldOff}
 use Rattle.std.proofs.lemmas.List.Edits.{get_or-remove_below, get_or-remove_above}
 
--- a link that refuses the pull
+-- a link that refuses it
 pub held_off : (own peer mine theirs : Standing) (reply : SyncReply) (bar : Option Refusal)
     → IfSome bar (λ why. (reply ≡ SyncReply.Stopped no_count why) × (mine ≡ own) × (theirs ≡ peer))
     → IfSome bar (λ why. IsHeldOff own peer mine theirs reply (SyncReply.Stopped no_count why))

@@ -5,7 +5,8 @@ use Rattle.misp_history.proofs.Prelude.{Inst, IsClosed, Key, OrgId, World, cut, 
 use Rattle.misp_erasure.specs.Erasure.{cut_world, HasKnown}
 use Rattle.misp_core.specs.Answers.{scene_at, reply_in}
 use Rattle.misp_core.specs.Handing.{knowing}
-use Rattle.misp_api.specs.Prelude.{Asked, Caller, Host, Reading, replied}
+use Rattle.misp_api.specs.Prelude.{Caller, Commanded, Host, Reading, command_effect, replied}
+use Rattle.misp_api.specs.declared.command.Command.{Command}
 use Rattle.misp_api.proofs.Forms.{AskedBy}
 use Rattle.misp_net.specs.Hosts.{host_at}
 use Rattle.misp_net.specs.History.{seen_by, is_asker}
@@ -22,11 +23,16 @@ module _ (keep : Key → Bool) (closed : IsClosed keep) (o : OrgId) (hosts : Lis
       ∙ known_cut keep closed (tables w.log i) (w.groups i) i org
       ∙ filter_all (λ row. keep row.key) (known (tables w.log i) (w.groups i) i org) granted
 
-  pub own_reply : (w : World) (at now : ℕ) (form : Reading Asked) (caller : Option Caller) → AskedBy caller form → is_asker o (option_map (λ c. c.org) caller) ≡ true → HasKnown o keep w
-      → (replied (host_at at hosts) now form (seen_by hosts (cut_world keep w) at)).reply ≡ (replied (host_at at hosts) now form (seen_by hosts w at)).reply
+  own_command : (w : World) (at now : ℕ) (caller : Caller) (command : Command) → same_org caller.org o ≡ true → HasKnown o keep w
+      → (command_effect (host_at at hosts) now caller command (seen_by hosts (cut_world keep w) at)).reply ≡ (command_effect (host_at at hosts) now caller command (seen_by hosts w at)).reply
   unfolding cut_world
-  own_reply w at now (Ok asked) caller by own has =
+  own_command w at now caller (Command.Asks ask) same has =
       let host : Host = host_at at hosts in
-      let same : same_org asked.0.org o ≡ true = subst (λ (c : Option Caller). is_asker o (option_map (λ (d : Caller). d.org) c) ≡ true) by own in
-      ap (λ rows. reply_in host.admin (knowing (scene_at host now asked.0 (w.groups host.name)) rows) asked.1) (own_rows w host.name asked.0.org same has)
+      ap (λ rows. reply_in host.admin (knowing (scene_at host now caller (w.groups host.name)) rows) ask) (own_rows w host.name caller.org same has)
+  own_command w at now caller (Command.TakesGroups coming) same has = refl
+
+  pub own_reply : (w : World) (at now : ℕ) (form : Reading Commanded) (caller : Option Caller) → AskedBy caller form → is_asker o (option_map (λ c. c.org) caller) ≡ true → HasKnown o keep w
+      → (replied (host_at at hosts) now form (seen_by hosts (cut_world keep w) at)).reply ≡ (replied (host_at at hosts) now form (seen_by hosts w at)).reply
+  own_reply w at now (Ok it) caller by own has =
+      own_command w at now it.0 it.1 (subst (λ (c : Option Caller). is_asker o (option_map (λ (d : Caller). d.org) c) ≡ true) by own) has
   own_reply w at now (Err refusal) caller by own has = refl

@@ -1,37 +1,16 @@
 -- The places of instances by name, and the net of their links.
-use Rattle.std.proofs.Common.{◌≡◌, ℕ, zero, suc, ◌+◌, ◌<◌, Bool, true, false, cond, ltb, eqb, List, [], ◌∷◌, length, position, Option, Some, None, option_map, unwrap_or, refl, ◌∙◌, ap, inl, inr, arith, bytes_eq}
-use Rattle.std.specs.List.{position_or_len}
+use Rattle.std.proofs.Common.{◌≡◌, ℕ, zero, suc, ◌<◌, true, false, eqb, List, [], ◌∷◌, length, Option, Some, None, unwrap_or, refl, ◌∙◌, inl, inr, arith, bytes_eq}
 use Rattle.std.proofs.lemmas.Bool.{cases_Bool}
-use Rattle.std.proofs.lemmas.Bool.Decides.{nat_tests}
 use Rattle.std.proofs.lemmas.List.Quantifiers.{position-Some}
 use Rattle.misp_ids.proofs.Same.{same_inst-refl}
-use Rattle.misp_ids.specs.declared.label.Way.TheVariants as ways
+use Rattle.misp_ids.specs.declared.label.Way.{Way}
 use Rattle.misp_orgs.specs.declared.link.Link.{Link}
-use Rattle.misp_core.specs.Prelude.{Host, Inst, World, same_inst}
-use Rattle.misp_sync.specs.History.{route_of}
+use Rattle.misp_script.proofs.Places.{first_place}
+use Rattle.misp_core.specs.Prelude.{Group, Host, Inst, World, same_inst}
 use Rattle.misp_net.specs.Prelude.{AreDistinct, host_at}
 use Rattle.misp_net.specs.Hosts.{nobody}
 use Rattle.misp_net.specs.Links.{links_of, peer_place, place_named, place_of_peer, route_at}
-
--- ---- the first of a list
-
-here_place : (n : ℕ) → cond {A = Option ℕ} (ltb 0 (suc n)) (Some 0) None ≡ Some 0
-here_place n = let up : ltb 0 (suc n) ≡ true = grind (arith, nat_tests) in rw up refl
-
-later_place : (k n : ℕ) → cond {A = Option ℕ} (ltb (1 + k) (suc n)) (Some (1 + k)) None ≡ option_map suc (cond (ltb k n) (Some k) None)
-later_place k n = elim (cases_Bool (ltb k n)) [
-  | inl hit ↦
-      let up : ltb (1 + k) (suc n) ≡ true = grind (arith, nat_tests) in
-      let one : 1 + k ≡ suc k = omega arith in
-      rw (up, hit) (ap Some one)
-  | inr miss ↦ let up : ltb (1 + k) (suc n) ≡ false = grind (arith, nat_tests) in rw (up, miss) refl
-]
-
-first_place : {A : Type 0} (p : A → Bool) (x : A) (xs : List A) → position p (x ∷ xs) ≡ cond (p x) (Some 0) (option_map suc (position p xs))
-first_place p x xs = elim (cases_Bool (p x)) [
-  | inl hit ↦ rw hit (here_place (length xs))
-  | inr miss ↦ rw miss (later_place (position_or_len p xs) (length xs))
-]
+use Rattle.misp_net.specs.Ways.{route_on}
 
 -- ---- instances by name
 
@@ -71,14 +50,14 @@ peer_inside hosts at (Some link) lt = named_inside hosts at link.peer lt (place_
 -- ---- the net
 
 -- it has the routes of the place of an instance
-pub route_there : (hosts : List Host) (at : ℕ) (link : Inst) (w : World) → AreDistinct hosts → at < length hosts
-    → links_of hosts ways.Pull (host_at at hosts).name link w.groups ≡ route_at hosts at link
-route_there hosts at link w distinct lt = rw (place_is hosts at distinct lt) refl
+pub route_there : (hosts : List Host) (way : Way) (at : ℕ) (link : Inst) (w : World) → AreDistinct hosts → at < length hosts
+    → links_of hosts way (host_at at hosts).name link w.groups ≡ route_at hosts way at link (w.groups (host_at at hosts).name)
+route_there hosts way at link w distinct lt = rw (place_is hosts at distinct lt) refl
 
--- where the peer is another, that of the pull from it, and else none
-pub route_apart : (hosts : List Host) (at : ℕ) (link : Inst) → eqb (place_of_peer hosts at link) at ≡ false
-    → route_at hosts at link ≡ route_of (host_at at hosts) link (host_at (place_of_peer hosts at link) hosts)
-route_apart hosts at link other = rw other refl
+-- where the peer is another, that of the synchronisation with it, and else none
+pub route_apart : (hosts : List Host) (way : Way) (at : ℕ) (link : Inst) (groups : List Group) → eqb (place_of_peer hosts at link) at ≡ false
+    → route_at hosts way at link groups ≡ route_on way (host_at at hosts) link (host_at (place_of_peer hosts at link) hosts) groups
+route_apart hosts way at link groups other = rw other refl
 
-pub no_route : (hosts : List Host) (at : ℕ) (link : Inst) → eqb (place_of_peer hosts at link) at ≡ true → route_at hosts at link ≡ None
-no_route hosts at link same = rw same refl
+pub no_route : (hosts : List Host) (way : Way) (at : ℕ) (link : Inst) (groups : List Group) → eqb (place_of_peer hosts at link) at ≡ true → route_at hosts way at link groups ≡ None
+no_route hosts way at link groups same = rw same refl

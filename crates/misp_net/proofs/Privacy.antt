@@ -12,7 +12,7 @@ use Rattle.misp_store.proofs.GroupRows.{AreReadBack}
 use Rattle.misp_net.specs.Prelude.{Act, AreDistinct, HasRun, Host, KeeperState, Line, OrgId, Outcome, Output, Stopped, Tell, Went, World, acts_of, links_of, outputs_of, start, step, stop_in, told_output}
 use Rattle.misp_net.specs.History.{act_in, acts_in, told_outputs, empty_tables, AreTold, is_of}
 use Rattle.misp_net.specs.Promise.{ShowNoStop, outputs_over, replies_to, own_acts, AreReplied, AreNewest, IsPrivate}
-use Rattle.misp_net.proofs.PullLaw.{IsPullLaw}
+use Rattle.misp_net.proofs.SyncLaw.{AreSyncLaws}
 use Rattle.misp_net.proofs.Telling.{world_whole}
 use Rattle.misp_net.proofs.Histories.{are_told, are_held}
 use Rattle.misp_net.proofs.Commands.{act_law, idle_same}
@@ -97,7 +97,7 @@ told_unstopped n hosts w (act ∷ acts) (Went ∷ outcomes) (output ∷ outputs)
     ap (λ v. told_output Went hosts w act ∷ told_outputs (suc n) hosts v acts outcomes) (world_whole (links_of hosts) n w (act_in hosts act))
     ∙ ap (λ os. told_output Went hosts w act ∷ os) (told_unstopped (suc n) hosts (step (links_of hosts) n w (act_in hosts act)) acts outcomes outputs (omega (arith, each)) rest none.1)
 
-module _ (back : AreReadBack) (law : IsPullLaw) (hosts : List Host) (lines : List Line) (old new : List KeeperState) (text : List ℕ) (run : HasRun hosts lines old new text) where
+module _ (back : AreReadBack) (law : AreSyncLaws) (hosts : List Host) (lines : List Line) (old new : List KeeperState) (text : List ℕ) (run : HasRun hosts lines old new text) where
   abbrev acts : List Act
   acts = acts_of run.dones
 

@@ -1,12 +1,12 @@
 -- The bytes of what a pull asks: digits and letters, with slashes between.
-use Rattle.std.proofs.Common.{◌≡◌, zero, suc, ◌^◌, ◌<◌, ℕ, Bool, true, false, not, ◌&&◌, ◌==◌, List, [], ◌∷◌, ◌++◌, codes, decimal, refl, ◌∙◌, arith, IsAscii, IsUtf8, if◌then◌else◌}
+use Rattle.std.proofs.Common.{◌≡◌, zero, suc, ◌^◌, ◌<◌, ◌≤◌, ℕ, Bool, true, false, not, ◌&&◌, ◌==◌, List, [], ◌∷◌, ◌++◌, codes, decimal, length, length-append, refl, ◌∙◌, arith, IsAscii, IsUtf8, if◌then◌else◌}
 use Rattle.std.specs.Prelude.{nat_lt}
 use Rattle.std.specs.Char.{is_ascii_digit}
 use Rattle.std.specs.List.{list_all}
 use Rattle.std.specs.Str.{all_ascii_digits}
 use Rattle.std.proofs.lemmas.Bool.{and_parts, and_from}
 use Rattle.std.proofs.lemmas.Bool.Decides.{nat_tests}
-use Rattle.std.proofs.lemmas.Fmt.{digits_decimal}
+use Rattle.std.proofs.lemmas.Fmt.{digits_decimal, length-decimal-le}
 use Rattle.std.proofs.lemmas.List.Folds.{list_all-append}
 use Rattle.std.proofs.lemmas.Str.{IsUtf8-from_ascii}
 use Rattle.std.proofs.lemmas.Str.Parse.{numerals_by_value, tells_all_ascii_digits}
@@ -14,6 +14,7 @@ use Rattle.uuid.specs.Text.{by_index, hex_digit, is_hyphen_place, nibble, digit_
 use Rattle.uuid.proofs.TextLemmas.{nibble_small}
 use Rattle.misp_ids.specs.Uid.{bytes_of, text_of}
 use Rattle.misp_ids.specs.declared.uid.Uid.{Uid}
+use Rattle.misp_ids.proofs.UidLemmas.{length-text_of}
 
 -- ---- tests of bytes
 
@@ -90,3 +91,8 @@ part_bytes u n small =
     all_both is_path_byte (codes "/sync/part/") (text_of u ++ (codes "/" ++ decimal n)) refl
     (all_both is_path_byte (text_of u) (codes "/" ++ decimal n) (all_pass is_word_byte is_path_byte in_path (text_of u) (uid_bytes u))
     (all_both is_path_byte (codes "/") (decimal n) refl (all_pass is_word_byte is_path_byte in_path (decimal n) (decimal_bytes n small))))
+
+pub part_long : (u : Uid) (n : ℕ) → n < 2 ^ 32 → length (part_target u n) ≤ 64
+part_long u n small =
+    let digits = length-decimal-le 10 n (omega arith) (omega arith) (omega arith) in
+    omega (arith, digits, length-text_of u, length-append (codes "/sync/part/") (text_of u ++ (codes "/" ++ decimal n)), length-append (text_of u) (codes "/" ++ decimal n), length-append (codes "/") (decimal n))

@@ -8,14 +8,19 @@ use Rattle.misp_history.proofs.Steps.{step_nothing, step_misfit}
 use Rattle.misp_history.proofs.Numbered.{step_below}
 use Rattle.misp_store.specs.Sharing.{or_none}
 use Rattle.misp_store.proofs.GroupRows.{AreReadBack}
-use Rattle.misp_core.specs.Prelude.{AreReadable, Asked, Caller, Effect, Group, Held, Host, Inst, Keeps, Stamp, World, groups_of, list_all, put_batches, same_inst, seen_in, spelled, step, tables}
+use Rattle.misp_core.specs.Prelude.{AreReadable, Caller, Effect, Group, Held, Host, Inst, Keeps, Stamp, World, groups_of, left, list_all, put_batches, same_inst, seen_in, spelled, step, tables}
+use Rattle.misp_core.specs.HandedGroups.{act_handing, groups_put}
+use Rattle.misp_core.specs.Taking.{groups_taken}
 use Rattle.misp_core.specs.Keeping.{act_at, act_of}
 use Rattle.misp_core.proofs.Keeping.{keeps_by, over_all, same_elsewhere, same_groups, left_there}
+use Rattle.misp_core.proofs.HandedGroups.{groups_apart, handed_left, log_stays, permitted_handed}
 use Rattle.misp_core.proofs.KeepingGroups.{administered_left, same_log, groups_elsewhere}
-use Rattle.misp_api.specs.Prelude.{Reading, replied}
-use Rattle.misp_api.proofs.Forms.{BuiltForm}
+use Rattle.misp_api.specs.Commands.{AsksBuilt}
+use Rattle.misp_api.specs.Prelude.{Commanded, Reading, command_effect, is_allowed, replied}
+use Rattle.misp_api.specs.declared.command.Command.{Command}
+use Rattle.misp_api.proofs.Forms.{AllowedForm, BuiltForm}
 use Rattle.misp_net.specs.Prelude.{AreDistinct, GroupData, Reply, Stop, Stopped, Tables, grouped, held_at, host_at, links_of, nothing_held}
-use Rattle.misp_net.specs.Meaning.{asking, administering}
+use Rattle.misp_net.specs.Meaning.{asking, administering, command_at}
 use Rattle.misp_sync.specs.History.{applied}
 use Rattle.misp_net.specs.History.{seen_by, IsHistory}
 use Rattle.misp_history.specs.Acts as model
@@ -54,10 +59,15 @@ module _ (hosts : List Host) (distinct : AreDistinct hosts) (n : ℕ) (w : World
 
   -- ---- what is put out
 
-  pub request_told : (at now : ℕ) (form : Reading Asked) → BuiltForm form → at < length hosts
+  command_told : (at now : ℕ) (caller : Caller) (command : Command) → AsksBuilt command → at < length hosts
+      → (command_effect (host_at at hosts) now caller command (seen_in (held_at at old))).reply ≡ (command_effect (host_at at hosts) now caller command (seen_by hosts w at)).reply
+  command_told at now caller (Command.Asks ask) built lt =
+      ap (λ (e : Effect Reply). e.reply) (over_all w (host_at at hosts) now (caller, ask) (held_at at old) built (told.each at lt))
+  command_told at now caller (Command.TakesGroups coming) built lt = ap (λ groups. (groups_put (groups_taken groups coming)).reply) (groups_there at lt)
+
+  pub request_told : (at now : ℕ) (form : Reading Commanded) → BuiltForm form → at < length hosts
       → (replied (host_at at hosts) now form (seen_in (held_at at old))).reply ≡ (replied (host_at at hosts) now form (seen_by hosts w at)).reply
-  request_told at now (Ok asked) built lt =
-      ap (λ (e : Effect Reply). e.reply) (over_all w (host_at at hosts) now asked (held_at at old) built (told.each at lt))
+  request_told at now (Ok it) built lt = command_told at now it.0 it.1 built lt
   request_told at now (Err refusal) built lt = refl
 
   -- ---- what is left
@@ -109,22 +119,41 @@ module _ (hosts : List Host) (distinct : AreDistinct hosts) (n : ℕ) (w : World
       earlier = earlier;
     }
 
-  -- a request
-  pub request_left : (at now : ℕ) (form : Reading Asked) (caller : Option Caller) → BuiltForm form → at < length hosts
-      → AreReadable (replied (host_at at hosts) now form (seen_in (held_at at old))).batches
-      → IsHistory hosts (suc n) (step (links_of hosts) n w (record { at = (host_at at hosts).name; now = now; command = asking form (host_at at hosts) caller }))
-      (slice_set old at (put_batches (map spelled (replied (host_at at hosts) now form (seen_in (held_at at old))).batches) (held_at at old)))
-  request_left at now (Ok asked) caller built lt fits =
-      let host : Host = host_at at hosts in
-      one_left at lt (step (links_of hosts) n w (act_at host now asked)) _
-      (left_there (links_of hosts) n w host now asked (held_at at old) built told.earlier (told.each at lt) fits)
-      (λ j other. (same_elsewhere (links_of hosts) n w host now asked j other, ap (λ groups. groups j) (same_groups (links_of hosts) n w host now asked)))
-      (step_below (links_of hosts) n w (act_at host now asked) told.earlier)
-  request_left at now (Err refusal) None built lt fits = as_before _ _ (step_nothing (links_of hosts) n w _ refl) (still at)
-  request_left at now (Err refusal) (Some caller) built lt fits = as_before _ _ (step_misfit (links_of hosts) n w _ _ refl) (still at)
-
   -- where a group that is kept is read again
   module _ (back : AreReadBack) where
+    -- a command that is permitted
+    command_left : (at now : ℕ) (caller : Caller) (command : Command) → AsksBuilt command → is_allowed (caller, command) ≡ true → at < length hosts
+        → AreReadable (command_effect (host_at at hosts) now caller command (seen_in (held_at at old))).batches
+        → IsHistory hosts (suc n) (step (links_of hosts) n w (record { at = (host_at at hosts).name; now = now; command = command_at (host_at at hosts) caller command }))
+        (slice_set old at (put_batches (map spelled (command_effect (host_at at hosts) now caller command (seen_in (held_at at old))).batches) (held_at at old)))
+    command_left at now caller (Command.Asks ask) built may lt fits =
+        let host : Host = host_at at hosts in
+        one_left at lt (step (links_of hosts) n w (act_at host now (caller, ask))) _
+        (left_there (links_of hosts) n w host now (caller, ask) (held_at at old) built told.earlier (told.each at lt) fits)
+        (λ j other. (same_elsewhere (links_of hosts) n w host now (caller, ask) j other, ap (λ groups. groups j) (same_groups (links_of hosts) n w host now (caller, ask))))
+        (step_below (links_of hosts) n w (act_at host now (caller, ask)) told.earlier)
+    command_left at now caller (Command.TakesGroups coming) built may lt fits =
+        let host : Host = host_at at hosts in
+        let held : Held = held_at at old in
+        let next : World = step (links_of hosts) n w (act_handing host now caller coming) in
+        one_left at lt next _
+        (subst (λ (e : Effect Reply). AreReadable e.batches → Keeps host.name next (left spelled e held)) (permitted_handed caller coming (groups_of held) may)
+        (handed_left (links_of hosts) n w host now caller coming back held may (told.each at lt)) fits)
+        (λ j other. (
+          ap (λ log. tables log j) (log_stays (links_of hosts) n w host now caller coming),
+          groups_apart (links_of hosts) n w host now caller coming j other,
+        ))
+        (step_below (links_of hosts) n w (act_handing host now caller coming) told.earlier)
+
+    -- a request
+    pub request_left : (at now : ℕ) (form : Reading Commanded) (caller : Option Caller) → BuiltForm form → AllowedForm form → at < length hosts
+        → AreReadable (replied (host_at at hosts) now form (seen_in (held_at at old))).batches
+        → IsHistory hosts (suc n) (step (links_of hosts) n w (record { at = (host_at at hosts).name; now = now; command = asking form (host_at at hosts) caller }))
+        (slice_set old at (put_batches (map spelled (replied (host_at at hosts) now form (seen_in (held_at at old))).batches) (held_at at old)))
+    request_left at now (Ok it) caller built may lt fits = command_left at now it.0 it.1 built may lt fits
+    request_left at now (Err refusal) None built may lt fits = as_before _ _ (step_nothing (links_of hosts) n w _ refl) (still at)
+    request_left at now (Err refusal) (Some caller) built may lt fits = as_before _ _ (step_misfit (links_of hosts) n w _ _ refl) (still at)
+
     -- a line of a group
     pub group_left : (now : ℕ) (line : GroupData) (form : Reading Group) → line.at < length hosts
         → AreReadable (grouped now line.org line.add form (groups_of (held_at line.at old))).batches

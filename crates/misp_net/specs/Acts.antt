@@ -1,7 +1,7 @@
 -- What the lines of a script do, one act after another.
 use Rattle.std.specs.Prelude.{◌≡◌, ◌<◌, ℕ, suc, Bool, true, false, List, [], ◌∷◌, ◌++◌, map, Option, Some, None, Result, Ok, Err}
 use Rattle.std.specs.List.{AllByRecursion}
-use Rattle.misp_script.specs.Step.{CommandData, GroupData, PullData}
+use Rattle.misp_script.specs.Step.{CommandData, GroupData, SyncData}
 use Rattle.misp_http.specs.Reading.{IsConclusive, IsRead}
 use Rattle.misp_http.specs.Texts.{request_text}
 use Rattle.misp_http.specs.declared.request.Read.{Read}
@@ -21,12 +21,12 @@ use Rattle.misp_script.specs.Step as commands
 -- ---- acts
 
 -- what is done: nothing, which puts this out; a request that was read at an instance, or bytes that
--- were none; the administration of a group; or a pull
+-- were none; the administration of a group; or a synchronisation
 pub data Deed : Type 0 where
   Idle : Output → Deed
   Asks : ℕ → Read → Deed
   Administers : GroupData → Deed
-  Pulls : PullData → Deed
+  Syncs : SyncData → Deed
 
 -- an act: its moment, its word and its deed
 pub record Act : Type 0 where
@@ -42,7 +42,7 @@ abbrev pub IsPlaced : ℕ → Deed → Type 0
 IsPlaced count (Idle output) = Unit {0}
 IsPlaced count (Asks at read) = at < count
 IsPlaced count (Administers group) = group.at < count
-IsPlaced count (Pulls line) = line.at < count
+IsPlaced count (Syncs line) = line.at < count
 
 -- the same of each of these acts
 abbrev pub AreAmong : ℕ → List Act → Type 0
@@ -125,7 +125,7 @@ DoesCommand time word (commands.Raw r) d =
     (reads : List Read) × (replies : List Reply) × (end : End) × AreRead 0 r.bytes reads end
     × (d ≡ Session time word r.at reads replies end)
 DoesCommand time word (commands.Group group) d = DoesOne time word (Administers group) d
-DoesCommand time word (commands.Pull line) d = DoesOne time word (Pulls line) d
+DoesCommand time word (commands.Sync line) d = DoesOne time word (Syncs line) d
 
 -- what a line does
 abbrev pub Does : Line → Done → Type 0

@@ -2,7 +2,7 @@
 use Rattle.std.specs.Prelude.{ℕ, List, Ok, map}
 use Rattle.misp_script.specs.Directory.{Roster}
 use Rattle.misp_script.specs.Fields.{Reading}
-use Rattle.misp_script.specs.Step.{PullData, StepData, step_of}
+use Rattle.misp_script.specs.Step.{SyncData, StepData, step_of}
 use Rattle.misp_script.specs.Lines as script
 use Rattle.misp_script.specs.Step as commands
 
@@ -14,7 +14,7 @@ Line = Reading StepData
 abbrev pub lines_of : List Roster → List ℕ → List Line
 lines_of rosters text = map (step_of rosters) (script.lines_of text)
 
--- the line of a pull, at this time and with this word
-abbrev pub pull_line : ℕ → ℕ → PullData → Line
-pull_line time word pull =
-    Ok (record { time = time; word = word; command = commands.Pull pull })
+-- the line of a synchronisation, at this time and with this word
+abbrev pub sync_line : ℕ → ℕ → SyncData → Line
+sync_line time word line =
+    Ok (record { time = time; word = word; command = commands.Sync line })

@@ -1,4 +1,4 @@
--- Over which link an instance pulls from which other.
+-- Over which link an instance synchronises with which other.
 use Rattle.std.specs.Prelude.{ℕ, ◌==◌, List, [], Option, None, bytes_eq, if◌then◌else◌, position, unwrap_or}
 use Rattle.std.specs.Option.{option_map_or}
 use Rattle.misp_ids.specs.Refusal.{bare}
@@ -7,16 +7,17 @@ use Rattle.misp_ids.specs.declared.label.Way.{Way}
 use Rattle.misp_ids.specs.declared.refusal.RuleName.TheVariants.{NoLink}
 use Rattle.misp_orgs.specs.Admin.{link_of}
 use Rattle.misp_orgs.specs.declared.link.Link.{Link}
+use Rattle.misp_script.specs.Step.{SyncData}
 use Rattle.misp_effects.specs.Effect.{effect}
 use Rattle.misp_history.specs.Acts.{Net}
 use Rattle.misp_history.specs.Passing.{Route}
-use Rattle.misp_core.specs.Prelude.{Effect, Host, Seen}
+use Rattle.misp_core.specs.Prelude.{Effect, Group, Host, Seen}
 use Rattle.misp_sync.specs.Counts.{no_count}
-use Rattle.misp_sync.specs.History.{route_of}
-use Rattle.misp_sync.specs.Pulled.{bar_of, pulled}
+use Rattle.misp_sync.specs.Pulled.{bar_of}
 use Rattle.misp_sync.specs.declared.reply.SyncReply.{SyncReply}
 use Rattle.misp_sync.specs.declared.reply.SyncReply.TheVariants as replies
 use Rattle.misp_net.specs.Hosts.{host_at}
+use Rattle.misp_net.specs.Ways.{route_on, synced_on}
 
 -- the place of the first instance of this name
 abbrev pub place_named : List Host → Inst → Option ℕ
@@ -35,29 +36,30 @@ peer_place hosts at link =
 abbrev pub place_of_peer : List Host → ℕ → Inst → ℕ
 place_of_peer hosts at link = peer_place hosts at (link_at hosts at link)
 
--- ---- pulls
+-- ---- synchronisations
 
--- without another instance as its peer a pull is refused: as its link bars it, or as that of a link
--- that is not there
-abbrev pub unpulled : Option Link → Effect SyncReply
-unpulled link = effect (replies.Stopped no_count (unwrap_or (bar_of link) (bare NoLink))) []
+-- without another instance as its peer it is refused: as its link bars it, or as that of a link that
+-- is not there
+abbrev pub unsynced : Option Link → Effect SyncReply
+unsynced link = effect (replies.Stopped no_count (unwrap_or (bar_of link) (bare NoLink))) []
 
--- what a pull at a place over a link comes to: what is seen there, and at the peer
-abbrev pub pulled_at : List Host → ℕ → Inst → Seen → Seen → Effect SyncReply
-pulled_at hosts at link own there =
-    if place_of_peer hosts at link == at then unpulled (link_at hosts at link)
-    else pulled (host_at at hosts) link (host_at (place_of_peer hosts at link) hosts) own there
+-- what a synchronisation of a line comes to: what is seen at its place, and at the peer
+abbrev pub synced_at : List Host → SyncData → Seen → Seen → Effect SyncReply
+synced_at hosts line own there =
+    let peer : ℕ = place_of_peer hosts line.at line.link in
+    if peer == line.at then unsynced (link_at hosts line.at line.link)
+    else synced_on line.way (host_at line.at hosts) line.link (host_at peer hosts) own there
 
 -- ---- the net
 
--- the route of a pull at a place
-abbrev pub route_at : List Host → ℕ → Inst → Option Route
-route_at hosts at link =
-    if place_of_peer hosts at link == at then None
-    else route_of (host_at at hosts) link (host_at (place_of_peer hosts at link) hosts)
+-- the route over a link of a place, these being the groups there
+abbrev pub route_at : List Host → Way → ℕ → Inst → List Group → Option Route
+route_at hosts way at link groups =
+    let peer : ℕ = place_of_peer hosts at link in
+    if peer == at then None
+    else route_on way (host_at at hosts) link (host_at peer hosts) groups
 
--- each instance pulls over its links, and none pushes
+-- each instance pulls and pushes over its links
 abbrev pub links_of : List Host → Net
-links_of hosts Way.Pull here link groups =
-    option_map_or (λ at. route_at hosts at link) (place_named hosts here) None
-links_of hosts Way.Push here link groups = None
+links_of hosts way here link groups =
+    option_map_or (λ at. route_at hosts way at link (groups here)) (place_named hosts here) None

@@ -1,6 +1,7 @@
 -- What each act means: THE definition by deed.
 use Rattle.std.specs.Prelude.{◌≡◌, ◌⊎◌, ℕ, List, [], ◌∷◌, map, take, Option, Some, None, option_map, Ok, Err}
-use Rattle.misp_script.specs.Step.{GroupData, PullData}
+use Rattle.misp_ids.specs.declared.label.Way.{Way}
+use Rattle.misp_script.specs.Step.{GroupData, SyncData}
 use Rattle.misp_http.specs.declared.request.Read.{Read}
 use Rattle.misp_http.specs.declared.request.Read.TheVariants as reads
 use Rattle.misp_effects.specs.Effect.{Telling, effect, shown}
@@ -9,18 +10,20 @@ use Rattle.misp_store.specs.Seen.{Seen}
 use Rattle.misp_core.specs.Keeping.{caller_at}
 use Rattle.misp_core.specs.Effects.{rule_told}
 use Rattle.misp_core.specs.declared.reply.Reply.TheVariants.{Refused}
-use Rattle.misp_api.specs.Prelude.{Admin, Asked, Caller, Effect, Group, Host, OrgId, Reading, Reply, RuleName, Stop, caller_in, grouped, refused_by, replied}
+use Rattle.misp_api.specs.Prelude.{Admin, Caller, Commanded, Effect, Group, Host, OrgId, Reading, Reply, RuleName, Stop, caller_in, grouped, refused_by, replied}
+use Rattle.misp_api.specs.declared.command.Command.{Command}
 use Rattle.misp_api.specs.Administering.{group_form}
 use Rattle.misp_net.specs.declared.line.Output.{Output}
 use Rattle.misp_net.specs.declared.line.Output.TheVariants.{Bad, Nothing, Replied, Synced, Unanswered}
 use Rattle.misp_api.specs.Sending.{read_form}
 use Rattle.misp_sync.specs.Counts.{count_of}
-use Rattle.misp_sync.specs.History.{pull_act}
+use Rattle.misp_sync.specs.History.{sync_act}
 use Rattle.misp_sync.specs.Telling.{stop_refusal}
 use Rattle.misp_sync.specs.declared.reply.SyncReply.TheVariants as synced
-use Rattle.misp_net.specs.Acts.{Act, Deed, Idle, Asks, Administers, Pulls}
+use Rattle.misp_net.specs.Acts.{Act, Deed, Idle, Asks, Administers, Syncs}
 use Rattle.misp_net.specs.Hosts.{host_at}
-use Rattle.misp_net.specs.Links.{place_of_peer, pulled_at}
+use Rattle.misp_net.specs.Links.{place_of_peer, synced_at}
+use Rattle.misp_net.specs.Ways.{counted_on, taker}
 use Rattle.misp_history.specs.Acts as model
 use Rattle.misp_core.specs.Effects as replies
 use Rattle.misp_sync.specs.Pulled as pulls
@@ -40,21 +43,24 @@ abbrev pub asks : ℕ → (Seen → Effect Reply) → Meaning Seen Output
 asks at comes =
     alone (λ stop. Replied (refused_by (rule_told stop))) at (λ here. shown Replied (comes here))
 
--- a stop of a pull leaves the batches that were put, and tells what they brought
-abbrev pub pull_telling : Telling Output
-pull_telling stop n lost e =
-    effect (Synced (synced.Stopped (count_of (take n e.batches)) (stop_refusal stop)))
-    (take n e.batches)
+-- a stop of a synchronisation leaves the batches that were put, and tells what those brought that
+-- it counts
+abbrev pub sync_telling : Way → Telling Output
+sync_telling way stop n lost e =
+    effect (Synced (synced.Stopped (count_of (take (counted_on way stop lost n) e.batches))
+    (stop_refusal stop))) (take n e.batches)
 
--- an instance takes what passes at the peer of a link
-abbrev pub pulling : List Host → PullData → Meaning Seen Output
-pulling hosts line = record {
-  at = line.at;
-  peer = place_of_peer hosts line.at line.link;
-  into = line.at;
-  comes = λ own there. shown Synced (pulled_at hosts line.at line.link own there);
-  telling = pull_telling;
-}
+-- of an instance and the peer of a link the one takes what passes at the other
+abbrev pub syncing : List Host → SyncData → Meaning Seen Output
+syncing hosts line =
+    let peer : ℕ = place_of_peer hosts line.at line.link in
+    record {
+      at = line.at;
+      peer = peer;
+      into = taker line.way line.at peer;
+      comes = λ own there. shown Synced (synced_at hosts line own there);
+      telling = sync_telling line.way;
+    }
 
 -- none is asked, and nothing stops it
 abbrev pub silent : Output → Meaning Seen Output
@@ -78,9 +84,15 @@ turned_away (Err refusal) = Some (Replied (Refused refusal))
 
 -- ---- acts by form
 
--- what is asked, or that somebody asked what is no request
-abbrev pub asking : Reading Asked → Host → Option Caller → model.Command
-asking (Ok asked) host caller = model.Asks (caller_at host.admin asked.0) asked.1
+-- a command of this caller, as the history has it
+abbrev pub command_at : Host → Caller → Command → model.Command
+command_at host caller (Command.Asks ask) = model.Asks (caller_at host.admin caller) ask
+command_at host caller (Command.TakesGroups groups) =
+    model.Takes_groups (caller_at host.admin caller) groups
+
+-- the command, or that somebody asked what is no request
+abbrev pub asking : Reading Commanded → Host → Option Caller → model.Command
+asking (Ok it) host caller = command_at host it.0 it.1
 asking (Err refusal) host None = model.Nothing
 asking (Err refusal) host (Some caller) = model.Misfits (caller_at host.admin caller)
 
@@ -102,7 +114,7 @@ deed_meaning hosts time word (Idle output) = idle output time
 deed_meaning hosts time word (Asks at read) =
     let host : Host = host_at at hosts in
     let caller : Option Caller = caller_of host.admin read in
-    let form : Reading Asked = read_form host.admin word read in
+    let form : Reading Commanded = read_form host.admin word read in
     record {
       means = asks at (replied host time form);
       formed = turned_away form;
@@ -117,10 +129,10 @@ deed_meaning hosts time word (Administers line) =
       act = record { at = (host_at line.at hosts).name; now = time; command = administering form line };
       asker = None;
     }
-deed_meaning hosts time word (Pulls line) = record {
-  means = pulling hosts line;
+deed_meaning hosts time word (Syncs line) = record {
+  means = syncing hosts line;
   formed = None;
-  act = pull_act (host_at line.at hosts).name time line.link;
+  act = sync_act line.way (host_at line.at hosts).name time line.link;
   asker = None;
 }
 

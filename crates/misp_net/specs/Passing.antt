@@ -1,16 +1,18 @@
 -- What passed between the instances for the lines of a script, as bytes in their order.
 use Rattle.std.specs.Prelude.{◌≡◌, ℕ, ◌==◌, Bool, true, false, List, [], ◌∷◌, Option, option_map, take}
-use Rattle.misp_script.specs.Step.{PullData}
+use Rattle.misp_script.specs.Step.{SyncData}
 use Rattle.misp_effects.specs.KeeperStates.{AreKept, state_at}
-use Rattle.misp_core.specs.Prelude.{Held, Host, KeeperState}
-use Rattle.misp_sync.specs.Trail.{GrowsBy, IsTrailOver}
+use Rattle.misp_core.specs.Prelude.{Held, Host, KeeperState, Standing}
+use Rattle.misp_core.specs.Standing.{standing}
+use Rattle.misp_sync.specs.Trail.{GrowsBy}
 use Rattle.misp_sync.specs.declared.reply.SyncReply.{SyncReply}
-use Rattle.misp_net.specs.Acts.{AreDone, Deed, Done, Pulls}
+use Rattle.misp_net.specs.Acts.{AreDone, Deed, Done, Syncs}
 use Rattle.misp_net.specs.Hosts.{host_at}
 use Rattle.misp_net.specs.Lines.{Line}
 use Rattle.misp_net.specs.Links.{link_at, place_of_peer}
 use Rattle.misp_net.specs.Run.{IsDone}
 use Rattle.misp_net.specs.Text.{text_from}
+use Rattle.misp_net.specs.Ways.{IsTrailOn}
 use Rattle.misp_net.specs.declared.line.Output.{Output}
 use Rattle.misp_net.specs.declared.line.Output.TheVariants.{Synced}
 
@@ -23,22 +25,29 @@ abbrev pub told_at : List Host → List KeeperState → ℕ → Option (Host × 
 told_at hosts states place =
     option_map (λ held. (host_at place hosts, held)) (state_at place states).held
 
+-- the instance of a place, as it stands over its keeper
+abbrev pub stands_at : List Host → List KeeperState → ℕ → Standing
+stands_at hosts states place =
+    let host : Host = host_at place hosts in
+    let keeper : KeeperState = state_at place states in
+    standing host.name host.admin keeper.held keeper.faults
+
 -- where a link leads to no other instance, nothing passed
 abbrev pub UnlessHere : Bool → (Trail → Type 0) → Trail → Type 0
 UnlessHere true P trail = trail ≡ []
 UnlessHere false P trail = P trail
 
--- For a pull its requests and their replies passed, each once, from the first on, and all of them
--- where it is done. These keepers were there before it.
-abbrev pub IsPullPassed : List Host → List KeeperState → PullData → SyncReply → Trail → Type 0
-IsPullPassed hosts old line reply trail =
+-- For a synchronisation its requests and their replies passed, each once, from the first on, and all
+-- of them where it is done. These keepers were there before it.
+abbrev pub IsSyncPassed : List Host → List KeeperState → SyncData → SyncReply → Trail → Type 0
+IsSyncPassed hosts old line reply trail =
     UnlessHere (place_of_peer hosts line.at line.link == line.at)
-    (IsTrailOver (link_at hosts line.at line.link)
+    (IsTrailOn line.way (link_at hosts line.at line.link) (stands_at hosts old line.at)
     (told_at hosts old (place_of_peer hosts line.at line.link)) reply) trail
 
 -- for any other deed nothing passed
 abbrev pub IsPassed : List Host → List KeeperState → Deed → Output → Trail → Type 0
-IsPassed hosts old (Pulls line) (Synced reply) trail = IsPullPassed hosts old line reply trail
+IsPassed hosts old (Syncs line) (Synced reply) trail = IsSyncPassed hosts old line reply trail
 IsPassed hosts old deed output trail = trail ≡ []
 
 abbrev pub IsPassedFor : List Host → List KeeperState → Done → Trail → Type 0

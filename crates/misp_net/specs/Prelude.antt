@@ -2,7 +2,7 @@
 unfoldable pub use Rattle.misp_outside.specs.Held.{nothing_held}
 unfoldable pub use Rattle.misp_script.specs.Network.{description_at}
 unfoldable pub use Rattle.misp_script.specs.Step.{step_of}
-pub use Rattle.misp_script.specs.Step.{GroupData, PullData}
+pub use Rattle.misp_script.specs.Step.{GroupData, SyncData}
 pub use Rattle.misp_script.specs.declared.description.Description.{Description}
 pub use Rattle.misp_effects.specs.Effect.{Stopped}
 pub use Rattle.misp_effects.specs.KeeperStates.{AreKept, held_at}

@@ -39,14 +39,14 @@ replies_to o hosts acts outputs =
 abbrev pub own_acts : OrgId → List Host → List Act → List (Option Act)
 own_acts o hosts acts = map (λ act. if is_of o hosts act then Some act else None) acts
 
--- the rule by which a link bars a pull: it is not there, or is off
+-- the rule by which a link bars a synchronisation: it is not there, or is off
 abbrev pub IsBar : RuleName → Type 0
 IsBar RuleName.NoLink = Unit {0}
 IsBar RuleName.LinkOff = Unit {0}
 IsBar name = ⊥
 
--- a line that is none, asks nothing, or has no reply; a refusal; or a pull that its link bars. Before
--- another refusal of a pull something may have been taken.
+-- a line that is none, asks nothing, or has no reply; a refusal; or a synchronisation that its link
+-- bars. Before another refusal of a synchronisation something may have been taken.
 abbrev pub IsIdle : Output → Type 0
 IsIdle (Bad place) = Unit {0}
 IsIdle Nothing = Unit {0}

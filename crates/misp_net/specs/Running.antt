@@ -3,7 +3,7 @@ use Rattle.std.specs.Prelude.{◌≡◌, ◌≢◌, ◌⊎◌, ℕ, ◌∷◌, �
 use Rattle.hex.specs.Hex.{encode_lower}
 use Rattle.misp_outside.specs.KeeperState.{state}
 use Rattle.misp_outside.specs.Causes.{HasCause, RoseBy}
-use Rattle.misp_script.specs.Step.{GroupData, PullData, RawData, RequestData}
+use Rattle.misp_script.specs.Step.{GroupData, SyncData, RawData, RequestData}
 use Rattle.misp_http.specs.Reading.{IsConclusive, IsRead}
 use Rattle.misp_http.specs.Texts.{request_text}
 use Rattle.misp_http.specs.declared.request.Read.{Read}
@@ -22,7 +22,6 @@ use Rattle.misp_effects.specs.Effect.{Does as DoesCall}
 use Rattle.misp_effects.specs.KeeperStates.{AreKept}
 use Rattle.misp_effects.specs.declared.stop.Side.TheVariants.{Here, There}
 use Rattle.misp_effects.specs.declared.stop.Stop.TheVariants as stops
-use Rattle.misp_sync.specs.Pulled.{pulled}
 use Rattle.misp_sync.specs.Trail.{GrowsBy}
 use Rattle.misp_sync.specs.declared.reply.SyncReply.{SyncReply}
 use Rattle.misp_net.specs.Acts.{Act, Does, Done, outputs_done}
@@ -34,6 +33,7 @@ use Rattle.misp_net.specs.Meaning.{meaning, stop_in}
 use Rattle.misp_net.specs.Passing.{IsPassedFor, Trail}
 use Rattle.misp_net.specs.Run.{IsDone}
 use Rattle.misp_net.specs.Text.{done_text}
+use Rattle.misp_net.specs.Ways.{giver, synced_on, taker, telling_on}
 use Rattle.misp_net.specs.declared.line.Output.{Output}
 use Rattle.misp_net.specs.declared.line.Output.TheVariants.{Replied, Unanswered}
 use Rattle.misp_net.specs.declared.places.NetFault.{NetFault}
@@ -91,18 +91,19 @@ HasSession now word r old new Wrote =
     × (end.end ≢ End.ReadFault) × (end.end ≢ End.WriteFault)
     × Wrote (end_name end.end ++ 32 ∷ encode_lower written)
 
--- ---- pulls
+-- ---- synchronisations
 
--- What a pull did between two keepers: here what it comes to, as far as nothing stopped it; and what
--- the peer holds stays. The fault of each is told only where this keeper failed.
-pub record IsPulled (hosts : List Host) (line : PullData) (reply : SyncReply)
+-- What a synchronisation did between two keepers: with the one that takes what it comes to, as far as
+-- nothing stopped it; and what the other holds stays. The fault of each is told only where this
+-- keeper failed.
+pub record IsSynced (hosts : List Host) (line : SyncData) (reply : SyncReply)
     (own here peer there : KeeperState) : Type 0 where
   pub did : IfSome own.held (λ o. IfSome peer.held
-      (λ p. DoesCall SyncReply spelled pulls.stop_in pulls.telling
-      (pulled (host_at line.at hosts) line.link
+      (λ p. DoesCall SyncReply spelled pulls.stop_in (telling_on line.way)
+      (synced_on line.way (host_at line.at hosts) line.link
       (host_at (place_of_peer hosts line.at line.link) hosts) (seen_in o) (seen_in p))
-      o reply here.held))
-  pub kept : there.held ≡ peer.held
+      (taker line.way o p) reply (taker line.way here there).held))
+  pub kept : (giver line.way here there).held ≡ (giver line.way own peer).held
   pub cause : HasCause own.faults here.faults (pulls.stop_in reply ≡ Some (stops.Keeper Here))
   pub peer_cause : HasCause peer.faults there.faults
       (pulls.stop_in reply ≡ Some (stops.Keeper There))

@@ -17,7 +17,7 @@ shown_text reply =
     if has_octets reply then codes "200 " ++ encode_lower (body_text reply) else reply_text reply
 
 -- `bad` and the place of the first faulty field, `-` where nothing was asked, the reply, how the
--- session ended where there was none, or what a pull was told
+-- session ended where there was none, or what a synchronisation was told
 abbrev pub output_text : Output → List ℕ
 output_text (Bad place) = codes "bad " ++ decimal place
 output_text Nothing = codes "-"

@@ -2,10 +2,13 @@
 
 ghost use Rattle.std.specs.Prelude.{◌≡◌, ◌<◌, ◌≤◌, ◌-◌, Some, IfSome, false, length, nat_eq, slice_index_or, vec_len, vec_capacity};
 ghost use Rattle.std.specs.List.{insert, remove};
+ghost use Rattle.misp_ids.specs.declared.label.Way.TheVariants as ways;
 ghost use Rattle.misp_outside.specs.Causes.{HasCause};
 ghost use Rattle.misp_effects.specs.declared.stop.Stop.TheVariants as stops;
 ghost use Rattle.misp_core.specs.Standing.{Standing, host_of};
+ghost use Rattle.misp_sync.specs.Handing.{IsSameHost};
 ghost use Rattle.misp_sync.specs.Pulled.{bar_of, pulled, stop_in, telling};
+ghost use Rattle.misp_sync.specs.Pushed.{push_telling, pushed};
 ghost use Rattle.misp_sync.specs.Counts.{no_count};
 ghost use Rattle.misp_sync.specs.Serving.{IsStill};
 ghost use Rattle.misp_sync.specs.declared.reply.SyncReply.{SyncReply as Told};
@@ -15,14 +18,14 @@ ghost use Rattle.misp_effects.specs.Effect.{Does};
 ghost use Rattle.misp_effects.specs.declared.stop.Side.TheVariants.{Here, There};
 ghost use Rattle.misp_store.specs.Batches.{spelled};
 ghost use Rattle.misp_store.specs.Seen.{seen_in};
-ghost use Rattle.misp_net.specs.Lending.{HasCarriedPull, HasPulled, HasPulledFrom, HavePulled};
+ghost use Rattle.misp_net.specs.Lending.{HasCarriedSync, HasSynced, HasSyncedWith, HaveSynced};
 
 use crate::over_carry::OverCarry;
 use misp_api::Routes;
 use misp_core::Instance;
-use misp_ids::{InstId, Stamp};
+use misp_ids::{InstId, Stamp, Way};
 use misp_outside::{Carry, Keeper};
-use misp_sync::{SyncReply, pull};
+use misp_sync::{SyncReply, pull, push};
 use std::alloc::Global;
 
 // The instance at a place, which leaves the list.
@@ -77,7 +80,7 @@ fn pull_over<K: Keeper, C: Carry>(
         (stop_in result ≡ Some (stops.Keeper Here)) }
     ensures carry { HasCause (C.faults carry.old) (C.faults carry.new)
         (stop_in result ≡ Some stops.Carry) }
-    ensures passed { HasCarriedPull link.now own.old peer.old result
+    ensures passed { HasCarriedSync ways.Pull link.now own.old peer.old result
         (C.passed carry.old) (C.passed carry.new) }
     ensures name { own.new.name ≡ own.old.name }
     ensures admin { own.new.admin ≡ own.old.admin }
@@ -86,8 +89,8 @@ fn pull_over<K: Keeper, C: Carry>(
     pull(alloc, own, link, &mut wire)
 }
 
-// The same as one fact.
-fn pull_pair<K: Keeper, C: Carry>(
+// The one pushes to the other over a wire. What `push` promises holds of the two.
+fn push_over<K: Keeper, C: Carry>(
     alloc: Global,
     routes: &Routes,
     own: &mut Instance<K>,
@@ -97,49 +100,90 @@ fn pull_pair<K: Keeper, C: Carry>(
     now: Stamp,
     word: u128,
 ) -> SyncReply
-    ensures pulled { HasPulled link.now own.old peer.old own.new peer.new result }
+    ensures pushed { IfSome own.old.held (λ held. IfSome peer.old.held (λ there.
+        Does Told spelled stop_in push_telling
+        (pushed (host_of own.old) link.now (host_of peer.old) (seen_in held) (seen_in there))
+        there result peer.new.held)) }
+    ensures barred { IfSome (bar_of (link_of own.old.admin.links link.now)) (λ why.
+        (result ≡ replies.Stopped no_count why) × (own.new ≡ own.old) × (peer.new ≡ peer.old)) }
+    ensures own { own.new.held ≡ own.old.held }
+    ensures same { IsSameHost peer.old peer.new }
+    ensures there { HasCause peer.old.faults peer.new.faults
+        (stop_in result ≡ Some (stops.Keeper There)) }
+    ensures here { HasCause own.old.faults own.new.faults
+        (stop_in result ≡ Some (stops.Keeper Here)) }
     ensures carry { HasCause (C.faults carry.old) (C.faults carry.new)
         (stop_in result ≡ Some stops.Carry) }
-    ensures passed { HasCarriedPull link.now own.old peer.old result
+    ensures passed { HasCarriedSync ways.Push link.now own.old peer.old result
         (C.passed carry.old) (C.passed carry.new) }
+    ensures name { own.new.name ≡ own.old.name }
+    ensures admin { own.new.admin ≡ own.old.admin }
 {
-    pull_over(alloc, routes, own, peer, carry, link, now, word)
+    let mut wire = OverCarry::new(routes, peer, now, word, carry);
+    push(alloc, own, link, &mut wire)
 }
 
-// It pulls from the one at a place.
-fn pull_from<K: Keeper, C: Carry>(
+// The one synchronises with the other on a way.
+fn sync_pair<K: Keeper, C: Carry>(
+    alloc: Global,
+    routes: &Routes,
+    own: &mut Instance<K>,
+    peer: &mut Instance<K>,
+    carry: &mut C,
+    way: Way,
+    link: &InstId,
+    now: Stamp,
+    word: u128,
+) -> SyncReply
+    ensures synced { HasSynced way link.now own.old peer.old own.new peer.new result }
+    ensures carry { HasCause (C.faults carry.old) (C.faults carry.new)
+        (stop_in result ≡ Some stops.Carry) }
+    ensures passed { HasCarriedSync way link.now own.old peer.old result
+        (C.passed carry.old) (C.passed carry.new) }
+{
+    match way {
+        Way::Pull => pull_over(alloc, routes, own, peer, carry, link, now, word),
+        Way::Push => push_over(alloc, routes, own, peer, carry, link, now, word),
+    }
+}
+
+// It synchronises with the one at a place.
+fn sync_with<K: Keeper, C: Carry>(
     alloc: Global,
     routes: &Routes,
     own: &mut Instance<K>,
     instances: &mut Vec<Instance<K>>,
     place: usize,
     carry: &mut C,
+    way: Way,
     link: &InstId,
     now: Stamp,
     word: u128,
 ) -> SyncReply
     requires { place < vec_len instances.old }
-    ensures pulled { HasPulledFrom link.now place own.old own.new
+    ensures synced { HasSyncedWith way link.now place own.old own.new
         instances.old.items instances.new.items result }
     ensures room { vec_capacity instances.new ≡ vec_capacity instances.old }
     ensures carry { HasCause (C.faults carry.old) (C.faults carry.new)
         (stop_in result ≡ Some stops.Carry) }
-    ensures passed { (d : Standing) → HasCarriedPull link.now own.old
+    ensures passed { (d : Standing) → HasCarriedSync way link.now own.old
         (slice_index_or instances.old.items place d) result
         (C.passed carry.old) (C.passed carry.new) }
 {
     let peer = &mut instances[place];
-    pull_pair(alloc, routes, own, peer, carry, link, now, word)
+    sync_pair(alloc, routes, own, peer, carry, way, link, now, word)
 }
 
-/// The instance at one place pulls from the one at another, over a link of its own.
-pub fn pull_between<K: Keeper, C: Carry>(
+/// The instance at one place synchronises with the one at another, on a way and over a link of its
+/// own.
+pub fn sync_between<K: Keeper, C: Carry>(
     alloc: Global,
     routes: &Routes,
     instances: &mut Vec<Instance<K>>,
     carry: &mut C,
     own: usize,
     peer: usize,
+    way: Way,
     link: &InstId,
     now: Stamp,
     word: u128,
@@ -148,18 +192,19 @@ pub fn pull_between<K: Keeper, C: Carry>(
     requires peer { peer < vec_len instances.old }
     requires apart { nat_eq own peer ≡ false }
 
-    // What a pull promises holds of the two, and the others are as they were.
-    ensures pulled { HavePulled link.now own peer instances.old.items instances.new.items result }
+    // What a pull or a push promises holds of the two, and the others are as they were.
+    ensures synced { HaveSynced way link.now own peer
+        instances.old.items instances.new.items result }
     ensures carry { HasCause (C.faults carry.old) (C.faults carry.new)
         (stop_in result ≡ Some stops.Carry) }
-    ensures passed { (d : Standing) → HasCarriedPull link.now
+    ensures passed { (d : Standing) → HasCarriedSync way link.now
         (slice_index_or instances.old.items own d) (slice_index_or instances.old.items peer d)
         result (C.passed carry.old) (C.passed carry.new) }
 {
     let mut mine = take_out(instances, own);
     let place = place_without(peer, own);
-    let reply = pull_from(
-        alloc, routes, &mut mine, instances, place, carry, link, now, word,
+    let reply = sync_with(
+        alloc, routes, &mut mine, instances, place, carry, way, link, now, word,
     );
     put_in(instances, own, mine);
     reply

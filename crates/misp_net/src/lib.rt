@@ -6,12 +6,12 @@ mod line;
 mod net;
 mod over_carry;
 mod places;
-mod pulling;
 mod requesting;
 mod sessions;
 mod synced;
+mod syncing;
 
-pub use lending::pull_between;
+pub use lending::sync_between;
 pub use line::Output;
 pub use net::run_net;
 pub use over_carry::OverCarry;

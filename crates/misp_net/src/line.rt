@@ -22,7 +22,7 @@ pub enum Output {
     Replied(Reply),
     /// The bytes of a request ended within it.
     Unanswered(End),
-    /// What a pull was told.
+    /// What a synchronisation was told.
     Synced(SyncReply),
 }
 

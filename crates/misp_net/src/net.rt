@@ -22,16 +22,16 @@ ghost use Rattle.misp_net.specs.Promise.{IsPrivate, AreReplied, AreNewest, IsCut
 
 use crate::line::{Output, put_bad, put_front, put_nothing, show};
 use crate::places::{NetFault, close_all, open_all};
-use crate::pulling::put_pull;
 use crate::requesting::put_request;
 use crate::sessions::put_raw;
+use crate::syncing::put_sync;
 use misp_api::{GroupRequest, Routes, administer};
 use misp_core::Instance;
 use misp_format::a_group_is_read_from_its_text;
 use misp_ids::{NoMemory, Stamp};
 use misp_outside::{Carry, Keeper};
 use misp_script::{Command, Description, Directory, GroupLine, Step, read_line, split_line};
-use misp_sync::an_instance_pulls_by_the_history;
+use misp_sync::{an_instance_pulls_by_the_history, an_instance_pushes_by_the_history};
 use std::alloc::Global;
 
 // The adding or editing of a group by a line.
@@ -116,8 +116,8 @@ fn run_step<K: Keeper, C: Carry>(
             put_group(lines, alloc, instance, step.time, &group)?;
             Ok(())
         }
-        Command::Pull(pull) => put_pull(
-            lines, alloc, routes, directory, instances, carry, step.time, step.word, &pull,
+        Command::Sync(sync) => put_sync(
+            lines, alloc, routes, directory, instances, carry, step.time, step.word, &sync,
         ),
     }
 }
@@ -283,8 +283,8 @@ pub fn run_net<K: Keeper, C: Carry>(
         (take (length net.instances) (map K.state keepers.new.items)) lines.items) }
     ensures later { C.faults carry.old ≤ C.faults carry.new }
 
-    // What it answered, where it tells that, is for each pull the stated requests with their
-    // replies, from the first on, and all of them where the pull is done. For any other line it is
+    // What it answered, where it tells that, is for each synchronisation the stated requests with
+    // their replies, from the first on, and all of them where it is done. For any other line it is
     // nothing. Where memory runs out, the same holds of some first lines.
     ensures passed { IfOk result (λ lines.
         HasPassed (C.passed carry.old) (C.passed carry.new)
@@ -302,9 +302,11 @@ pub fn run_net<K: Keeper, C: Carry>(
     ensures others { drop (length net.instances) (map K.state keepers.new.items)
         ≡ drop (length net.instances) (map K.state keepers.old.items) }
 {
-    // A group that is held is read again as it was, and a pull leaves what the history says of it.
+    // A group that is held is read again as it was, and a synchronisation leaves what the history
+    // says of it.
     a_group_is_read_from_its_text();
     an_instance_pulls_by_the_history();
+    an_instance_pushes_by_the_history();
     let directory = net.directory(alloc)?;
     let routes = Routes::new(alloc)?;
     let mut instances = open_all(alloc, keepers, net.instances.into_vec())?;

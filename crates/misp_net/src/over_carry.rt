@@ -1,15 +1,25 @@
 //! A wire to an instance of this process.
 
-ghost use Rattle.std.specs.Prelude.{◌≡◌, Some, [], ◌∷◌};
+ghost use Rattle.std.specs.Prelude.{◌≡◌, ◌≤◌, Some, [], ◌∷◌, Err, IfOk, IfSome, MatchResult, OnErr, Ok};
+ghost use Rattle.misp_outside.specs.Causes.{HasCause};
+ghost use Rattle.misp_http.specs.Reading.{IsRead};
+ghost use Rattle.misp_http.specs.declared.request.Read.{Read as WasRead};
+ghost use Rattle.misp_api.specs.Answering.{IsPull};
+ghost use Rattle.misp_api.specs.Exchange.{IsExchanged, IsLeftSo};
+ghost use Rattle.misp_api.specs.Sending.{read_form};
+ghost use Rattle.misp_sync.specs.Handing.{IsSameHost};
+ghost use Rattle.misp_sync.specs.Trail.{GrowsBy, IsUnanswered};
 
 use misp_api::{Routes, exchange};
 use misp_core::Instance;
+use misp_format::a_group_is_read_from_its_text;
 use misp_ids::Stamp;
 use misp_outside::{Carry, Keeper, WireFault};
-use misp_sync::Wire;
+use misp_sync::{PushWire, Wire};
 use std::alloc::Global;
 
-/// A wire to an instance of this process, over what carries bytes. It is asked at one moment.
+/// A wire to an instance of this process, over what carries bytes. Whatever goes over it is of one
+/// moment.
 #[derive(Drop)]
 pub struct OverCarry<'a, K: Keeper, C: Carry> {
     routes: &'a Routes,
@@ -41,6 +51,40 @@ impl<'a, K: Keeper, C: Carry> OverCarry<'a, K, C> {
             carry,
         }
     }
+
+    // Carries the one request that the bytes are to the instance, and its reply back.
+    fn exchanged(&mut self, alloc: Global, bytes: &[u8]) -> Result<Vec<u8>, WireFault>
+        ensures answered { (read : WasRead) → IsRead bytes.now (Ok read) (Some []) →
+            IfOk result (λ reply. IsExchanged self.old.now self.old.word read
+            self.old.peer.now self.new.peer.now reply.items) }
+
+        // Where no reply comes, what is held is as it was, or what some reply leaves.
+        ensures left { (read : WasRead) → IsRead bytes.now (Ok read) (Some []) →
+            OnErr result (IfSome self.old.peer.now.held (λ held. IsLeftSo self.old.now
+            (read_form self.old.peer.now.admin self.old.word read)
+            self.old.peer.now held self.new.peer.now.held)) }
+
+        // What a pull asks changes nothing that is held.
+        ensures still { (read : WasRead) → IsRead bytes.now (Ok read) (Some []) →
+            IsPull (read_form self.old.peer.now.admin self.old.word read) →
+            self.new.peer.now.held ≡ self.old.peer.now.held }
+        ensures same { IsSameHost self.old.peer.now self.new.peer.now }
+        ensures later { self.old.peer.now.faults ≤ self.new.peer.now.faults }
+        ensures told { GrowsBy (C.passed self.old.carry.now) (C.passed self.new.carry.now)
+            (λ more. MatchResult result (λ reply. more ≡ bytes.now ∷ reply.items ∷ [])
+            (λ _. IsUnanswered bytes.now more)) }
+        ensures peer { self.new.peer.ghost_name ≡ self.old.peer.ghost_name }
+        ensures carry { self.new.carry.ghost_name ≡ self.old.carry.ghost_name }
+        ensures cause { HasCause (C.faults self.old.carry.now) (C.faults self.new.carry.now)
+            (result ≡ Err WireFault.Failed) }
+    {
+        let sent = self.carry.pass(alloc, bytes)?;
+        let replied = exchange(alloc, self.routes, self.peer, self.now, self.word, sent);
+        match replied {
+            Ok(reply) => self.carry.pass(alloc, &reply),
+            Err(_) => Err(WireFault::NoMemory),
+        }
+    }
 }
 
 impl<K: Keeper, C: Carry> Wire for OverCarry<'_, K, C> {
@@ -53,11 +97,22 @@ impl<K: Keeper, C: Carry> Wire for OverCarry<'_, K, C> {
     ghost faults = { λ w. C.faults w.carry.now };
 
     fn ask(&mut self, alloc: Global, bytes: &[u8]) -> Result<Vec<u8>, WireFault> {
-        let sent = self.carry.pass(alloc, bytes)?;
-        let replied = exchange(alloc, self.routes, self.peer, self.now, self.word, sent);
-        match replied {
-            Ok(reply) => self.carry.pass(alloc, &reply),
-            Err(_) => Err(WireFault::NoMemory),
-        }
+        self.exchanged(alloc, bytes)
+    }
+}
+
+impl<K: Keeper, C: Carry> PushWire for OverCarry<'_, K, C> {
+    ghost peer = { λ w. Some w.peer.now };
+
+    ghost through = { λ w. w.peer.ghost_name ∷ w.carry.ghost_name ∷ [] };
+
+    ghost trail = { λ w. C.passed w.carry.now };
+
+    ghost faults = { λ w. C.faults w.carry.now };
+
+    fn hand(&mut self, alloc: Global, bytes: &[u8]) -> Result<Vec<u8>, WireFault> {
+        self.peer.holds_groups_alone();
+        a_group_is_read_from_its_text();
+        self.exchanged(alloc, bytes)
     }
 }

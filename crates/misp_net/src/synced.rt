@@ -1,4 +1,4 @@
-//! Writes what a pull was told.
+//! Writes what a synchronisation was told.
 
 ghost use Rattle.std.specs.Prelude.{◌≡◌, ◌<◌, [], ◌∷◌, ◌++◌, decimal, IfOk, OnOk, vec_len, vec_capacity};
 ghost use Rattle.json.specs.Token as tokens;
@@ -60,7 +60,7 @@ fn write_stopped(alloc: Global, count: &SyncCount, cause: &Refusal) -> Result<Ve
     Ok(out.into_inner())
 }
 
-// Writes the status of the rule that refused or stopped a pull, a space, and the refusal.
+// Writes the status of the rule that refused or stopped it, a space, and the refusal.
 fn put_stopped(
     lines: &mut Vec<u8>,
     alloc: Global,
@@ -75,7 +75,7 @@ fn put_stopped(
     Ok(lines.extend_from_slice(&write_stopped(alloc, count, cause)?)?)
 }
 
-// Writes that a pull took all that passes, and what it took.
+// Writes that all was taken that passes, and how much.
 fn put_done(lines: &mut Vec<u8>, alloc: Global, count: &SyncCount) -> Result<(), NoMemory>
     ensures { OnOk result (lines.new.items
         ≡ lines.old.items ++ sync_text (replies.Done count.now)) }
@@ -84,7 +84,7 @@ fn put_done(lines: &mut Vec<u8>, alloc: Global, count: &SyncCount) -> Result<(),
     Ok(lines.extend_from_slice(&write_counted(alloc, count)?)?)
 }
 
-/// Writes what a pull was told, with room for one byte after it.
+/// Writes what a synchronisation was told, with room for one byte after it.
 pub(crate) fn put_synced(
     lines: &mut Vec<u8>,
     alloc: Global,

@@ -6,8 +6,8 @@ mod HexDigits
 mod Lookups
 mod Marks
 mod Parts
-mod Places
 mod Steps
 mod Uuids
 mod Visible
 pub mod Nets
+pub mod Places

@@ -34,7 +34,8 @@ later_place k n = elim (cases_Bool (ltb k n)) [
   | inr miss ↦ let up : ltb (1 + k) (suc n) ≡ false = grind (arith, nat_tests) in rw (up, miss) refl
 ]
 
-first_place : {A : Type 0} (p : A → Bool) (x : A) (xs : List A) → position p (x ∷ xs) ≡ cond (p x) (Some 0) (option_map suc (position p xs))
+-- the place in a list is known by its first item
+pub first_place : {A : Type 0} (p : A → Bool) (x : A) (xs : List A) → position p (x ∷ xs) ≡ cond (p x) (Some 0) (option_map suc (position p xs))
 first_place p x xs = elim (cases_Bool (p x)) [
   | inl hit ↦ rw hit (here_place (length xs))
   | inr miss ↦ rw miss (later_place (position_or_len p xs) (length xs))

@@ -3,6 +3,7 @@ use Rattle.std.specs.Prelude.{ℕ, ◌<◌, ◌&&◌, ◌||◌, Bool, nat_le, na
 use Rattle.std.specs.List.{list_all}
 use Rattle.std.specs.Result.{result_ok}
 use Rattle.hex.specs.Hex.{decode_of}
+use Rattle.misp_ids.specs.declared.label.Way.{Way}
 use Rattle.misp_ids.specs.declared.uid.Uid.{Uid}
 use Rattle.misp_ids.specs.declared.uid.OrgId.{OrgId}
 use Rattle.misp_ids.specs.Names.{is_inst_name}
@@ -12,7 +13,7 @@ use Rattle.misp_script.specs.declared.step.Step.{Step}
 use Rattle.misp_script.specs.declared.step.Command.{Command}
 use Rattle.misp_script.specs.declared.step.RequestLine.{RequestLine}
 use Rattle.misp_script.specs.declared.step.GroupLine.{GroupLine}
-use Rattle.misp_script.specs.declared.step.PullLine.{PullLine}
+use Rattle.misp_script.specs.declared.step.SyncLine.{SyncLine}
 use Rattle.misp_script.specs.declared.step.RawLine.{RawLine}
 use Rattle.misp_script.specs.Directory.{Roster, roster_names, place_of, knows}
 use Rattle.misp_script.specs.Fields.{Reading, ◌>>=◌, field_in, next_field, kept, no_field}
@@ -41,9 +42,11 @@ pub record GroupData : Type 0 where
   pub add : Bool
   pub body : List ℕ
 
--- a pull of an instance over one of its links: the place of the instance, and the name of the link
-pub record PullData : Type 0 where
+-- a synchronisation of an instance over one of its links: the place of the instance, the way, and
+-- the name of the link
+pub record SyncData : Type 0 where
   pub at : ℕ
+  pub way : Way
   pub link : List ℕ
 
 pub data CommandData : Type 0 where
@@ -51,7 +54,7 @@ pub data CommandData : Type 0 where
   Request : RequestData → CommandData
   Raw : RawData → CommandData
   Group : GroupData → CommandData
-  Pull : PullData → CommandData
+  Sync : SyncData → CommandData
 
 -- a step: its moment, its word and its command
 pub record StepData : Type 0 where
@@ -79,15 +82,15 @@ raw_data r = record { at = r.at; bytes = bytes_of r.hex.now }
 abbrev pub group_data : GroupLine → GroupData
 group_data g = record { at = g.at; org = g.org; add = g.add; body = g.body.now }
 
-abbrev pub pull_data : PullLine → PullData
-pull_data p = record { at = p.at; link = p.link }
+abbrev pub sync_data : SyncLine → SyncData
+sync_data s = record { at = s.at; way = s.way; link = s.link }
 
 abbrev pub command_data : Command → CommandData
 command_data Command.Nothing = Nothing
 command_data (Command.Request request) = Request (request_data request)
 command_data (Command.Raw raw) = Raw (raw_data raw)
 command_data (Command.Group group) = Group (group_data group)
-command_data (Command.Pull pull) = Pull (pull_data pull)
+command_data (Command.Sync sync) = Sync (sync_data sync)
 
 abbrev pub step_data : Step → StepData
 step_data step = record { time = step.time; word = step.word; command = command_data step.command }
@@ -98,7 +101,7 @@ IsPlaced count Nothing = Unit {0}
 IsPlaced count (Request request) = request.at < count
 IsPlaced count (Raw raw) = raw.at < count
 IsPlaced count (Group group) = group.at < count
-IsPlaced count (Pull pull) = pull.at < count
+IsPlaced count (Sync sync) = sync.at < count
 
 -- ---- fields
 
@@ -110,6 +113,7 @@ verb_of text =
     else if bytes_eq text (codes "group-add") then Some Verb.AddGroup
     else if bytes_eq text (codes "group-edit") then Some Verb.EditGroup
     else if bytes_eq text (codes "pull") then Some Verb.Pull
+    else if bytes_eq text (codes "push") then Some Verb.Push
     else None
 
 -- a byte from 33 to 126
@@ -189,13 +193,13 @@ group_of rosters line add left = do
   body ← rest_of line org.rest
   Ok (record { at = at; org = named; add = add; body = body })
 
-unfoldable pub pull_of : List Roster → List ℕ → Option (List ℕ) → Reading PullData
-pull_of rosters line left = do
+unfoldable pub sync_of : List Roster → List ℕ → Way → Option (List ℕ) → Reading SyncData
+sync_of rosters line way left = do
   inst ← next_field line left
   at ← kept inst.place (place_of (roster_names rosters) inst.text)
   link ← next_field line inst.rest
   name ← kept link.place (name_of link.text)
-  no_field line link.rest >>= λ done. Ok (record { at = at; link = name })
+  no_field line link.rest >>= λ done. Ok (record { at = at; way = way; link = name })
 
 abbrev pub command_of : List Roster → List ℕ → Verb → Option (List ℕ) → Reading CommandData
 command_of rosters line Verb.Nothing left = no_field line left >>= λ done. Ok Nothing
@@ -206,7 +210,10 @@ command_of rosters line Verb.AddGroup left =
     group_of rosters line true left >>= λ group. Ok (Group group)
 command_of rosters line Verb.EditGroup left =
     group_of rosters line false left >>= λ group. Ok (Group group)
-command_of rosters line Verb.Pull left = pull_of rosters line left >>= λ pull. Ok (Pull pull)
+command_of rosters line Verb.Pull left =
+    sync_of rosters line Way.Pull left >>= λ sync. Ok (Sync sync)
+command_of rosters line Verb.Push left =
+    sync_of rosters line Way.Push left >>= λ sync. Ok (Sync sync)
 
 -- a time, a word, and a verb with its fields
 unfoldable pub step_of : List Roster → List ℕ → Reading StepData

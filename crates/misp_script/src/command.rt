@@ -5,12 +5,12 @@ ghost use Rattle.std.specs.List.{list_all};
 ghost use Rattle.misp_ids.specs.Uid.{read_uid};
 ghost use Rattle.misp_script.specs.Fields.{Shows, kept};
 ghost use Rattle.misp_script.specs.Seen.{field_of};
-ghost use Rattle.misp_script.specs.Step.{IsPlaced, verb_of, is_visible, visible_of, is_lower_digit, bytes_of, hex_bytes, org_of, key_of, body_of, rest_of, request_data, request_of, raw_data, raw_of, group_data, group_of, name_of, pull_data, pull_of, command_data, command_of};
+ghost use Rattle.misp_script.specs.Step.{IsPlaced, verb_of, is_visible, visible_of, is_lower_digit, bytes_of, hex_bytes, org_of, key_of, body_of, rest_of, request_data, request_of, raw_data, raw_of, group_data, group_of, name_of, sync_data, sync_of, command_data, command_of};
 
 use crate::directory::Directory;
 use crate::field::{BadLine, Field, kept, next_field, no_field};
-use crate::step::{Command, GroupLine, PullLine, RawLine, RequestLine};
-use misp_ids::{InstId, OrgId, Uid};
+use crate::step::{Command, GroupLine, RawLine, RequestLine, SyncLine};
+use misp_ids::{InstId, OrgId, Uid, Way};
 use std::str;
 
 /// The verb of a line.
@@ -22,6 +22,7 @@ pub(crate) enum Verb {
     AddGroup,
     EditGroup,
     Pull,
+    Push,
 }
 
 pub(crate) fn read_verb(text: &[u8]) -> Option<Verb>
@@ -39,6 +40,8 @@ pub(crate) fn read_verb(text: &[u8]) -> Option<Verb>
         Some(Verb::EditGroup)
     } else if text == b"pull".as_slice() {
         Some(Verb::Pull)
+    } else if text == b"push".as_slice() {
+        Some(Verb::Push)
     } else {
         None
     }
@@ -219,18 +222,23 @@ fn group<'a>(
     Ok(GroupLine { at, org, add, body })
 }
 
-#[tactic(auto, unfolding(crate::specs::Step::pull_of))]
-fn pull(line: &[u8], directory: &Directory, before: &Field<'_>) -> Result<PullLine, BadLine>
-    ensures pull { Shows pull_data result
-        (pull_of directory.now line.now (field_of before.now).rest) }
-    ensures placed { IfOk result (λ pull. pull.at < length directory.now) }
+#[tactic(auto, unfolding(crate::specs::Step::sync_of))]
+fn sync(
+    line: &[u8],
+    directory: &Directory,
+    way: Way,
+    before: &Field<'_>,
+) -> Result<SyncLine, BadLine>
+    ensures sync { Shows sync_data result
+        (sync_of directory.now line.now way (field_of before.now).rest) }
+    ensures placed { IfOk result (λ sync. sync.at < length directory.now) }
 {
     let inst = next_field(line, before)?;
     let at = kept(inst.place, directory.place_of(inst.text))?;
     let link_field = next_field(line, &inst)?;
     let link = kept(link_field.place, InstId::from_bytes(link_field.text))?;
     no_field(line, &link_field)?;
-    Ok(PullLine { at, link })
+    Ok(SyncLine { at, way, link })
 }
 
 /// The command of a verb, whose fields are after it.
@@ -267,8 +275,12 @@ pub(crate) fn command<'a>(
             Ok(Command::Group(group))
         }
         Verb::Pull => {
-            let pull = pull(line, directory, before)?;
-            Ok(Command::Pull(pull))
+            let sync = sync(line, directory, Way::Pull, before)?;
+            Ok(Command::Sync(sync))
+        }
+        Verb::Push => {
+            let sync = sync(line, directory, Way::Push, before)?;
+            Ok(Command::Sync(sync))
         }
     }
 }

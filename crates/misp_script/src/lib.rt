@@ -29,4 +29,4 @@ pub use line::read_line;
 pub use lines::split_line;
 pub use network::read_description;
 pub use source::split_source;
-pub use step::{Command, GroupLine, PullLine, RawLine, RequestLine, Step};
+pub use step::{Command, GroupLine, RawLine, RequestLine, Step, SyncLine};

@@ -1,6 +1,6 @@
 //! The steps of a script.
 
-use misp_ids::{InstId, OrgId, Stamp};
+use misp_ids::{InstId, OrgId, Stamp, Way};
 
 /// What a line of a script says.
 #[derive(Clone, Copy, Debug, PartialEq, Eq)]
@@ -19,7 +19,7 @@ pub enum Command<'a> {
     Request(RequestLine<'a>),
     Raw(RawLine<'a>),
     Group(GroupLine<'a>),
-    Pull(PullLine),
+    Sync(SyncLine),
 }
 
 /// A request to an instance.
@@ -56,11 +56,12 @@ pub struct GroupLine<'a> {
     pub body: &'a [u8],
 }
 
-/// A pull of an instance over one of its links.
+/// A synchronisation of an instance over one of its links.
 #[derive(Clone, Copy, Debug, PartialEq, Eq)]
-pub struct PullLine {
+pub struct SyncLine {
     /// The place of the instance in the description, from 0.
     pub at: usize,
+    pub way: Way,
     /// The name of the link. There may be no such link.
     pub link: InstId,
 }

@@ -4,6 +4,6 @@
 #[cfg(test)]
 mod app;
 #[cfg(test)]
-mod pulling;
-#[cfg(test)]
 mod serving;
+#[cfg(test)]
+mod stopping;

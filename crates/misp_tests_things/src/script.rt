@@ -2,9 +2,10 @@
 
 mod limits;
 
+use misp_ids::Way;
 use misp_samples::filled;
 use misp_script::{
-    Command, DescFault, Directory, GroupLine, PullLine, RawLine, RequestLine, read_description,
+    Command, DescFault, Directory, GroupLine, RawLine, RequestLine, SyncLine, read_description,
     read_line, split_line, split_source,
 };
 use std::alloc::Global;
@@ -211,11 +212,15 @@ fn group_shown(alloc: Global, group: &GroupLine<'_>) -> Result<String, Fail> {
     Ok(format!(in alloc; "{at} {org} {command} [{body}]")?)
 }
 
-/// A pull, as a test shows it.
-fn pull_shown(alloc: Global, pull: &PullLine) -> Result<String, Fail> {
-    let at = pull.at;
-    let link = pull.link.text();
-    Ok(format!(in alloc; "{at} pull {link}")?)
+/// A pull or a push, as a test shows it.
+fn sync_shown(alloc: Global, sync: &SyncLine) -> Result<String, Fail> {
+    let at = sync.at;
+    let verb = match sync.way {
+        Way::Pull => "pull",
+        Way::Push => "push",
+    };
+    let link = sync.link.text();
+    Ok(format!(in alloc; "{at} {verb} {link}")?)
 }
 
 /// What a line is read as: its step, or the place of its fault.
@@ -228,7 +233,7 @@ fn step_shown(alloc: Global, line: &str, directory: &Directory) -> Result<String
                 Command::Request(request) => request_shown(alloc, request)?,
                 Command::Raw(raw) => raw_shown(alloc, raw)?,
                 Command::Group(group) => group_shown(alloc, group)?,
-                Command::Pull(pull) => pull_shown(alloc, pull)?,
+                Command::Sync(sync) => sync_shown(alloc, sync)?,
             };
             Ok(format!(in alloc; "{time} {command}")?)
         }
@@ -248,7 +253,7 @@ const WORDS: [(&str, &str); 5] = [
 ];
 
 /// Lines of a script, and what each is read as.
-const LINES: [(&str, &str); 47] = [
+const LINES: [(&str, &str); 55] = [
     ("x", "bad 0"),
     ("", "bad 0"),
     ("1700000000", "bad 10"),
@@ -260,7 +265,7 @@ const LINES: [(&str, &str); 47] = [
     ("1 {word}", "bad 34"),
     ("1 {word} ", "bad 35"),
     ("1 {WORD} none", "bad 2"),
-    ("1 {word} push one", "bad 35"),
+    ("1 {word} sync one", "bad 35"),
     ("1 {word} none ", "bad 40"),
     ("1 {word} none x", "bad 40"),
     ("1 {word} req", "bad 38"),
@@ -296,6 +301,14 @@ const LINES: [(&str, &str); 47] = [
     ("1 {word} pull one Up", "bad 44"),
     ("1 {word} pull one up ", "bad 47"),
     ("1 {word} pull one up-2", "1 0 pull up-2"),
+    ("1 {word} push", "bad 39"),
+    ("1 {word} push two up", "bad 40"),
+    ("1 {word} push one", "bad 43"),
+    ("1 {word} push one ", "bad 44"),
+    ("1 {word} push one Up", "bad 44"),
+    ("1 {word} push one up ", "bad 47"),
+    ("1 {word} push one up-2", "1 0 push up-2"),
+    ("1 {word} pushes one up", "bad 35"),
 ];
 
 #[test]

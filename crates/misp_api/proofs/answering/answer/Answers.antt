@@ -5,7 +5,7 @@ use Rattle.misp_api.specs.Answering.{form_of}
 use Rattle.misp_api.specs.Request.{request_data}
 use Rattle.misp_core.specs.Text.{has_octets}
 use Rattle.misp_api.proofs.Replying.{refused_by_form, no_keeper}
-use Rattle.misp_api.proofs.Pulls.{stays}
+use Rattle.misp_api.proofs.Pulls.{sound_told, stays}
 use Rattle.misp_api.proofs.Turning.{out_of_memory, turned_unread}
 use Rattle.misp_api.proofs.Ordering.{order_by_fault}
 use Rattle.misp_api.proofs.Told.{replied_told, ordered_told, of_told, text_told, turned_told, unformed_told, where_short, cause_told, no_cause}
@@ -34,12 +34,17 @@ returns-in-Ok-clause-order g c =
 pub returns-in-Ok-clause-formed : goal.returns-in-Ok-clause-formed
 returns-in-Ok-clause-formed g c =
     turned_told c.tell.result c.args.instance.now _ _ (request_data c.args.word c.args.request.now) _ c.plan-planned.result c.in-Ok.ensures.read
-    c.plan-planned.ensures.forbidden c.tell.ensures.unplanned c.tell.ensures.still
+    c.plan-planned.ensures.barred c.tell.ensures.unplanned c.tell.ensures.still
 
 pub returns-in-Ok-clause-unformed : goal.returns-in-Ok-clause-unformed
 returns-in-Ok-clause-unformed g c =
     unformed_told c.tell.result c.args.instance.now _ _ (request_data c.args.word c.args.request.now) _ c.plan-planned.result c.in-Ok.ensures.read
-    c.plan-planned.ensures.forbidden c.tell.ensures.still
+    c.plan-planned.ensures.barred c.tell.ensures.still
+
+pub returns-in-Ok-clause-sound : goal.returns-in-Ok-clause-sound
+returns-in-Ok-clause-sound g c =
+    sound_told c.tell.result c.args.instance.now _ (request_data c.args.word c.args.request.now) _ c.plan-planned.result c.in-Ok.ensures.read
+    c.plan-planned.ensures.barred c.plan-planned.ensures.sound c.tell.ensures.sound
 
 pub returns-in-Ok-clause-cause : goal.returns-in-Ok-clause-cause
 returns-in-Ok-clause-cause g c = cause_told c.tell.result c.plan-planned.result _ _ _ c.plan-planned.ensures.cause c.tell.ensures.later c.tell.ensures.rose

@@ -1,8 +1,9 @@
-use Rattle.std.proofs.Common.{IfOk, sym, subst}
+use Rattle.std.proofs.Common.{IfOk, IfSome, OnErr, refl, sym, subst}
 use Rattle.misp_api.specs.Answering.{IsPull}
-use Rattle.misp_api.specs.Exchange.{IsExchanged}
+use Rattle.misp_api.specs.Exchange.{IsExchanged, IsLeftSo}
 use Rattle.misp_api.specs.Sending.{read_form}
-use Rattle.misp_api.proofs.Exchanges.{no_reply, not_unread, one_read}
+use Rattle.misp_api.proofs.Exchanges.{left_alone, no_reply, not_unread, one_read}
+use Rattle.misp_api.proofs.Outgoing.{where_full}
 use Rattle.misp_api.proofs.exchanging.exchange.Goals as goal
 
 -- the bytes are a request, and no other
@@ -16,8 +17,18 @@ returns-in-Ok-clause-still g c = λ read left is pull.
     let same = one_read c.args.bytes.items c.in-Ok.read read c.in-Ok.ensures.read.0 left c.in-Ok.ensures.read.1 is in
     c.reply_to_read.ensures.still (subst (λ r. IsPull (read_form c.args.instance.now.admin c.args.word r)) (sym same) pull)
 
+pub returns-in-Ok-clause-left : goal.returns-in-Ok-clause-left
+returns-in-Ok-clause-left g c = λ read left is.
+    let same = one_read c.args.bytes.items c.in-Ok.read read c.in-Ok.ensures.read.0 left c.in-Ok.ensures.read.1 is in
+    subst (λ r. OnErr c.reply_to_read.result (IfSome c.args.instance.now.held (λ held. IsLeftSo c.args.now (read_form c.args.instance.now.admin c.args.word r) c.args.instance.now held c.reply_to_read.new.instance.held)))
+    same c.reply_to_read.ensures.left
+
 -- they are none
 pub returns-in-Err-clause-answered : goal.returns-in-Err-clause-answered
 returns-in-Err-clause-answered g c = λ read left is.
     no_reply c.unread.result _ c.unread.ensures
     (λ memory. not_unread c.args.bytes.items c.in-Err.end read c.in-Err.ensures.read.0 left memory c.in-Err.ensures.no_fault c.in-Err.ensures.read.1 is)
+
+pub returns-in-Err-clause-left : goal.returns-in-Err-clause-left
+returns-in-Err-clause-left g c = λ read left is.
+    where_full c.unread.result (left_alone c.args.now (read_form c.args.instance.now.admin c.args.word read) c.args.instance.now c.args.instance.now.held c.args.instance.now.held refl)

@@ -9,6 +9,7 @@ use Rattle.misp_net.proofs.Asking.{names_described}
 use Rattle.misp_net.proofs.Courses.{none_ran}
 use Rattle.misp_net.proofs.Passing.{none_passing}
 use Rattle.misp_net.proofs.Privacy.{is_private, are_replied, are_newest}
+use Rattle.misp_net.proofs.SyncLaw.{both_laws}
 use Rattle.misp_net.proofs.Fronts.{AreInFront, opened_long, carried_in_front, passed_in_front, passing_in_front, run_in_front, cut_in_front, others_kept}
 use Rattle.misp_net.proofs.net.run_net.Goals as goal
 
@@ -28,37 +29,43 @@ in_front net opened ran rest olds news count long hosts kept left many is = reco
 pub returns-clause-private : goal.returns-clause-private
 returns-clause-private g c =
     let pulls = c.an_instance_pulls_by_the_history.ensures in
+    let pushes = c.an_instance_pushes_by_the_history.ensures in
     let front = in_front c.args.net c.in_ok-instances.instances.items c.run_lines-lines.new.instances.items (map g.K.Keeper.state c.open_all.new.keepers.items)
     (map g.K.Keeper.state c.args.keepers.now.items) (map g.K.Keeper.state c.close_all.new.keepers.items) (vec_len c.into_vec.result)
     (c.into_vec.result.ok.0 ∙ ap length c.into_vec.ensures) (c.in_ok-instances.ensures.hosts ∙ ap (map described_host) c.into_vec.ensures)
     c.in_ok-instances.ensures.opened c.in_ok-instances.ensures.rest
     (omega (arith, c.run_lines-lines.ensures.places, c.run_lines-lines.new.instances.ok.0, c.in_ok-instances.instances.ok.0)) c.close_all.ensures in
     is_private c.a_group_is_read_from_its_text.ensures
-    (record { told = pulls.told; left = pulls.left; elsewhere = pulls.elsewhere; groups = pulls.groups }) _ _ _ _ _
+    (both_laws (record { told = pulls.told; left = pulls.left; elsewhere = pulls.elsewhere; groups = pulls.groups })
+    (record { told = pushes.told; left = pushes.left; elsewhere = pushes.elsewhere; groups = pushes.groups })) _ _ _ _ _
     (run_in_front front (rw (← c.in_ok-directory.ensures) c.in_ok-lines.ensures.ran.run))
 
 pub returns-clause-replied : goal.returns-clause-replied
 returns-clause-replied g c =
     let pulls = c.an_instance_pulls_by_the_history.ensures in
+    let pushes = c.an_instance_pushes_by_the_history.ensures in
     let front = in_front c.args.net c.in_ok-instances.instances.items c.run_lines-lines.new.instances.items (map g.K.Keeper.state c.open_all.new.keepers.items)
     (map g.K.Keeper.state c.args.keepers.now.items) (map g.K.Keeper.state c.close_all.new.keepers.items) (vec_len c.into_vec.result)
     (c.into_vec.result.ok.0 ∙ ap length c.into_vec.ensures) (c.in_ok-instances.ensures.hosts ∙ ap (map described_host) c.into_vec.ensures)
     c.in_ok-instances.ensures.opened c.in_ok-instances.ensures.rest
     (omega (arith, c.run_lines-lines.ensures.places, c.run_lines-lines.new.instances.ok.0, c.in_ok-instances.instances.ok.0)) c.close_all.ensures in
     are_replied c.a_group_is_read_from_its_text.ensures
-    (record { told = pulls.told; left = pulls.left; elsewhere = pulls.elsewhere; groups = pulls.groups }) _ _ _ _ _
+    (both_laws (record { told = pulls.told; left = pulls.left; elsewhere = pulls.elsewhere; groups = pulls.groups })
+    (record { told = pushes.told; left = pushes.left; elsewhere = pushes.elsewhere; groups = pushes.groups })) _ _ _ _ _
     (run_in_front front (rw (← c.in_ok-directory.ensures) c.in_ok-lines.ensures.ran.run))
 
 pub returns-clause-newest : goal.returns-clause-newest
 returns-clause-newest g c =
     let pulls = c.an_instance_pulls_by_the_history.ensures in
+    let pushes = c.an_instance_pushes_by_the_history.ensures in
     let front = in_front c.args.net c.in_ok-instances.instances.items c.run_lines-lines.new.instances.items (map g.K.Keeper.state c.open_all.new.keepers.items)
     (map g.K.Keeper.state c.args.keepers.now.items) (map g.K.Keeper.state c.close_all.new.keepers.items) (vec_len c.into_vec.result)
     (c.into_vec.result.ok.0 ∙ ap length c.into_vec.ensures) (c.in_ok-instances.ensures.hosts ∙ ap (map described_host) c.into_vec.ensures)
     c.in_ok-instances.ensures.opened c.in_ok-instances.ensures.rest
     (omega (arith, c.run_lines-lines.ensures.places, c.run_lines-lines.new.instances.ok.0, c.in_ok-instances.instances.ok.0)) c.close_all.ensures in
     are_newest c.a_group_is_read_from_its_text.ensures
-    (record { told = pulls.told; left = pulls.left; elsewhere = pulls.elsewhere; groups = pulls.groups }) _ _ _ _ _
+    (both_laws (record { told = pulls.told; left = pulls.left; elsewhere = pulls.elsewhere; groups = pulls.groups })
+    (record { told = pushes.told; left = pushes.left; elsewhere = pushes.elsewhere; groups = pushes.groups })) _ _ _ _ _
     (run_in_front front (rw (← c.in_ok-directory.ensures) c.in_ok-lines.ensures.ran.run))
 
 pub returns-clause-carried : goal.returns-clause-carried

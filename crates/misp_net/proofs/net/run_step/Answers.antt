@@ -1,7 +1,7 @@
 use Rattle.std.proofs.Common.{◌≡◌, ◌<◌, ◌++◌, ℕ, Ok, inl, refl, subst}
 use Rattle.misp_script.specs.declared.step.Command.{Command}
 use Rattle.misp_script.specs.declared.step.RequestLine.{RequestLine}
-use Rattle.misp_script.specs.declared.step.PullLine.{PullLine}
+use Rattle.misp_script.specs.declared.step.SyncLine.{SyncLine}
 use Rattle.misp_script.specs.declared.step.RawLine.{RawLine}
 use Rattle.misp_script.specs.declared.step.GroupLine.{GroupLine}
 use Rattle.misp_script.specs.Step.{IsPlaced, request_data, raw_data, group_data, command_data, step_data}
@@ -126,16 +126,16 @@ returns-in_err-put_group-in-Group-clause-hosts g c =
     (group_within _ _ _ _ c.requires.placed c.in-Group.is c.args.instances.now.ok.0)
     (rw (← c.index_mut-instance-in-Group.ensures.value) c.in_err-put_group-in-Group.ensures.name) (rw (← c.index_mut-instance-in-Group.ensures.value) c.in_err-put_group-in-Group.ensures.admin)
 
--- ---- a pull
+-- ---- a synchronisation
 
-pull_within : (count : ℕ) (d : Command) (line : PullLine) → IsPlaced count (command_data d) → d ≡ Command.Pull line → line.at < count
-pull_within count d line placed is = subst (λ x. IsPlaced count (command_data x)) is placed
+sync_within : (count : ℕ) (d : Command) (line : SyncLine) → IsPlaced count (command_data d) → d ≡ Command.Sync line → line.at < count
+sync_within count d line placed is = subst (λ x. IsPlaced count (command_data x)) is placed
 
-pub put_pull-requires-clause-inside : goal.put_pull-requires-clause-inside
-put_pull-requires-clause-inside g c = pull_within _ _ _ c.requires.placed c.in-Pull.is
+pub put_sync-requires-clause-inside : goal.put_sync-requires-clause-inside
+put_sync-requires-clause-inside g c = sync_within _ _ _ c.requires.placed c.in-Sync.is
 
-pub returns-in-Pull-clause-ran : goal.returns-in-Pull-clause-ran
-returns-in-Pull-clause-ran g c = rw c.in-Pull.is c.put_pull.ensures.ran
+pub returns-in-Sync-clause-ran : goal.returns-in-Sync-clause-ran
+returns-in-Sync-clause-ran g c = rw c.in-Sync.is c.put_sync.ensures.ran
 
-pub returns-in-Pull-clause-cut : goal.returns-in-Pull-clause-cut
-returns-in-Pull-clause-cut g c = rw c.in-Pull.is c.put_pull.ensures.cut
+pub returns-in-Sync-clause-cut : goal.returns-in-Sync-clause-cut
+returns-in-Sync-clause-cut g c = rw c.in-Sync.is c.put_sync.ensures.cut

@@ -1,0 +1,16 @@
+use Rattle.std.proofs.Common.{IfSome, subst}
+use Rattle.misp_core.specs.HandedGroups.{groups_handed}
+use Rattle.misp_core.specs.Prelude.{Plans, groups_of}
+use Rattle.misp_api.proofs.Told.{planned_there, unmet}
+use Rattle.misp_api.proofs.answering.plan.Goals as goal
+
+-- groups are handed in
+pub returns-in-TakesGroups-clause-planned : goal.returns-in-TakesGroups-clause-planned
+returns-in-TakesGroups-clause-planned g c =
+    rw c.in-TakesGroups.is
+    (planned_there c.args.instance.now.held (λ held. groups_handed c.args.caller.now c.in-TakesGroups.groups (groups_of held)) c.plan_handed_groups.result
+    (subst (λ coming. IfSome c.args.instance.now.held (λ held. Plans c.plan_handed_groups.result (groups_handed c.args.caller.now coming (groups_of held)))) c.into_vec.ensures
+    c.plan_handed_groups.ensures.planned))
+
+pub returns-in-TakesGroups-clause-cause : goal.returns-in-TakesGroups-clause-cause
+returns-in-TakesGroups-clause-cause g c = unmet _ c.plan_handed_groups.ensures.no_fault

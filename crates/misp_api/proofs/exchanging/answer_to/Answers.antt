@@ -1,0 +1,10 @@
+use Rattle.std.proofs.Common.{refl}
+use Rattle.misp_api.proofs.Exchanges.{unless_told}
+use Rattle.misp_api.proofs.Outgoing.{where_full}
+use Rattle.misp_api.proofs.exchanging.answer_to.Goals as goal
+
+pub returns-in-Request-clause-unwritten : goal.returns-in-Request-clause-unwritten
+returns-in-Request-clause-unwritten g c = unless_told c.answer.result _ c.answer.ensures.kept
+
+pub returns-in-Refused-clause-unwritten : goal.returns-in-Refused-clause-unwritten
+returns-in-Refused-clause-unwritten g c = where_full c.refuse.result refl

@@ -1,0 +1,13 @@
+//! What requests are.
+
+use misp_groups::Group;
+use misp_ids::Items;
+use misp_rules::Ask;
+
+/// What a request is, whoever it comes from.
+#[derive(Debug, Drop)]
+pub enum Command {
+    Asks(Ask),
+    /// Takes what is new of groups that are handed in.
+    TakesGroups(Items<Group>),
+}
