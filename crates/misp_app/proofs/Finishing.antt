@@ -36,6 +36,7 @@ failed_one (Err fault) old new failed = absurd failed
 stopped_by : (status : Status) → IsStopped status → (status ≡ Status.ReadFault → ⊥) → (status ≡ Status.WriteFault → ⊥) → (status ≡ Status.KeeperFault → ⊥)
     → (status ≡ Status.BadRow → ⊥) → (status ≡ Status.DoorFault → ⊥) → status ≡ Status.OutOfMemory
 stopped_by Status.Done stopped read write keeper bad door = absurd stopped
+stopped_by Status.Stopped stopped read write keeper bad door = absurd stopped
 stopped_by Status.Usage stopped read write keeper bad door = absurd stopped
 stopped_by Status.ReadFault stopped read write keeper bad door = absurd (read refl)
 stopped_by Status.WriteFault stopped read write keeper bad door = absurd (write refl)

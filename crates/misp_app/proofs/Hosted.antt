@@ -12,7 +12,7 @@ use Rattle.misp_app.specs.Hosting.{HasLinesServed, HasServed, IsReady}
 use Rattle.misp_app.specs.Source.{described, host_named}
 use Rattle.misp_app.specs.Status.{HasKeepers, status_after}
 use Rattle.misp_app.specs.Limits.{least_keepers}
-use Rattle.misp_words.specs.Words.{Check, CommandData, Net, Serve, ServeData, command_data, serve_data}
+use Rattle.misp_words.specs.Words.{Check, CommandData, Net, Serve, ServeData, Sync, command_data, serve_data}
 use Rattle.misp_words.specs.declared.command.Command.{Command}
 use Rattle.misp_words.specs.declared.command.ServeWords.{ServeWords}
 use Rattle.misp_app.specs.declared.serving.ServeFault.TheVariants as faults
@@ -72,6 +72,7 @@ unread_memory Status.ReadFault end has = absurd has
 unread_memory Status.TooMuch end has = absurd has
 unread_memory Status.OutOfMemory end has = refl
 unread_memory Status.Done end has = absurd end
+unread_memory Status.Stopped end has = absurd end
 unread_memory Status.Usage end has = absurd end
 unread_memory Status.WriteFault end has = absurd end
 unread_memory Status.BadDescription end has = absurd end
@@ -105,3 +106,4 @@ enough_keepers None count some = some
 enough_keepers (Some Net) count some = some
 enough_keepers (Some Check) count some = some
 enough_keepers (Some (Serve words)) count some = omega (arith, some)
+enough_keepers (Some (Sync words)) count some = omega (arith, some)

@@ -1,6 +1,6 @@
 -- The statuses with which a part of a run ends.
 use Rattle.misp_app.specs.declared.status.Status.{Status}
-use Rattle.misp_app.specs.declared.status.Status.TheVariants.{Done, ReadFault, WriteFault, BadDescription, NoSuchInstance, DoorFault, OutOfMemory, TooMuch, KeeperFault, BadRow}
+use Rattle.misp_app.specs.declared.status.Status.TheVariants.{Done, Stopped, ReadFault, WriteFault, BadDescription, NoSuchInstance, DoorFault, OutOfMemory, TooMuch, KeeperFault, BadRow}
 use Rattle.misp_app.specs.Status.{Writes}
 
 -- the statuses with which reading ends
@@ -56,3 +56,24 @@ IsNetServed status = IsHostEnd status
 abbrev pub IsSourceServed : Status → Type 0
 IsSourceServed BadDescription = Unit {0}
 IsSourceServed status = IsNetServed status
+
+-- the statuses with which the writing of the line of a synchronisation ends
+abbrev pub IsTellEnd : Status → Type 0
+IsTellEnd Stopped = Unit {0}
+IsTellEnd status = IsPutEnd status
+
+-- the same where an instance is first opened
+abbrev pub IsSyncEnd : Status → Type 0
+IsSyncEnd KeeperFault = Unit {0}
+IsSyncEnd BadRow = Unit {0}
+IsSyncEnd status = IsTellEnd status
+
+-- the same of an instance that is first found in a description
+abbrev pub IsNetSynced : Status → Type 0
+IsNetSynced NoSuchInstance = Unit {0}
+IsNetSynced status = IsSyncEnd status
+
+-- the same where the description is first read
+abbrev pub IsSourceSynced : Status → Type 0
+IsSourceSynced BadDescription = Unit {0}
+IsSourceSynced status = IsNetSynced status

@@ -5,3 +5,4 @@ pub mod Serving
 pub mod Source
 pub mod Status
 pub mod Streams
+pub mod Synchronising

@@ -10,7 +10,7 @@ use Rattle.misp_store.specs.Sharing.{may_be_sound, may_be_unsound}
 use Rattle.misp_net.specs.Prelude.{AreDistinct, Description, Host, IsCut, KeeperState, Line, described_hosts, description_at, host_at, lines_of, nothing_held}
 use Rattle.misp_app.specs.declared.status.Status.{Status}
 use Rattle.misp_app.specs.declared.status.Status.TheVariants.{Done, BadDescription, NoSuchInstance, TooMuch}
-use Rattle.misp_words.specs.Words.{CommandData, Serve}
+use Rattle.misp_words.specs.Words.{CommandData, Serve, Sync}
 use Rattle.misp_app.specs.Limits.{source_limit}
 use Rattle.misp_app.specs.Streams.{fault_line}
 
@@ -38,6 +38,7 @@ served_status name (Err fault) = BadDescription
 -- how a command ends over what is described, unless a fault stops it or memory runs out
 abbrev pub status_over : CommandData → Reading Description → Status
 status_over (Serve words) read = served_status words.name read
+status_over (Sync words) read = served_status words.name read
 status_over command read = described_status read
 
 -- the same over this source

@@ -1,12 +1,12 @@
 -- How a run ends.
-use Rattle.std.specs.Prelude.{ℕ, ◌<◌, ◌≤◌, List, Option, Some}
+use Rattle.std.specs.Prelude.{◌≡◌, ℕ, ◌<◌, ◌≤◌, List, Option, Some}
 use Rattle.std.specs.Io.KnownBytes.{Appends}
 use Rattle.misp_http.specs.Streams.{AppendsSome}
 use Rattle.misp_net.specs.declared.places.NetFault.{NetFault}
-use Rattle.misp_words.specs.Words.{CommandData, Net, Serve}
+use Rattle.misp_words.specs.Words.{CommandData, Net, Serve, Sync}
 use Rattle.misp_app.specs.Limits.{least_keepers}
 use Rattle.misp_app.specs.declared.status.Status.{Status}
-use Rattle.misp_app.specs.declared.status.Status.TheVariants.{Done, Usage, ReadFault, WriteFault, BadDescription, NoSuchInstance, DoorFault, OutOfMemory, TooMuch, KeeperFault, BadRow}
+use Rattle.misp_app.specs.declared.status.Status.TheVariants.{Done, Stopped, Usage, ReadFault, WriteFault, BadDescription, NoSuchInstance, DoorFault, OutOfMemory, TooMuch, KeeperFault, BadRow}
 
 -- how a run ends where the run of its script ends so
 abbrev pub status_after : NetFault → Status
@@ -17,6 +17,7 @@ status_after NetFault.NoMemory = OutOfMemory
 -- the exit status of the program
 abbrev pub status_code : Status → ℕ
 status_code Done = 0
+status_code Stopped = 1
 status_code Usage = 2
 status_code ReadFault = 3
 status_code WriteFault = 4
@@ -65,6 +66,12 @@ IsStill NoSuchInstance = Unit {0}
 IsStill TooMuch = Unit {0}
 IsStill status = ⊥
 
+-- no peer was asked
+abbrev pub IsUnasked : Status → Type 0
+IsUnasked KeeperFault = Unit {0}
+IsUnasked BadRow = Unit {0}
+IsUnasked status = IsStill status
+
 -- a fault or an invalid row stopped the run, or memory ran out
 abbrev pub IsStopped : Status → Type 0
 IsStopped ReadFault = Unit {0}
@@ -75,15 +82,26 @@ IsStopped KeeperFault = Unit {0}
 IsStopped BadRow = Unit {0}
 IsStopped status = ⊥
 
+-- a synchronisation was refused or stopped, and its line says by what
+abbrev pub IsSyncStopped : CommandData → Status → Type 0
+IsSyncStopped (Sync words) status = status ≡ Stopped
+IsSyncStopped command status = ⊥
+
 -- connections are served
 abbrev pub HasDoor : Option CommandData → Type 0
 HasDoor (Some (Serve words)) = Unit {0}
 HasDoor command = ⊥
 
+-- a peer may be asked
+abbrev pub HasDial : Option CommandData → Type 0
+HasDial (Some (Sync words)) = Unit {0}
+HasDial command = ⊥
+
 -- there are as many keepers as a description has instances at most, or one of the instance that
--- is served
+-- is served or synchronised
 abbrev pub HasKeepers : Option CommandData → ℕ → Type 0
 HasKeepers (Some (Serve words)) count = 0 < count
+HasKeepers (Some (Sync words)) count = 0 < count
 HasKeepers command count = least_keepers ≤ count
 
 -- lines of a run were written

@@ -9,16 +9,18 @@ ghost use Rattle.misp_net.specs.Passing.{HasPassed, HasPassedFirst};
 ghost use Rattle.misp_net.specs.Promise.{IsPrivate, AreReplied, AreNewest};
 ghost use Rattle.misp_app.specs.Limits.{source_limit, least_keepers};
 ghost use Rattle.misp_app.specs.Source.{described, described_status, status_of, ok_line, IsTold, HasRun, IsCutSaying, IsCutShort, IsSound, IsUnsound, HasFailed, OthersStay, HoldNothing, host_named};
-ghost use Rattle.misp_words.specs.Words.{ServeData, Net, Check, Serve, command_of};
+ghost use Rattle.misp_words.specs.Words.{ServeData, SyncData, Net, Check, Serve, Sync, command_of};
 ghost use Rattle.misp_outside.specs.Wires.{Connection};
 ghost use Rattle.misp_app.specs.Hosting.{HasLinesServed, HasServed, IsReady};
-ghost use Rattle.misp_app.specs.Status.{IsStopped, IsSilent, IsStill, IsUnopened, HasDoor, HasKeepers, HasLines, TellsFault, WritesNothing, Wrote};
+ghost use Rattle.misp_app.specs.Status.{IsStopped, IsSyncStopped, IsSilent, IsStill, IsUnasked, IsUnopened, HasDial, HasDoor, HasKeepers, HasLines, TellsFault, WritesNothing, Wrote};
+ghost use Rattle.misp_app.specs.Synchronising.{HasSyncLine, HasSynced, IsCutSync, dialled, peer_address};
 ghost use Rattle.misp_app.specs.Ends.{IsRunEnd};
 
 use crate::checking::check_source;
 use crate::fault::{put, tell_fault};
 use crate::hosting::serve_source;
 use crate::reading::read_all;
+use crate::synchronising::sync_source;
 use crate::{KEEPERS, MAX_SOURCE, Status};
 use misp_net::run_net;
 use misp_outside::{Carry, Clock, Dial, Door, Keeper, Sink, Source};
@@ -27,7 +29,7 @@ use misp_words::{Command, WordsFault, read_words};
 use std::alloc::Global;
 
 /// Does all that the program does: reads the source, runs its script over the keepers and writes
-/// the lines, checks its description, or serves an instance of it.
+/// the lines, checks its description, or serves or synchronises an instance of it.
 pub fn run<S: Source, W: Sink, K: Keeper, C: Carry, D: Door, L: Dial, T: Clock>(
     alloc: Global,
     words: &[String],
@@ -84,7 +86,8 @@ pub fn run<S: Source, W: Sink, K: Keeper, C: Carry, D: Door, L: Dial, T: Clock>(
     ensures usage { result ≡ Status.Usage ↔ command_of (map string_bytes words.now) ≡ None }
     ensures status { IfSome (command_of (map string_bytes words.now)) (λ command.
         IfSome (S.left source.old) (λ left.
-        IsStopped result ⊎ (result ≡ status_of command left))) }
+        IsStopped result ⊎ IsSyncStopped command result
+        ⊎ (result ≡ status_of command left))) }
 
     // Over keepers that hold nothing, where nothing fails, a run stops only where memory runs out.
     ensures finished { command_of (map string_bytes words.now) ≡ Some Net →
@@ -144,13 +147,39 @@ pub fn run<S: Source, W: Sink, K: Keeper, C: Carry, D: Door, L: Dial, T: Clock>(
         (T.next_word clock.new) (D.back door.new) (D.coming door.new)
         (W.written sink.old) (W.written sink.new) result))) }
 
+    // A synchronisation is over the link of its name, with the peer of that link, at the address
+    // that the description has for it. Its line says what it was told. Where memory runs out, there
+    // is no line, and it was done or not begun.
+    ensures synced { (asked : SyncData) →
+        command_of (map string_bytes words.now) ≡ Some (Sync asked) → HasSyncLine result →
+        IfSome (S.left source.old) (λ left. IfOk (described left) (λ net.
+        IfSome (host_named asked.name net) (λ host.
+        HasSynced host asked (peer_address host asked.link net)
+        (take 1 (map K.state keepers.old.items)) (take 1 (map K.state keepers.new.items))
+        (dialled (L.asks dial.old) (L.faults dial.old))
+        (dialled (L.asks dial.new) (L.faults dial.new))
+        (W.written sink.old) (W.written sink.new) result))) }
+    ensures cut_synced { (asked : SyncData) →
+        command_of (map string_bytes words.now) ≡ Some (Sync asked) →
+        result ≡ Status.OutOfMemory →
+        IfSome (S.left source.old) (λ left. IfOk (described left) (λ net.
+        IfSome (host_named asked.name net) (λ host.
+        IsCutSync host asked (peer_address host asked.link net)
+        (take 1 (map K.state keepers.old.items)) (take 1 (map K.state keepers.new.items))
+        (dialled (L.asks dial.old) (L.faults dial.old))
+        (dialled (L.asks dial.new) (L.faults dial.new))))) }
+    ensures unasked { IsUnasked result → dial.new ≡ dial.old }
+    ensures dialling { L.faults dial.old ≤ L.faults dial.new }
+
     // Each keeper is in its place, and those after the keepers of the instances are as they were.
     ensures places { vec_len keepers.new ≡ vec_len keepers.old }
     ensures others { IfSome (S.left source.old) (λ left. OthersStay (described left)
         (map K.state keepers.old.items) (map K.state keepers.new.items)) }
     ensures still { IsStill result → keepers.new.items ≡ keepers.old.items }
-    ensures untouched { (dial.new ≡ dial.old)
-        × ((command_of (map string_bytes words.now) ≢ Some Net) → carry.new ≡ carry.old) }
+    ensures untouched { command_of (map string_bytes words.now) ≢ Some Net →
+        carry.new ≡ carry.old }
+    ensures undialled { (HasDial (command_of (map string_bytes words.now)) → ⊥) →
+        dial.new ≡ dial.old }
     ensures indoors { (HasDoor (command_of (map string_bytes words.now)) → ⊥) →
         (door.new ≡ door.old) × (clock.new ≡ clock.old) }
 
@@ -169,6 +198,7 @@ pub fn run<S: Source, W: Sink, K: Keeper, C: Carry, D: Door, L: Dial, T: Clock>(
     match command {
         Command::Net => run_source(alloc, &bytes, sink, keepers, carry),
         Command::Check => check_source(alloc, &bytes, sink),
+        Command::Sync(words) => sync_source(alloc, &bytes, &words, sink, keepers, dial),
         Command::Serve(words) => { serve_source(alloc, &bytes, &words, sink, keepers, door, clock) }
     }
 }

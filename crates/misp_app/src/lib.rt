@@ -1,5 +1,5 @@
-//! The top call: reads a source, runs its script over the keepers or serves one of its instances,
-//! and writes the lines.
+//! The top call: reads a source, runs its script over the keepers, or serves or synchronises one of
+//! its instances, and writes the lines.
 #![tactic(auto)]
 
 mod checking;
@@ -9,6 +9,7 @@ mod hosting;
 mod reading;
 mod serving;
 mod status;
+mod synchronising;
 
 pub use entry::run;
 pub use status::Status;

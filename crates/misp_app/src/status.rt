@@ -11,15 +11,18 @@ use std::alloc::{AllocError, AllocFailed};
 /// How a run ends.
 #[derive(Clone, Copy, Debug, PartialEq, Eq)]
 pub enum Status {
-    /// All steps were run, or all connections served, and all lines were written.
+    /// All steps were run, all connections served, or all that passes was taken, and all lines were
+    /// written.
     Done,
+    /// A synchronisation was refused or stopped; its line says by what.
+    Stopped,
     /// The words are not accepted.
     Usage,
     ReadFault,
     WriteFault,
     /// The text before the script is no description; a line says where and why.
     BadDescription,
-    /// The instance that is to be served is not in the description.
+    /// The instance that is to be served or synchronised is not in the description.
     NoSuchInstance,
     DoorFault,
     OutOfMemory,
@@ -38,6 +41,7 @@ impl Status {
     {
         match self {
             Status::Done => 0,
+            Status::Stopped => 1,
             Status::Usage => 2,
             Status::ReadFault => 3,
             Status::WriteFault => 4,

@@ -49,14 +49,20 @@ module _ (host : Host) (now : ℕ) (it : Asked) where
       subst (λ (e : Effect Reply). Plans planned e) (sym (partner_asked it.0.partner (seeing (bare_scene host now it.0 groups) rows) host.admin it.1 is)) plans
 
   -- what is permitted is planned over the rows that it reads, with the groups that are held
+  pub planned_over : (groups : List Group) (rows : List Row) (planned : Result Plan NoPlan) (held : Held) → is_permitted it.0 it.1 ≡ true → HoldsGroups (Some held) groups
+      → (seen_in held).rows (reach_of it.0.org it.1) ≡ Ok rows → Plans planned (asked host.admin (seeing (scene_where groups (pulls it.1)) rows) it.1)
+      → IsPlanned planned (requested host now it (seen_in held))
+  planned_over groups rows planned held may holds found is =
+      is_planned planned (requested host now it (seen_in held))
+      (subst (λ (e : Effect Reply). Plans planned e) (sym (by_role (seen_in held) true may ∙ (λ i. asked_over host now it (ap or_none holds i) (found i)))) (with_partner groups rows planned (pulls it.1) refl is))
+
+  -- the same where the keeper may not tell what it holds
   pub asked_planned : (groups : List Group) (rows : List Row) (planned : Result Plan NoPlan) (old : Option Held) → is_permitted it.0 it.1 ≡ true → HoldsGroups old groups
       → IfSome old (λ held. (seen_in held).rows (reach_of it.0.org it.1) ≡ Ok rows) → IfSome old (λ held. IsTable rows)
       → (IsTable rows → Plans planned (asked host.admin (seeing (scene_where groups (pulls it.1)) rows) it.1))
       → IfSome old (λ held. IsPlanned planned (requested host now it (seen_in held)))
   asked_planned groups rows planned None may holds found table is = tt
-  asked_planned groups rows planned (Some held) may holds found table is =
-      is_planned planned (requested host now it (seen_in held))
-      (subst (λ (e : Effect Reply). Plans planned e) (sym (by_role (seen_in held) true may ∙ (λ i. asked_over host now it (ap or_none holds i) (found i)))) (with_partner groups rows planned (pulls it.1) refl (is table)))
+  asked_planned groups rows planned (Some held) may holds found table is = planned_over groups rows planned held may holds found (is table)
 
 -- nothing is both permitted and not
 pub not_both : {P : Type 0} (may : Bool) → may ≡ true → may ≡ false → P

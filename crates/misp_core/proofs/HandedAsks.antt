@@ -1,7 +1,7 @@
 -- A request that hands in a package: what it comes to, told by rows.
 use Rattle.std.proofs.Common.{◌≡◌, List, [], ◌∷◌, true, refl, sym, ap, ◌∙◌, length, map}
 use Rattle.misp_effects.specs.Effect.{effect}
-use Rattle.misp_rules.proofs.Prelude.{AreRows, IsUid, Version, and_parts, length-map, list_all}
+use Rattle.misp_rules.proofs.Prelude.{AreRows, IsUid, and_parts, length-map, list_all}
 use Rattle.misp_rules.specs.Answers.{answer, ask_rules, brings, is_accepted, newer, ok_answer, taken_rows}
 use Rattle.misp_rules.specs.Machine.{event_rows}
 use Rattle.misp_rules.specs.Package.{IsPackage, is_packed}
@@ -11,7 +11,7 @@ use Rattle.misp_history.specs.Merging.{counts_row, handed, is_newer_row, rows_ta
 use Rattle.misp_package.proofs.Handed.{handed_is_row}
 use Rattle.misp_store.proofs.HeldRows.{rows_filtered}
 use Rattle.misp_core.specs.Prelude.{Admin, Answer, Ask, Effect, EventId, Group, Inst, IsRefused, OrgId, Plan, Reply, Row, Scene, reply_in, seeing, writes_in}
-use Rattle.misp_core.specs.Answers.{handed_row, reply_of}
+use Rattle.misp_core.specs.Answers.{handed_row}
 use Rattle.misp_core.specs.Effects.{asked, row_batches}
 use Rattle.misp_core.specs.Planning.{IsPlan, batches_of, rows_put}
 use Rattle.misp_core.specs.Taking.{package_taken}

@@ -12,7 +12,7 @@ use Rattle.misp_history.specs.Acts.{Net}
 use Rattle.misp_history.proofs.Steps.{with_groups_here, with_groups_elsewhere}
 use Rattle.misp_store.specs.Sharing.{group_row}
 use Rattle.misp_store.proofs.GroupRows.{AreReadBack, group_again, group_put}
-use Rattle.misp_core.specs.Prelude.{AllByRecursion, Answer, AreReadable, Caller, Effect, Group, Held, Host, Inst, IsGroup, IsStrictlySortedBy, Keeps, Plans, Refusal, Reply, Stamp, Standing, World, groups_in, groups_of, left, put_batches, refused, same_inst, spelled, step, tables}
+use Rattle.misp_core.specs.Prelude.{AllByRecursion, Answer, AreReadable, Caller, Effect, Group, Held, Host, Inst, IsGroup, IsStrictlySortedBy, Keeps, Plans, Refusal, Reply, Stamp, Standing, World, groups_in, groups_of, left, put_batches, refused, same_inst, spelled, step}
 use Rattle.misp_core.specs.HandedGroups.{act_handing, group_batches, groups_handed}
 use Rattle.misp_core.specs.HandedGroups as spec
 use Rattle.misp_core.specs.Planning.{IsBarred}

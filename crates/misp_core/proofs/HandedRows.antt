@@ -1,5 +1,5 @@
 -- What is taken of a package that is handed in, told by rows: over those that its caller knows, and over those of its event, it is what is taken over all.
-use Rattle.std.proofs.Common.{◌≡◌, ℕ, List, [], ◌∷◌, Bool, true, false, refl, sym, ap, subst, ◌∙◌, ◌&&◌, ◌||◌, not, map, filter, leb, eqb, Less, Equal, Ordering, is_eq, nat_cmp}
+use Rattle.std.proofs.Common.{◌≡◌, ℕ, List, [], ◌∷◌, Bool, true, false, refl, sym, ap, subst, ◌∙◌, ◌&&◌, ◌||◌, not, map, filter, leb, Less, is_eq, nat_cmp}
 use Rattle.std.specs.List.Sorted.{IsStrictlySortedBy}
 use Rattle.misp_lists.proofs.Prelude.{bytes_eq-Decides, is_eq-slice_cmp}
 use Rattle.misp_elem.specs.Spelling.{key}
@@ -9,8 +9,8 @@ use Rattle.misp_rules.specs.declared.package.PackageFields.{PackageFields as Pac
 use Rattle.misp_rules.proofs.Prelude.{map-map, slice_cmp}
 use Rattle.misp_history.proofs.Adding.{down_none}
 use Rattle.misp_history.proofs.AsNew.{own_known}
-use Rattle.misp_history.proofs.Prelude.{AllByRecursion, EventId, Group, Inst, IsDistinct, IsTable, Key, OrgId, Row, Scene, Version, all-filter, all-map, all_implies, and_from, and_parts, any_agree, any_cut, any_map, counted, counts, counts_row}
-use Rattle.misp_history.proofs.Prelude.{event_key, event_of, event_rows, false_from_ne_true, filter-map, filter_agree, handed, handed_in, has_copy, has_event, has_event_row, has_gone, has_home, has_path, is_made_at, is_newer_row, is_row_of}
+use Rattle.misp_history.proofs.Prelude.{AllByRecursion, EventId, Group, Inst, IsDistinct, IsTable, Key, OrgId, Row, Scene, Version, all-filter, and_from, and_parts, any_agree, any_cut, any_map, counted, counts, counts_row}
+use Rattle.misp_history.proofs.Prelude.{event_key, event_of, event_rows, false_from_ne_true, filter-map, filter_agree, handed, handed_in, has_copy, has_event, has_event_row, has_gone, has_home, is_made_at, is_newer_row, is_row_of}
 use Rattle.misp_history.proofs.Prelude.{is_statement, is_tombstone, is_welcome, is_welcome_row, in_one_cell, known, label_is_known, label_now, list_all, list_any, row_of_name, rows_taken, same_event, same_key, same_key-sound, same_org, same_org-refl, same_org-sound}
 use Rattle.misp_core.specs.Answers.{handed_row}
 

@@ -11,6 +11,8 @@ pub mod Numbered
 pub mod Pulled
 pub mod PulledEvents
 pub mod OwnRows
+pub mod PutRead
+pub mod KeptLandings
 pub mod TakenRows
 pub mod Listed
 pub mod TakenGroups

@@ -1,5 +1,5 @@
 -- A landing looks at the rows of its owner alone, so that it is that of all rows of the event.
-use Rattle.std.proofs.Common.{◌≡◌, ℕ, nat_eq, List, [], ◌∷◌, ◌++◌, bytes_eq, Bool, true, false, refl, sym, ap, subst, ◌∙◌, ◌&&◌, cond, Option, Some, None, Result, Ok, Err, IfOk, IfSome, filter, leb, not}
+use Rattle.std.proofs.Common.{◌≡◌, ℕ, nat_eq, List, [], ◌∷◌, ◌++◌, Bool, true, false, refl, sym, ap, subst, ◌∙◌, ◌&&◌, cond, Option, Some, None, Result, Ok, Err, IfOk, IfSome, filter, leb, not}
 use Rattle.std.specs.List.{starts_with}
 use Rattle.misp_lists.proofs.Lists.{any_cut, filter_twice}
 use Rattle.misp_outside.specs.declared.row.RawRow.{RawRow}

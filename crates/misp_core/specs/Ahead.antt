@@ -6,10 +6,12 @@ use Rattle.misp_rules.specs.Prelude.{EventId, Group, Scene}
 use Rattle.misp_rules.specs.Pulling.{pulled_part}
 use Rattle.misp_rules.specs.declared.ask.Ask.{Ask}
 use Rattle.misp_rules.specs.declared.package.PackageFields.{PackageFields as Package}
+use Rattle.misp_package.specs.declared.landing.Landing.{Landing}
 use Rattle.misp_store.specs.Prelude.{Effect, Held}
 use Rattle.misp_store.specs.Seen.{seen_in}
 use Rattle.misp_store.specs.Sharing.{HoldsGroups}
 use Rattle.misp_core.specs.Effects.{requested}
+use Rattle.misp_core.specs.KeptLanding.{LandsBeside}
 use Rattle.misp_core.specs.Standing.{Host}
 use Rattle.misp_core.specs.declared.ahead.Ahead.{Ahead}
 use Rattle.misp_core.specs.declared.reply.Answer.{Answer}
@@ -70,8 +72,10 @@ AnswersAhead host held a =
     IfSome held (λ h. (now : ℕ) →
     requested host now (a.caller, Ask.SyncPart a.event n) (seen_in h) ≡ part_told p)
 
--- what an instance keeps beside its keeper: the groups that are held, and packages that are answers
+-- what an instance keeps beside its keeper: the groups that are held, packages that are answers,
+-- and what an owner has of an event
 pub record IsBeside (host : Host) (held : Option Held) (known : List Group)
-    (kept : Option Ahead) : Type 0 where
+    (kept : Option Ahead) (landing : Option Landing) : Type 0 where
   pub groups : HoldsGroups held known
   pub ahead : IfSome kept (AnswersAhead host held)
+  pub landed : IfSome landing (LandsBeside host.name held)

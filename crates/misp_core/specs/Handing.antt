@@ -3,7 +3,7 @@ use Rattle.std.specs.Prelude.{◌≡◌, List, cond}
 use Rattle.misp_rules.specs.Machine.{pulls}
 use Rattle.misp_rules.specs.declared.ask.Ask.{Ask}
 use Rattle.misp_store.specs.declared.fault.LoadFault.{LoadFault}
-use Rattle.misp_core.specs.Prelude.{Effect, Reply, Row, Scene, refused}
+use Rattle.misp_core.specs.Prelude.{Effect, Host, Reply, Row, Scene, refused}
 use Rattle.misp_core.specs.declared.site.Site.{Site}
 use Rattle.misp_core.specs.Answers.{bad_row, bare_scene}
 
@@ -11,11 +11,13 @@ use Rattle.misp_core.specs.Answers.{bad_row, bare_scene}
 abbrev pub knowing : Scene → List Row → Scene
 knowing s rows = record s { rows = rows }
 
+-- who the instance is
+abbrev pub host_at : Site → Host
+host_at s = record { name = s.here.now; admin = s.admin.now }
+
 -- the scene that the code hands on where an ask looks at no partner
 abbrev pub scene_in : Site → Scene
-scene_in s =
-    bare_scene (record { name = s.here.now; admin = s.admin.now }) s.moment s.caller.now
-    s.groups.now
+scene_in s = bare_scene (host_at s) s.moment s.caller.now s.groups.now
 
 -- the same with the partner of the caller's key, at which what a pull asks looks
 abbrev pub pull_scene : Site → Scene

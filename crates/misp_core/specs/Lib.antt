@@ -7,6 +7,7 @@ pub mod EventList
 pub mod HandedGroups
 pub mod Handing
 pub mod Keeping
+pub mod KeptLanding
 pub mod Planning
 pub mod Prelude
 pub mod Pulling

@@ -22,9 +22,9 @@ fn event_number(row: &Row) -> u128
     row.key.event().0.0
 }
 
-// Whether the row is of the event.
+/// Whether the row is of the event.
 #[tactic(auto, unfolding(misp_ids::specs::Same::same_event))]
-fn is_of(row: &Row, event: &EventId) -> bool
+pub(crate) fn is_of(row: &Row, event: &EventId) -> bool
     ensures { result ≡ same_event (event_of row.now.key) event.now }
 {
     row.key.event() == *event

@@ -9,6 +9,7 @@ ghost use Rattle.misp_rules.specs.declared.ask.Ask.TheVariants as asks;
 ghost use Rattle.misp_core.specs.Ahead.{StaysOrIsPacked};
 ghost use Rattle.misp_core.specs.Answers.{IsBuilt, named_event};
 ghost use Rattle.misp_core.specs.Handing.{scene_in, scene_for, pull_scene, knowing};
+ghost use Rattle.misp_core.specs.KeptLanding.{StaysOrLands};
 ghost use Rattle.misp_core.specs.Effects.{asked, by_keeper};
 ghost use Rattle.misp_core.specs.Sound.{IsSoundAnswer};
 ghost use Rattle.misp_core.specs.Planning.{Plans, stop_planned};
@@ -26,6 +27,7 @@ use misp_elem::{NoMemory, Row, VisibleEvent};
 use misp_groups::Groups;
 use misp_ids::{EventId, Items, OrgId, Refusal, RuleName};
 use misp_orgs::Admin;
+use misp_package::Landing;
 use misp_rules::{Ask, Change};
 use misp_view::{concerning, group_names, shown};
 use std::alloc::Global;
@@ -106,7 +108,8 @@ fn list(alloc: Global, site: &Site<'_>) -> Result<Plan, NoPlan>
 }
 
 /// What is planned for a request, over the rows that are read for it. Of a pull the packages that
-/// are not asked for yet are kept.
+/// are not asked for yet are kept, and of a package that is handed in what its caller has of the
+/// event.
 #[tactic(auto, unfolding(misp_rules::specs::Machine::pulls))]
 pub(crate) fn plan_request(
     alloc: Global,
@@ -114,6 +117,7 @@ pub(crate) fn plan_request(
     ask: Ask,
     rows: Vec<Row>,
     kept: &mut Option<Ahead>,
+    landed: &mut Option<Landing>,
 ) -> Result<Plan, NoPlan>
     requires { IsBuilt ask }
     ensures plan { IsTable rows.items → Plans result (asked site.now.admin.now
@@ -121,6 +125,8 @@ pub(crate) fn plan_request(
     ensures kept { IsTable rows.items →
         StaysOrIsPacked (seeing (pull_scene site.now) rows.items) site.now.caller.now
         ask kept.old kept.new }
+    ensures landed { StaysOrLands site.now.here.now site.now.caller.now.org rows.items
+        ask landed.old landed.new }
     ensures sound { pulls ask ≡ true → IfOk result (λ plan. IsSoundAnswer plan.answer) }
     ensures no_fault { stop_planned result ≡ by_keeper → ⊥ }
 {
@@ -142,7 +148,7 @@ pub(crate) fn plan_request(
         Ask::SyncGroups => plan_pulled_groups(alloc, site),
         Ask::SyncEvents => plan_event_list(alloc, site, rows),
         Ask::SyncPart { event, part } => plan_part(alloc, site, &event, part, rows, kept),
-        Ask::TakePart(part) => plan_package(alloc, site, &part, rows),
+        Ask::TakePart(part) => plan_package(alloc, site, &part, rows, landed),
         _ => unreachable!(),
     }
 }

@@ -34,14 +34,14 @@ ghost use Rattle.misp_store.specs.declared.fault.LoadFault.TheVariants as faults
 ghost use Rattle.misp_orgs.specs.Admin.{who_of, link_of};
 
 use crate::administering::plan_group;
-use crate::ahead::{Ahead, take_kept};
-use crate::answering::{forbidden, unread};
-use crate::decide::plan_request;
+use crate::ahead::Ahead;
+use crate::answering::forbidden;
 use crate::handing_in::plan_groups;
+use crate::kept_landing::settle_beside;
 use crate::planning::{Batch, NoPlan, Plan};
-use crate::pulling::{carrying, show_part};
+use crate::pulling::carrying;
 use crate::pushing::{load_outgoing, way_from};
-use crate::settling::settle;
+use crate::reading::plan_permitted;
 use crate::site::Site;
 use crate::taking::{Landed, load_landing, take_package};
 use crate::taking_groups::take_groups;
@@ -51,13 +51,14 @@ use misp_orgs::{Admin, Caller, Link, may};
 use misp_outside::{Keeper, KeeperFault};
 use misp_package::Landing;
 use misp_rules::{Ask, Package, permission_for};
-use misp_store::{LoadFault, Reach, load, load_groups};
+use misp_store::{LoadFault, load_groups};
 use std::alloc::Global;
 use std::marker::Model;
 
 /// An instance, seen as its name, its administration, what its keeper holds, and the count of the
 /// keeper's faults. It keeps the groups beside, as they stand among the rows of the administration,
-/// and what is packed of the event that a partner asked for last.
+/// what is packed of the event that a partner asked for last, and what the caller has of the event
+/// of which it handed in a package last.
 #[derive(Drop)]
 pub struct Instance<K: Keeper> {
     name: InstId,
@@ -65,6 +66,7 @@ pub struct Instance<K: Keeper> {
     groups: Groups,
     keeper: K,
     ahead: Option<Ahead>,
+    landed: Option<Landing>,
 }
 
 impl<K: Keeper> Model for Instance<K> {
@@ -82,7 +84,7 @@ impl<K: Keeper> Model for Instance<K> {
     ghost use Rattle.misp_core.specs.Ahead.{IsBeside};
 
     ghost invariant = { λ a. IsBeside (record { name = a.name; admin = a.admin })
-        (K.state a.keeper).held a.groups a.ahead };
+        (K.state a.keeper).held a.groups a.ahead a.landed };
 }
 
 impl<K: Keeper> Instance<K> {
@@ -113,6 +115,7 @@ impl<K: Keeper> Instance<K> {
                 groups,
                 keeper,
                 ahead: None,
+                landed: None,
             }),
             Err(fault) => Err((fault, keeper)),
         }
@@ -179,13 +182,6 @@ impl<K: Keeper> Instance<K> {
         if !may(caller.role, perm) {
             return Err(forbidden(alloc, perm));
         }
-        if let Some(part) = take_kept(&mut self.ahead, caller, &ask) {
-            return Ok(show_part(part));
-        }
-        let rows = match load(&mut self.keeper, alloc, &Reach::of(&caller.org, &ask)) {
-            Ok(rows) => rows,
-            Err(fault) => return Err(unread(alloc, fault)),
-        };
         let site = Site {
             here: &self.name,
             admin: &self.admin,
@@ -193,7 +189,14 @@ impl<K: Keeper> Instance<K> {
             caller,
             moment: now,
         };
-        plan_request(alloc, &site, ask, rows, &mut self.ahead)
+        plan_permitted(
+            &mut self.keeper,
+            alloc,
+            &site,
+            ask,
+            &mut self.ahead,
+            &mut self.landed,
+        )
     }
 
     /// Plans what it comes to that an organisation adds a group at this moment, or edits the one of
@@ -245,7 +248,13 @@ impl<K: Keeper> Instance<K> {
         ensures admin { self.new.admin ≡ self.old.admin }
     {
         self.ahead = None; // It is packed of what was held.
-        settle(&mut self.keeper, &mut self.groups, alloc, put)
+        settle_beside(
+            &mut self.keeper,
+            &mut self.groups,
+            &mut self.landed,
+            alloc,
+            put,
+        )
     }
 
     /// What an organisation has of an event here, as far as it decides what is taken of packages.
@@ -310,6 +319,7 @@ impl<K: Keeper> Instance<K> {
         ensures admin { self.new.admin ≡ self.old.admin }
     {
         self.ahead = None;
+        self.landed = None;
         take_package(&mut self.keeper, &mut self.groups, alloc, landing, coming)
     }
 
@@ -336,6 +346,7 @@ impl<K: Keeper> Instance<K> {
         ensures admin { self.new.admin ≡ self.old.admin }
     {
         self.ahead = None;
+        self.landed = None;
         take_groups(&mut self.keeper, &mut self.groups, alloc, coming)
     }
 

@@ -180,12 +180,16 @@ all_ran hosts lines old new dones done run =
 
 -- ---- what a line writes
 
+pub text_put : (number : ℕ) (text before front behind after : List ℕ) → front ≡ (before ++ decimal number) ++ 32 ∷ [] → behind ≡ front ++ text → after ≡ behind ++ 10 ∷ []
+    → after ≡ before ++ (decimal number ++ 32 ∷ text ++ 10 ∷ [])
+text_put number text before front behind after a b e =
+    e
+    ∙ ap (λ bytes. bytes ++ 10 ∷ []) (b ∙ ap (λ bytes. bytes ++ text) a)
+    ∙ append_assoc ((before ++ decimal number) ++ 32 ∷ []) text (10 ∷ [])
+    ∙ append_assoc (before ++ decimal number) (32 ∷ []) (text ++ 10 ∷ [])
+    ∙ append_assoc before (decimal number) ((32 ∷ text) ++ 10 ∷ [])
+    ∙ ap (λ line. before ++ line) (sym (append_assoc (decimal number) (32 ∷ text) (10 ∷ [])))
+
 pub line_put : (number : ℕ) (d : Done) (before front behind after : List ℕ) → front ≡ (before ++ decimal number) ++ 32 ∷ [] → behind ≡ front ++ done_text d → after ≡ behind ++ 10 ∷ []
     → after ≡ before ++ line_of number d
-line_put number d before front behind after a b e =
-    e
-    ∙ ap (λ text. text ++ 10 ∷ []) (b ∙ ap (λ text. text ++ done_text d) a)
-    ∙ append_assoc ((before ++ decimal number) ++ 32 ∷ []) (done_text d) (10 ∷ [])
-    ∙ append_assoc (before ++ decimal number) (32 ∷ []) (done_text d ++ 10 ∷ [])
-    ∙ append_assoc before (decimal number) ((32 ∷ done_text d) ++ 10 ∷ [])
-    ∙ ap (λ line. before ++ line) (sym (append_assoc (decimal number) (32 ∷ done_text d) (10 ∷ [])))
+line_put number d before front behind after a b e = text_put number (done_text d) before front behind after a b e

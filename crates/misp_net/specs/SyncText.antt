@@ -1,5 +1,5 @@
 -- What is written for a synchronisation.
-use Rattle.std.specs.Prelude.{ℕ, List, ◌∷◌, ◌++◌, codes, decimal}
+use Rattle.std.specs.Prelude.{ℕ, List, [], ◌∷◌, ◌++◌, codes, decimal}
 use Rattle.serde_json.specs.Data.{Data, member, no_members, object, string}
 use Rattle.serde_json.specs.Written.{compact_text}
 use Rattle.misp_ids.specs.Refusal.{rule_name, rule_number, rule_status}
@@ -32,3 +32,7 @@ abbrev pub sync_text : SyncReply → List ℕ
 sync_text (SyncReply.Done count) = codes "200 " ++ compact_text (counted_data count)
 sync_text (SyncReply.Stopped count cause) =
     decimal (rule_status cause.name) ++ 32 ∷ compact_text (stopped_data count cause)
+
+-- the line of a synchronisation: its number, a space, what it was told and LF
+abbrev pub synced_line : ℕ → SyncReply → List ℕ
+synced_line number reply = decimal number ++ 32 ∷ sync_text reply ++ 10 ∷ []

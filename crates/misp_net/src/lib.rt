@@ -16,3 +16,4 @@ pub use line::Output;
 pub use net::run_net;
 pub use over_carry::OverCarry;
 pub use places::{NetFault, close_first, open_first};
+pub use synced::put_synced_line;

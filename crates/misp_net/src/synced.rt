@@ -3,9 +3,10 @@
 ghost use Rattle.std.specs.Prelude.{◌≡◌, ◌<◌, [], ◌∷◌, ◌++◌, decimal, IfOk, OnOk, vec_len, vec_capacity};
 ghost use Rattle.json.specs.Token as tokens;
 ghost use Rattle.serde_json.specs.Written.{compact_text};
-ghost use Rattle.misp_net.specs.SyncText.{counted_data, stopped_data, sync_text};
+ghost use Rattle.misp_net.specs.SyncText.{counted_data, stopped_data, sync_text, synced_line};
 ghost use Rattle.misp_sync.specs.declared.reply.SyncReply.TheVariants as replies;
 
+use crate::line::put_front;
 use json::Writer;
 use misp_api::{put_number, put_text};
 use misp_ids::{NoMemory, Refusal};
@@ -98,5 +99,20 @@ pub(crate) fn put_synced(
         SyncReply::Stopped { count, cause } => put_stopped(lines, alloc, count, cause)?,
     }
     lines.reserve(1)?;
+    Ok(())
+}
+
+/// Writes the line of a synchronisation, with this number.
+pub fn put_synced_line(
+    lines: &mut Vec<u8>,
+    alloc: Global,
+    number: usize,
+    reply: &SyncReply,
+) -> Result<(), NoMemory>
+    ensures { OnOk result (lines.new.items ≡ lines.old.items ++ synced_line number reply.now) }
+{
+    put_front(lines, alloc, number)?;
+    put_synced(lines, alloc, reply)?;
+    lines.push(b'\n').unwrap();
     Ok(())
 }

@@ -3,6 +3,7 @@
 use Rattle.std.specs.Prelude.{ℕ, Bool, List, Option}
 use Rattle.misp_outside.specs.declared.adapters.input.StandardInput.{StandardInput}
 use Rattle.misp_outside.specs.declared.adapters.output.StandardOutput.{StandardOutput}
+use Rattle.misp_outside.specs.declared.adapters.dial.TcpDial.{TcpDial}
 use Rattle.misp_outside.specs.declared.adapters.tcp.TcpDoor.{TcpDoor}
 use Rattle.misp_outside.specs.declared.adapters.tcp.TcpSource.{TcpSource}
 use Rattle.misp_outside.specs.declared.adapters.tcp.TcpSink.{TcpSink}
@@ -39,3 +40,7 @@ tcp_source_faults source = source.faults
 -- how often writing to a connection has failed
 abbrev pub tcp_sink_faults : TcpSink → ℕ
 tcp_sink_faults sink = sink.faults
+
+-- how often the dial over sockets has failed
+abbrev pub tcp_dial_faults : TcpDial → ℕ
+tcp_dial_faults dial = dial.faults

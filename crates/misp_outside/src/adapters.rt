@@ -1,11 +1,13 @@
 //! The outside over the system. What stands here tells nothing of the bytes.
 
 mod clock;
+mod dial;
 mod input;
 mod output;
 mod tcp;
 
 pub use clock::SystemClock;
+pub use dial::{TcpDial, TcpWaiting};
 pub use input::StandardInput;
 pub use output::StandardOutput;
 pub use tcp::{TcpDoor, TcpSink, TcpSource};

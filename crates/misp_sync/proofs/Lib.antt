@@ -3,6 +3,7 @@ pub mod Bringing
 pub mod Brought
 pub mod Causes
 pub mod Coming
+pub mod DialTrails
 pub mod Elsewhere
 pub mod EventLoop
 pub mod EventTexts

@@ -1,4 +1,5 @@
 pub mod Counts
+pub mod Dialled
 pub mod Handing
 pub mod History
 pub mod Pulled

@@ -3,11 +3,13 @@
 
 mod asking;
 mod count;
+mod dialling;
 mod event_list;
 mod fetching;
 mod group_list;
 mod handing;
 mod laws;
+mod over_dial;
 mod pulling;
 mod push_wire;
 mod pushing;
@@ -19,7 +21,9 @@ mod unread;
 mod wire;
 
 pub use count::SyncCount;
+pub use dialling::{pull_from, push_to};
 pub use laws::{an_instance_pulls_by_the_history, an_instance_pushes_by_the_history};
+pub use over_dial::OverDial;
 pub use pulling::{pull, usable};
 pub use push_wire::PushWire;
 pub use pushing::push;

@@ -92,7 +92,7 @@ fn ran(alloc: Global, case: &Case<'_>, admin: Vec<AdminRow>) -> Result<Outcome, 
         &mut keepers,
         &mut SureCarry::new(),
         &mut door,
-        &mut MemDial::new(),
+        &mut MemDial::new(alloc, Vec::new(alloc), Vec::new(alloc)),
         &mut StepClock { time: 0, word: 0 },
     );
     let mut batches = Vec::new(alloc);

@@ -7,3 +7,5 @@ mod app;
 mod serving;
 #[cfg(test)]
 mod stopping;
+#[cfg(test)]
+mod synchronising;

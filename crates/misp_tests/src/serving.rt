@@ -60,7 +60,7 @@ fn served<D: Door>(alloc: Global, line: &str, door: &mut D) -> Result<(Status, S
         &mut keepers,
         &mut SureCarry::new(),
         door,
-        &mut MemDial::new(),
+        &mut MemDial::new(alloc, Vec::new(alloc), Vec::new(alloc)),
         &mut StepClock { time: 0, word: 0 },
     );
     Ok((status, String::from_utf8(sink.bytes().to_vec(alloc)?)?))

@@ -113,7 +113,7 @@ fn written(alloc: Global, source: &str, fails: u64) -> Result<String, Fail> {
         &mut keepers,
         &mut MemCarry::new(alloc, vec![in alloc; fails]?),
         &mut door,
-        &mut MemDial::new(),
+        &mut MemDial::new(alloc, Vec::new(alloc), Vec::new(alloc)),
         &mut StepClock { time: 0, word: 0 },
     );
     if status != Status::Done {

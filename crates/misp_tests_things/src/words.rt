@@ -1,5 +1,6 @@
 //! The words of a command line.
 
+use misp_ids::Way;
 use misp_words::{Command, USAGE, WordsFault, read_words};
 use std::alloc::Global;
 use std::test::Fail;
@@ -14,6 +15,15 @@ fn shown(alloc: Global, words: &[String]) -> Result<String, Fail> {
             let address = serve.address;
             let count = serve.count;
             Ok(format!(in alloc; "{name} at <{address}> {count} times")?)
+        }
+        Ok(Command::Sync(sync)) => {
+            let name = sync.name.text();
+            let link = sync.link.text();
+            let way = match sync.way {
+                Way::Pull => "pulls",
+                Way::Push => "pushes",
+            };
+            Ok(format!(in alloc; "{name} {way} over {link}")?)
         }
         Err(WordsFault::Usage) => Ok(String::from_str(alloc, "usage")?),
         Err(WordsFault::OutOfMemory) => Err(Fail::from("no memory")),
@@ -43,6 +53,9 @@ fn each_command_is_read(rt: HostRuntime) -> Result<(), Fail> {
         ("serve help help 12", "help at <help> 12 times"),
         ("serve net check 999999", "net at <check> 999999 times"),
         ("serve serve a=b 10", "serve at <a=b> 10 times"),
+        ("sync a b pull", "a pulls over b"),
+        ("sync a-1 a-1 push", "a-1 pushes over a-1"),
+        ("sync sync pull push", "sync pushes over pull"),
     ];
     let alloc = rt.alloc();
     for (line, command) in &rows {
@@ -83,6 +96,19 @@ fn other_words_are_refused(rt: HostRuntime) -> Result<(), Fail> {
         "serve A x 1",
         "serve 1 x 1",
         "serve  x 1",
+        "sync",
+        "sync a b",
+        "sync a b pull pull",
+        "sync a b ",
+        "sync a b Pull",
+        "sync a b both",
+        "sync a b -pull",
+        "sync a -b pull",
+        "sync -a b pull",
+        "sync a B pull",
+        "sync a  push",
+        "sync 1 b push",
+        "pull a b pull",
     ];
     let alloc = rt.alloc();
     assert_eq!(rt; shown(alloc, &[])?.as_str(), "usage");
@@ -100,6 +126,7 @@ fn the_usage_names_each_command(rt: HostRuntime) -> Result<(), Fail> {
     assert_eq!(rt; lines.next(), Some("usage: misp net"));
     assert_eq!(rt; lines.next(), Some("       misp check"));
     assert_eq!(rt; lines.next(), Some("       misp serve NAME ADDRESS COUNT"));
+    assert_eq!(rt; lines.next(), Some("       misp sync NAME LINK WAY"));
     assert_eq!(rt; lines.last(), Some(""));
     Ok(())
 }

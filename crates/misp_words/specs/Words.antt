@@ -2,10 +2,12 @@
 use Rattle.std.specs.Prelude.{◌≡◌, ℕ, Bool, true, false, not, ◌==◌, ◌&&◌, List, [], ◌∷◌, codes, bytes_eq, Option, Some, None, option_map, if◌then◌else◌}
 use Rattle.std.specs.List.{list_any}
 use Rattle.misp_ids.specs.Names.{is_inst_name}
+use Rattle.misp_ids.specs.declared.label.Way.{Way}
 use Rattle.misp_words.specs.Count.{count_of}
 use Rattle.misp_words.specs.declared.command.Command.{Command}
 use Rattle.misp_words.specs.declared.command.Command.TheVariants as command
 use Rattle.misp_words.specs.declared.command.ServeWords.{ServeWords}
+use Rattle.misp_words.specs.declared.command.SyncWords.{SyncWords}
 
 -- ---- commands, as contracts see them
 
@@ -15,17 +17,28 @@ pub record ServeData : Type 0 where
   pub address : List ℕ
   pub count : ℕ
 
+-- an instance, one of its links, and the way over it
+pub record SyncData : Type 0 where
+  pub name : List ℕ
+  pub link : List ℕ
+  pub way : Way
+
 pub data CommandData : Type 0 where
   Net Check : CommandData
   Serve : ServeData → CommandData
+  Sync : SyncData → CommandData
 
 abbrev pub serve_data : ServeWords → ServeData
 serve_data words = record { name = words.name; address = words.address.now; count = words.count }
+
+abbrev pub sync_data : SyncWords → SyncData
+sync_data words = record { name = words.name; link = words.link; way = words.way }
 
 abbrev pub command_data : Command → CommandData
 command_data command.Net = Net
 command_data command.Check = Check
 command_data (command.Serve words) = Serve (serve_data words)
+command_data (command.Sync words) = Sync (sync_data words)
 
 -- ---- the words of each command
 
@@ -46,6 +59,25 @@ serve_words name address count =
     then with_count name address (count_of count)
     else None
 
+-- a way by its name
+abbrev pub way_of : List ℕ → Option Way
+way_of word =
+    if bytes_eq word (codes "pull") then Some Way.Pull
+    else if bytes_eq word (codes "push") then Some Way.Push
+    else None
+
+-- an instance and a link with a way, where there is one
+abbrev pub with_way : List ℕ → List ℕ → Option Way → Option SyncData
+with_way name link None = None
+with_way name link (Some way) = Some (record { name = name; link = link; way = way })
+
+-- the name of an instance, the name of a link, and a way
+abbrev pub sync_words : List ℕ → List ℕ → List ℕ → Option SyncData
+sync_words name link way =
+    if is_inst_name name && is_inst_name link
+    then with_way name link (way_of way)
+    else None
+
 -- the command of this name that takes no words
 abbrev pub command_named : List ℕ → Option CommandData
 command_named word =
@@ -55,15 +87,17 @@ command_named word =
 
 -- the command of this name with these three words
 abbrev pub command_with : List ℕ → List ℕ → List ℕ → List ℕ → Option CommandData
-command_with word name address count =
+command_with word name other last =
     if bytes_eq word (codes "serve")
-    then option_map Serve (serve_words name address count)
+    then option_map Serve (serve_words name other last)
+    else if bytes_eq word (codes "sync")
+    then option_map Sync (sync_words name other last)
     else None
 
 -- what the words ask for, where they are accepted
 abbrev pub command_of : List (List ℕ) → Option CommandData
 command_of (word ∷ []) = command_named word
-command_of (word ∷ name ∷ address ∷ count ∷ []) = command_with word name address count
+command_of (word ∷ name ∷ other ∷ last ∷ []) = command_with word name other last
 command_of words = None
 
 -- ---- a law

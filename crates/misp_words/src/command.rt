@@ -1,10 +1,10 @@
 //! What the words ask for.
 
 ghost use Rattle.std.specs.Prelude.{◌≡◌, map, option_map, string_bytes};
-ghost use Rattle.misp_words.specs.Words.{begins_with_dash, command_data, serve_data, serve_words, command_named, command_with, command_of};
+ghost use Rattle.misp_words.specs.Words.{begins_with_dash, command_data, serve_data, serve_words, sync_data, sync_words, way_of, command_named, command_with, command_of};
 
 use crate::count::read_count;
-use misp_ids::InstId;
+use misp_ids::{InstId, Way};
 
 /// What the program is to do.
 #[derive(Clone, Copy, Debug, PartialEq, Eq)]
@@ -15,6 +15,8 @@ pub enum Command<'a> {
     Check,
     /// Serves an instance of the description of a source.
     Serve(ServeWords<'a>),
+    /// Synchronises an instance of the description of a source over one of its links.
+    Sync(SyncWords),
 }
 
 /// The words after `serve`.
@@ -26,6 +28,16 @@ pub struct ServeWords<'a> {
     pub address: &'a str,
     /// How many connections are served.
     pub count: u32,
+}
+
+/// The words after `sync`.
+#[derive(Clone, Copy, Debug, PartialEq, Eq)]
+pub struct SyncWords {
+    /// The instance, which need not be in the description.
+    pub name: InstId,
+    /// The link, which the instance need not have.
+    pub link: InstId,
+    pub way: Way,
 }
 
 fn begins_with_dash(word: &str) -> bool
@@ -50,6 +62,25 @@ fn serve_words<'a>(name: &str, address: &'a str, count: &str) -> Option<ServeWor
     }
 }
 
+fn way_of(word: &str) -> Option<Way>
+    ensures { result ≡ way_of word.now }
+{
+    match word {
+        "pull" => Some(Way::Pull),
+        "push" => Some(Way::Push),
+        _ => None,
+    }
+}
+
+fn sync_words(name: &str, link: &str, way: &str) -> Option<SyncWords>
+    ensures { option_map sync_data result ≡ sync_words name.now link.now way.now }
+{
+    match (InstId::read(name), InstId::read(link), way_of(way)) {
+        (Some(name), Some(link), Some(way)) => Some(SyncWords { name, link, way }),
+        _ => None,
+    }
+}
+
 fn command_named<'a>(word: &str) -> Option<Command<'a>>
     ensures { option_map command_data result ≡ command_named word.now }
 {
@@ -60,16 +91,20 @@ fn command_named<'a>(word: &str) -> Option<Command<'a>>
     }
 }
 
-fn command_with<'a>(word: &str, name: &str, address: &'a str, count: &str) -> Option<Command<'a>>
+fn command_with<'a>(word: &str, name: &str, other: &'a str, last: &str) -> Option<Command<'a>>
     ensures { option_map command_data result
-        ≡ command_with word.now name.now address.now count.now }
+        ≡ command_with word.now name.now other.now last.now }
 {
-    if word != "serve" {
-        return None;
-    }
-    match serve_words(name, address, count) {
-        Some(words) => Some(Command::Serve(words)),
-        None => None,
+    match word {
+        "serve" => match serve_words(name, other, last) {
+            Some(words) => Some(Command::Serve(words)),
+            None => None,
+        },
+        "sync" => match sync_words(name, other, last) {
+            Some(words) => Some(Command::Sync(words)),
+            None => None,
+        },
+        _ => None,
     }
 }
 
@@ -82,11 +117,11 @@ pub(crate) fn command_of<'a>(words: &'a [String]) -> Option<Command<'a>>
         [word] => command_named(word.as_str()),
         [_, _] => None,
         [_, _, _] => None,
-        [word, name, address, count] => command_with(
+        [word, name, other, last] => command_with(
             word.as_str(),
             name.as_str(),
-            address.as_str(),
-            count.as_str(),
+            other.as_str(),
+            last.as_str(),
         ),
         [_, _, _, _, _, ..] => None,
     }

@@ -9,6 +9,10 @@ const ADDRESS: &str = "ADDRESS";
 
 const COUNT: &str = "COUNT";
 
+const LINK: &str = "LINK";
+
+const WAY: &str = "WAY";
+
 fn required<'a>(alloc: Global, name: &'a str) -> Arg<'a> {
     Arg::new(alloc, name).required(true).action(ArgAction::Set)
 }
@@ -17,12 +21,18 @@ fn without_help<'a>(alloc: Global, name: &'a str) -> Command<'a> {
     Command::new(alloc, name).disable_help_flag(true)
 }
 
-fn serve_grammar<'a>(alloc: Global) -> Result<Command<'a>, Error> {
+// A command with a name and two more words.
+fn with_words<'a>(
+    alloc: Global,
+    command: &'a str,
+    second: &'a str,
+    third: &'a str,
+) -> Result<Command<'a>, Error> {
     Ok(
-        without_help(alloc, "serve")
+        without_help(alloc, command)
             .arg(required(alloc, NAME))?
-            .arg(required(alloc, ADDRESS))?
-            .arg(required(alloc, COUNT))?,
+            .arg(required(alloc, second))?
+            .arg(required(alloc, third))?,
     )
 }
 
@@ -34,17 +44,23 @@ fn grammar<'a>(alloc: Global) -> Result<Command<'a>, Error> {
             .subcommand_required(true)
             .subcommand(without_help(alloc, "net"))?
             .subcommand(without_help(alloc, "check"))?
-            .subcommand(serve_grammar(alloc)?)?,
+            .subcommand(with_words(alloc, "serve", ADDRESS, COUNT)?)?
+            .subcommand(with_words(alloc, "sync", LINK, WAY)?)?,
     )
 }
 
 // Whether these are the values of the arguments of a command.
-fn has_values(found: &ArgMatches, values: &[String]) -> bool {
+fn has_values(found: &ArgMatches, command: &str, values: &[String]) -> bool {
+    let (second, third) = if command == "sync" {
+        (LINK, WAY)
+    } else {
+        (ADDRESS, COUNT)
+    };
     match values {
-        [name, address, count] => {
+        [name, other, last] => {
             found.get_str(NAME) == Some(name.as_str())
-                && found.get_str(ADDRESS) == Some(address.as_str())
-                && found.get_str(COUNT) == Some(count.as_str())
+                && found.get_str(second) == Some(other.as_str())
+                && found.get_str(third) == Some(last.as_str())
         }
         _ => values.is_empty(),
     }
@@ -60,7 +76,7 @@ pub(crate) fn agrees(alloc: Global, words: &[String]) -> bool {
     };
     match (matches.subcommand(), words) {
         (Some((command, found)), [word, values @ ..]) => {
-            word.as_str() == command && has_values(found, values)
+            word.as_str() == command && has_values(found, command, values)
         }
         _ => false,
     }

@@ -7,7 +7,7 @@ mod grammar;
 mod laws;
 mod reading;
 
-pub use command::{Command, ServeWords};
+pub use command::{Command, ServeWords, SyncWords};
 pub use laws::a_word_with_a_dash_asks_for_nothing;
 pub use reading::{WordsFault, read_words};
 
@@ -19,14 +19,19 @@ pub const USAGE: &str = "\
 usage: misp net
        misp check
        misp serve NAME ADDRESS COUNT
+       misp sync NAME LINK WAY
 
 net    reads a description and a script from standard input, runs the script,
        and writes a line for each request
 check  reads a description from standard input, and writes ok or its first fault
 serve  reads a description from standard input, serves COUNT connections, one
        after another, and writes a line for each
+sync   reads a description from standard input, pulls from a peer or pushes to
+       it, and writes a line with what came of it
 
-NAME     the instance that is served
+NAME     the instance that is served or synchronised
 ADDRESS  where connections come to, as 127.0.0.1:8080
 COUNT    1 to 1000000
+LINK     the link of the instance to the peer
+WAY      pull or push
 ";

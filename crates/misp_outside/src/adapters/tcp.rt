@@ -8,7 +8,7 @@ use std::net::{Shutdown, TcpListener, TcpStream};
 use std::time::{Duration, Instant};
 
 /// How many seconds a read or a write of a connection may wait. One that waits longer is a fault.
-const WAIT_SECONDS: u64 = 30;
+pub(super) const WAIT_SECONDS: u64 = 30;
 
 /// For how many seconds a connection that was given back is still read.
 const LINGER_SECONDS: u64 = 1;

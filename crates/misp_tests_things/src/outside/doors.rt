@@ -15,7 +15,7 @@ fn sends(alloc: Global, text: &str) -> Result<(MemSource, MemSink), Fail> {
 }
 
 // The first five bytes of the next connection, which is answered and given back.
-fn answered<D: Door>(alloc: Global, door: &mut D, reply: &str) -> Result<String, Fail> {
+pub(super) fn answered<D: Door>(alloc: Global, door: &mut D, reply: &str) -> Result<String, Fail> {
     let Ok(Some((mut from, mut to))) = door.next() else {
         return Err(Fail::from("nobody comes"));
     };

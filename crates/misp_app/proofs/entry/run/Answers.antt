@@ -1,13 +1,16 @@
 use Rattle.std.proofs.Common.{map, take, sym, subst, arith, IfSome, IfOk}
 use Rattle.std.proofs.lemmas.List.{length-map}
 use Rattle.misp_effects.proofs.KeeperStates.{all_kept}
-use Rattle.misp_words.specs.Words.{ServeData, serve_data}
+use Rattle.misp_words.specs.Words.{ServeData, SyncData, serve_data, sync_data}
 use Rattle.misp_net.specs.Prelude.{Description}
 use Rattle.misp_app.specs.Hosting.{HasServed}
 use Rattle.misp_app.specs.Source.{described, host_named}
 use Rattle.misp_app.proofs.Cutting.{cut_unread, passing_unread}
+use Rattle.misp_app.proofs.Endings.{no_lines, out_of_memory}
 use Rattle.misp_app.proofs.Finishing.{finishes}
 use Rattle.misp_app.proofs.Hosted.{none_read, one_keeper, served_here, unread_memory, words_read}
+use Rattle.misp_app.specs.Synchronising.{HasSynced, IsCutSync, dialled, peer_address}
+use Rattle.misp_app.proofs.Synchronised.{no_line_read, not_read, sync_read, synced_here}
 use Rattle.misp_app.proofs.entry.run.Goals as goal
 
 pub returns-in-Net-clause-finished : goal.returns-in-Net-clause-finished
@@ -22,6 +25,27 @@ returns-in-Net-clause-finished g c = λ net reads writes fails empty.
     (g.S.Source.left c.args.source.now) c.in-Ok-read_all.ensures.bytes
 
 -- ---- memory ran out
+
+pub returns-in-Err-OutOfMemory-clause-private : goal.returns-in-Err-OutOfMemory-clause-private
+returns-in-Err-OutOfMemory-clause-private g c = λ has. no_lines _ has
+
+pub returns-in-Err-OutOfMemory-clause-replied : goal.returns-in-Err-OutOfMemory-clause-replied
+returns-in-Err-OutOfMemory-clause-replied g c = λ has. no_lines _ has
+
+pub returns-in-Err-OutOfMemory-clause-newest : goal.returns-in-Err-OutOfMemory-clause-newest
+returns-in-Err-OutOfMemory-clause-newest g c = λ has. no_lines _ has
+
+pub returns-in-Err-OutOfMemory-clause-carry : goal.returns-in-Err-OutOfMemory-clause-carry
+returns-in-Err-OutOfMemory-clause-carry g c = λ has. no_lines _ has
+
+pub returns-in-Err-OutOfMemory-clause-passed : goal.returns-in-Err-OutOfMemory-clause-passed
+returns-in-Err-OutOfMemory-clause-passed g c = λ has. no_lines _ has
+
+pub returns-in-Err-OutOfMemory-clause-sound : goal.returns-in-Err-OutOfMemory-clause-sound
+returns-in-Err-OutOfMemory-clause-sound g c = λ has. no_lines _ has
+
+pub returns-in-Err-OutOfMemory-clause-status : goal.returns-in-Err-OutOfMemory-clause-status
+returns-in-Err-OutOfMemory-clause-status g c = out_of_memory _ _
 
 pub returns-in-Err-OutOfMemory-clause-cut : goal.returns-in-Err-OutOfMemory-clause-cut
 returns-in-Err-OutOfMemory-clause-cut g c = λ net is. cut_unread (g.S.Source.left c.args.source.now) (map g.K.Keeper.state c.args.keepers.now.items)
@@ -63,3 +87,41 @@ returns-clause-served g c = λ asked time word back coming is ready has.
     (g.W.Sink.written c.args.sink.now) (g.W.Sink.written c.serve_source.new.sink) c.serve_source.result))
     c.in-Ok-read_all.ensures.bytes c.deref-in-Serve.ensures.value (words_read _ asked c.in-Ok.command c.in-Serve.words is c.in-Ok.ensures.read c.in-Serve.is)
     (c.serve_source.ensures.served time word back coming ready has)
+
+-- ---- it was synchronised
+
+pub returns-in-Err-clause-synced : goal.returns-in-Err-clause-synced
+returns-in-Err-clause-synced g c = λ asked is has. absurd (no_line_read c.in-Err.status c.in-Err.ensures.others has)
+
+pub returns-in-Err-OutOfMemory-clause-cut_synced : goal.returns-in-Err-OutOfMemory-clause-cut_synced
+returns-in-Err-OutOfMemory-clause-cut_synced g c = λ asked is out.
+    not_read asked _ _ (dialled (g.L.Dial.asks c.args.dial.now) (g.L.Dial.faults c.args.dial.now)) (all_kept (take 1 (map g.K.Keeper.state c.args.keepers.now.items)))
+    (g.S.Source.left c.args.source.now)
+
+pub returns-in-Err-clause-cut_synced : goal.returns-in-Err-clause-cut_synced
+returns-in-Err-clause-cut_synced g c = λ asked is out.
+    not_read asked _ _ (dialled (g.L.Dial.asks c.args.dial.now) (g.L.Dial.faults c.args.dial.now)) (all_kept (take 1 (map g.K.Keeper.state c.args.keepers.now.items)))
+    (g.S.Source.left c.args.source.now)
+
+pub returns-in-Sync-clause-synced : goal.returns-in-Sync-clause-synced
+returns-in-Sync-clause-synced g c = λ asked is has.
+    let olds = map g.K.Keeper.state c.args.keepers.now.items in
+    let news = map g.K.Keeper.state c.sync_source.new.keepers.items in
+    synced_here (g.S.Source.left c.args.source.now) c.in-Ok-read_all.bytes.items c.deref-in-Sync.result.now asked (sync_data c.in-Sync.words)
+    (λ (d : SyncData) (net : Description). IfSome (host_named d.name net) (λ host.
+    HasSynced host d (peer_address host d.link net) (take 1 olds) (take 1 news)
+    (dialled (g.L.Dial.asks c.args.dial.now) (g.L.Dial.faults c.args.dial.now)) (dialled (g.L.Dial.asks c.sync_source.new.dial) (g.L.Dial.faults c.sync_source.new.dial))
+    (g.W.Sink.written c.args.sink.now) (g.W.Sink.written c.sync_source.new.sink) c.sync_source.result))
+    c.in-Ok-read_all.ensures.bytes c.deref-in-Sync.ensures.value (sync_read _ asked c.in-Ok.command c.in-Sync.words is c.in-Ok.ensures.read c.in-Sync.is)
+    (c.sync_source.ensures.synced has)
+
+pub returns-in-Sync-clause-cut_synced : goal.returns-in-Sync-clause-cut_synced
+returns-in-Sync-clause-cut_synced g c = λ asked is out.
+    let olds = map g.K.Keeper.state c.args.keepers.now.items in
+    let news = map g.K.Keeper.state c.sync_source.new.keepers.items in
+    synced_here (g.S.Source.left c.args.source.now) c.in-Ok-read_all.bytes.items c.deref-in-Sync.result.now asked (sync_data c.in-Sync.words)
+    (λ (d : SyncData) (net : Description). IfSome (host_named d.name net) (λ host.
+    IsCutSync host d (peer_address host d.link net) (take 1 olds) (take 1 news)
+    (dialled (g.L.Dial.asks c.args.dial.now) (g.L.Dial.faults c.args.dial.now)) (dialled (g.L.Dial.asks c.sync_source.new.dial) (g.L.Dial.faults c.sync_source.new.dial))))
+    c.in-Ok-read_all.ensures.bytes c.deref-in-Sync.ensures.value (sync_read _ asked c.in-Ok.command c.in-Sync.words is c.in-Ok.ensures.read c.in-Sync.is)
+    (c.sync_source.ensures.cut out)

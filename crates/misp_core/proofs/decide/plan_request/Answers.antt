@@ -24,4 +24,4 @@ pub returns-in-SyncGroups-clause-no_fault : goal.returns-in-SyncGroups-clause-no
 returns-in-SyncGroups-clause-no_fault c = asks_none c.plan_pulled_groups.result _ (c.plan_pulled_groups.ensures.plan [])
 
 pub returns-in-TakePart-clause-no_fault : goal.returns-in-TakePart-clause-no_fault
-returns-in-TakePart-clause-no_fault c = asks_none c.plan_package.result _ c.plan_package.ensures
+returns-in-TakePart-clause-no_fault c = asks_none c.plan_package.result _ c.plan_package.ensures.plan

@@ -1,4 +1,4 @@
 use Rattle.misp_core.proofs.instance.Instance.take_groups.Goals as goal
 
 pub invariant_of-self : goal.invariant_of-self
-invariant_of-self g c = record { groups = c.take_groups.ensures.beside c.self.invariant.groups; ahead = tt }
+invariant_of-self g c = record { groups = c.take_groups.ensures.beside c.self.invariant.groups; ahead = tt; landed = tt }

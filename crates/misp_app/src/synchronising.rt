@@ -1,0 +1,268 @@
+//! Synchronises an instance of the description of a source over one of its links.
+
+ghost use Rattle.std.specs.Prelude.{◌≡◌, ◌≤◌, ◌<◌, ◌⊎◌, IfOk, IfSome, length, map, take, drop, vec_len, true};
+ghost use Rattle.misp_outside.specs.Causes.{Rose};
+ghost use Rattle.misp_effects.specs.KeeperStates.{OneFailed, told};
+ghost use Rattle.misp_script.specs.Directory.{directory_of};
+ghost use Rattle.misp_store.specs.Sharing.{may_be_unsound};
+ghost use Rattle.misp_net.specs.Hosts.{described_host};
+ghost use Rattle.misp_net.specs.SyncText.{synced_line};
+ghost use Rattle.misp_app.specs.Ends.{IsNetSynced, IsSourceSynced, IsSyncEnd, IsTellEnd};
+ghost use Rattle.misp_app.specs.Source.{HasFailed, IsTold, IsUnsound, OthersStay, described, host_named, net_status, served_status};
+ghost use Rattle.misp_app.specs.Status.{IsSilent, IsStill, IsStopped, IsUnasked, IsUnopened, TellsFault, Wrote};
+ghost use Rattle.misp_app.specs.Synchronising.{EndsBy, HasSyncLine, HasSynced, IsCutSync, SyncsOver, address_at, address_named, dialled, peer_address};
+ghost use Rattle.misp_words.specs.Words.{sync_data};
+
+use crate::Status;
+use crate::fault::{put, tell_fault};
+use crate::hosting::entry_named;
+use misp_core::Instance;
+use misp_ids::{InstId, NoMemory, Text, Way};
+use misp_net::{close_first, open_first, put_synced_line};
+use misp_outside::{Dial, Keeper, Sink};
+use misp_script::{DescFault, Description, Directory, Entry, read_description, split_source};
+use misp_sync::{SyncReply, pull_from, push_to};
+use misp_words::SyncWords;
+use std::alloc::Global;
+
+// The address of the instance of a place.
+fn address_at(net: &Description, place: usize) -> &str
+    ensures { result.now ≡ address_at net.now place }
+{
+    match net.instances.as_slice().get(place) {
+        Some(entry) => entry.address.as_str(),
+        None => "",
+    }
+}
+
+// The address of the instance of a name, or nothing where there is none.
+fn address_named<'a>(net: &'a Description, directory: &Directory, name: &InstId) -> &'a str
+    requires { directory.now ≡ directory_of net.now }
+    ensures { result.now ≡ address_named name.now net.now }
+{
+    match directory.place_of(name.text().as_bytes()) {
+        Some(place) => address_at(net, place),
+        None => "",
+    }
+}
+
+// The address of the peer of a link of an instance, or nothing where the link is not there.
+fn address_over<'a>(
+    net: &'a Description,
+    directory: &Directory,
+    entry: &Entry,
+    link: &InstId,
+) -> &'a str
+    requires { directory.now ≡ directory_of net.now }
+    ensures { result.now ≡ peer_address (described_host entry.now) link.now net.now }
+{
+    match entry.admin.link(link) {
+        Some(link) => address_named(net, directory, &link.peer),
+        None => "",
+    }
+}
+
+// The address of the peer of the link that the words name, or nothing where it is not there.
+#[tactic(auto, using(crate::proofs::Synchronised::host_there))]
+fn peer_address(alloc: Global, net: &Description, words: &SyncWords) -> Result<Text, NoMemory>
+    ensures { IfOk result (λ address. IfSome (host_named words.now.name net.now) (λ host.
+        address ≡ peer_address host words.now.link net.now)) }
+{
+    let directory = net.directory(alloc)?;
+    let Some(place) = directory.place_of(words.name.text().as_bytes()) else {
+        return Ok(Text::of(String::new(alloc)));
+    };
+    let entries = net.instances.as_slice();
+    let address = address_over(net, &directory, &entries[place], &words.link);
+    Ok(Text::of(String::from_str(alloc, address)?))
+}
+
+// Pulls or pushes over a link, as the words say.
+fn sync_over<K: Keeper, L: Dial>(
+    alloc: Global,
+    instance: &mut Instance<K>,
+    words: &SyncWords,
+    address: &str,
+    dial: &mut L,
+) -> SyncReply
+    ensures { SyncsOver (sync_data words.now) address.now instance.old instance.new
+        (dialled (L.asks dial.old) (L.faults dial.old))
+        (dialled (L.asks dial.new) (L.faults dial.new)) result }
+{
+    match words.way {
+        Way::Pull => pull_from(alloc, instance, &words.link, dial, address),
+        Way::Push => push_to(alloc, instance, &words.link, dial, address),
+    }
+}
+
+// Writes the line of a synchronisation, and answers how the run ends.
+fn tell_reply<W: Sink>(alloc: Global, sink: &mut W, reply: &SyncReply) -> Status
+    ensures wrote { HasSyncLine result →
+        Wrote result (W.written sink.old) (W.written sink.new) (synced_line 1 reply.now) }
+    ensures status { HasSyncLine result → EndsBy reply.now result }
+    ensures write { result ≡ Status.WriteFault → Rose (W.faults sink.old) (W.faults sink.new) }
+    ensures silent { IsSilent result → W.written sink.new ≡ W.written sink.old }
+    ensures ends { IsTellEnd result }
+{
+    let mut line = Vec::new(alloc);
+    let Ok(()) = put_synced_line(&mut line, alloc, 1, reply) else {
+        return Status::OutOfMemory;
+    };
+    match put(sink, &line) {
+        Status::Done => match reply {
+            SyncReply::Done(_) => Status::Done,
+            SyncReply::Stopped { .. } => Status::Stopped,
+        },
+        status => status,
+    }
+}
+
+// Synchronises an instance that is opened over the first keeper with a peer at this address.
+fn sync_entry<K: Keeper, L: Dial, W: Sink>(
+    alloc: Global,
+    entry: Entry,
+    words: &SyncWords,
+    address: &str,
+    sink: &mut W,
+    keepers: &mut Vec<K>,
+    dial: &mut L,
+) -> Status
+    requires { 0 < vec_len keepers.old }
+    ensures synced { HasSyncLine result →
+        HasSynced (described_host entry) (sync_data words.now) address.now
+        (take 1 (map K.state keepers.old.items)) (take 1 (map K.state keepers.new.items))
+        (dialled (L.asks dial.old) (L.faults dial.old))
+        (dialled (L.asks dial.new) (L.faults dial.new))
+        (W.written sink.old) (W.written sink.new) result }
+    ensures cut { result ≡ Status.OutOfMemory →
+        IsCutSync (described_host entry) (sync_data words.now) address.now
+        (take 1 (map K.state keepers.old.items)) (take 1 (map K.state keepers.new.items))
+        (dialled (L.asks dial.old) (L.faults dial.old))
+        (dialled (L.asks dial.new) (L.faults dial.new)) }
+    ensures ends { IsSyncEnd result }
+    ensures write { result ≡ Status.WriteFault → Rose (W.faults sink.old) (W.faults sink.new) }
+    ensures silent { IsSilent result → W.written sink.new ≡ W.written sink.old }
+    ensures keeper { result ≡ Status.KeeperFault → OneFailed
+        (take 1 (map K.state keepers.old.items)) (take 1 (map K.state keepers.new.items)) }
+    ensures bad_row { result ≡ Status.BadRow →
+        may_be_unsound (take 1 (map K.state keepers.old.items)) ≡ true }
+    ensures unopened { IsUnopened result → told (take 1 (map K.state keepers.new.items))
+        ≡ told (take 1 (map K.state keepers.old.items)) }
+    ensures unasked { IsUnopened result → dial.new ≡ dial.old }
+    ensures later { L.faults dial.old ≤ L.faults dial.new }
+    ensures others { drop 1 (map K.state keepers.new.items)
+        ≡ drop 1 (map K.state keepers.old.items) }
+    ensures places { vec_len keepers.new ≡ vec_len keepers.old }
+{
+    let mut instance = match open_first(alloc, keepers, entry) {
+        Ok(instance) => instance,
+        Err(fault) => return Status::from(fault),
+    };
+    let reply = sync_over(alloc, &mut instance, words, address, dial);
+    close_first(instance, keepers);
+    tell_reply(alloc, sink, &reply)
+}
+
+// Synchronises the instance that the words name.
+fn sync_net<K: Keeper, L: Dial, W: Sink>(
+    alloc: Global,
+    net: Description,
+    words: &SyncWords,
+    sink: &mut W,
+    keepers: &mut Vec<K>,
+    dial: &mut L,
+) -> Status
+    requires { 0 < vec_len keepers.old }
+    ensures synced { HasSyncLine result →
+        IfSome (host_named words.now.name net) (λ host.
+        HasSynced host (sync_data words.now) (peer_address host words.now.link net)
+        (take 1 (map K.state keepers.old.items)) (take 1 (map K.state keepers.new.items))
+        (dialled (L.asks dial.old) (L.faults dial.old))
+        (dialled (L.asks dial.new) (L.faults dial.new))
+        (W.written sink.old) (W.written sink.new) result) }
+    ensures cut { result ≡ Status.OutOfMemory →
+        IfSome (host_named words.now.name net) (λ host.
+        IsCutSync host (sync_data words.now) (peer_address host words.now.link net)
+        (take 1 (map K.state keepers.old.items)) (take 1 (map K.state keepers.new.items))
+        (dialled (L.asks dial.old) (L.faults dial.old))
+        (dialled (L.asks dial.new) (L.faults dial.new))) }
+    ensures status { IsStopped result ⊎ (result ≡ Status.Stopped)
+        ⊎ (result ≡ net_status words.now.name net) }
+    ensures ends { IsNetSynced result }
+    ensures write { result ≡ Status.WriteFault → Rose (W.faults sink.old) (W.faults sink.new) }
+    ensures silent { IsSilent result → W.written sink.new ≡ W.written sink.old }
+    ensures keeper { result ≡ Status.KeeperFault → OneFailed
+        (take (length net.instances) (map K.state keepers.old.items))
+        (take (length net.instances) (map K.state keepers.new.items)) }
+    ensures bad_row { result ≡ Status.BadRow → may_be_unsound
+        (take (length net.instances) (map K.state keepers.old.items)) ≡ true }
+    ensures unopened { IsUnopened result →
+        told (map K.state keepers.new.items) ≡ told (map K.state keepers.old.items) }
+    ensures unasked { IsUnasked result → dial.new ≡ dial.old }
+    ensures later { L.faults dial.old ≤ L.faults dial.new }
+    ensures others { drop (length net.instances) (map K.state keepers.new.items)
+        ≡ drop (length net.instances) (map K.state keepers.old.items) }
+    ensures places { vec_len keepers.new ≡ vec_len keepers.old }
+    ensures still { IsStill result → keepers.new.items ≡ keepers.old.items }
+{
+    let Ok(address) = peer_address(alloc, &net, words) else {
+        return Status::OutOfMemory;
+    };
+    match entry_named(alloc, net, &words.name) {
+        Ok(Some(entry)) => sync_entry(alloc, entry, words, address.as_str(), sink, keepers, dial),
+        Ok(None) => Status::NoSuchInstance,
+        Err(_) => Status::OutOfMemory,
+    }
+}
+
+/// Synchronises the instance that the words name, over the first keeper, with the peer of the link
+/// that they name.
+pub(crate) fn sync_source<K: Keeper, L: Dial, W: Sink>(
+    alloc: Global,
+    bytes: &[u8],
+    words: &SyncWords,
+    sink: &mut W,
+    keepers: &mut Vec<K>,
+    dial: &mut L,
+) -> Status
+    requires { 0 < vec_len keepers.old }
+    ensures synced { HasSyncLine result →
+        IfOk (described bytes.now) (λ net. IfSome (host_named words.now.name net) (λ host.
+        HasSynced host (sync_data words.now) (peer_address host words.now.link net)
+        (take 1 (map K.state keepers.old.items)) (take 1 (map K.state keepers.new.items))
+        (dialled (L.asks dial.old) (L.faults dial.old))
+        (dialled (L.asks dial.new) (L.faults dial.new))
+        (W.written sink.old) (W.written sink.new) result)) }
+    ensures cut { result ≡ Status.OutOfMemory →
+        IfOk (described bytes.now) (λ net. IfSome (host_named words.now.name net) (λ host.
+        IsCutSync host (sync_data words.now) (peer_address host words.now.link net)
+        (take 1 (map K.state keepers.old.items)) (take 1 (map K.state keepers.new.items))
+        (dialled (L.asks dial.old) (L.faults dial.old))
+        (dialled (L.asks dial.new) (L.faults dial.new)))) }
+    ensures status { IsStopped result ⊎ (result ≡ Status.Stopped)
+        ⊎ (result ≡ served_status words.now.name (described bytes.now)) }
+    ensures ends { IsSourceSynced result }
+    ensures write { result ≡ Status.WriteFault → Rose (W.faults sink.old) (W.faults sink.new) }
+    ensures silent { IsSilent result → W.written sink.new ≡ W.written sink.old }
+    ensures told { TellsFault result → IsTold (described bytes.now)
+        (Wrote result (W.written sink.old) (W.written sink.new)) }
+    ensures keeper { result ≡ Status.KeeperFault → HasFailed (described bytes.now)
+        (map K.state keepers.old.items) (map K.state keepers.new.items) }
+    ensures bad_row { result ≡ Status.BadRow →
+        IsUnsound (described bytes.now) (map K.state keepers.old.items) }
+    ensures unopened { IsUnopened result →
+        told (map K.state keepers.new.items) ≡ told (map K.state keepers.old.items) }
+    ensures unasked { IsUnasked result → dial.new ≡ dial.old }
+    ensures later { L.faults dial.old ≤ L.faults dial.new }
+    ensures others { OthersStay (described bytes.now)
+        (map K.state keepers.old.items) (map K.state keepers.new.items) }
+    ensures places { vec_len keepers.new ≡ vec_len keepers.old }
+    ensures still { IsStill result → keepers.new.items ≡ keepers.old.items }
+{
+    let (description, _) = split_source(bytes);
+    match read_description(alloc, description) {
+        Ok(net) => sync_net(alloc, net, words, sink, keepers, dial),
+        Err(DescFault::Bad { path, need }) => tell_fault(alloc, sink, path.as_str(), need),
+        Err(DescFault::NoMemory) => Status::OutOfMemory,
+    }
+}

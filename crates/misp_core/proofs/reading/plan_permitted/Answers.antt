@@ -1,0 +1,91 @@
+use Rattle.std.proofs.Common.{arith, ap, sym, subst, Err}
+use Rattle.misp_core.specs.Ahead.{IsBeside}
+use Rattle.misp_core.specs.Handing.{host_at}
+use Rattle.misp_core.proofs.Answered.{asked_planned, unread_planned}
+use Rattle.misp_core.proofs.KeptLandings.{landed_planned, never_pulls, still_lands}
+use Rattle.misp_core.proofs.KeptParts.{kept_planned, left_answers, still_answers}
+use Rattle.misp_core.proofs.reading.plan_permitted.Goals as goal
+
+-- ---- a package is kept
+
+pub returns-in-Some-clause-planned : goal.returns-in-Some-clause-planned
+returns-in-Some-clause-planned g c =
+    rw c.show_part.ensures.plan
+    (kept_planned (host_at c.args.site.now) _ c.args.site.now.moment c.args.site.now.caller.now c.args.ask _ c.in-Some.part c.requires.beside.ahead c.in-Some.ensures.kept)
+
+pub returns-in-Some-clause-beside : goal.returns-in-Some-clause-beside
+returns-in-Some-clause-beside g c = record {
+  groups = c.requires.beside.groups;
+  ahead = left_answers (host_at c.args.site.now) _ _ _ c.requires.beside.ahead c.take_kept.ensures.left;
+  landed = c.requires.beside.landed;
+}
+
+-- ---- what the caller has of the event is kept
+
+pub returns-then-is_landed-clause-planned : goal.returns-then-is_landed-clause-planned
+returns-then-is_landed-clause-planned g c =
+    landed_planned (host_at c.args.site.now) c.args.site.now.moment c.args.site.now.caller.now c.args.site.now.groups.now c.plan_kept.result _ c.args.ask c.args.landed.now
+    c.requires.permitted c.requires.beside.groups c.requires.beside.landed c.plan_kept.ensures.plans
+
+pub returns-then-is_landed-clause-sound : goal.returns-then-is_landed-clause-sound
+returns-then-is_landed-clause-sound g c = λ pull. never_pulls _ _ _ _ _ c.plan_kept.ensures.plans pull
+
+pub returns-then-is_landed-clause-beside : goal.returns-then-is_landed-clause-beside
+returns-then-is_landed-clause-beside g c = record {
+  groups = c.requires.beside.groups;
+  ahead = left_answers (host_at c.args.site.now) _ _ _ c.requires.beside.ahead c.take_kept.ensures.left;
+  landed = c.requires.beside.landed;
+}
+
+pub returns-then-is_landed-clause-cause : goal.returns-then-is_landed-clause-cause
+returns-then-is_landed-clause-cause g c = record {
+  later = omega arith;
+  rose = λ is. absurd (c.plan_kept.ensures.no_fault is);
+}
+
+-- ---- rows are read
+
+pub returns-in-Ok-clause-planned : goal.returns-in-Ok-clause-planned
+returns-in-Ok-clause-planned g c =
+    asked_planned (host_at c.args.site.now) c.args.site.now.moment (c.args.site.now.caller.now, c.args.ask) c.args.site.now.groups.now c.in-Ok.rows.items c.plan_request.result _
+    c.requires.permitted c.requires.beside.groups (rw (← c.asker-org.ensures, ← c.of.ensures) c.in-Ok.ensures.found) c.in-Ok.ensures.table c.plan_request.ensures.plan
+
+pub returns-in-Ok-clause-beside : goal.returns-in-Ok-clause-beside
+returns-in-Ok-clause-beside g c =
+    subst (λ held. IsBeside (host_at c.args.site.now) held c.args.site.now.groups.now c.plan_request.new.kept c.plan_request.new.landed) (sym c.in-Ok.ensures.held)
+    (record {
+      groups = c.requires.beside.groups;
+      ahead = still_answers (host_at c.args.site.now) _ c.args.site.now.groups.now c.in-Ok.rows.items c.args.site.now.moment c.args.site.now.caller.now c.args.ask _ _ c.requires.permitted c.requires.beside.groups
+          (rw (← c.asker-org.ensures, ← c.of.ensures) c.in-Ok.ensures.found) c.in-Ok.ensures.table
+          (left_answers (host_at c.args.site.now) _ _ _ c.requires.beside.ahead c.take_kept.ensures.left) c.plan_request.ensures.kept;
+      landed = still_lands c.args.site.now.here.now c.args.site.now.caller.now c.in-Ok.rows.items _ c.args.ask _ _
+          (rw (← c.asker-org.ensures, ← c.of.ensures) c.in-Ok.ensures.found) c.requires.beside.landed c.plan_request.ensures.landed;
+    })
+
+pub returns-in-Ok-clause-cause : goal.returns-in-Ok-clause-cause
+returns-in-Ok-clause-cause g c = record {
+  later = c.in-Ok.ensures.cause.later;
+  rose = λ is. absurd (c.plan_request.ensures.no_fault is);
+}
+
+-- ---- none are read
+
+pub returns-in-Err-clause-planned : goal.returns-in-Err-clause-planned
+returns-in-Err-clause-planned g c =
+    unread_planned (host_at c.args.site.now) c.args.site.now.moment (c.args.site.now.caller.now, c.args.ask) _ c.in-Err.fault c.unread.result
+    c.requires.permitted (rw (← c.asker-org.ensures, ← c.of.ensures) c.in-Err.ensures.bad) c.unread.ensures.plans
+
+pub returns-in-Err-clause-beside : goal.returns-in-Err-clause-beside
+returns-in-Err-clause-beside g c =
+    subst (λ held. IsBeside (host_at c.args.site.now) held c.args.site.now.groups.now c.take_kept.new.ahead c.args.landed.now) (sym c.in-Err.ensures.held)
+    (record {
+      groups = c.requires.beside.groups;
+      ahead = left_answers (host_at c.args.site.now) _ _ _ c.requires.beside.ahead c.take_kept.ensures.left;
+      landed = c.requires.beside.landed;
+    })
+
+pub returns-in-Err-clause-cause : goal.returns-in-Err-clause-cause
+returns-in-Err-clause-cause g c = record {
+  later = c.in-Err.ensures.cause.later;
+  rose = λ is. c.in-Err.ensures.cause.rose (ap Err (c.unread.ensures.cause is));
+}

@@ -1,0 +1,62 @@
+//! What a permitted request comes to, by what is kept for it, or over the rows that are read.
+
+ghost use Rattle.std.specs.Prelude.{◌≡◌, true, IfOk, IfSome};
+ghost use Rattle.misp_outside.specs.Causes.{HasCause};
+ghost use Rattle.misp_rules.specs.Machine.{pulls};
+ghost use Rattle.misp_rules.specs.Permission.{is_permitted};
+ghost use Rattle.misp_store.specs.Seen.{seen_in};
+ghost use Rattle.misp_core.specs.Ahead.{IsBeside};
+ghost use Rattle.misp_core.specs.Answers.{IsBuilt};
+ghost use Rattle.misp_core.specs.Effects.{by_keeper, requested};
+ghost use Rattle.misp_core.specs.Handing.{host_at};
+ghost use Rattle.misp_core.specs.Planning.{IsPlanned, stop_planned};
+ghost use Rattle.misp_core.specs.Sound.{IsSoundAnswer};
+
+use crate::ahead::{Ahead, take_kept};
+use crate::answering::unread;
+use crate::decide::plan_request;
+use crate::handing_in::{is_landed, plan_kept};
+use crate::planning::{NoPlan, Plan};
+use crate::pulling::show_part;
+use crate::site::{Site, asker};
+use misp_outside::Keeper;
+use misp_package::Landing;
+use misp_rules::Ask;
+use misp_store::{Reach, load};
+use std::alloc::Global;
+
+/// What is planned for a request that the role of its caller permits. Nothing is read where what is
+/// kept beside the keeper answers it.
+pub(crate) fn plan_permitted<K: Keeper>(
+    keeper: &mut K,
+    alloc: Global,
+    site: &Site<'_>,
+    ask: Ask,
+    ahead: &mut Option<Ahead>,
+    landed: &mut Option<Landing>,
+) -> Result<Plan, NoPlan>
+    requires built { IsBuilt ask }
+    requires permitted { is_permitted site.now.caller.now ask ≡ true }
+    requires beside { IsBeside (host_at site.now) (K.state keeper.old).held
+        site.now.groups.now ahead.old landed.old }
+    ensures planned { IfSome (K.state keeper.old).held (λ held. IsPlanned result
+        (requested (host_at site.now) site.now.moment (site.now.caller.now, ask) (seen_in held))) }
+    ensures sound { pulls ask ≡ true → IfOk result (λ plan. IsSoundAnswer plan.answer) }
+    ensures held { (K.state keeper.new).held ≡ (K.state keeper.old).held }
+    ensures beside { IsBeside (host_at site.now) (K.state keeper.new).held
+        site.now.groups.now ahead.new landed.new }
+    ensures cause { HasCause (K.state keeper.old).faults (K.state keeper.new).faults
+        (stop_planned result ≡ by_keeper) }
+{
+    if let Some(part) = take_kept(ahead, site.caller, &ask) {
+        return Ok(show_part(part));
+    }
+    if is_landed(site, &ask, landed) {
+        return plan_kept(alloc, site, &ask, landed);
+    }
+    let org = asker(site.caller);
+    match load(keeper, alloc, &Reach::of(&org, &ask)) {
+        Ok(rows) => plan_request(alloc, site, ask, rows, ahead, landed),
+        Err(fault) => Err(unread(alloc, fault)),
+    }
+}

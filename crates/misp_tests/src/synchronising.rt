@@ -1,0 +1,168 @@
+//! Synchronisations over a dial in memory.
+
+use misp_app::{KEEPERS, Status, run};
+use misp_outside::{MemDial, MemDoor, MemKeeper, MemSink, MemSource, StepClock, SureCarry};
+use std::alloc::Global;
+use std::test::Fail;
+
+/// Instances a, b and c, of which c has no address. At b is a link to a, one to it that is off, and
+/// one to c.
+const NET: &str = "[[org]]\nname = \"Beta\"\nuuid = \"bbbbbbbb-0000-4000-8000-000000000002\"\n\
+    [[instance]]\nname = \"a\"\naddress = \"127.0.0.1:8081\"\n\
+    [[instance]]\nname = \"b\"\naddress = \"127.0.0.1:8082\"\n\
+    [[instance]]\nname = \"c\"\n\
+    [[link]]\nname = \"ba\"\nat = \"b\"\nto = \"a\"\n\
+    key = \"XXXXXXXXXXXXXXXXXXXXXXXXXXXXXXXXXXXXXXXX\"\nholder = \"Beta\"\npush_org = \"Beta\"\n\
+    [[link]]\nname = \"off\"\nat = \"b\"\nto = \"a\"\non = false\n\
+    key = \"XXXXXXXXXXXXXXXXXXXXXXXXXXXXXXXXXXXXXXXX\"\nholder = \"Beta\"\npush_org = \"Beta\"\n\
+    [[link]]\nname = \"bc\"\nat = \"b\"\nto = \"c\"\n\
+    key = \"XXXXXXXXXXXXXXXXXXXXXXXXXXXXXXXXXXXXXXXX\"\nholder = \"Beta\"\npush_org = \"Beta\"\n";
+
+/// An empty list.
+const NONE: &str = "HTTP/1.1 200 OK\r\nContent-Type: application/json\r\nContent-Length: 2\r\n\
+    Connection: close\r\n\r\n[]";
+
+/// That no group was taken.
+const TAKEN: &str = "HTTP/1.1 200 OK\r\nContent-Type: application/json\r\nContent-Length: 11\r\n\
+    Connection: close\r\n\r\n{\"taken\":0}";
+
+/// Words, the replies of the peer, of which an empty one is none, how it ends, what it writes, how
+/// often the peer is asked, and at which address.
+const ENDS: [(&str, [&str; 2], Status, &str, usize, &str); 9] = [
+    (
+        "sync b ba pull",
+        ["x", ""],
+        Status::Stopped,
+        "1 502 {\"name\":\"PeerGarbled\",\"packages\":0,\"place\":\"head\",\"rule\":24}\n",
+        1,
+        "127.0.0.1:8081",
+    ),
+    (
+        "sync b ba push",
+        ["x", ""],
+        Status::Stopped,
+        "1 502 {\"name\":\"PeerGarbled\",\"packages\":0,\"place\":\"head\",\"rule\":24}\n",
+        1,
+        "127.0.0.1:8081",
+    ),
+    (
+        "sync b ba pull",
+        [NONE, NONE],
+        Status::Done,
+        "1 200 {\"elements\":0,\"events\":0,\"groups\":0,\"packages\":0}\n",
+        2,
+        "127.0.0.1:8081",
+    ),
+    (
+        "sync b ba push",
+        [TAKEN, ""],
+        Status::Done,
+        "1 200 {\"elements\":0,\"events\":0,\"groups\":0,\"packages\":0}\n",
+        1,
+        "127.0.0.1:8081",
+    ),
+    (
+        "sync b ba pull",
+        ["", ""],
+        Status::Stopped,
+        "1 502 {\"name\":\"LinkFault\",\"packages\":0,\"place\":\"\",\"rule\":25}\n",
+        1,
+        "127.0.0.1:8081",
+    ),
+    (
+        "sync b bc pull",
+        ["x", ""],
+        Status::Stopped,
+        "1 502 {\"name\":\"PeerGarbled\",\"packages\":0,\"place\":\"head\",\"rule\":24}\n",
+        1,
+        "",
+    ),
+    (
+        "sync b off pull",
+        ["x", ""],
+        Status::Stopped,
+        "1 403 {\"name\":\"LinkOff\",\"packages\":0,\"place\":\"\",\"rule\":22}\n",
+        0,
+        "",
+    ),
+    (
+        "sync a ba pull",
+        ["x", ""],
+        Status::Stopped,
+        "1 404 {\"name\":\"NoLink\",\"packages\":0,\"place\":\"\",\"rule\":21}\n",
+        0,
+        "",
+    ),
+    (
+        "sync d ba pull",
+        ["x", ""],
+        Status::NoSuchInstance,
+        "",
+        0,
+        "",
+    ),
+];
+
+// A dial with these replies, but for empty ones.
+fn answering(alloc: Global, replies: &[&str]) -> Result<MemDial, Fail> {
+    let mut all = Vec::new(alloc);
+    for reply in replies {
+        if !reply.is_empty() {
+            all.push(reply.as_bytes().to_vec(alloc)?)?;
+        }
+    }
+    Ok(MemDial::new(alloc, all, Vec::new(alloc)))
+}
+
+fn keepers(alloc: Global) -> Result<Vec<MemKeeper>, Fail> {
+    let mut keepers = Vec::new(alloc);
+    for _ in 0..KEEPERS {
+        keepers.push(MemKeeper::new(alloc, Vec::new(alloc)))?;
+    }
+    Ok(keepers)
+}
+
+// How a run of these words ends, and what it writes.
+#[tactic(auto, using(misp_app::proofs::Hosted::enough_keepers))]
+fn synced(alloc: Global, line: &str, dial: &mut MemDial) -> Result<(Status, String), Fail> {
+    let mut words = Vec::new(alloc);
+    for word in line.split(' ') {
+        words.push(String::from_str(alloc, word)?)?;
+    }
+    let bytes = NET.as_bytes().to_vec(alloc)?;
+    let mut source = MemSource::new(bytes, Vec::new(alloc), Vec::new(alloc));
+    let mut sink = MemSink::new(alloc, Vec::new(alloc));
+    let mut keepers = keepers(alloc)?;
+    if keepers.len() < KEEPERS {
+        return Err(Fail::from("too few keepers"));
+    }
+    let door = MemDoor::new(alloc, Vec::new(alloc), Vec::new(alloc));
+    let status = run(
+        alloc,
+        &words,
+        &mut source,
+        &mut sink,
+        &mut keepers,
+        &mut SureCarry::new(),
+        &mut door.ok().ok_or("no memory")?,
+        dial,
+        &mut StepClock { time: 0, word: 0 },
+    );
+    Ok((status, String::from_utf8(sink.bytes().to_vec(alloc)?)?))
+}
+
+#[test]
+fn synchronising_ends_as_the_table_says(rt: HostRuntime) -> Result<(), Fail> {
+    let alloc = rt.alloc();
+    for (line, replies, wanted, text, count, address) in &ENDS {
+        let mut dial = answering(alloc, replies)?;
+        let (status, written) = synced(alloc, line, &mut dial)?;
+        assert_eq!(rt; status, *wanted, "{line}");
+        assert_eq!(rt; written.as_str(), *text, "{line}");
+        assert_eq!(rt; dial.asks().len(), *count, "{line}");
+        for ask in dial.asks() {
+            assert_eq!(rt; ask.address.as_slice(), address.as_bytes(), "{line}");
+        }
+    }
+    Ok(())
+}
