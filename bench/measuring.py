@@ -1,9 +1,9 @@
 """What the benchmarks share: a description, timed runs of a program, and its peak of memory."""
 
 import os
+import resource
 import subprocess
 import sys
-import time
 
 TIME = "/usr/bin/time"
 TOP = os.path.dirname(os.path.dirname(os.path.realpath(__file__)))
@@ -42,12 +42,18 @@ def program(words, usage):
     return path
 
 
+def spent():
+    """The seconds of processor of all processes that have ended and were waited for."""
+    used = resource.getrusage(resource.RUSAGE_CHILDREN)
+    return used.ru_utime + used.ru_stime
+
+
 def run(words, path):
-    """The seconds that the words took on this file, and what they wrote to both streams."""
+    """The seconds of processor that the words took on this file, and what they wrote to both streams."""
     with open(path, "rb") as given:
-        start = time.perf_counter()
+        before = spent()
         ran = subprocess.run(words, stdin=given, capture_output=True)
-        taken = time.perf_counter() - start
+        taken = spent() - before
     if ran.returncode:
         sys.exit(f"{words[0]} ended with status {ran.returncode}: {ran.stderr.decode()[-300:]}")
     return taken, ran.stdout, ran.stderr

@@ -105,6 +105,7 @@ on_held link one two peer reply trail held name is = record {
       subst (λ n. IfSome two.held (λ own. packages_sent n link (seen_in own) ≡ Ok is.packages)) (sym name)
       (subst (λ o. IfSome o (λ own. packages_sent one.name link (seen_in own) ≡ Ok is.packages)) (sym held) (is.packages_are beyond));
   whole = is.whole;
+  counts = is.counts;
 }
 
 if_on : (on : Bool) (P Q : Trail → Type 0) → ((more : Trail) → P more → Q more) → (trail : Trail) → IfOn on P trail → IfOn on Q trail

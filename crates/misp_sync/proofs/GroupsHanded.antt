@@ -1,5 +1,5 @@
 -- What a push comes to where its groups were handed in.
-use Rattle.std.proofs.Common.{◌≡◌, ℕ, Bool, true, false, is_ok, List, [], ◌∷◌, map, length, Option, None, Some, Result, Ok, Err, refl, sym, ap, subst, ◌∙◌, inr, if◌then◌else◌}
+use Rattle.std.proofs.Common.{◌≡◌, ℕ, Bool, true, false, is_ok, List, [], ◌∷◌, map, length, Option, None, Some, Result, Ok, Err, refl, ap, ◌∙◌, inr, if◌then◌else◌}
 use Rattle.std.specs.List.{AllByRecursion}
 use Rattle.misp_ids.specs.declared.refusal.Refusal.{Refusal}
 use Rattle.misp_ids.specs.declared.refusal.RuleName.{RuleName}
@@ -8,20 +8,19 @@ use Rattle.misp_orgs.specs.Admin.{who_of}
 use Rattle.misp_orgs.specs.Roles.{permits}
 use Rattle.misp_orgs.specs.declared.role.Perm.{Perm}
 use Rattle.misp_groups.specs.Changes.{take_groups}
-use Rattle.misp_groups.specs.Groups.{put_groups}
 use Rattle.misp_effects.specs.Batches.{AreReadable, batch, put_batches}
 use Rattle.misp_format.specs.WholeGroup.{groups_text, uncarried}
 use Rattle.misp_rules.specs.Permission.{no_permission}
 use Rattle.misp_rules.specs.declared.package.PackageFields.{PackageFields as Package}
-use Rattle.misp_store.specs.Sharing.{group_row, groups_in, is_sound, or_none}
+use Rattle.misp_store.specs.Sharing.{groups_in, is_sound, or_none}
 use Rattle.misp_store.proofs.GroupRows.{AreReadBack}
 use Rattle.misp_core.specs.HandedGroups.{group_batches}
-use Rattle.misp_core.specs.Prelude.{Caller, Effect, Group, Host, IsGroup, Seen, bare, groups_of, seen_in, spelled}
+use Rattle.misp_core.specs.Prelude.{Caller, Effect, Group, Host, IsGroup, bare, groups_of, seen_in, spelled}
 use Rattle.misp_core.specs.Taking.{groups_taken}
 use Rattle.misp_core.proofs.TakenGroups.{groups_after}
 use Rattle.misp_sync.specs.Counts.{tally, with_groups}
 use Rattle.misp_sync.specs.Handing.{HandGroups, is_short, too_large}
-use Rattle.misp_sync.specs.Pulled.{behind_all, ends}
+use Rattle.misp_sync.specs.Pulled.{ends}
 use Rattle.misp_sync.specs.PushSteps.{IsToldOf, Pushes}
 use Rattle.misp_sync.specs.Pushed.{all_pushed, parts_pushed, pushed_by, pushed_with, rows_seen}
 use Rattle.misp_sync.specs.Steps.{Takes}

@@ -1,19 +1,18 @@
 -- What a hand-in pushes, by what was told of it.
-use Rattle.std.proofs.Common.{◌≡◌, ◌⊎◌, ℕ, ◌≤◌, List, [], ◌∷◌, ◌++◌, map, length, Option, None, Some, Result, Ok, Err, refl, sym, ap, subst, ◌∙◌, inl, inr, if◌then◌else◌, Bool, le-leb, codes}
+use Rattle.std.proofs.Common.{◌≡◌, ◌⊎◌, ℕ, ◌≤◌, List, [], ◌∷◌, ◌++◌, map, Option, None, Some, Result, Ok, Err, refl, sym, ap, subst, ◌∙◌, inl, inr, if◌then◌else◌, Bool, le-leb, codes}
 use Rattle.misp_ids.specs.declared.refusal.Refusal.{Refusal}
-use Rattle.misp_ids.specs.declared.refusal.RuleName.{RuleName}
-use Rattle.misp_outside.specs.Held.{Held, with_batch}
+use Rattle.misp_outside.specs.Held.{Held}
 use Rattle.misp_effects.specs.Batches.{AreReadable, Batch, put_batches}
 use Rattle.misp_effects.specs.Effect.{effect}
 use Rattle.misp_effects.specs.declared.stop.Side.TheVariants.{Here, There}
 use Rattle.misp_effects.specs.declared.stop.Stop.{Stop}
-use Rattle.misp_core.specs.Prelude.{Did, Effect, Host, bare, refused, seen_in, spelled}
+use Rattle.misp_core.specs.Prelude.{Did, Effect, Host, refused, seen_in, spelled}
 use Rattle.misp_core.specs.declared.reply.Answer.{Answer}
 use Rattle.misp_core.specs.declared.reply.Reply.{Reply}
 use Rattle.misp_sync.specs.Handing.{Handing, IsLeftBy, handed_there, most_in}
 use Rattle.misp_sync.specs.Pulled.{behind_all, ends}
 use Rattle.misp_sync.specs.PushSteps.{IsToldOf, LosesAnswer, Pushes}
-use Rattle.misp_sync.specs.Telling.{IsCutShort, Shows, garbled, peer_refused, stop_by, stop_refusal, taken_told}
+use Rattle.misp_sync.specs.Telling.{IsCutShort, garbled, peer_refused, stop_by, stop_refusal, taken_told}
 use Rattle.misp_sync.specs.declared.count.Tally.{Tally}
 use Rattle.misp_sync.proofs.HandedReplies.{DidAll, IsStopReply, did_cases}
 use Rattle.misp_sync.proofs.Pushes.{pushes_end, pushes_lost, pushes_stop}

@@ -1,12 +1,11 @@
 -- What was handed in and answered, of several steps one after another.
-use Rattle.std.proofs.Common.{◌≡◌, ◌⊎◌, ℕ, ◌*◌, ◌≤◌, List, [], ◌∷◌, ◌++◌, length, Option, None, Some, option_map, Result, Ok, Err, refl, sym, ap, subst, ◌∙◌, inl, inr, arith, IfSome}
+use Rattle.std.proofs.Common.{◌≡◌, ℕ, ◌*◌, ◌≤◌, List, [], ◌∷◌, ◌++◌, length, Option, None, Some, option_map, Ok, Err, refl, sym, subst, inl, inr, arith, IfSome}
 use Rattle.misp_core.specs.Prelude.{Did, Held, Host, Standing, host_of, seen_in}
-use Rattle.misp_core.specs.declared.reply.Reply.{Reply}
-use Rattle.misp_sync.specs.Handing.{Handing, IsHandedReply, IsSameHost, hand_text, handed_there}
-use Rattle.misp_sync.specs.PushTrail.{AreAll, HandsFor, HandsIn, IsReplyWith, Leaves, Reaches}
+use Rattle.misp_sync.specs.Handing.{Handing, IsHandedReply, hand_text, handed_there}
+use Rattle.misp_sync.specs.PushTrail.{AreAll, HandsFor, HandsIn, Leaves, Reaches}
 use Rattle.misp_sync.specs.Serving.{Meet}
 use Rattle.misp_sync.specs.Trail.{GrowsBy, IsUnanswered, told_of}
-use Rattle.misp_sync.proofs.Trails.{grows_none, grows_so, grows_then}
+use Rattle.misp_sync.proofs.Trails.{grows_none, grows_so}
 
 -- ---- who tells
 

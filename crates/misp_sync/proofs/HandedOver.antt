@@ -1,20 +1,18 @@
 -- What was told of a hand-in is what the reply of the peer tells.
-use Rattle.std.proofs.Common.{◌≡◌, ◌⊎◌, ◌<◌, ◌≤◌, ◌^◌, ℕ, true, List, length, Option, Some, None, Result, Ok, Err, refl, sym, ap, ◌∙◌, subst, inl, inr, arith, IfSome, unwrap_or}
-use Rattle.std.specs.Prelude.{MatchResult}
+use Rattle.std.proofs.Common.{◌≡◌, ◌<◌, ◌^◌, ℕ, true, List, length, Option, Some, None, Result, Ok, Err, refl, sym, ap, ◌∙◌, subst, inl, inr, arith, IfSome}
 use Rattle.misp_ids.specs.declared.refusal.Refusal.{Refusal}
 use Rattle.misp_ids.specs.declared.refusal.RuleName.{RuleName}
-use Rattle.misp_outside.specs.Causes.{HasCause}
 use Rattle.misp_outside.specs.Held.{Held}
 use Rattle.misp_effects.specs.declared.stop.Side.TheVariants.{There}
 use Rattle.misp_effects.specs.declared.stop.Stop.{Stop}
 use Rattle.misp_http.specs.Reply.{IsReply}
 use Rattle.misp_http.proofs.ReplyReadBack.{read_back}
-use Rattle.misp_core.specs.Prelude.{Did, Host, Standing, bare, host_of, seen_in}
-use Rattle.misp_core.specs.Text.{body_text, http_text, kind_of, status_of}
+use Rattle.misp_core.specs.Prelude.{Did, Standing, bare, host_of, seen_in}
+use Rattle.misp_core.specs.Text.{body_text, kind_of, status_of}
 use Rattle.misp_core.specs.declared.reply.Reply.{Reply}
 use Rattle.misp_sync.specs.Handing.{Handing, IsHandedReply, IsHandedSo, IsHanding, IsLeftBy, IsSameHost, MayBeHanded, handed_there, most_in}
 use Rattle.misp_sync.specs.PushSteps.{IsHanded, IsToldOf}
-use Rattle.misp_sync.specs.Replied.{Fails, Gives, IsCutBy, ReadsReplyBy, Tells, refusal_of, taken_in, told_by}
+use Rattle.misp_sync.specs.Replied.{Fails, IsCutBy, ReadsReplyBy, Tells, refusal_of, taken_in, told_by}
 use Rattle.misp_sync.specs.Serving.{Meet}
 use Rattle.misp_sync.specs.Steps.{cause_of, stop_told}
 use Rattle.misp_sync.specs.Telling.{IsCutShort, Shows, stop_by, taken_told}

@@ -27,7 +27,6 @@ use Rattle.misp_core.proofs.HandedAsks.{asked_known}
 use Rattle.misp_sync.specs.Handing.{HandGroups, HandPart, Handing, IsHanding, handed_as, handed_there, is_short, most_in, too_large}
 use Rattle.misp_sync.proofs.TakenTexts.{TellsTaken}
 use Rattle.misp_core.specs.Effects as core
-use Rattle.misp_core.specs.HandedGroups as spec
 
 -- ---- under an outcome
 

@@ -33,10 +33,12 @@ pub mod PartLoop
 pub mod PartSteps
 pub mod Parts
 pub mod PartsHanded
+pub mod PartsInTurn
 pub mod PartsTaken
 pub mod PartsTold
 pub mod PeerTold
 pub mod PushComing
+pub mod PushCounts
 pub mod PushKeeping
 pub mod PushRoutes
 pub mod PushStands

@@ -1,5 +1,5 @@
 -- What a push comes to where one of its packages was handed in.
-use Rattle.std.proofs.Common.{◌≡◌, ◌⊎◌, ℕ, Bool, true, false, List, [], ◌∷◌, map, filter, length, Option, None, Some, Result, Ok, Err, refl, sym, ap, subst, ◌∙◌, inl, inr, if◌then◌else◌}
+use Rattle.std.proofs.Common.{◌≡◌, ◌⊎◌, ℕ, Bool, true, false, List, [], ◌∷◌, map, length, Option, None, Some, Result, Ok, Err, refl, sym, ap, subst, ◌∙◌, inl, inr, if◌then◌else◌}
 use Rattle.std.specs.List.{list_all}
 use Rattle.misp_ids.specs.Uid.{IsUid}
 use Rattle.misp_ids.specs.declared.refusal.Refusal.{Refusal}
@@ -22,7 +22,6 @@ use Rattle.misp_core.specs.Effects.{row_batches}
 use Rattle.misp_core.specs.Prelude.{Caller, Effect, Host, groups_of, seen_in, spelled}
 use Rattle.misp_core.specs.Taking.{handed_rows, package_taken}
 use Rattle.misp_core.proofs.Keeping.{rows_left}
-use Rattle.misp_sync.specs.Counts.{tally}
 use Rattle.misp_sync.specs.Handing.{HandPart, is_short, too_large}
 use Rattle.misp_sync.specs.Pulled.{behind_all, ends}
 use Rattle.misp_sync.specs.PushSteps.{IsToldOf, Pushes}
@@ -33,7 +32,7 @@ use Rattle.misp_sync.specs.declared.count.Tally.{Tally}
 use Rattle.misp_sync.proofs.Causes.{stop_of_peer}
 use Rattle.misp_sync.proofs.HandSteps.{refused_err, refused_ok, taken_err, taken_ok}
 use Rattle.misp_sync.proofs.HandedReplies.{few_rows, part_bad, part_goes, part_long}
-use Rattle.misp_sync.proofs.PartsTaken.{all_filtered, counted_rows, handed_of_event, packed_parts, rows_more}
+use Rattle.misp_sync.proofs.PartsTaken.{all_filtered, counted_rows, packed_parts, rows_more}
 use Rattle.misp_sync.proofs.RowsAlike.{Agree, IsOurs, agree_rows, other_kept, taken_alike}
 use Rattle.misp_sync.proofs.Takings.{takes_put}
 

@@ -1,14 +1,14 @@
 -- Where a push is after several steps.
-use Rattle.std.proofs.Common.{◌≡◌, ◌≤◌, ℕ, List, Option, None, Some, Result, Ok, Err, refl, sym, ap, subst, ◌∙◌, inl, inr, arith, IfErr}
+use Rattle.std.proofs.Common.{◌≡◌, ◌≤◌, ℕ, List, Option, None, Some, Result, Ok, Err, refl, sym, ap, ◌∙◌, arith, IfErr}
 use Rattle.misp_ids.specs.declared.refusal.Refusal.{Refusal}
 use Rattle.misp_ids.specs.declared.refusal.RuleName.{RuleName}
 use Rattle.misp_outside.specs.Causes.{HasCause}
 use Rattle.misp_effects.specs.declared.stop.Side.TheVariants.{Here, There}
 use Rattle.misp_effects.specs.declared.stop.Stop.{Stop}
 use Rattle.misp_store.specs.declared.fault.LoadFault.{LoadFault}
-use Rattle.misp_core.specs.Prelude.{Held, Host, Standing, bare, host_of}
+use Rattle.misp_core.specs.Prelude.{Standing, bare, host_of}
 use Rattle.misp_sync.specs.Handing.{Handing, IsSameHost}
-use Rattle.misp_sync.specs.PushSteps.{IsHanded, IsPushStep, StaysSo, held_of}
+use Rattle.misp_sync.specs.PushSteps.{IsHanded, IsPushStep, StaysSo}
 use Rattle.misp_sync.specs.Serving.{Meet}
 use Rattle.misp_sync.specs.Steps.{IsUnread, Stand, cause_of, stand, stop_told}
 use Rattle.misp_sync.specs.Telling.{IsFetchCause, stop_by}

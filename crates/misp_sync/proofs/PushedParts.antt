@@ -1,5 +1,5 @@
 -- What a push comes to by its steps: the groups, and the packages.
-use Rattle.std.proofs.Common.{◌≡◌, ℕ, Bool, true, false, is_ok, List, [], map, filter, Option, None, Some, Result, Ok, Err, refl, sym, ap, subst, ◌∙◌, inl, inr, if◌then◌else◌, IfSome, IsOk}
+use Rattle.std.proofs.Common.{◌≡◌, ℕ, Bool, true, false, is_ok, List, map, Option, None, Some, Result, Ok, Err, refl, sym, ap, subst, ◌∙◌, inl, inr, if◌then◌else◌, IfSome, IsOk}
 use Rattle.misp_ids.specs.declared.refusal.Refusal.{Refusal}
 use Rattle.misp_ids.specs.declared.refusal.RuleName.{RuleName}
 use Rattle.misp_outside.specs.Held.{Held}
@@ -18,7 +18,6 @@ use Rattle.misp_store.specs.Sharing.{is_sound}
 use Rattle.misp_store.specs.declared.fault.LoadFault.{LoadFault}
 use Rattle.misp_store.specs.declared.reach.Reach.{Reach}
 use Rattle.misp_store.proofs.GroupRows.{AreReadBack}
-use Rattle.misp_core.specs.Answers.{bad_row}
 use Rattle.misp_core.specs.Prelude.{Caller, Effect, Group, Host, Inst, Row, Seen, Standing, bare, groups_of, host_of, seen_in, spelled}
 use Rattle.misp_sync.specs.Counts.{no_count, no_tally, with_groups}
 use Rattle.misp_sync.specs.Handing.{HandGroups, HoldsGroupsAlone}
@@ -28,7 +27,7 @@ use Rattle.misp_sync.specs.Pushed.{groups_carried, packages_of, packages_sent, p
 use Rattle.misp_core.specs.Sending.{packages_pushed}
 use Rattle.misp_sync.specs.Serving.{Meet}
 use Rattle.misp_sync.specs.Steps.{IsUnread, Stand, Tell, stand, usable_link}
-use Rattle.misp_sync.specs.Telling.{stop_by, stop_refusal}
+use Rattle.misp_sync.specs.Telling.{stop_by}
 use Rattle.misp_sync.specs.declared.count.Tally.{Tally}
 use Rattle.misp_sync.specs.declared.reply.SyncReply.{SyncReply}
 use Rattle.misp_sync.specs.declared.reply.SyncReply.TheVariants as replies

@@ -1,5 +1,5 @@
 -- What is pushed by several steps, and what a push comes to by it.
-use Rattle.std.proofs.Common.{◌≡◌, ℕ, zero, suc, Bool, true, false, List, [], ◌∷◌, ◌++◌, length, map, take, take_at, append-nil, append_assoc, Option, None, Some, refl, sym, ap, subst, ◌∙◌, inl, inr}
+use Rattle.std.proofs.Common.{◌≡◌, ℕ, suc, true, false, List, [], ◌∷◌, ◌++◌, length, map, take, take_at, append-nil, append_assoc, Option, None, Some, refl, sym, ap, subst, ◌∙◌, inl, inr}
 use Rattle.misp_outside.specs.Held.{Held, with_batch}
 use Rattle.misp_effects.specs.Batches.{AreReadable, Batch, IsReadable, put_batches}
 use Rattle.misp_effects.specs.Effect.{Does, Stopped, Went}
@@ -9,7 +9,7 @@ use Rattle.misp_core.specs.Prelude.{Effect, Refusal, spelled}
 use Rattle.misp_sync.specs.Counts.{count_of, no_tally, tally}
 use Rattle.misp_sync.specs.Pulled.{behind_all, ends, reply_of, stop_in, synced}
 use Rattle.misp_sync.specs.PushSteps.{IsLeft, IsLost, LosesAnswer, Pushes}
-use Rattle.misp_sync.specs.Pushed.{answered, counted_by, push_telling}
+use Rattle.misp_sync.specs.Pushed.{counted_by, push_telling}
 use Rattle.misp_sync.specs.Steps.{Ends, IsStopped, Takes}
 use Rattle.misp_sync.specs.Telling.{stop_by, stop_refusal}
 use Rattle.misp_sync.specs.declared.count.Tally.{Tally}

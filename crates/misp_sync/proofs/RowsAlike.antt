@@ -1,7 +1,6 @@
 -- Rows of an event of which tests by owner and key tell the same: as much is taken over them, and they stay so where rows are put.
 use Rattle.std.proofs.Common.{◌≡◌, ◌==◌, ◌&&◌, ◌||◌, Bool, true, false, not, cond, leb, bytes_eq, List, [], ◌∷◌, map, filter, Ok, refl, sym, ap, subst, ◌∙◌, arith}
 use Rattle.std.specs.List.{list_all}
-use Rattle.misp_lists.proofs.Prelude.{put}
 use Rattle.misp_lists.proofs.Ordering.{any_put}
 use Rattle.misp_outside.specs.Held.{comes_before, put_raw, put_rows, rows_of, same_raw}
 use Rattle.misp_outside.specs.declared.row.RawRow.{RawRow}

@@ -1,5 +1,5 @@
 -- What is read of a reply that tells how many were taken.
-use Rattle.std.proofs.Common.{◌≡◌, ◌<◌, ◌≤◌, ◌^◌, ℕ, Bool, nat_le, le-leb, List, Some, None, Result, Ok, Err, refl, sym, ap, ◌∙◌, subst, arith, if◌then◌else◌}
+use Rattle.std.proofs.Common.{◌≡◌, ◌<◌, ◌≤◌, ◌^◌, ℕ, Bool, le-leb, List, Some, None, Result, Ok, Err, refl, sym, ap, ◌∙◌, subst, arith, if◌then◌else◌}
 use Rattle.serde_json.proofs.Numbers.{number_of-decimal}
 use Rattle.serde_json.specs.Written.{compact_text}
 use Rattle.misp_ids.specs.Refusal.{rule_number, rule_status}
@@ -14,7 +14,7 @@ use Rattle.misp_core.specs.Text.{body_text, status_of}
 use Rattle.misp_core.specs.declared.reply.Answer.{Answer}
 use Rattle.misp_core.specs.declared.reply.Reply.{Reply}
 use Rattle.misp_sync.specs.Replied.{in_json, or_fault, refusal_of, refused_in, taken_at, taken_in, told_by}
-use Rattle.misp_sync.specs.Telling.{peer_refused, stop_by, taken_told}
+use Rattle.misp_sync.specs.Telling.{stop_by, taken_told}
 use Rattle.misp_sync.specs.declared.replies.FetchFault.{FetchFault}
 use Rattle.misp_sync.proofs.Causes.{keeper_of_peer}
 use Rattle.misp_sync.proofs.Garbled.{err_is, or_only}

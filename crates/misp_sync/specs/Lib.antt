@@ -3,6 +3,7 @@ pub mod Dialled
 pub mod Handing
 pub mod History
 pub mod Pulled
+pub mod PushCount
 pub mod PushSteps
 pub mod PushTrail
 pub mod Pushed

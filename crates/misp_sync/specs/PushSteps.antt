@@ -1,5 +1,5 @@
 -- The steps of a push: what is handed in by each, and what is still to come.
-use Rattle.std.specs.Prelude.{◌≡◌, ◌⊎◌, ℕ, List, [], ◌∷◌, ◌++◌, Option, None, Some, Result, option_and_then, IfSome}
+use Rattle.std.specs.Prelude.{◌≡◌, ◌⊎◌, ℕ, List, ◌∷◌, ◌++◌, Option, None, Some, Result, option_and_then, IfSome}
 use Rattle.misp_outside.specs.Causes.{HasCause}
 use Rattle.misp_outside.specs.Held.{with_batch}
 use Rattle.misp_effects.specs.Batches.{Batch, IsReadable}

@@ -1,13 +1,15 @@
 -- What a push handed in at its peer, and what it was answered, as bytes in their order.
-use Rattle.std.specs.Prelude.{◌≡◌, ◌⊎◌, ℕ, ◌*◌, Bool, true, List, [], ◌∷◌, length, map, Option, None, Some, Ok, Err, IfSome, Result}
+use Rattle.std.specs.Prelude.{◌≡◌, ◌⊎◌, ℕ, ◌*◌, true, List, [], ◌∷◌, length, map, Option, None, Some, Ok, Err, IfSome, Result}
 use Rattle.misp_orgs.specs.declared.link.Link.{Link}
 use Rattle.misp_rules.specs.declared.package.PackageFields.{PackageFields as Package}
 use Rattle.misp_core.specs.Prelude.{Did, Group, Held, Host, Standing, seen_in}
 use Rattle.misp_core.specs.Text.{http_text}
 use Rattle.misp_core.specs.declared.reply.Reply.{Reply}
 use Rattle.misp_sync.specs.Handing.{HandGroups, HandPart, Handing, hand_text, handed_there}
+use Rattle.misp_sync.specs.PushCount.{CountsBy, CountsTo}
 use Rattle.misp_sync.specs.Pushed.{groups_carried, packages_sent}
 use Rattle.misp_sync.specs.Trail.{GoesBeyond, IfDone, IfOn}
+use Rattle.misp_sync.specs.declared.count.Tally.{Tally}
 use Rattle.misp_sync.specs.declared.reply.SyncReply.{SyncReply}
 
 -- ---- what is answered
@@ -64,7 +66,8 @@ abbrev pub push_handings : List Group → List Package → List Handing
 push_handings groups packages = HandGroups groups ∷ map HandPart packages
 
 -- The requests of a push over this link, from the first on, each with its reply: with the groups that
--- carry, and with each of the packages; all of them where it is done.
+-- carry, and with each of the packages; all of them where it is done. What is counted is what the
+-- replies say was taken.
 pub record IsPushTrail (link : Link) (here : Standing) (peer : Option (Host × Held))
     (reply : SyncReply) (trail : List (List ℕ)) : Type 0 where
   pub groups : List Group
@@ -74,15 +77,17 @@ pub record IsPushTrail (link : Link) (here : Standing) (peer : Option (Host × H
   pub packages_are : GoesBeyond 2 reply trail →
       IfSome here.held (λ own. packages_sent here.name link (seen_in own) ≡ Ok packages)
   pub whole : IfDone reply (AreAll (push_handings groups packages) trail)
+  pub counts : CountsTo reply (push_handings groups packages) trail
 
 -- the same without the groups, which come first
 pub record IsPartsTrail (link : Link) (here : Standing) (peer : Option (Host × Held))
-    (reply : SyncReply) (trail : List (List ℕ)) : Type 0 where
+    (start end : Tally) (reply : SyncReply) (trail : List (List ℕ)) : Type 0 where
   pub packages : List Package
   pub handed : HandsIn link.key peer (map HandPart packages) trail
   pub packages_are : GoesBeyond 0 reply trail →
       IfSome here.held (λ own. packages_sent here.name link (seen_in own) ≡ Ok packages)
   pub whole : IfDone reply (AreAll (map HandPart packages) trail)
+  pub counts : CountsBy reply (map HandPart packages) trail start end
 
 -- over a link that is there and on
 abbrev pub IsPushTrailOver : Option Link → Standing → Option (Host × Held) → SyncReply

@@ -9,6 +9,7 @@ ghost use Rattle.misp_groups.specs.Group.{IsGroup};
 ghost use Rattle.misp_format.specs.WholeGroup.{groups_text};
 ghost use Rattle.misp_rules.specs.Package.{IsPackage};
 ghost use Rattle.misp_sync.specs.Handing.{HandGroups, HandPart, Handing, HoldsGroupsAlone, IsHandedReply, IsHanding, MayBeHanded, body_in, most_in, post_text, target_in};
+ghost use Rattle.misp_sync.specs.PushCount.{IsSaid, SaysTaken};
 ghost use Rattle.misp_sync.specs.PushSteps.{IsHanded};
 ghost use Rattle.misp_sync.specs.PushTrail.{HandsFor};
 ghost use Rattle.misp_sync.specs.Replied.{IsCutBy, IsOwn, ReadsReplyBy, taken_in};
@@ -63,6 +64,7 @@ fn post<W: PushWire>(
 // How many the bytes of a reply tell, of at most so many.
 fn taken_replied(alloc: Global, bytes: &[u8], most: u64) -> Result<u64, FetchFault>
     ensures read { ReadsReplyBy (λ n. n) (taken_in most) bytes.now result }
+    ensures says { IfOk result (SaysTaken most bytes.now) }
     ensures own { IfErr result IsOwn }
 {
     match accepted(alloc, bytes) {
@@ -88,6 +90,8 @@ fn hand<W: PushWire>(
         body.now ≡ body_in h → GrowsBy (W.trail wire.old) (W.trail wire.new)
         (HandsFor key.now (told_of (W.peer wire.old)) (told_of (W.peer wire.new)) (h ∷ [])
         result) }
+    ensures said { (h : Handing) → most ≡ most_in h →
+        GrowsBy (W.trail wire.old) (W.trail wire.new) (IsSaid h result) }
     ensures through { W.through wire.new ≡ W.through wire.old }
     ensures cause { HasCause (W.faults wire.old) (W.faults wire.new)
         (result ≡ Err (bare rules.LinkFault)) }
@@ -127,6 +131,8 @@ pub(crate) fn hand_groups<W: PushWire>(
     ensures trail { GrowsBy (W.trail wire.old) (W.trail wire.new)
         (HandsFor key.now (told_of (W.peer wire.old)) (told_of (W.peer wire.new))
         (HandGroups groups.now ∷ []) result) }
+    ensures said { GrowsBy (W.trail wire.old) (W.trail wire.new)
+        (IsSaid (HandGroups groups.now) result) }
     ensures through { W.through wire.new ≡ W.through wire.old }
     ensures cause { HasCause (W.faults wire.old) (W.faults wire.new)
         (result ≡ Err (bare rules.LinkFault)) }
@@ -151,6 +157,8 @@ pub(crate) fn hand_part<W: PushWire>(
     ensures trail { GrowsBy (W.trail wire.old) (W.trail wire.new)
         (HandsFor key.now (told_of (W.peer wire.old)) (told_of (W.peer wire.new))
         (HandPart part.now ∷ []) result) }
+    ensures said { GrowsBy (W.trail wire.old) (W.trail wire.new)
+        (IsSaid (HandPart part.now) result) }
     ensures through { W.through wire.new ≡ W.through wire.old }
     ensures cause { HasCause (W.faults wire.old) (W.faults wire.new)
         (result ≡ Err (bare rules.LinkFault)) }

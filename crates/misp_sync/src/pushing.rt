@@ -14,10 +14,11 @@ ghost use Rattle.misp_store.specs.Batches.{spelled};
 ghost use Rattle.misp_store.specs.Seen.{seen_in};
 ghost use Rattle.misp_store.specs.Sharing.{groups_of};
 ghost use Rattle.misp_core.specs.Standing.{Standing, host_of};
-ghost use Rattle.misp_sync.specs.Counts.{no_count};
+ghost use Rattle.misp_sync.specs.Counts.{no_count, no_tally};
 ghost use Rattle.misp_sync.specs.Handing.{HandPart, IsSameHost};
 ghost use Rattle.misp_sync.specs.Pulled.{bar_of, ends, reply_of, stop_in};
 ghost use Rattle.misp_sync.specs.PushSteps.{IsPushStep, Pushes, StaysSo, held_of};
+ghost use Rattle.misp_sync.specs.PushCount.{CountsBy};
 ghost use Rattle.misp_sync.specs.PushTrail.{HandsFor, IsPartsTrail, IsPushTrail, IsPushTrailOver};
 ghost use Rattle.misp_sync.specs.Pushed.{packages_sent, parts_pushed, parts_taken, push_telling, pushed, pushed_through, rows_seen};
 ghost use Rattle.misp_sync.specs.Serving.{Meet};
@@ -57,6 +58,9 @@ fn hand_parts<W: PushWire>(
     ensures trail { GrowsBy (W.trail wire.old) (W.trail wire.new)
         (HandsFor key.now (told_of (W.peer wire.old)) (told_of (W.peer wire.new))
         (map HandPart parts.now) result) }
+    ensures counts { GrowsBy (W.trail wire.old) (W.trail wire.new) (λ trail.
+        CountsBy (reply_of no_count (cause_of result)) (map HandPart parts.now) trail
+        tally.old tally.new) }
     ensures taken { (caller : CallerFields) (there : Held) (peer : Standing) →
         W.peer wire.old ≡ Some peer → peer.held ≡ Some there →
         who_of peer.admin key.now ≡ Some caller → permits caller.role perms.Sync ≡ true →
@@ -86,7 +90,7 @@ fn hand_rows<K: Keeper, W: PushWire>(
         (stand instance.new (W.peer wire.new) (W.faults wire.new) (W.through wire.new))
         (cause_of result) }
     ensures trail { GrowsBy (W.trail wire.old) (W.trail wire.new)
-        (IsPartsTrail link.now instance.old (told_of (W.peer wire.old))
+        (IsPartsTrail link.now instance.old (told_of (W.peer wire.old)) tally.old tally.new
         (reply_of no_count (cause_of result))) }
     ensures taken { (caller : CallerFields) (own there : Held) (peer : Standing) →
         Tell (stand instance.old (W.peer wire.old) (W.faults wire.old) (W.through wire.old))
@@ -114,9 +118,9 @@ fn hand_all<K: Keeper, W: PushWire>(
         (stand instance.old (W.peer wire.old) (W.faults wire.old) (W.through wire.old))
         (stand instance.new (W.peer wire.new) (W.faults wire.new) (W.through wire.new))
         (cause_of result) }
-    ensures trail { GrowsBy (W.trail wire.old) (W.trail wire.new)
+    ensures trail { tally.old ≡ no_tally → GrowsBy (W.trail wire.old) (W.trail wire.new)
         (IsPushTrail link.now instance.old (told_of (W.peer wire.old))
-        (reply_of no_count (cause_of result))) }
+        (reply_of tally.new.count (cause_of result))) }
     ensures taken { (own there : Held) (peer : Standing) →
         Tell (stand instance.old (W.peer wire.old) (W.faults wire.old) (W.through wire.old))
         own peer there → Pushes (pushed_through instance.old.name link.now (host_of peer)
@@ -169,7 +173,7 @@ pub fn push<K: Keeper, W: PushWire>(
         (stop_in result ≡ Some stops.Carry) }
 
     // What was handed in and answered are the stated requests and their replies, from the first on,
-    // and all of them where it is done.
+    // and all of them where it is done. The count is that of the replies.
     ensures trail { GrowsBy (W.trail wire.old) (W.trail wire.new)
         (IsPushTrailOver (link_of instance.old.admin.links link.now) instance.old
         (told_of (W.peer wire.old)) result) }

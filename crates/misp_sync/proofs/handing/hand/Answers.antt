@@ -1,10 +1,11 @@
 -- What is shown of a hand-in.
-use Rattle.std.proofs.Common.{◌≡◌, ◌<◌, ◌^◌, ℕ, length, Ok, Err, arith, subst}
+use Rattle.std.proofs.Common.{◌<◌, ◌^◌, ℕ, length, Ok, Err, arith, subst}
 use Rattle.misp_sync.specs.Handing.{IsHandedReply, most_in}
 use Rattle.misp_sync.specs.PushSteps.{IsHanded}
 use Rattle.misp_sync.specs.Replied.{ReadsReplyBy, taken_in}
 use Rattle.misp_sync.proofs.Brought.{meet_all}
 use Rattle.misp_sync.proofs.HandedOver.{bytes_err, bytes_ok}
+use Rattle.misp_sync.proofs.PushCounts.{said_err, said_none, said_ok, uncounted}
 use Rattle.misp_sync.proofs.handing.hand.Goals as goal
 
 pub returns-in-Ok-taken_replied-clause-told : goal.returns-in-Ok-taken_replied-clause-told
@@ -26,3 +27,15 @@ returns-in-Ok-clause-told g c = λ h is target body most.
     (λ old new a. bytes_err c.args.key.now h old new is small bytes few a c.in-Err-taken_replied.fault c.refusal.result c.refusal.ensures
     (subst (λ m. ReadsReplyBy {X = ℕ} (λ (n : ℕ). n) (taken_in m) bytes (Err c.in-Err-taken_replied.fault)) most (rw c.deref.ensures.value at c.in-Err-taken_replied.ensures.read)))
     (c.in-Ok.ensures.handed h is target body)
+
+pub returns-in-Ok-taken_replied-clause-said : goal.returns-in-Ok-taken_replied-clause-said
+returns-in-Ok-taken_replied-clause-said g c = λ h most.
+    said_ok h (g.W.PushWire.trail c.args.wire.now) (g.W.PushWire.trail c.post.new.wire) _ c.in-Ok.bytes.items c.args.most c.in-Ok-taken_replied.taken most (rw c.deref.ensures.value at c.in-Ok-taken_replied.ensures.says) c.in-Ok.ensures.trail
+
+pub returns-in-Ok-clause-said : goal.returns-in-Ok-clause-said
+returns-in-Ok-clause-said g c = λ h most.
+    said_err h (g.W.PushWire.trail c.args.wire.now) (g.W.PushWire.trail c.post.new.wire) _ c.in-Ok.bytes.items c.args.most c.refusal.result most
+    (uncounted c.in-Err-taken_replied.fault c.refusal.result c.args.most c.in-Ok.bytes.items c.refusal.ensures (rw c.deref.ensures.value at c.in-Err-taken_replied.ensures.read)) c.in-Ok.ensures.trail
+
+pub returns-clause-said : goal.returns-clause-said
+returns-clause-said g c = λ h most. said_none h (g.W.PushWire.trail c.args.wire.now) (g.W.PushWire.trail c.post.new.wire) _ _ c.in-Err.ensures.trail

@@ -1,5 +1,5 @@
 -- What is shown of the handing in of groups and packages.
-use Rattle.std.proofs.Common.{ℕ, None, Some, Ok, Err, sym, ◌∙◌, subst, IfSome, IfOk}
+use Rattle.std.proofs.Common.{ℕ, Ok, Err}
 use Rattle.misp_sync.specs.Handing.{HandGroups}
 use Rattle.misp_sync.specs.Trail.{told_of}
 use Rattle.misp_sync.proofs.PushStands.{meet_handed, push_memory, push_over, push_then, wire_told}
@@ -38,14 +38,16 @@ returns-in-Ok-hand_groups-clause-taken g c = λ own there peer tell.
     c.add_groups.ensures c.hand_rows.ensures.taken own there peer tell
 
 pub returns-in-Err-clause-trail : goal.returns-in-Err-clause-trail
-returns-in-Err-clause-trail g c = push_none c.args.link.now c.args.instance.now (told_of (g.W.PushWire.peer c.args.wire.now)) (g.W.PushWire.trail c.args.wire.now) (g.W.PushWire.trail c.args.wire.now) (g.W.PushWire.trail c.args.wire.now) c.bare.result
+returns-in-Err-clause-trail g c = λ none.
+    push_none c.args.link.now c.args.instance.now (told_of (g.W.PushWire.peer c.args.wire.now)) (g.W.PushWire.trail c.args.wire.now) (g.W.PushWire.trail c.args.wire.now) (g.W.PushWire.trail c.args.wire.now) c.args.tally.now none c.bare.result
 
 pub returns-clause-trail : goal.returns-clause-trail
-returns-clause-trail g c =
-    push_groups c.args.link.now c.args.instance.now (told_of (g.W.PushWire.peer c.args.wire.now)) (g.W.PushWire.trail c.args.wire.now) (g.W.PushWire.trail c.hand_groups.new.wire) (g.W.PushWire.trail c.hand_groups.new.wire)
-    ℕ (told_of (g.W.PushWire.peer c.hand_groups.new.wire)) c.in-Ok.groups.items c.in-Err-hand_groups.cause c.in-Ok.ensures.all (rw c.deref.ensures.value at c.in-Err-hand_groups.ensures.trail)
+returns-clause-trail g c = λ none.
+    push_groups c.args.link.now c.args.instance.now (told_of (g.W.PushWire.peer c.args.wire.now)) (g.W.PushWire.trail c.args.wire.now) (g.W.PushWire.trail c.hand_groups.new.wire) (g.W.PushWire.trail c.hand_groups.new.wire) c.args.tally.now none
+    ℕ (told_of (g.W.PushWire.peer c.hand_groups.new.wire)) c.in-Ok.groups.items c.in-Err-hand_groups.cause c.in-Ok.ensures.all (rw c.deref.ensures.value at c.in-Err-hand_groups.ensures.trail) (rw c.deref.ensures.value at c.in-Err-hand_groups.ensures.said)
 
 pub returns-in-Ok-hand_groups-clause-trail : goal.returns-in-Ok-hand_groups-clause-trail
-returns-in-Ok-hand_groups-clause-trail g c =
-    push_all c.args.link.now c.args.instance.now (told_of (g.W.PushWire.peer c.args.wire.now)) (g.W.PushWire.trail c.args.wire.now) (g.W.PushWire.trail c.hand_groups.new.wire) (g.W.PushWire.trail c.hand_rows.new.wire)
-    (told_of (g.W.PushWire.peer c.hand_groups.new.wire)) c.in-Ok.groups.items c.in-Ok-hand_groups.taken c.hand_rows.result c.in-Ok.ensures.all (rw c.deref.ensures.value at c.in-Ok-hand_groups.ensures.trail) c.hand_rows.ensures.trail
+returns-in-Ok-hand_groups-clause-trail g c = λ none.
+    push_all c.args.link.now c.args.instance.now (told_of (g.W.PushWire.peer c.args.wire.now)) (g.W.PushWire.trail c.args.wire.now) (g.W.PushWire.trail c.hand_groups.new.wire) (g.W.PushWire.trail c.hand_rows.new.wire) c.args.tally.now none
+    (told_of (g.W.PushWire.peer c.hand_groups.new.wire)) c.in-Ok.groups.items c.in-Ok-hand_groups.taken _ c.hand_rows.new.tally c.hand_rows.result c.in-Ok.ensures.all c.add_groups.ensures (rw c.deref.ensures.value at c.in-Ok-hand_groups.ensures.trail)
+    (rw c.deref.ensures.value at c.in-Ok-hand_groups.ensures.said) c.hand_rows.ensures.trail

@@ -1,11 +1,13 @@
 -- What is shown of the handing in of packages.
-use Rattle.std.proofs.Common.{ℕ, ◌≡◌, None, Some, Ok, Err, arith, refl, inl, inr, ◌∙◌, map, take}
+use Rattle.std.proofs.Common.{ℕ, None, Some, Ok, Err, arith, refl, inr, ◌∙◌, map, take}
 use Rattle.misp_sync.specs.Handing.{HandPart}
+use Rattle.misp_sync.specs.PushCount.{CountsAll}
 use Rattle.misp_sync.specs.PushTrail.{Reaches}
 use Rattle.misp_sync.specs.Trail.{told_of}
-use Rattle.misp_sync.proofs.Causes.{cause_after, no_cause}
+use Rattle.misp_sync.proofs.Causes.{cause_after}
 use Rattle.misp_sync.proofs.PartSteps.{none_yet, part_ended, part_more, parts_done}
 use Rattle.misp_sync.proofs.PushStands.{meet_handed, meet_none, meet_then, wire_told}
+use Rattle.misp_sync.proofs.PushCounts.{count_all, count_ended, count_more}
 use Rattle.misp_sync.proofs.PushTrails.{trail_all, trail_ended, trail_more}
 use Rattle.misp_sync.proofs.Trails.{grows_none}
 use Rattle.misp_sync.proofs.pushing.hand_parts.Goals as goal
@@ -16,6 +18,7 @@ loop-part-init g c = record {
   link = omega arith;
   through = refl;
   trail = grows_none (g.W.PushWire.trail c.args.wire.now) (λ trail. Reaches c.args.key.now (told_of (g.W.PushWire.peer c.args.wire.now)) (map HandPart (take 0 c.args.parts.now)) trail (told_of (g.W.PushWire.peer c.args.wire.now))) (inr refl);
+  counts = grows_none (g.W.PushWire.trail c.args.wire.now) (λ trail. CountsAll (map HandPart (take 0 c.args.parts.now)) trail c.args.tally.now c.args.tally.now) refl;
   so = none_yet (g.W.PushWire.peer c.args.wire.now) c.args.key.now c.args.parts.now c.args.tally.now;
 }
 
@@ -30,6 +33,8 @@ loop-part-preserved g c =
       through = told.through ∙ was.through;
       trail = trail_more c.args.parts.now c.loop-part.part-index c.part-item.result c.part-item.result c.loop-part-test.true c.part-item.is c.args.key.now (told_of (g.W.PushWire.peer c.args.wire.now)) (told_of (g.W.PushWire.peer c.loop-part.wire)) (told_of (g.W.PushWire.peer c.hand_part.new.wire)) (g.W.PushWire.trail c.args.wire.now) (g.W.PushWire.trail c.loop-part.wire)
           (g.W.PushWire.trail c.hand_part.new.wire) was.trail c.in-Ok.taken told.trail;
+      counts = count_more c.args.parts.now c.loop-part.part-index c.part-item.result c.part-item.result c.loop-part-test.true c.part-item.is (g.W.PushWire.trail c.args.wire.now) (g.W.PushWire.trail c.loop-part.wire) (g.W.PushWire.trail c.hand_part.new.wire) c.args.tally.now c.loop-part.tally was.counts
+          c.in-Ok.taken _ (rw c.get.ensures.value at c.add_rows.ensures) told.said;
       so = part_more (g.W.PushWire.peer c.args.wire.now) (g.W.PushWire.peer c.loop-part.wire) (g.W.PushWire.peer c.hand_part.new.wire) c.args.key.now c.args.parts.now c.loop-part.part-index c.args.tally.now c.loop-part.tally was.peer was.so
           c.part-item.result c.part-item.result c.loop-part-test.true c.part-item.is told.fits c.in-Ok.taken _ told.told (rw c.get.ensures.value at c.add_rows.ensures);
     }
@@ -64,3 +69,12 @@ returns-clause-trail g c =
 pub returns-clause-taken : goal.returns-clause-taken
 returns-clause-taken g c =
     parts_done (g.W.PushWire.peer c.args.wire.now) (g.W.PushWire.peer c.loop-part.wire) c.args.key.now c.args.parts.now c.loop-part.part-index c.args.tally.now c.loop-part.tally c.loop-part-test.false c.loop-part.invariant.so
+
+pub returns-in-Err-clause-counts : goal.returns-in-Err-clause-counts
+returns-in-Err-clause-counts g c =
+    count_ended c.args.parts.now c.loop-part.part-index c.part-item.result c.part-item.result c.loop-part-test.true c.part-item.is (g.W.PushWire.trail c.args.wire.now) (g.W.PushWire.trail c.loop-part.wire) (g.W.PushWire.trail c.hand_part.new.wire) c.args.tally.now c.loop-part.tally c.loop-part.invariant.counts
+    c.in-Err.cause c.in-Err.ensures.said
+
+pub returns-clause-counts : goal.returns-clause-counts
+returns-clause-counts g c =
+    count_all c.args.parts.now c.loop-part.part-index c.loop-part-test.false (g.W.PushWire.trail c.args.wire.now) (g.W.PushWire.trail c.loop-part.wire) c.args.tally.now c.loop-part.tally c.loop-part.invariant.counts

@@ -1,5 +1,5 @@
 -- What is shown of the handing in of what passes here.
-use Rattle.std.proofs.Common.{ap, ◌∙◌, subst, IfSome}
+use Rattle.std.proofs.Common.{ap, refl, ◌∙◌, subst, IfSome}
 use Rattle.misp_store.specs.Loading.{NamesFault}
 use Rattle.misp_store.specs.declared.reach.Reach.{Reach}
 use Rattle.misp_core.specs.Prelude.{seen_in}
@@ -24,12 +24,13 @@ returns-in-Err-clause-step g c =
 
 pub returns-in-Ok-clause-trail : goal.returns-in-Ok-clause-trail
 returns-in-Ok-clause-trail g c =
-    parts_handed c.args.link.now c.args.instance.now (told_of (g.W.PushWire.peer c.args.wire.now)) (g.W.PushWire.trail c.args.wire.now) (g.W.PushWire.trail c.hand_parts.new.wire) (told_of (g.W.PushWire.peer c.hand_parts.new.wire))
+    parts_handed c.args.link.now c.args.instance.now (told_of (g.W.PushWire.peer c.args.wire.now)) (g.W.PushWire.trail c.args.wire.now) (g.W.PushWire.trail c.hand_parts.new.wire) c.args.tally.now c.hand_parts.new.tally (told_of (g.W.PushWire.peer c.hand_parts.new.wire))
     c.in-Ok.parts.items c.hand_parts.result (packs_so c.args.instance.now.name c.args.link.now c.in-Ok.parts.items c.args.instance.now.held c.in-Ok.ensures.read c.in-Ok.ensures.packed)
-    (rw c.deref.ensures.value at c.hand_parts.ensures.trail)
+    (rw c.deref.ensures.value at c.hand_parts.ensures.trail) (rw c.deref.ensures.value at c.hand_parts.ensures.counts)
 
 pub returns-in-Err-clause-trail : goal.returns-in-Err-clause-trail
-returns-in-Err-clause-trail g c = parts_none c.args.link.now c.args.instance.now (told_of (g.W.PushWire.peer c.args.wire.now)) (g.W.PushWire.trail c.args.wire.now) (g.W.PushWire.trail c.args.wire.now) c.unread.result
+returns-in-Err-clause-trail g c =
+    parts_none c.args.link.now c.args.instance.now (told_of (g.W.PushWire.peer c.args.wire.now)) (g.W.PushWire.trail c.args.wire.now) (g.W.PushWire.trail c.args.wire.now) c.args.tally.now c.args.tally.now c.unread.result refl
 
 pub returns-in-Ok-clause-taken : goal.returns-in-Ok-clause-taken
 returns-in-Ok-clause-taken g c = λ caller own there peer tell who may.

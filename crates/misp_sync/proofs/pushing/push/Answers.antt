@@ -1,10 +1,9 @@
 -- What is shown of a push.
 use Rattle.std.proofs.Common.{None, Some, sym, ◌∙◌}
 use Rattle.misp_orgs.specs.Admin.{link_of}
-use Rattle.misp_sync.specs.PushSteps.{held_of}
 use Rattle.misp_sync.specs.Steps.{stand}
 use Rattle.misp_sync.specs.Trail.{told_of}
-use Rattle.misp_sync.proofs.PushStands.{meet_none}
+use Rattle.misp_sync.specs.declared.reply.SyncReply.{SyncReply}
 use Rattle.misp_sync.proofs.PushTrails.{push_asked, push_barred}
 use Rattle.misp_sync.proofs.PushedParts.{barred_push, pushed_so}
 use Rattle.misp_sync.proofs.pushing.push.Goals as goal
@@ -34,9 +33,9 @@ returns-in-Err-clause-trail g c =
 pub returns-in-Ok-hand_all-clause-trail : goal.returns-in-Ok-hand_all-clause-trail
 returns-in-Ok-hand_all-clause-trail g c =
     push_asked c.args.instance.now (told_of (g.W.PushWire.peer c.args.wire.now)) (link_of c.args.instance.now.admin.links c.args.link.now) c.in-Ok.link (g.W.PushWire.trail c.args.wire.now) (g.W.PushWire.trail c.hand_all.new.wire)
-    None c.hand_all.new.tally.count (sym c.usable.ensures ∙ c.in-Ok.is) c.in-Ok-hand_all.ensures.trail
+    (SyncReply.Done c.hand_all.new.tally.count) (sym c.usable.ensures ∙ c.in-Ok.is) (c.in-Ok-hand_all.ensures.trail c.none-tally.ensures)
 
 pub returns-in-Err-hand_all-clause-trail : goal.returns-in-Err-hand_all-clause-trail
 returns-in-Err-hand_all-clause-trail g c =
     push_asked c.args.instance.now (told_of (g.W.PushWire.peer c.args.wire.now)) (link_of c.args.instance.now.admin.links c.args.link.now) c.in-Ok.link (g.W.PushWire.trail c.args.wire.now) (g.W.PushWire.trail c.hand_all.new.wire)
-    (Some c.in-Err-hand_all.cause) c.hand_all.new.tally.count (sym c.usable.ensures ∙ c.in-Ok.is) c.in-Err-hand_all.ensures.trail
+    (SyncReply.Stopped c.hand_all.new.tally.count c.in-Err-hand_all.cause) (sym c.usable.ensures ∙ c.in-Ok.is) (c.in-Err-hand_all.ensures.trail c.none-tally.ensures)

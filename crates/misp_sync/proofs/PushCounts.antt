@@ -1,0 +1,147 @@
+-- What a push counts, by its steps.
+use Rattle.std.proofs.Common.{◌≡◌, ◌<◌, ◌≤◌, ◌+◌, ℕ, List, [], ◌∷◌, ◌++◌, drop, take, get_or, length, map, Option, None, Some, Result, Ok, Err, refl, sym, ap, subst, ◌∙◌, inl, inr, cond, ◌==◌, IfOk}
+use Rattle.std.proofs.lemmas.List.{append_cancel_left}
+use Rattle.misp_ids.specs.declared.refusal.Refusal.{Refusal}
+use Rattle.misp_http.specs.Reply.{IsReply}
+use Rattle.misp_rules.specs.declared.package.PackageFields.{PackageFields as Package}
+use Rattle.misp_sync.specs.Counts.{with_groups, with_rows}
+use Rattle.misp_sync.specs.Handing.{HandPart, Handing, most_in}
+use Rattle.misp_sync.specs.Pulled.{reply_of}
+use Rattle.misp_sync.specs.PushCount.{CountsAll, CountsBy, CountsFirst, IsSaid, IsUncounted, SaysTaken, count_in, tallied}
+use Rattle.misp_sync.specs.Replied.{Fails, Gives, ReadsReplyBy, Tells, refusal_of, taken_in}
+use Rattle.misp_sync.specs.Steps.{cause_of}
+use Rattle.misp_sync.specs.Trail.{GrowsBy, IsUnanswered}
+use Rattle.misp_sync.specs.declared.count.SyncCount.{SyncCount}
+use Rattle.misp_sync.specs.declared.count.Tally.{Tally}
+use Rattle.misp_sync.specs.declared.replies.FetchFault.{FetchFault}
+use Rattle.misp_sync.specs.declared.reply.SyncReply.{SyncReply}
+use Rattle.misp_sync.proofs.PartsInTurn.{parts_after, parts_next, parts_whole}
+use Rattle.misp_sync.proofs.Trails.{grows_so, grows_then}
+
+-- ---- what grows
+
+-- what holds of the part holds of it with all else that does
+pub grows_both : {A : Type 0} (a b : Option (List A)) (P Q R : List A → Type 0) → ((x : List A) → P x → Q x → R x) → GrowsBy a b P → GrowsBy a b Q → GrowsBy a b R
+grows_both None b P Q R h p q = tt
+grows_both (Some a) None P Q R h p q = absurd p
+grows_both (Some a) (Some b) P Q R h p q = (p.0, p.1, h p.0 p.2 (subst Q (append_cancel_left a q.0 p.0 (sym q.1 ∙ p.1)) q.2))
+
+-- ---- one reply
+
+pub says_read : (result : Result ℕ FetchFault) (most : ℕ) (bytes body : List ℕ) → IsReply bytes 200 body → Gives (λ n. n) result (taken_in most body) → IfOk result (SaysTaken most bytes)
+says_read (Ok n) most bytes body replied gives = record { body = body; replied = replied; says = gives }
+says_read (Err fault) most bytes body replied gives = tt
+
+-- no fault but want of memory is met where a number is read
+only_memory : (fault : FetchFault) (n : ℕ) → Fails {A = ℕ} fault (Ok n) → fault ≡ FetchFault.NoMemory
+only_memory FetchFault.NoMemory n h = refl
+only_memory FetchFault.Link n h = absurd cc
+only_memory FetchFault.Head n h = absurd cc
+only_memory FetchFault.Body n h = absurd cc
+only_memory FetchFault.Groups n h = absurd cc
+only_memory FetchFault.Events n h = absurd cc
+only_memory FetchFault.Package n h = absurd cc
+only_memory FetchFault.Taken n h = absurd cc
+only_memory (FetchFault.Refused status rule) n h = absurd cc
+
+pub uncounted : (fault : FetchFault) (cause : Refusal) (most : ℕ) (bytes : List ℕ) → Tells cause (refusal_of fault) → ReadsReplyBy {X = ℕ} (λ (n : ℕ). n) (taken_in most) bytes (Err fault) → IsUncounted cause most bytes
+uncounted fault cause most bytes (inr memory) read n says = memory
+uncounted fault cause most bytes (inl is) read n says =
+    let fails : Fails {A = ℕ} fault (Ok n) = subst (λ (r : Result ℕ FetchFault). Fails {A = ℕ} fault r) says.says (read 200 says.body says.replied) in
+    is ∙ ap refusal_of (only_memory fault n fails)
+
+module _ (h : Handing) (a b : Option (List (List ℕ))) (request : List ℕ) where
+  pub said_ok : (bytes : List ℕ) (most n : ℕ) → most ≡ most_in h → SaysTaken most bytes n → GrowsBy a b (λ more. more ≡ request ∷ bytes ∷ []) → GrowsBy a b (IsSaid h (Ok n))
+  said_ok bytes most n is says grows =
+      let here : SaysTaken (most_in h) bytes n = subst (λ m. SaysTaken m bytes n) is says in
+      grows_so a b (λ more. more ≡ request ∷ bytes ∷ []) (IsSaid h (Ok n)) (λ more same. subst (IsSaid h (Ok n)) (sym same) here) grows
+
+  pub said_err : (bytes : List ℕ) (most : ℕ) (cause : Refusal) → most ≡ most_in h → IsUncounted cause most bytes → GrowsBy a b (λ more. more ≡ request ∷ bytes ∷ []) → GrowsBy a b (IsSaid h (Err cause))
+  said_err bytes most cause is none grows =
+      let here : IsUncounted cause (most_in h) bytes = subst (λ m. IsUncounted cause m bytes) is none in
+      grows_so a b (λ more. more ≡ request ∷ bytes ∷ []) (IsSaid h (Err cause)) (λ more same. subst (IsSaid h (Err cause)) (sym same) here) grows
+
+  not_said : (cause : Refusal) (more : List (List ℕ)) → IsUnanswered request more → IsSaid h (Err cause) more
+  not_said cause more (inl is) = subst (IsSaid h (Err cause)) (sym is) tt
+  not_said cause more (inr is) = subst (IsSaid h (Err cause)) (sym is) tt
+
+  pub said_none : (cause : Refusal) → GrowsBy a b (IsUnanswered request) → GrowsBy a b (IsSaid h (Err cause))
+  said_none cause grows = grows_so a b (IsUnanswered request) (IsSaid h (Err cause)) (not_said cause) grows
+
+-- ---- one after another
+
+pub all_then : (hs ms : List Handing) (xs ys : List (List ℕ)) (t u v : Tally) → CountsAll hs xs t u → CountsAll ms ys u v → CountsAll (hs ++ ms) (xs ++ ys) t v
+all_then [] ms [] ys t u v is k = subst (λ (s : Tally). CountsAll ms ys s v) is k
+all_then [] ms (x ∷ xs) ys t u v a k = absurd a
+all_then (h ∷ hs) ms [] ys t u v a k = absurd a
+all_then (h ∷ hs) ms (x ∷ []) ys t u v a k = absurd a
+all_then (h ∷ hs) ms (x ∷ y ∷ xs) ys t u v a k = (a.0, a.1, all_then hs ms xs ys (tallied t h a.0) u v a.2 k)
+
+first_then : (cause : Refusal) (hs ms : List Handing) (xs ys : List (List ℕ)) (t u v : Tally) → CountsAll hs xs t u → CountsFirst cause ms ys u v → CountsFirst cause (hs ++ ms) (xs ++ ys) t v
+first_then cause [] ms [] ys t u v is k = subst (λ (s : Tally). CountsFirst cause ms ys s v) is k
+first_then cause [] ms (x ∷ xs) ys t u v a k = absurd a
+first_then cause (h ∷ hs) ms [] ys t u v a k = absurd a
+first_then cause (h ∷ hs) ms (x ∷ []) ys t u v a k = absurd a
+first_then cause (h ∷ hs) ms (x ∷ y ∷ xs) ys t u v a k = inr (a.0, a.1, first_then cause hs ms xs ys (tallied t h a.0) u v a.2 k)
+
+-- the first of more
+first_more : (cause : Refusal) (hs ms : List Handing) (xs : List (List ℕ)) (t end : Tally) → CountsFirst cause hs xs t end → CountsFirst cause (hs ++ ms) xs t end
+first_more cause hs ms [] t end k = k
+first_more cause [] ms (x ∷ xs) t end k = absurd k
+first_more cause (h ∷ hs) ms (x ∷ []) t end k = k
+first_more cause (h ∷ hs) ms (x ∷ y ∷ xs) t end (inl k) = inl k
+first_more cause (h ∷ hs) ms (x ∷ y ∷ xs) t end (inr k) = inr (k.0, k.1, first_more cause hs ms xs (tallied t h k.0) end k.2)
+
+-- ---- one hand-in
+
+pub one_said : (h : Handing) (n : ℕ) (xs : List (List ℕ)) (t : Tally) → IsSaid h (Ok n) xs → CountsAll (h ∷ []) xs t (tallied t h n)
+one_said h n [] t k = absurd k
+one_said h n (x ∷ []) t k = absurd k
+one_said h n (x ∷ y ∷ []) t k = (n, k, refl)
+one_said h n (x ∷ y ∷ z ∷ xs) t k = absurd k
+
+pub one_unsaid : (h : Handing) (cause : Refusal) (xs : List (List ℕ)) (t : Tally) → IsSaid h (Err cause) xs → CountsFirst cause (h ∷ []) xs t t
+one_unsaid h cause [] t k = refl
+one_unsaid h cause (x ∷ []) t k = refl
+one_unsaid h cause (x ∷ y ∷ []) t k = inl (refl, refl, k)
+one_unsaid h cause (x ∷ y ∷ z ∷ xs) t k = absurd k
+
+-- ---- packages, one after another
+
+module _ (parts : List Package) (n : ℕ) (p none : Package) (lt : n < length parts) (at : p ≡ get_or parts n none) (a b c : Option (List (List ℕ))) (s t : Tally)
+    (far : GrowsBy a b (λ trail. CountsAll (map HandPart (take n parts)) trail s t)) where
+  pub count_more : (taken : ℕ) (new : Tally) → new ≡ cond (taken == 0) t (with_rows (with_groups t 0) p.event taken) → GrowsBy b c (IsSaid (HandPart p) (Ok taken))
+      → GrowsBy a c (λ trail. CountsAll (map HandPart (take (n + 1) parts)) trail s new)
+  count_more taken new is said =
+      grows_then a b c (λ trail. CountsAll (map HandPart (take n parts)) trail s t) (IsSaid (HandPart p) (Ok taken)) (λ trail. CountsAll (map HandPart (take (n + 1) parts)) trail s new)
+      (λ k m u v. subst (λ (e : Tally). CountsAll (map HandPart (take (n + 1) parts)) (k ++ m) s e) (sym is)
+      (subst (λ hs. CountsAll hs (k ++ m) s (tallied t (HandPart p) taken)) (sym (parts_next parts n p none lt at))
+      (all_then (map HandPart (take n parts)) (HandPart p ∷ []) k m s t (tallied t (HandPart p) taken) u (one_said (HandPart p) taken m t v)))) far said
+
+  pub count_ended : (cause : Refusal) → GrowsBy b c (IsSaid (HandPart p) (Err cause)) → GrowsBy a c (λ trail. CountsFirst cause (map HandPart parts) trail s t)
+  count_ended cause said =
+      grows_then a b c (λ trail. CountsAll (map HandPart (take n parts)) trail s t) (IsSaid (HandPart p) (Err cause)) (λ trail. CountsFirst cause (map HandPart parts) trail s t)
+      (λ k m u v. subst (λ hs. CountsFirst cause hs (k ++ m) s t) (sym (parts_after parts n p none lt at))
+      (first_more cause (map HandPart (take n parts) ++ HandPart p ∷ []) (map HandPart (drop (n + 1) parts)) (k ++ m) s t
+      (first_then cause (map HandPart (take n parts)) (HandPart p ∷ []) k m s t t u (one_unsaid (HandPart p) cause m t v)))) far said
+
+pub count_all : (parts : List Package) (n : ℕ) → length parts ≤ n → (a b : Option (List (List ℕ))) (s t : Tally) → GrowsBy a b (λ trail. CountsAll (map HandPart (take n parts)) trail s t)
+    → GrowsBy a b (λ trail. CountsAll (map HandPart parts) trail s t)
+count_all parts n le a b s t far =
+    subst (λ (ps : List Package). GrowsBy a b (λ trail. CountsAll (map HandPart ps) trail s t)) (parts_whole parts n le) far
+
+-- ---- groups and packages
+
+-- which count it tells does not matter
+pub by_cause : {A : Type 0} (result : Result A Refusal) (one two : SyncCount) (hs : List Handing) (trail : List (List ℕ)) (t end : Tally) → CountsBy (reply_of one (cause_of result)) hs trail t end
+    → CountsBy (reply_of two (cause_of result)) hs trail t end
+by_cause (Ok x) one two hs trail t end k = k
+by_cause (Err cause) one two hs trail t end k = k
+
+pub by_then : (reply : SyncReply) (hs ms : List Handing) (xs ys : List (List ℕ)) (t u v : Tally) → CountsAll hs xs t u → CountsBy reply ms ys u v → CountsBy reply (hs ++ ms) (xs ++ ys) t v
+by_then (SyncReply.Done count) hs ms xs ys t u v a k = all_then hs ms xs ys t u v a k
+by_then (SyncReply.Stopped count cause) hs ms xs ys t u v a k = first_then cause hs ms xs ys t u v a k
+
+pub count_of_reply : {A : Type 0} (result : Result A Refusal) (count : SyncCount) → count_in (reply_of count (cause_of result)) ≡ count
+count_of_reply (Ok x) count = refl
+count_of_reply (Err cause) count = refl
