@@ -11,6 +11,7 @@ use Rattle.misp_effects.specs.declared.stop.Side.TheVariants.{Here}
 use Rattle.misp_effects.specs.declared.stop.Stop.TheVariants as stops
 use Rattle.misp_script.specs.Directory.{directory_of, place_of, roster_names}
 use Rattle.misp_core.specs.Prelude.{Host, KeeperState, Standing, host_of}
+use Rattle.misp_sync.specs.Came.{IsCameOver}
 use Rattle.misp_sync.specs.Counts.{no_count}
 use Rattle.misp_sync.specs.Dialled.{trail_to}
 use Rattle.misp_sync.specs.Pulled.{bar_of, stop_in}
@@ -71,6 +72,10 @@ pub record SyncsOver (words : SyncData) (address : List ℕ) (start end : Standi
   -- all of them where it is done. All of them went to the address.
   pub trail : GrowsBy (trail_to address before.asks) (trail_to address after.asks)
       (IsTrailOf words.way (link_of start.admin.links words.link) start reply)
+  -- what is held after a pull, and counted, is what these replies bring
+  pub came : words.way ≡ Way.Pull → GrowsBy (trail_to address before.asks)
+      (trail_to address after.asks) (IsCameOver (link_of start.admin.links words.link)
+      start.name start.held end.held reply)
   -- what is held where a push begins stays
   pub own : words.way ≡ Way.Push → end.held ≡ start.held
   -- rule 26 only where the count of the keeper rose

@@ -1,5 +1,5 @@
 -- The list of groups is read from its text.
-use Rattle.std.proofs.Common.{◌≡◌, ℕ, ◌≤◌, List, [], ◌∷◌, map, Some, Ok, IsUtf8, refl, sym, ap, ◌∙◌, arith, option_map, option_and_then}
+use Rattle.std.proofs.Common.{◌≡◌, ℕ, ◌≤◌, List, [], ◌∷◌, map, Some, Ok, refl, sym, ap, ◌∙◌, arith, option_map, option_and_then}
 use Rattle.std.specs.Result.{result_ok}
 use Rattle.serde_json.specs.Data.{Data, array, depth, items_depth}
 use Rattle.serde_json.specs.Read.{of_items, of_json}

@@ -3,11 +3,13 @@ pub mod Bringing
 pub mod Brought
 pub mod Causes
 pub mod Coming
+pub mod Comings
 pub mod DialTrails
 pub mod Elsewhere
 pub mod EventLoop
 pub mod EventTexts
 pub mod EventTrail
+pub mod EventsCame
 pub mod Events
 pub mod EventsSent
 pub mod EventsTold
@@ -32,11 +34,13 @@ pub mod PackageSizes
 pub mod PartLoop
 pub mod PartSteps
 pub mod Parts
+pub mod PartsCame
 pub mod PartsHanded
 pub mod PartsInTurn
 pub mod PartsTaken
 pub mod PartsTold
 pub mod PeerTold
+pub mod PullCame
 pub mod PushComing
 pub mod PushCounts
 pub mod PushKeeping

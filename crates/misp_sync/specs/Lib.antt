@@ -1,3 +1,4 @@
+pub mod Came
 pub mod Counts
 pub mod Dialled
 pub mod Handing

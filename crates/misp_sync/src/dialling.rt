@@ -5,6 +5,7 @@ ghost use Rattle.misp_orgs.specs.Admin.{link_of};
 ghost use Rattle.misp_outside.specs.Causes.{HasCause};
 ghost use Rattle.misp_effects.specs.declared.stop.Side.TheVariants.{Here};
 ghost use Rattle.misp_effects.specs.declared.stop.Stop.TheVariants as stops;
+ghost use Rattle.misp_sync.specs.Came.{IsCameOver};
 ghost use Rattle.misp_sync.specs.Counts.{no_count};
 ghost use Rattle.misp_sync.specs.Dialled.{trail_to};
 ghost use Rattle.misp_sync.specs.Pulled.{bar_of, stop_in};
@@ -43,6 +44,12 @@ pub fn pull_from<K: Keeper, L: Dial>(
     ensures trail { GrowsBy (trail_to address.now (L.asks dial.old))
         (trail_to address.now (L.asks dial.new))
         (IsTrailOver (link_of instance.old.admin.links link.now) None result) }
+
+    // What is held then, and counted, is what these replies bring.
+    ensures came { GrowsBy (trail_to address.now (L.asks dial.old))
+        (trail_to address.now (L.asks dial.new))
+        (IsCameOver (link_of instance.old.admin.links link.now) instance.old.name
+        instance.old.held instance.new.held result) }
     ensures name { instance.new.name ≡ instance.old.name }
     ensures admin { instance.new.admin ≡ instance.old.admin }
 {

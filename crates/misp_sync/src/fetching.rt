@@ -8,6 +8,7 @@ ghost use Rattle.misp_outside.specs.Causes.{HasCause};
 ghost use Rattle.misp_groups.specs.Group.{IsGroup};
 ghost use Rattle.misp_rules.specs.Package.{IsPackage};
 ghost use Rattle.misp_core.specs.Sound.{IsListed};
+ghost use Rattle.misp_sync.specs.Came.{Comes, IsReadOf, NoneIsFound, NoneIsRead};
 ghost use Rattle.misp_sync.specs.Replied.{Gives, IsBrought, IsOwn, ReadsReplyBy, events_in, groups_in, is_wanted, package_in};
 ghost use Rattle.misp_sync.specs.Serving.{Meet};
 ghost use Rattle.misp_sync.specs.Telling.{IsFetchCause, IsFetched, events_told, groups_told, part_told};
@@ -35,6 +36,7 @@ use std::alloc::Global;
 // The groups that the bytes of a reply bring.
 fn groups_replied(alloc: Global, bytes: &[u8]) -> Result<Vec<Group>, FetchFault>
     ensures read { ReadsReplyBy (λ groups. groups.items) groups_in bytes.now result }
+    ensures is { IfOk result (λ groups. IsReadOf groups_in bytes.now groups.items) }
     ensures each { IfOk result (λ groups. AllByRecursion IsGroup groups.items) }
     ensures own { IfErr result IsOwn }
 {
@@ -54,6 +56,8 @@ fn groups_brought<W: Wire>(
         (IsBrought (λ groups. groups.items) groups_told key.now queries.Groups result) }
     ensures trail { GrowsBy (W.trail wire.old) (W.trail wire.new)
         (AsksFor key.now (told_of (W.peer wire.old)) (queries.Groups ∷ []) result) }
+    ensures came { GrowsBy (W.trail wire.old) (W.trail wire.new)
+        (Comes (λ groups. groups.items) groups_in (NoneIsFound groups_in) result) }
     ensures through { W.through wire.new ≡ W.through wire.old }
     ensures cause { HasCause (W.faults wire.old) (W.faults wire.new)
         (result ≡ Err faults.Link) }
@@ -70,6 +74,7 @@ fn groups_brought<W: Wire>(
 // The events that the bytes of a reply bring.
 fn events_replied(alloc: Global, bytes: &[u8]) -> Result<Vec<EventParts>, FetchFault>
     ensures read { ReadsReplyBy (λ events. events.items) events_in bytes.now result }
+    ensures is { IfOk result (λ events. IsReadOf events_in bytes.now events.items) }
     ensures each { IfOk result (λ events. AllByRecursion IsListed events.items) }
     ensures own { IfErr result IsOwn }
 {
@@ -89,6 +94,8 @@ fn events_brought<W: Wire>(
         (IsBrought (λ events. events.items) events_told key.now queries.Events result) }
     ensures trail { GrowsBy (W.trail wire.old) (W.trail wire.new)
         (AsksForList (λ events. events.items) key.now (told_of (W.peer wire.old)) result) }
+    ensures came { GrowsBy (W.trail wire.old) (W.trail wire.new)
+        (Comes (λ events. events.items) events_in (NoneIsFound events_in) result) }
     ensures through { W.through wire.new ≡ W.through wire.old }
     ensures cause { HasCause (W.faults wire.old) (W.faults wire.new)
         (result ≡ Err faults.Link) }
@@ -138,6 +145,7 @@ fn part_replied(
     part: u32,
 ) -> Result<Package, FetchFault>
     ensures read { ReadsReplyBy (λ p. p) (package_in event part) bytes.now result }
+    ensures is { IfOk result (λ p. IsReadOf (package_in event part) bytes.now p) }
     ensures fits { IfOk result IsPackage }
     ensures own { IfErr result IsOwn }
 {
@@ -159,6 +167,8 @@ fn part_brought<W: Wire>(
         (IsBrought (λ p. p) (part_told event part) key.now (queries.Part event part) result) }
     ensures trail { GrowsBy (W.trail wire.old) (W.trail wire.new)
         (AsksFor key.now (told_of (W.peer wire.old)) (queries.Part event part ∷ []) result) }
+    ensures came { GrowsBy (W.trail wire.old) (W.trail wire.new)
+        (Comes (λ p. p) (package_in event part) (NoneIsFound (package_in event part)) result) }
     ensures through { W.through wire.new ≡ W.through wire.old }
     ensures cause { HasCause (W.faults wire.old) (W.faults wire.new)
         (result ≡ Err faults.Link) }
@@ -181,6 +191,8 @@ pub(crate) fn fetch_groups<W: Wire>(
         (IsFetched (λ groups. groups.items) groups_told key.now queries.Groups result) }
     ensures trail { GrowsBy (W.trail wire.old) (W.trail wire.new)
         (AsksFor key.now (told_of (W.peer wire.old)) (queries.Groups ∷ []) result) }
+    ensures came { GrowsBy (W.trail wire.old) (W.trail wire.new)
+        (Comes (λ groups. groups.items) groups_in (NoneIsRead groups_in) result) }
     ensures through { W.through wire.new ≡ W.through wire.old }
     ensures cause { HasCause (W.faults wire.old) (W.faults wire.new)
         (result ≡ Err (bare rules.LinkFault)) }
@@ -202,6 +214,8 @@ pub(crate) fn fetch_events<W: Wire>(
         (IsFetched (λ events. events.items) events_told key.now queries.Events result) }
     ensures trail { GrowsBy (W.trail wire.old) (W.trail wire.new)
         (AsksForList (λ events. events.items) key.now (told_of (W.peer wire.old)) result) }
+    ensures came { GrowsBy (W.trail wire.old) (W.trail wire.new)
+        (Comes (λ events. events.items) events_in (NoneIsRead events_in) result) }
     ensures through { W.through wire.new ≡ W.through wire.old }
     ensures cause { HasCause (W.faults wire.old) (W.faults wire.new)
         (result ≡ Err (bare rules.LinkFault)) }
@@ -225,6 +239,8 @@ pub(crate) fn fetch_part<W: Wire>(
         (IsFetched (λ p. p) (part_told event part) key.now (queries.Part event part) result) }
     ensures trail { GrowsBy (W.trail wire.old) (W.trail wire.new)
         (AsksFor key.now (told_of (W.peer wire.old)) (queries.Part event part ∷ []) result) }
+    ensures came { GrowsBy (W.trail wire.old) (W.trail wire.new)
+        (Comes (λ p. p) (package_in event part) (NoneIsRead (package_in event part)) result) }
     ensures through { W.through wire.new ≡ W.through wire.old }
     ensures cause { HasCause (W.faults wire.old) (W.faults wire.new)
         (result ≡ Err (bare rules.LinkFault)) }

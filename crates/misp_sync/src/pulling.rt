@@ -23,6 +23,7 @@ ghost use Rattle.misp_store.specs.Sharing.{groups_of};
 ghost use Rattle.misp_store.specs.declared.reach.Reach.TheVariants as reach;
 ghost use Rattle.misp_core.specs.Sound.{by_event};
 ghost use Rattle.misp_core.specs.Standing.{Standing, host_of};
+ghost use Rattle.misp_sync.specs.Came.{AllCome, EventComes, EventsCome, IsCameOver, OwnEventComes, PartsCome, RowsCome};
 ghost use Rattle.misp_sync.specs.Counts.{no_count};
 ghost use Rattle.misp_sync.specs.Pulled.{bar_of, ends, event_taken, events_sent, events_taken, pulled, pulled_by, reply_of, rows_pulled, stop_in, telling};
 ghost use Rattle.misp_sync.specs.Serving.{IsStill, Meet};
@@ -80,6 +81,8 @@ fn take_part<K: Keeper, W: Wire>(
         IsLanding landing instance.old.name w event rows →
         IsPartTaken instance.old.name w event rows first more next own instance.new.held
         tally.old tally.new result }
+    ensures came { GrowsBy (W.trail wire.old) (W.trail wire.new) (PartsCome instance.old.name
+        instance.old.held landing event part 1 instance.new.held tally.old tally.new result) }
 {
     let package = match fetch_part(alloc, wire, key, event, part) {
         Ok(package) => package,
@@ -120,6 +123,9 @@ fn take_parts<K: Keeper, W: Wire>(
         AreTaken w listed.now.event
         (parts_coming instance.old.name w (groups_of own) rows all next) next own
         instance.new.held tally.old tally.new (cause_of result) }
+    ensures came { GrowsBy (W.trail wire.old) (W.trail wire.new) (EventComes instance.old.name
+        instance.old.held landing listed.now instance.new.held tally.old tally.new
+        (cause_of result)) }
 {
     let mut landing = landing;
     for part in 0..listed.parts {
@@ -165,6 +171,9 @@ fn take_event<K: Keeper, W: Wire>(
         (event_taken instance.old.name holder.now (groups_of own)
         ((seen_in own).rows (reach.Own holder.now listed.now.event)) all next) next own
         instance.new.held tally.old tally.new (cause_of result) }
+    ensures came { GrowsBy (W.trail wire.old) (W.trail wire.new) (OwnEventComes instance.old.name
+        instance.old.held holder.now listed.now instance.new.held tally.old tally.new
+        (cause_of result)) }
 {
     let _number = holder.0.0;
     match instance.landing(alloc, holder, &listed.event) {
@@ -196,6 +205,9 @@ fn take_events<K: Keeper, W: Wire>(
         events.now ≡ map listed_of all → IsStrictlySortedBy by_event events.now →
         Takes (events_taken instance.old.name holder.now (groups_of own) (seen_in own) all)
         (ends None) own instance.new.held tally.old tally.new (cause_of result) }
+    ensures came { GrowsBy (W.trail wire.old) (W.trail wire.new) (EventsCome instance.old.name
+        instance.old.held holder.now events.now instance.new.held tally.old tally.new
+        (cause_of result)) }
 {
     for listed in events {
         match take_event(alloc, instance, wire, key, holder, listed, tally) {
@@ -228,6 +240,8 @@ fn take_rows<K: Keeper, W: Wire>(
         Takes (rows_pulled instance.old.name holder.now (groups_of own) (seen_in own)
         (events_sent (host_of peer) caller (groups_of there) ((seen_in there).rows reach.All)))
         (ends None) own instance.new.held tally.old tally.new (cause_of result) }
+    ensures came { GrowsBy (W.trail wire.old) (W.trail wire.new) (RowsCome instance.old.name
+        instance.old.held holder.now instance.new.held tally.old tally.new (cause_of result)) }
 {
     match fetch_events(alloc, wire, key) {
         Ok(events) => take_events(alloc, instance, wire, key, holder, &events, tally),
@@ -255,6 +269,8 @@ fn take_all<K: Keeper, W: Wire>(
         own peer there → Takes (pulled_by instance.old.name holder.now (host_of peer)
         (who_of peer.admin key.now) (seen_in own) (seen_in there)) (ends None) own
         instance.new.held tally.old tally.new (cause_of result) }
+    ensures came { GrowsBy (W.trail wire.old) (W.trail wire.new) (AllCome instance.old.name
+        instance.old.held holder.now instance.new.held tally.old tally.new (cause_of result)) }
 {
     let groups = match fetch_groups(alloc, wire, key) {
         Ok(groups) => groups,
@@ -314,6 +330,11 @@ pub fn pull<K: Keeper, W: Wire>(
     ensures trail { GrowsBy (W.trail wire.old) (W.trail wire.new)
         (IsTrailOver (link_of instance.old.admin.links link.now) (told_of (W.peer wire.old))
         result) }
+
+    // What is held then, and counted, is what these replies bring.
+    ensures came { GrowsBy (W.trail wire.old) (W.trail wire.new)
+        (IsCameOver (link_of instance.old.admin.links link.now) instance.old.name
+        instance.old.held instance.new.held result) }
     ensures through { W.through wire.new ≡ W.through wire.old }
     ensures name { instance.new.name ≡ instance.old.name }
     ensures admin { instance.new.admin ≡ instance.old.admin }

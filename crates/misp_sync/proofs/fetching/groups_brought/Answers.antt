@@ -10,6 +10,8 @@ use Rattle.misp_sync.proofs.Brought.{answered, meet_all}
 use Rattle.misp_sync.proofs.GroupsTold.{groups_fit}
 use Rattle.misp_sync.specs.Trail.{told_of}
 use Rattle.misp_sync.proofs.Trails.{asks_failed, asks_replied}
+use Rattle.misp_sync.specs.Came.{NoneIsFound}
+use Rattle.misp_sync.proofs.Comings.{comes_read, comes_so}
 use Rattle.misp_sync.proofs.fetching.groups_brought.Goals as goal
 
 pub returns-in-Ok-clause-told : goal.returns-in-Ok-clause-told
@@ -31,3 +33,8 @@ returns-in-Ok-clause-trail g c =
 pub returns-in-Err-clause-trail : goal.returns-in-Err-clause-trail
 returns-in-Err-clause-trail g c =
     asks_failed (Vec Group Global) c.args.key.now Query.Groups (g.W.Wire.trail c.args.wire.now) (g.W.Wire.trail c.ask.new.wire) (told_of (g.W.Wire.peer c.args.wire.now)) c.in-Err.fault c.in-Err.ensures.trail
+
+pub returns-in-Ok-clause-came : goal.returns-in-Ok-clause-came
+returns-in-Ok-clause-came g c =
+    comes_so (λ (groups : Vec Group Global). groups.items) groups_in (NoneIsFound groups_in) (g.W.Wire.trail c.args.wire.now) (g.W.Wire.trail c.ask.new.wire) _ c.in-Ok.bytes.items c.groups_replied.result
+    (comes_read (λ (groups : Vec Group Global). groups.items) groups_in _ c.in-Ok.bytes.items c.groups_replied.result (rw c.deref.ensures.value at c.groups_replied.ensures.read) (rw c.deref.ensures.value at c.groups_replied.ensures.is)) c.in-Ok.ensures.trail

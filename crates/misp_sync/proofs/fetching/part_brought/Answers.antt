@@ -9,6 +9,8 @@ use Rattle.misp_sync.proofs.Brought.{answered, meet_all}
 use Rattle.misp_sync.proofs.PartsTold.{part_fit}
 use Rattle.misp_sync.specs.Trail.{told_of}
 use Rattle.misp_sync.proofs.Trails.{asks_failed, asks_replied}
+use Rattle.misp_sync.specs.Came.{NoneIsFound}
+use Rattle.misp_sync.proofs.Comings.{comes_read, comes_so}
 use Rattle.misp_sync.proofs.fetching.part_brought.Goals as goal
 
 pub returns-in-Ok-clause-told : goal.returns-in-Ok-clause-told
@@ -32,3 +34,8 @@ returns-in-Ok-clause-trail g c =
 pub returns-in-Err-clause-trail : goal.returns-in-Err-clause-trail
 returns-in-Err-clause-trail g c =
     asks_failed PackageFields c.args.key.now (Query.Part c.args.event c.args.part) (g.W.Wire.trail c.args.wire.now) (g.W.Wire.trail c.ask.new.wire) (told_of (g.W.Wire.peer c.args.wire.now)) c.in-Err.fault c.in-Err.ensures.trail
+
+pub returns-in-Ok-clause-came : goal.returns-in-Ok-clause-came
+returns-in-Ok-clause-came g c =
+    comes_so (λ (p : PackageFields). p) (package_in c.args.event c.args.part) (NoneIsFound (package_in c.args.event c.args.part)) (g.W.Wire.trail c.args.wire.now) (g.W.Wire.trail c.ask.new.wire) _ c.in-Ok.bytes.items c.part_replied.result
+    (comes_read (λ (p : PackageFields). p) (package_in c.args.event c.args.part) _ c.in-Ok.bytes.items c.part_replied.result (rw c.deref.ensures.value at c.part_replied.ensures.read) (rw c.deref.ensures.value at c.part_replied.ensures.is)) c.in-Ok.ensures.trail

@@ -7,12 +7,13 @@ use Rattle.misp_orgs.specs.Admin.{who_of}
 use Rattle.misp_core.specs.Prelude.{Group, Refusal, groups_of, host_of}
 use Rattle.misp_core.specs.Taking.{groups_taken, with_groups_taken}
 use Rattle.misp_sync.specs.Serving.{Meet}
-use Rattle.misp_sync.specs.Steps.{IsStep, stand, stop_of_keeper}
+use Rattle.misp_sync.specs.Steps.{IsStep, cause_of, stand, stop_of_keeper}
 use Rattle.misp_sync.specs.Telling.{IsFetched, groups_told}
 use Rattle.misp_sync.specs.declared.query.Query.{Query}
 use Rattle.misp_sync.proofs.GroupsSent.{all_barred, all_came, all_ended, groups_fetched, rows_said}
 use Rattle.misp_sync.proofs.Standings.{groups_tell, step_done, step_fetched, step_stopped, step_then}
 use Rattle.misp_sync.specs.Trail.{AsksFor, told_of}
+use Rattle.misp_sync.proofs.PullCame.{all_failed, all_groupless, all_taken}
 use Rattle.misp_sync.proofs.TrailSteps.{all_asked, groups_alone}
 use Rattle.misp_sync.proofs.Trails.{tells_on}
 use Rattle.misp_sync.proofs.pulling.take_all.Goals as goal
@@ -91,3 +92,20 @@ returns-in-Ok-take_groups-clause-trail g c =
     all_asked c.args.key.now (told_of (g.W.Wire.peer c.args.wire.now)) (told_of (g.W.Wire.peer c.fetch_groups.new.wire))
     (tells_on (g.W.Wire.peer c.args.wire.now) (g.W.Wire.peer c.fetch_groups.new.wire) None step.peer)
     (g.W.Wire.trail c.args.wire.now) (g.W.Wire.trail c.fetch_groups.new.wire) (g.W.Wire.trail c.take_rows.new.wire) c.in-Ok.groups c.take_rows.result told.trail c.take_rows.ensures.trail
+
+pub returns-in-Err-clause-came : goal.returns-in-Err-clause-came
+returns-in-Err-clause-came g c =
+    all_groupless (λ (groups : Vec Group Global). groups.items) c.args.instance.now.name c.args.instance.now.held c.args.instance.now.held c.args.instance.now.held c.args.holder.now c.args.tally.now c.args.tally.now c.args.tally.now
+    (g.W.Wire.trail c.args.wire.now) (g.W.Wire.trail c.fetch_groups.new.wire) (g.W.Wire.trail c.fetch_groups.new.wire) c.in-Err.cause c.in-Err.ensures.came
+
+pub returns-in-Err-take_groups-clause-came : goal.returns-in-Err-take_groups-clause-came
+returns-in-Err-take_groups-clause-came g c =
+    all_failed (λ (groups : Vec Group Global). groups.items) c.args.instance.now.name c.args.instance.now.held c.take_groups.new.self.held c.take_groups.new.self.held c.args.holder.now c.args.tally.now c.args.tally.now c.args.tally.now
+    (g.W.Wire.trail c.args.wire.now) (g.W.Wire.trail c.fetch_groups.new.wire) (g.W.Wire.trail c.fetch_groups.new.wire) c.in-Ok.groups c.in-Err-take_groups.fault c.stopped.result c.stopped.ensures c.in-Err-take_groups.ensures.err c.in-Ok.ensures.came
+
+pub returns-in-Ok-take_groups-clause-came : goal.returns-in-Ok-take_groups-clause-came
+returns-in-Ok-take_groups-clause-came g c =
+    let took = c.in-Ok-take_groups.ensures in
+    all_taken (λ (groups : Vec Group Global). groups.items) c.args.instance.now.name c.args.instance.now.held c.take_groups.new.self.held c.take_rows.new.instance.held c.args.holder.now c.args.tally.now _ c.take_rows.new.tally
+    (g.W.Wire.trail c.args.wire.now) (g.W.Wire.trail c.fetch_groups.new.wire) (g.W.Wire.trail c.take_rows.new.wire) _ took.name c.in-Ok.groups c.in-Ok-take_groups.count (cause_of c.take_rows.result) took.put took.count c.add_groups.ensures c.in-Ok.ensures.came
+    c.take_rows.ensures.came

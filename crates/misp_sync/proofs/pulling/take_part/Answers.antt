@@ -1,5 +1,5 @@
 -- What is shown of the taking of a package.
-use Rattle.std.proofs.Common.{[], ◌∷◌, Ok, Err, subst, ◌∙◌}
+use Rattle.std.proofs.Common.{[], ◌∷◌, Ok, Err, refl, sym, subst, ◌∙◌}
 use Rattle.misp_package.specs.declared.landing.Landing.{Landing}
 use Rattle.misp_rules.specs.Package.{IsPackage}
 use Rattle.misp_rules.specs.declared.package.PackageFields.{PackageFields as Package}
@@ -13,6 +13,10 @@ use Rattle.misp_sync.proofs.PeerTold.{part_fetched}
 use Rattle.misp_sync.proofs.Standings.{part_tell, step_done, step_fetched, step_stopped, step_then}
 use Rattle.misp_sync.specs.Trail.{told_of}
 use Rattle.misp_sync.proofs.Trails.{asks_then_ends}
+use Rattle.misp_sync.specs.Came.{Comes, NoneIsRead, PartsCome}
+use Rattle.misp_sync.specs.Replied.{package_in}
+use Rattle.misp_sync.proofs.PartsCame.{event_came, none_all, none_came, one_came, one_failed, parcel_came}
+use Rattle.misp_sync.proofs.Trails.{grows_so}
 use Rattle.misp_sync.proofs.pulling.take_part.Goals as goal
 
 pub returns-in-Err-clause-step : goal.returns-in-Err-clause-step
@@ -65,3 +69,44 @@ pub returns-clause-trail : goal.returns-clause-trail
 returns-clause-trail g c =
     asks_then_ends Landing Refusal c.args.key.now (told_of (g.W.Wire.peer c.args.wire.now)) (Query.Part c.args.event c.args.part ∷ []) (g.W.Wire.trail c.args.wire.now) (g.W.Wire.trail c.fetch_part.new.wire) c.in-Ok.package c.stopped.result
     c.in-Ok.ensures.trail
+
+-- ---- what came
+
+pub returns-in-Err-clause-came : goal.returns-in-Err-clause-came
+returns-in-Err-clause-came g c =
+    grows_so (g.W.Wire.trail c.args.wire.now) (g.W.Wire.trail c.fetch_part.new.wire)
+    (Comes {X = Package} (λ (p : Package). p) (package_in c.args.event c.args.part) (NoneIsRead (package_in c.args.event c.args.part)) (Err c.in-Err.cause))
+    (PartsCome c.args.instance.now.name c.args.instance.now.held c.args.landing c.args.event c.args.part 1 c.args.instance.now.held c.args.tally.now c.args.tally.now (Err c.in-Err.cause))
+    (λ trail k. record {
+      parts = [];
+      came = none_came c.args.event c.args.part c.in-Err.cause trail k;
+      whole = tt;
+      put = none_all c.args.instance.now.name c.args.instance.now.held c.args.instance.now.held c.args.landing c.args.event c.args.tally.now c.in-Err.cause refl;
+    }) c.in-Err.ensures.came
+
+pub returns-clause-came : goal.returns-clause-came
+returns-clause-came g c =
+    grows_so (g.W.Wire.trail c.args.wire.now) (g.W.Wire.trail c.fetch_part.new.wire)
+    (Comes {X = Package} (λ (p : Package). p) (package_in c.args.event c.args.part) (NoneIsRead (package_in c.args.event c.args.part)) (Ok c.in-Ok.package))
+    (PartsCome c.args.instance.now.name c.args.instance.now.held c.args.landing c.args.event c.args.part 1 c.take_package.new.self.held c.args.tally.now c.args.tally.now (Err c.stopped.result))
+    (λ trail k. record {
+      parts = [];
+      came = one_failed (NoneIsRead (package_in c.args.event c.args.part)) c.args.event c.args.part c.in-Ok.package c.in-Err-take_package.fault c.stopped.result c.stopped.ensures trail k;
+      whole = tt;
+      put = none_all c.args.instance.now.name c.args.instance.now.held c.take_package.new.self.held c.args.landing c.args.event c.args.tally.now c.stopped.result c.in-Err-take_package.ensures.err;
+    }) c.in-Ok.ensures.came
+
+pub returns-in-Ok-take_package-clause-came : goal.returns-in-Ok-take_package-clause-came
+returns-in-Ok-take_package-clause-came g c =
+    let took = c.in-Ok-take_package.ensures in
+    grows_so (g.W.Wire.trail c.args.wire.now) (g.W.Wire.trail c.fetch_part.new.wire)
+    (Comes {X = Package} (λ (p : Package). p) (package_in c.args.event c.args.part) (NoneIsRead (package_in c.args.event c.args.part)) (Ok c.in-Ok.package))
+    (PartsCome c.args.instance.now.name c.args.instance.now.held c.args.landing c.args.event c.args.part 1 c.take_package.new.self.held c.args.tally.now _ (Ok c.in-Ok-take_package.landed.landing))
+    (λ trail k. record {
+      parts = c.in-Ok.package.rows ∷ [];
+      came = one_came (NoneIsRead (package_in c.args.event c.args.part)) c.args.event c.args.part c.in-Ok.package trail k;
+      whole = refl;
+      put = parcel_came c.args.instance.now.name c.args.landing c.in-Ok-take_package.landed.landing c.in-Ok.package c.take_package.new.self.held c.args.tally.now _ c.in-Ok-take_package.landed.rows
+          (subst IsPackage c.package.view_is c.package.invariant) (rw (sym (event_came (NoneIsRead (package_in c.args.event c.args.part)) c.args.event c.args.part c.in-Ok.package trail k)) at c.add_rows.ensures) c.args.event c.args.instance.now.held
+          (event_came (NoneIsRead (package_in c.args.event c.args.part)) c.args.event c.args.part c.in-Ok.package trail k) took.put took.count took.landing;
+    }) c.in-Ok.ensures.came

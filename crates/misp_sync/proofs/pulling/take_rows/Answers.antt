@@ -4,13 +4,14 @@ use Rattle.misp_core.specs.declared.reply.EventParts.{EventParts}
 use Rattle.misp_core.specs.Prelude.{host_of, seen_in}
 use Rattle.misp_store.specs.declared.reach.Reach.{Reach}
 use Rattle.misp_sync.specs.Serving.{Meet}
-use Rattle.misp_sync.specs.Steps.{stand}
+use Rattle.misp_sync.specs.Steps.{cause_of, stand}
 use Rattle.misp_sync.specs.Telling.{IsFetched, events_told}
 use Rattle.misp_sync.specs.declared.query.Query.{Query}
 use Rattle.misp_sync.proofs.EventsSent.{list_fetched, list_in_order, rows_came, rows_failed}
 use Rattle.misp_sync.proofs.PartLoop.{tell_then}
 use Rattle.misp_sync.proofs.Standings.{events_tell, step_fetched, step_then}
 use Rattle.misp_sync.specs.Trail.{told_of}
+use Rattle.misp_sync.proofs.PullCame.{came_unlisted, rows_listed}
 use Rattle.misp_sync.proofs.TrailSteps.{rows_asked, rows_unlisted}
 use Rattle.misp_sync.proofs.Trails.{tells_on}
 use Rattle.misp_sync.proofs.pulling.take_rows.Goals as goal
@@ -64,3 +65,13 @@ pub returns-in-Err-clause-trail : goal.returns-in-Err-clause-trail
 returns-in-Err-clause-trail g c =
     rows_unlisted c.args.key.now (told_of (g.W.Wire.peer c.args.wire.now)) (g.W.Wire.trail c.args.wire.now) (g.W.Wire.trail c.fetch_events.new.wire)
     (λ (events : Vec EventParts Global). events.items) c.in-Err.cause c.in-Err.ensures.trail
+
+pub returns-in-Ok-clause-came : goal.returns-in-Ok-clause-came
+returns-in-Ok-clause-came g c =
+    rows_listed (λ (events : Vec EventParts Global). events.items) c.args.instance.now.name c.args.instance.now.held c.take_events.new.instance.held c.args.holder.now c.args.tally.now c.take_events.new.tally
+    (g.W.Wire.trail c.args.wire.now) (g.W.Wire.trail c.fetch_events.new.wire) (g.W.Wire.trail c.take_events.new.wire) c.in-Ok.events (cause_of c.take_events.result) c.in-Ok.ensures.came (rw c.deref.ensures.value at c.take_events.ensures.came)
+
+pub returns-in-Err-clause-came : goal.returns-in-Err-clause-came
+returns-in-Err-clause-came g c =
+    came_unlisted (λ (events : Vec EventParts Global). events.items) c.args.instance.now.name c.args.instance.now.held c.args.instance.now.held c.args.holder.now c.args.tally.now c.args.tally.now
+    (g.W.Wire.trail c.args.wire.now) (g.W.Wire.trail c.fetch_events.new.wire) (g.W.Wire.trail c.fetch_events.new.wire) c.in-Err.cause c.in-Err.ensures.came
