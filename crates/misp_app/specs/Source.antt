@@ -54,7 +54,8 @@ IsTold (Err DescFault.NoMemory) Writes = ⊥
 
 -- The script of a network was run over the keepers of its instances, and its lines were written so.
 -- This is said of them.
-pub record HasWritten (Says : List Host → List Line → List KeeperState → List KeeperState → List ℕ → Type 0)
+pub record HasWritten
+    (Says : List Host → List Line → List KeeperState → List KeeperState → List ℕ → Type 0)
     (net : Description) (script : List ℕ) (old new : List KeeperState)
     (Writes : List ℕ → Type 0) : Type 0 where
   pub lines : List ℕ

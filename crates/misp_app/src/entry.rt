@@ -69,8 +69,8 @@ pub fn run<S: Source, W: Sink, K: Keeper, C: Carry, D: Door, L: Dial, T: Clock>(
         (Wrote result (W.written sink.old) (W.written sink.new))) }
     ensures later { C.faults carry.old ≤ C.faults carry.new }
 
-    // What it answered, where it tells that, is for each pull and push the stated requests with their
-    // replies, from the first on, and all of them where it is done. For any other line it is
+    // What it answered, where it tells that, is for each pull and push the stated requests with
+    // their replies, from the first on, and all of them where it is done. For any other line it is
     // nothing. Where memory runs out, the same holds of some first lines.
     ensures passed { HasLines (command_of (map string_bytes words.now)) result →
         IfSome (S.left source.old) (λ left. HasRun

@@ -55,8 +55,8 @@ pub record HaveSynced (way : Way) (link : Inst) (own peer : ℕ) (old new : List
       (slice_index_or old peer d) mine theirs reply
   pub left : new ≡ slice_set (slice_set old own mine) peer theirs
 
--- The byte strings that what carries tells grew by those of a synchronisation over a link, of the one
--- with the other as they were.
+-- The byte strings that what carries tells grew by those of a synchronisation over a link, of the
+-- one with the other as they were.
 abbrev pub HasCarriedSync : Way → Inst → Standing → Standing → SyncReply → Option (List (List ℕ))
     → Option (List (List ℕ)) → Type 0
 HasCarriedSync way link own peer reply before after =

@@ -38,8 +38,8 @@ place_of_peer hosts at link = peer_place hosts at (link_at hosts at link)
 
 -- ---- synchronisations
 
--- without another instance as its peer it is refused: as its link bars it, or as that of a link that
--- is not there
+-- without another instance as its peer it is refused: as its link bars it, or as that of a link
+-- that is not there
 abbrev pub unsynced : Option Link → Effect SyncReply
 unsynced link = effect (replies.Stopped no_count (unwrap_or (bar_of link) (bare NoLink))) []
 

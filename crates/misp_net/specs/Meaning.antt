@@ -126,7 +126,11 @@ deed_meaning hosts time word (Administers line) =
     record {
       means = asks line.at (λ here. grouped time line.org line.add form here.groups);
       formed = turned_away form;
-      act = record { at = (host_at line.at hosts).name; now = time; command = administering form line };
+      act = record {
+        at = (host_at line.at hosts).name;
+        now = time;
+        command = administering form line;
+      };
       asker = None;
     }
 deed_meaning hosts time word (Syncs line) = record {
@@ -143,7 +147,8 @@ meaning hosts a = deed_meaning hosts a.time a.word a.deed
 abbrev pub meanings_of : List Host → List Act → List (Meaning Seen Output)
 meanings_of hosts acts = map (λ a. (meaning hosts a).means) acts
 
--- It is put out as the form of its act says; in place of a reply, that memory ran out may be put out.
+-- It is put out as the form of its act says; in place of a reply, that memory ran out may be put
+-- out.
 abbrev pub IsAsFormed : Option Output → Output → Type 0
 IsAsFormed None output = Unit {0}
 IsAsFormed (Some (Bad place)) output = output ≡ Bad place

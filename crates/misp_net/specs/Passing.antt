@@ -37,8 +37,8 @@ abbrev pub UnlessHere : Bool → (Trail → Type 0) → Trail → Type 0
 UnlessHere true P trail = trail ≡ []
 UnlessHere false P trail = P trail
 
--- For a synchronisation its requests and their replies passed, each once, from the first on, and all
--- of them where it is done. These keepers were there before it.
+-- For a synchronisation its requests and their replies passed, each once, from the first on, and
+-- all of them where it is done. These keepers were there before it.
 abbrev pub IsSyncPassed : List Host → List KeeperState → SyncData → SyncReply → Trail → Type 0
 IsSyncPassed hosts old line reply trail =
     UnlessHere (place_of_peer hosts line.at line.link == line.at)

@@ -93,8 +93,8 @@ HasSession now word r old new Wrote =
 
 -- ---- synchronisations
 
--- What a synchronisation did between two keepers: with the one that takes what it comes to, as far as
--- nothing stopped it; and what the other holds stays. The fault of each is told only where this
+-- What a synchronisation did between two keepers: with the one that takes what it comes to, as far
+-- as nothing stopped it; and what the other holds stays. The fault of each is told only where this
 -- keeper failed.
 pub record IsSynced (hosts : List Host) (line : SyncData) (reply : SyncReply)
     (own here peer there : KeeperState) : Type 0 where

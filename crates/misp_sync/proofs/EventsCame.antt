@@ -161,21 +161,22 @@ module _ (here : Inst) (held mid new : Option Held) (w : OrgId) (events : List E
   only_put sent None k = tt
   only_put sent (Some own) k = k.put
 
-  pub events_stop : (cause : Refusal) → OwnEventComes here mid w listed new t u (Some cause) ys → EventsCome here held w events new s u (Some cause) (xs ++ ys)
-  events_stop cause next = record {
+  pub events_stop : IsStrictlySortedBy by_event events → (cause : Refusal) → OwnEventComes here mid w listed new t u (Some cause) ys → EventsCome here held w events new s u (Some cause) (xs ++ ys)
+  events_stop up cause next = record {
     sent = far.sent ++ (listed.event, next.parts) ∷ [];
     came = subst (λ ls. EventsBy (Some cause) ls (far.sent ++ (listed.event, next.parts) ∷ []) (xs ++ ys)) (ap (λ ls. ls ++ drop (n + 1) events) (sym events_next) ∙ take-append-drop (n + 1) events)
         (events_end (take n events) (drop (n + 1) events) far.sent xs ys listed next.parts cause far.came next.came);
-    put = λ up. only_put (far.sent ++ (listed.event, next.parts) ∷ []) held (more_put (Some cause) next up held (far.put up));
+    put = only_put (far.sent ++ (listed.event, next.parts) ∷ []) held (more_put (Some cause) next up held (far.put up));
   }
 
-pub events_whole : (here : Inst) (held new : Option Held) (w : OrgId) (events : List EventParts) (n : ℕ) (s t : Tally) (trail : List (List ℕ)) → length events ≤ n → EventsFar here held w events n new s t trail → EventsCome here held w events new s t None trail
-events_whole here held new w events n s t trail le far =
+pub events_whole : (here : Inst) (held new : Option Held) (w : OrgId) (events : List EventParts) (n : ℕ) (s t : Tally) (trail : List (List ℕ)) → IsStrictlySortedBy by_event events → length events ≤ n → EventsFar here held w events n new s t trail
+    → EventsCome here held w events new s t None trail
+events_whole here held new w events n s t trail up le far =
     let same : take n events ≡ events = sym (append-nil (take n events)) ∙ ap (λ l. take n events ++ l) (sym (drop_all n events le)) ∙ take-append-drop n events in
     record {
       sent = far.sent;
       came = subst (λ ls. EventsBy None ls far.sent trail) same far.came;
-      put = λ up. one held (far.put up);
+      put = one held (far.put up);
     }
   where
     one : (o : Option Held) → IfSome o (λ own. EventsPut here w far.sent own new s t) → IfSome o (λ own. IsPut (events_batches here w (groups_of own) (seen_in own) far.sent) own new s t)
@@ -191,8 +192,8 @@ module _ (here now : Inst) (same : now ≡ here) (held mid new : Option Held) (w
       (λ xs ys f k. events_far here held mid new w events n listed none lt at s t u xs ys f k) far
       (subst (λ (i : Inst). GrowsBy b c (OwnEventComes i mid w listed new t u None)) same next)
 
-  pub grows_stop : (cause : Refusal) → GrowsBy b c (OwnEventComes now mid w listed new t u (Some cause)) → GrowsBy a c (EventsCome here held w events new s u (Some cause))
-  grows_stop cause next =
+  pub grows_stop : IsStrictlySortedBy by_event events → (cause : Refusal) → GrowsBy b c (OwnEventComes now mid w listed new t u (Some cause)) → GrowsBy a c (EventsCome here held w events new s u (Some cause))
+  grows_stop up cause next =
       grows_then a b c (EventsFar here held w events n mid s t) (OwnEventComes here mid w listed new t u (Some cause)) (EventsCome here held w events new s u (Some cause))
-      (λ xs ys f k. events_stop here held mid new w events n listed none lt at s t u xs ys f cause k) far
+      (λ xs ys f k. events_stop here held mid new w events n listed none lt at s t u xs ys f up cause k) far
       (subst (λ (i : Inst). GrowsBy b c (OwnEventComes i mid w listed new t u (Some cause))) same next)

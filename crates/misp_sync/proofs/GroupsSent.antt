@@ -1,6 +1,7 @@
 -- Which groups a peer sends, and what is taken then.
 use Rattle.std.proofs.Common.{◌≡◌, ℕ, Bool, true, false, List, [], ◌∷◌, length, Option, None, Some, Result, Ok, Err, refl, sym, ap, subst, ◌∙◌, inl, inr, if◌then◌else◌, IfSome}
 use Rattle.std.specs.List.{AllByRecursion}
+use Rattle.misp_lists.proofs.Lists.{some_same}
 use Rattle.misp_effects.specs.Batches.{batch}
 use Rattle.misp_effects.specs.Effect.{Effect}
 use Rattle.misp_effects.specs.declared.stop.Stop.{Stop}
@@ -85,16 +86,13 @@ rows_kept coming held = refl
 
 -- ---- what is taken
 
-some_is : {A : Type 0} (a b : A) → Some a ≡ Some b → a ≡ b
-some_is a b h = cc
-
 module _ (here : Inst) (w : OrgId) (host : Host) (own there : Held) where
   abbrev AllGoes : Option Caller → Effect (Option Refusal)
   AllGoes found = pulled_by here w host found (seen_in own) (seen_in there)
 
   all_stopped : (stop : Stop) (found : Option Caller) (refusal : Refusal) (new : Option Held) (t : Tally) → Some refusal ≡ Some (stop_refusal stop) → new ≡ Some own
       → Takes (AllGoes found) (ends None) own new t t (Some refusal)
-  all_stopped stop found refusal new t told same = takes_stop stop _ (ends None) own new t refusal (some_is refusal (stop_refusal stop) told) same
+  all_stopped stop found refusal new t told same = takes_stop stop _ (ends None) own new t refusal (some_same refusal (stop_refusal stop) told) same
 
   pub all_ended : {A : Type 0} (view : A → List Group) (found : Option Caller) (refusal : Refusal) (new : Option Held) (t : Tally)
       → Fetches view (groups_wanted host found (groups_of there)) (Err refusal) → new ≡ Some own → Takes (AllGoes found) (ends None) own new t t (Some refusal)
@@ -144,7 +142,7 @@ module _ (here : Inst) (w : OrgId) (host : Host) (own there : Held) where
         (takes_then (all_pulled here w (seen_in own) coming sent) later (ends None) own mid new s t u cause
         (takes_put (batch [] (groups_taken (groups_of own) coming) ∷ []) _ later own mid s t refl put (record { rows = tt; groups = fits }, tt) (tallied ∙ ap (with_groups s) counted))
         (λ held now. subst (λ e. Takes e (ends None) held new t u cause)
-        (subst (λ h. rows_pulled here w (groups_of h) (seen_in h) sent ≡ later) (some_is with_them held (sym put ∙ now)) same) (rows caller held now who permitted)))
+        (subst (λ h. rows_pulled here w (groups_of h) (seen_in h) sent ≡ later) (some_same with_them held (sym put ∙ now)) same) (rows caller held now who permitted)))
 
     pub all_came : {A : Type 0} (view : A → List Group) (groups : A) → view groups ≡ coming → (found : Option Caller) → who_of host.admin key ≡ found
         → Fetches view (groups_wanted host found (groups_of there)) (Ok groups) → Takes (AllGoes found) (ends None) own new s u cause

@@ -1,3 +1,4 @@
+pub mod Ascending
 pub mod Beside
 pub mod Bringing
 pub mod Brought

@@ -1,10 +1,8 @@
 -- Packages that came, and what is put of them.
-use Rattle.std.proofs.Common.{◌≡◌, ◌⊎◌, ◌+◌, ℕ, suc, Bool, true, false, if◌then◌else◌, List, [], ◌∷◌, ◌++◌, length, map, Option, None, Some, Result, Ok, Err, refl, sym, ap, subst, ◌∙◌, inl, inr, arith, append-nil, append_assoc, option_map, IfSome, IfOk, cond, ◌==◌}
+use Rattle.std.proofs.Common.{◌≡◌, ◌+◌, ℕ, suc, Bool, true, false, if◌then◌else◌, List, [], ◌∷◌, ◌++◌, length, map, Option, None, Some, Result, Ok, Err, refl, sym, ap, subst, ◌∙◌, inl, inr, arith, append-nil, append_assoc, option_map, IfSome, IfOk, cond, ◌==◌}
 use Rattle.std.proofs.lemmas.List.{length-append}
-use Rattle.misp_ids.specs.Refusal.{bare}
 use Rattle.misp_ids.specs.Uid.{IsUid}
 use Rattle.misp_ids.specs.declared.refusal.Refusal.{Refusal}
-use Rattle.misp_ids.specs.declared.refusal.RuleName.{RuleName}
 use Rattle.misp_outside.specs.declared.fault.KeeperFault.{KeeperFault}
 use Rattle.misp_effects.specs.Batches.{put_batches}
 use Rattle.misp_outside.specs.Held.{Held}
@@ -19,7 +17,8 @@ use Rattle.misp_core.specs.Effects.{row_batches}
 use Rattle.misp_core.specs.declared.reply.EventParts.{EventParts}
 use Rattle.misp_core.specs.Prelude.{EventId, Group, Inst, OrgId, Row, groups_of, seen_in, spelled}
 use Rattle.misp_core.specs.Taking.{IsLandingOf, handed_rows, package_taken, with_package}
-use Rattle.misp_sync.specs.Came.{AllCame, CameBy, Comes, EventComes, EventPut, FirstCame, IsPut, LandsAfter, NoneIsRead, OwnEventComes, PartsCome, PartsPut, event_batches, part_batches, rows_after}
+use Rattle.misp_sync.specs.Came.{AllCame, CameBy, EventComes, EventPut, FirstCame, IsPut, LandsAfter, OwnEventComes, PartsCome, PartsPut, event_batches, part_batches, rows_after}
+use Rattle.misp_sync.specs.Comes.{Comes, IsCauseOf, IsNotTaken, IsReadOf}
 use Rattle.misp_sync.specs.Counts.{tally, with_groups, with_rows}
 use Rattle.misp_sync.specs.Pulled.{ends, package_batches}
 use Rattle.misp_sync.specs.Replied.{is_wanted, package_in, wanted}
@@ -34,28 +33,29 @@ use Rattle.misp_sync.proofs.Takings.{put_more, tally_more}
 -- ---- one package
 
 -- of its reply nothing is read
-pub none_came : (e : EventId) (n : ℕ) (cause : Refusal) (trail : List (List ℕ)) → Comes {X = Package} (λ (p : Package). p) (package_in e n) (NoneIsRead (package_in e n)) (Err cause) trail → FirstCame cause e n [] trail
+pub none_came : (e : EventId) (n : ℕ) (cause : Refusal) (trail : List (List ℕ)) → Comes {X = Package} (λ (p : Package). p) (package_in e n) (IsCauseOf (package_in e n)) (Err cause) trail → FirstCame cause e n [] trail
 none_came e n cause [] k = tt
-none_came e n cause (x ∷ []) k = tt
-none_came e n cause (x ∷ y ∷ []) k = λ p is. inl (k p is)
+none_came e n cause (x ∷ []) k = k
+none_came e n cause (x ∷ y ∷ []) k = inl k
 none_came e n cause (x ∷ y ∷ z ∷ trail) k = absurd k
 
-pub one_came : {E : Type 0} (lacks : E → List ℕ → Type 0) (e : EventId) (n : ℕ) (p : Package) (trail : List (List ℕ)) → Comes {X = Package} (λ (p : Package). p) (package_in e n) lacks (Ok p) trail → AllCame e n (p.rows ∷ []) trail
+pub one_came : {E : Type 0} (lacks : E → Option (List ℕ) → Type 0) (e : EventId) (n : ℕ) (p : Package) (trail : List (List ℕ)) → Comes {X = Package} (λ (p : Package). p) (package_in e n) lacks (Ok p) trail → AllCame e n (p.rows ∷ []) trail
 one_came lacks e n p [] k = absurd k
 one_came lacks e n p (x ∷ []) k = absurd k
 one_came lacks e n p (x ∷ y ∷ []) k = (p, k, refl, tt)
 one_came lacks e n p (x ∷ y ∷ z ∷ trail) k = absurd k
 
-pub own_stop : (fault : KeeperFault) (cause : Refusal) → cause ≡ stop_refusal (stop_of_keeper fault) → (cause ≡ bare RuleName.NoMemory) ⊎ (cause ≡ bare RuleName.KeeperFault)
-own_stop KeeperFault.Failed cause is = inr is
-own_stop KeeperFault.NoMemory cause is = inl is
+-- something is read, and the own keeper stopped
+pub own_stop : {A : Type 0} (reads : List ℕ → Result A FetchFault) (bytes : List ℕ) (x : A) (fault : KeeperFault) (cause : Refusal) → IsReadOf reads bytes x → cause ≡ stop_refusal (stop_of_keeper fault) → IsNotTaken reads cause (Some bytes)
+own_stop reads bytes x KeeperFault.Failed cause read is = inr (x, read, is)
+own_stop reads bytes x KeeperFault.NoMemory cause read is = inl (inl is)
 
 -- it came, and the own keeper failed
-pub one_failed : {E : Type 0} (lacks : E → List ℕ → Type 0) (e : EventId) (n : ℕ) (p : Package) (fault : KeeperFault) (cause : Refusal) → cause ≡ stop_refusal (stop_of_keeper fault) → (trail : List (List ℕ))
+pub one_failed : {E : Type 0} (lacks : E → Option (List ℕ) → Type 0) (e : EventId) (n : ℕ) (p : Package) (fault : KeeperFault) (cause : Refusal) → cause ≡ stop_refusal (stop_of_keeper fault) → (trail : List (List ℕ))
     → Comes {X = Package} (λ (p : Package). p) (package_in e n) lacks (Ok p) trail → FirstCame cause e n [] trail
 one_failed lacks e n p fault cause is [] k = absurd k
 one_failed lacks e n p fault cause is (x ∷ []) k = absurd k
-one_failed lacks e n p fault cause is (x ∷ y ∷ []) k = λ q read. own_stop fault cause is
+one_failed lacks e n p fault cause is (x ∷ y ∷ []) k = own_stop (package_in e n) y p fault cause k is
 one_failed lacks e n p fault cause is (x ∷ y ∷ z ∷ trail) k = absurd k
 
 -- ---- one after another
@@ -149,7 +149,7 @@ wanted_event e n body p is = one _ is
     one (Err left) h = absurd cc
     one (Ok q) h = two q (is_wanted e n q) refl h
 
-pub event_came : {E : Type 0} (lacks : E → List ℕ → Type 0) (e : EventId) (n : ℕ) (p : Package) (trail : List (List ℕ)) → Comes {X = Package} (λ (p : Package). p) (package_in e n) lacks (Ok p) trail → p.event ≡ e
+pub event_came : {E : Type 0} (lacks : E → Option (List ℕ) → Type 0) (e : EventId) (n : ℕ) (p : Package) (trail : List (List ℕ)) → Comes {X = Package} (λ (p : Package). p) (package_in e n) lacks (Ok p) trail → p.event ≡ e
 event_came lacks e n p [] k = absurd k
 event_came lacks e n p (x ∷ []) k = absurd k
 event_came lacks e n p (x ∷ y ∷ []) k = wanted_event e n k.body p k.is

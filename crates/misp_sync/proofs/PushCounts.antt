@@ -1,22 +1,25 @@
 -- What a push counts, by its steps.
-use Rattle.std.proofs.Common.{◌≡◌, ◌<◌, ◌≤◌, ◌+◌, ℕ, List, [], ◌∷◌, ◌++◌, drop, take, get_or, length, map, Option, None, Some, Result, Ok, Err, refl, sym, ap, subst, ◌∙◌, inl, inr, cond, ◌==◌, IfOk}
+use Rattle.std.proofs.Common.{◌≡◌, ◌<◌, ◌≤◌, ◌+◌, ℕ, List, [], ◌∷◌, ◌++◌, drop, take, get_or, length, map, Option, None, Some, Result, Ok, Err, refl, sym, subst, ◌∙◌, inl, inr, cond, ◌==◌}
 use Rattle.std.proofs.lemmas.List.{append_cancel_left}
+use Rattle.misp_ids.specs.Refusal.{bare}
 use Rattle.misp_ids.specs.declared.refusal.Refusal.{Refusal}
-use Rattle.misp_http.specs.Reply.{IsReply}
+use Rattle.misp_ids.specs.declared.refusal.RuleName.{RuleName}
 use Rattle.misp_rules.specs.declared.package.PackageFields.{PackageFields as Package}
+use Rattle.misp_sync.specs.Comes.{IsCauseOf, IsFaultOf, IsReadOf}
 use Rattle.misp_sync.specs.Counts.{with_groups, with_rows}
 use Rattle.misp_sync.specs.Handing.{HandPart, Handing, most_in}
 use Rattle.misp_sync.specs.Pulled.{reply_of}
-use Rattle.misp_sync.specs.PushCount.{CountsAll, CountsBy, CountsFirst, IsSaid, IsUncounted, SaysTaken, count_in, tallied}
-use Rattle.misp_sync.specs.Replied.{Fails, Gives, ReadsReplyBy, Tells, refusal_of, taken_in}
+use Rattle.misp_sync.specs.PushCount.{CountsAll, CountsBy, CountsFirst, IsSaid, count_in, said_of, tallied}
+use Rattle.misp_sync.specs.Replied.{IsCutBy, Tells, refusal_of, taken_in}
 use Rattle.misp_sync.specs.Steps.{cause_of}
 use Rattle.misp_sync.specs.Trail.{GrowsBy, IsUnanswered}
 use Rattle.misp_sync.specs.declared.count.SyncCount.{SyncCount}
 use Rattle.misp_sync.specs.declared.count.Tally.{Tally}
 use Rattle.misp_sync.specs.declared.replies.FetchFault.{FetchFault}
 use Rattle.misp_sync.specs.declared.reply.SyncReply.{SyncReply}
+use Rattle.misp_sync.proofs.Comings.{caused, comes_none, comes_so}
 use Rattle.misp_sync.proofs.PartsInTurn.{parts_after, parts_next, parts_whole}
-use Rattle.misp_sync.proofs.Trails.{grows_so, grows_then}
+use Rattle.misp_sync.proofs.Trails.{grows_none, grows_then}
 
 -- ---- what grows
 
@@ -28,45 +31,26 @@ grows_both (Some a) (Some b) P Q R h p q = (p.0, p.1, h p.0 p.2 (subst Q (append
 
 -- ---- one reply
 
-pub says_read : (result : Result ℕ FetchFault) (most : ℕ) (bytes body : List ℕ) → IsReply bytes 200 body → Gives (λ n. n) result (taken_in most body) → IfOk result (SaysTaken most bytes)
-says_read (Ok n) most bytes body replied gives = record { body = body; replied = replied; says = gives }
-says_read (Err fault) most bytes body replied gives = tt
-
--- no fault but want of memory is met where a number is read
-only_memory : (fault : FetchFault) (n : ℕ) → Fails {A = ℕ} fault (Ok n) → fault ≡ FetchFault.NoMemory
-only_memory FetchFault.NoMemory n h = refl
-only_memory FetchFault.Link n h = absurd cc
-only_memory FetchFault.Head n h = absurd cc
-only_memory FetchFault.Body n h = absurd cc
-only_memory FetchFault.Groups n h = absurd cc
-only_memory FetchFault.Events n h = absurd cc
-only_memory FetchFault.Package n h = absurd cc
-only_memory FetchFault.Taken n h = absurd cc
-only_memory (FetchFault.Refused status rule) n h = absurd cc
-
-pub uncounted : (fault : FetchFault) (cause : Refusal) (most : ℕ) (bytes : List ℕ) → Tells cause (refusal_of fault) → ReadsReplyBy {X = ℕ} (λ (n : ℕ). n) (taken_in most) bytes (Err fault) → IsUncounted cause most bytes
-uncounted fault cause most bytes (inr memory) read n says = memory
-uncounted fault cause most bytes (inl is) read n says =
-    let fails : Fails {A = ℕ} fault (Ok n) = subst (λ (r : Result ℕ FetchFault). Fails {A = ℕ} fault r) says.says (read 200 says.body says.replied) in
-    is ∙ ap refusal_of (only_memory fault n fails)
-
 module _ (h : Handing) (a b : Option (List (List ℕ))) (request : List ℕ) where
-  pub said_ok : (bytes : List ℕ) (most n : ℕ) → most ≡ most_in h → SaysTaken most bytes n → GrowsBy a b (λ more. more ≡ request ∷ bytes ∷ []) → GrowsBy a b (IsSaid h (Ok n))
-  said_ok bytes most n is says grows =
-      let here : SaysTaken (most_in h) bytes n = subst (λ m. SaysTaken m bytes n) is says in
-      grows_so a b (λ more. more ≡ request ∷ bytes ∷ []) (IsSaid h (Ok n)) (λ more same. subst (IsSaid h (Ok n)) (sym same) here) grows
+  pub said_ok : (bytes : List ℕ) (most n : ℕ) → most ≡ most_in h → IsReadOf (taken_in most) bytes n → GrowsBy a b (λ more. more ≡ request ∷ bytes ∷ []) → GrowsBy a b (IsSaid h (Ok n))
+  unfolding IsSaid
+  said_ok bytes most n is says grows = comes_so (λ (n : ℕ). n) (said_of h) (IsCauseOf (said_of h)) a b request bytes (Ok n) (subst (λ m. IsReadOf (taken_in m) bytes n) is says) grows
 
-  pub said_err : (bytes : List ℕ) (most : ℕ) (cause : Refusal) → most ≡ most_in h → IsUncounted cause most bytes → GrowsBy a b (λ more. more ≡ request ∷ bytes ∷ []) → GrowsBy a b (IsSaid h (Err cause))
-  said_err bytes most cause is none grows =
-      let here : IsUncounted cause (most_in h) bytes = subst (λ m. IsUncounted cause m bytes) is none in
-      grows_so a b (λ more. more ≡ request ∷ bytes ∷ []) (IsSaid h (Err cause)) (λ more same. subst (IsSaid h (Err cause)) (sym same) here) grows
+  pub said_err : (bytes : List ℕ) (most : ℕ) (fault : FetchFault) (cause : Refusal) → most ≡ most_in h → Tells cause (refusal_of fault) → IsFaultOf (taken_in most) fault (Some bytes) → GrowsBy a b (λ more. more ≡ request ∷ bytes ∷ [])
+      → GrowsBy a b (IsSaid h (Err cause))
+  unfolding IsSaid
+  said_err bytes most fault cause is tells faulty grows =
+      comes_so (λ (n : ℕ). n) (said_of h) (IsCauseOf (said_of h)) a b request bytes (Err cause)
+      (caused (said_of h) fault cause (Some bytes) tells (subst (λ m. IsFaultOf (taken_in m) fault (Some bytes)) is faulty)) grows
 
-  not_said : (cause : Refusal) (more : List (List ℕ)) → IsUnanswered request more → IsSaid h (Err cause) more
-  not_said cause more (inl is) = subst (IsSaid h (Err cause)) (sym is) tt
-  not_said cause more (inr is) = subst (IsSaid h (Err cause)) (sym is) tt
+  pub said_none : (fault : FetchFault) (cause : Refusal) → Tells cause (refusal_of fault) → IsCutBy fault → GrowsBy a b (IsUnanswered request) → GrowsBy a b (IsSaid h (Err cause))
+  unfolding IsSaid
+  said_none fault cause tells cut grows = comes_none (λ (n : ℕ). n) (said_of h) (IsCauseOf (said_of h)) a b request cause (caused (said_of h) fault cause None tells cut) grows
 
-  pub said_none : (cause : Refusal) → GrowsBy a b (IsUnanswered request) → GrowsBy a b (IsSaid h (Err cause))
-  said_none cause grows = grows_so a b (IsUnanswered request) (IsSaid h (Err cause)) (not_said cause) grows
+-- no memory was left to hand it in
+pub said_nothing : (h : Handing) (a : Option (List (List ℕ))) (cause : Refusal) → cause ≡ bare RuleName.NoMemory → GrowsBy a a (IsSaid h (Err cause))
+unfolding IsSaid
+said_nothing h a cause memory = grows_none a (IsSaid h (Err cause)) (inr memory)
 
 -- ---- one after another
 
@@ -95,14 +79,16 @@ first_more cause (h ∷ hs) ms (x ∷ y ∷ xs) t end (inr k) = inr (k.0, k.1, f
 -- ---- one hand-in
 
 pub one_said : (h : Handing) (n : ℕ) (xs : List (List ℕ)) (t : Tally) → IsSaid h (Ok n) xs → CountsAll (h ∷ []) xs t (tallied t h n)
+unfolding IsSaid
 one_said h n [] t k = absurd k
 one_said h n (x ∷ []) t k = absurd k
 one_said h n (x ∷ y ∷ []) t k = (n, k, refl)
 one_said h n (x ∷ y ∷ z ∷ xs) t k = absurd k
 
 pub one_unsaid : (h : Handing) (cause : Refusal) (xs : List (List ℕ)) (t : Tally) → IsSaid h (Err cause) xs → CountsFirst cause (h ∷ []) xs t t
+unfolding IsSaid
 one_unsaid h cause [] t k = refl
-one_unsaid h cause (x ∷ []) t k = refl
+one_unsaid h cause (x ∷ []) t k = (refl, k)
 one_unsaid h cause (x ∷ y ∷ []) t k = inl (refl, refl, k)
 one_unsaid h cause (x ∷ y ∷ z ∷ xs) t k = absurd k
 

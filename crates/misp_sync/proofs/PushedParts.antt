@@ -1,5 +1,6 @@
 -- What a push comes to by its steps: the groups, and the packages.
 use Rattle.std.proofs.Common.{◌≡◌, ℕ, Bool, true, false, is_ok, List, map, Option, None, Some, Result, Ok, Err, refl, sym, ap, subst, ◌∙◌, inl, inr, if◌then◌else◌, IfSome, IsOk}
+use Rattle.misp_lists.proofs.Lists.{some_same}
 use Rattle.misp_ids.specs.declared.refusal.Refusal.{Refusal}
 use Rattle.misp_ids.specs.declared.refusal.RuleName.{RuleName}
 use Rattle.misp_outside.specs.Held.{Held}
@@ -36,9 +37,6 @@ use Rattle.misp_sync.proofs.PartSteps.{AllPushed, told_at}
 use Rattle.misp_sync.proofs.PushStands.{meet_handed, met_there}
 use Rattle.misp_sync.proofs.Pushes.{pushed_does, pushes_end, pushes_stop, pushes_then}
 use Rattle.misp_sync.proofs.Synced.{WhereTold, bar_told, where_told}
-
-some_same : {A : Type 0} (a b : A) → Some a ≡ Some b → a ≡ b
-some_same a b h = cc
 
 -- ---- packages
 

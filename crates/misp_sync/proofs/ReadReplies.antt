@@ -30,7 +30,7 @@ other_body bytes status body other is =
     let size : Some (length body) ≡ Some other.2 = sym is.size ∙ sym (ap (λ h. only_content_length (reply_headers h)) same.0) ∙ other.4 in
     other.5 (ap length same.1 ∙ ap (λ o. unwrap_or o 0) size)
 
-told_refused : {A : Type 0} (reads : List ℕ → Result A FetchFault) (status : ℕ) (body : List ℕ) → status ≢ 200 → told_by reads status body ≡ Err (refused_in status body)
+pub told_refused : {A : Type 0} (reads : List ℕ → Result A FetchFault) (status : ℕ) (body : List ℕ) → status ≢ 200 → told_by reads status body ≡ Err (refused_in status body)
 told_refused {A} reads status body ne = ap (λ (b : Bool). if b then reads body else Err (refused_in status body)) (ne_eqb status 200 ne)
 
 refused_as : {A : Type 0} (reads : List ℕ → Result A FetchFault) (bytes : List ℕ) (fault : FetchFault) (status : ℕ) (body : List ℕ) → Refuses bytes fault → IsReply bytes status body

@@ -1,10 +1,7 @@
 -- What came of what a pull asked for, by the bytes of the replies.
 use Rattle.std.specs.Prelude.{◌≡◌, ◌⊎◌, List, [], ◌∷◌, ◌++◌, length, map, ℕ, suc, Option, None, Some, Result, Ok, Err, IfOk, IfSome, option_map}
-use Rattle.misp_ids.specs.Refusal.{bare}
 use Rattle.misp_ids.specs.declared.refusal.Refusal.{Refusal}
-use Rattle.misp_ids.specs.declared.refusal.RuleName.{RuleName}
 use Rattle.misp_ids.specs.Uid.{IsUid}
-use Rattle.misp_http.specs.Reply.{IsReply}
 use Rattle.misp_effects.specs.Batches.{put_batches}
 use Rattle.misp_history.specs.Merging.{handed}
 use Rattle.misp_orgs.specs.declared.link.Link.{Link}
@@ -15,9 +12,8 @@ use Rattle.misp_store.specs.Prelude.{Batch}
 use Rattle.misp_store.specs.declared.reach.Reach.{Reach}
 use Rattle.misp_core.specs.declared.reply.EventParts.{EventParts}
 use Rattle.misp_core.specs.Prelude.{EventId, Group, Held, Inst, OrgId, Row, Seen, groups_of, seen_in, spelled}
-use Rattle.misp_core.specs.Sound.{by_event}
 use Rattle.misp_core.specs.Taking.{groups_taken, with_groups_taken}
-use Rattle.misp_groups.specs.Prelude.{IsStrictlySortedBy}
+use Rattle.misp_sync.specs.Comes.{Ends, IsCauseOf, IsNotTaken, IsReadOf}
 use Rattle.misp_sync.specs.Counts.{no_tally, tally, with_groups}
 use Rattle.misp_sync.specs.Pulled.{package_batches}
 use Rattle.misp_sync.specs.PushCount.{count_in}
@@ -26,42 +22,8 @@ use Rattle.misp_sync.specs.Steps.{IsBeside, cause_of, rows_with}
 use Rattle.misp_sync.specs.Trail.{IfOn}
 use Rattle.misp_sync.specs.declared.count.Tally.{Tally}
 use Rattle.misp_sync.specs.declared.reply.SyncReply.{SyncReply}
-use Rattle.misp_sync.specs.declared.replies.FetchFault.{FetchFault}
-
--- the bytes are a reply, and this is read so of its body
-pub record IsReadOf {A : Type 0} (reads : List ℕ → Result A FetchFault) (bytes : List ℕ) (x : A)
-    : Type 0 where
-  pub body : List ℕ
-  pub replied : IsReply bytes 200 body
-  pub is : reads body ≡ Ok x
-
--- nothing is read so of the bytes, unless memory ran out
-abbrev pub NoneIsRead : {A : Type 0} → (List ℕ → Result A FetchFault) → Refusal → List ℕ → Type 0
-NoneIsRead reads cause bytes = (x : _) → IsReadOf reads bytes x → cause ≡ bare RuleName.NoMemory
-
--- the same of a fault
-abbrev pub NoneIsFound : {A : Type 0} → (List ℕ → Result A FetchFault) → FetchFault → List ℕ
-    → Type 0
-NoneIsFound reads fault bytes = (x : _) → IsReadOf reads bytes x → fault ≡ FetchFault.NoMemory
-
--- a request had a reply of which this is read, or it had none, or one that lacks it
-abbrev pub Comes : {X A E : Type 0} → (X → A) → (List ℕ → Result A FetchFault)
-    → (E → List ℕ → Type 0) → Result X E → List (List ℕ) → Type 0
-Comes view reads lacks (Ok x) [] = ⊥
-Comes view reads lacks (Ok x) (request ∷ []) = ⊥
-Comes view reads lacks (Ok x) (request ∷ reply ∷ []) = IsReadOf reads reply (view x)
-Comes view reads lacks (Ok x) (request ∷ reply ∷ more ∷ trail) = ⊥
-Comes view reads lacks (Err e) [] = Unit {0}
-Comes view reads lacks (Err e) (request ∷ []) = Unit {0}
-Comes view reads lacks (Err e) (request ∷ reply ∷ []) = lacks e reply
-Comes view reads lacks (Err e) (request ∷ reply ∷ more ∷ trail) = ⊥
 
 -- ---- packages of an event
-
--- of the bytes nothing is taken: nothing is read of them, or memory ran out, or the own keeper failed
-abbrev pub IsNotTaken : {A : Type 0} → (List ℕ → Result A FetchFault) → Refusal → List ℕ → Type 0
-IsNotTaken reads cause bytes = (x : _) → IsReadOf reads bytes x
-    → (cause ≡ bare RuleName.NoMemory) ⊎ (cause ≡ bare RuleName.KeeperFault)
 
 -- packages of an event came from this number on, each in the reply to its request, with these rows
 abbrev pub AllCame : EventId → ℕ → List (List Row) → List (List ℕ) → Type 0
@@ -76,9 +38,8 @@ AllCame e n (rows ∷ ps) (request ∷ reply ∷ trail) =
 -- the same up to a request without a reply, or with one of which nothing is taken
 abbrev pub FirstCame : Refusal → EventId → ℕ → List (List Row) → List (List ℕ) → Type 0
 FirstCame cause e n [] [] = Unit {0}
-FirstCame cause e n [] (request ∷ []) = Unit {0}
-FirstCame cause e n [] (request ∷ reply ∷ []) = IsNotTaken (package_in e n) cause reply
-FirstCame cause e n [] (request ∷ reply ∷ more ∷ trail) = ⊥
+FirstCame cause e n [] (request ∷ trail) =
+    Ends (IsNotTaken (package_in e n) cause) (request ∷ trail)
 FirstCame cause e n (rows ∷ ps) [] = ⊥
 FirstCame cause e n (rows ∷ ps) (request ∷ []) = ⊥
 FirstCame cause e n (rows ∷ ps) (request ∷ reply ∷ trail) =
@@ -202,7 +163,7 @@ pub record EventsCome (here : Inst) (held : Option Held) (w : OrgId) (events : L
     (trail : List (List ℕ)) : Type 0 where
   pub sent : List (EventId × List (List Row))
   pub came : EventsBy cause events sent trail
-  pub put : IsStrictlySortedBy by_event events → IfSome held (λ own.
+  pub put : IfSome held (λ own.
       IsPut (events_batches here w (groups_of own) (seen_in own) sent) own new before after)
 
 -- ---- the pull
@@ -210,8 +171,7 @@ pub record EventsCome (here : Inst) (held : Option Held) (w : OrgId) (events : L
 -- no list of events came, and nothing is put
 abbrev pub IsUnlisted : Option Refusal → List (List ℕ) → Type 0
 IsUnlisted None trail = ⊥
-IsUnlisted (Some cause) trail =
-    Comes {X = List EventParts} (λ events. events) events_in (NoneIsRead events_in) (Err cause) trail
+IsUnlisted (Some cause) trail = Ends (IsCauseOf events_in cause) trail
 
 -- what is put of the rows: the events are those that the first reply lists
 abbrev pub RowsCome : Inst → Option Held → OrgId → Option Held → Tally → Tally → Option Refusal
@@ -225,10 +185,7 @@ RowsCome here held w new before after cause trail =
 -- no groups were taken
 abbrev pub IsGroupless : Option Refusal → List (List ℕ) → Type 0
 IsGroupless None trail = ⊥
-IsGroupless (Some cause) [] = Unit {0}
-IsGroupless (Some cause) (request ∷ []) = Unit {0}
-IsGroupless (Some cause) (request ∷ reply ∷ []) = IsNotTaken groups_in cause reply
-IsGroupless (Some cause) (request ∷ reply ∷ more ∷ trail) = ⊥
+IsGroupless (Some cause) trail = Ends (IsNotTaken groups_in cause) trail
 
 -- what is put: the groups of the first reply, in one batch, and then the rows
 abbrev pub AllCome : Inst → Option Held → OrgId → Option Held → Tally → Tally → Option Refusal

@@ -112,7 +112,8 @@ IsHandedReply key h old new bytes =
 abbrev pub IsLeftBy : Host → List ℕ → Handing → Held → Option Held → Type 0
 IsLeftBy peer key h held new =
     (new ≡ Some held)
-    ⊎ ((now : ℕ) × (reply : Reply) × Did (handed_there peer now key h (seen_in held)) held reply new)
+    ⊎ ((now : ℕ) × (reply : Reply)
+    × Did (handed_there peer now key h (seen_in held)) held reply new)
 
 -- no answer came
 pub record MayBeHanded (key : List ℕ) (h : Handing) (old new : Standing) : Type 0 where

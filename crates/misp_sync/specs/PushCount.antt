@@ -1,39 +1,24 @@
 -- What a push counts, by the replies to what it handed in.
-use Rattle.std.specs.Prelude.{◌≡◌, ◌⊎◌, ◌==◌, ℕ, cond, List, [], ◌∷◌, Result, Ok, Err}
-use Rattle.misp_ids.specs.Refusal.{bare}
+use Rattle.std.specs.Prelude.{◌≡◌, ◌⊎◌, ◌==◌, ℕ, cond, List, [], ◌∷◌, None, Some, Result}
 use Rattle.misp_ids.specs.declared.refusal.Refusal.{Refusal}
-use Rattle.misp_ids.specs.declared.refusal.RuleName.{RuleName}
-use Rattle.misp_http.specs.Reply.{IsReply}
+use Rattle.misp_sync.specs.Comes.{Comes, IsCauseOf, IsReadOf}
 use Rattle.misp_sync.specs.Counts.{no_tally, with_groups, with_rows}
 use Rattle.misp_sync.specs.Handing.{HandGroups, HandPart, Handing, most_in}
 use Rattle.misp_sync.specs.Replied.{taken_in}
 use Rattle.misp_sync.specs.declared.count.SyncCount.{SyncCount}
 use Rattle.misp_sync.specs.declared.count.Tally.{Tally}
+use Rattle.misp_sync.specs.declared.replies.FetchFault.{FetchFault}
 use Rattle.misp_sync.specs.declared.reply.SyncReply.{SyncReply}
 
 -- ---- one reply
 
--- the bytes are a reply that so many were taken, of at most so many
-pub record SaysTaken (most : ℕ) (bytes : List ℕ) (n : ℕ) : Type 0 where
-  pub body : List ℕ
-  pub replied : IsReply bytes 200 body
-  pub says : taken_in most body ≡ Ok n
+-- how many a body tells of what was handed in, of as many as there are at most
+abbrev pub said_of : Handing → List ℕ → Result ℕ FetchFault
+said_of h = taken_in (most_in h)
 
--- they say of none how many were taken, unless memory ran out
-abbrev pub IsUncounted : Refusal → ℕ → List ℕ → Type 0
-IsUncounted cause most bytes =
-    (n : ℕ) → SaysTaken most bytes n → cause ≡ bare RuleName.NoMemory
-
--- a hand-in had a reply that says so many, or none that says it
-abbrev pub IsSaid : Handing → Result ℕ Refusal → List (List ℕ) → Type 0
-IsSaid h (Ok n) [] = ⊥
-IsSaid h (Ok n) (request ∷ []) = ⊥
-IsSaid h (Ok n) (request ∷ reply ∷ []) = SaysTaken (most_in h) reply n
-IsSaid h (Ok n) (request ∷ reply ∷ more ∷ trail) = ⊥
-IsSaid h (Err cause) [] = Unit {0}
-IsSaid h (Err cause) (request ∷ []) = Unit {0}
-IsSaid h (Err cause) (request ∷ reply ∷ []) = IsUncounted cause (most_in h) reply
-IsSaid h (Err cause) (request ∷ reply ∷ more ∷ trail) = ⊥
+-- a hand-in had a reply that says so many, or it ended otherwise
+unfoldable pub IsSaid : Handing → Result ℕ Refusal → List (List ℕ) → Type 0
+IsSaid h result trail = Comes (λ n. n) (said_of h) (IsCauseOf (said_of h)) result trail
 
 -- ---- the replies to several
 
@@ -49,16 +34,17 @@ CountsAll [] (request ∷ trail) t end = ⊥
 CountsAll (h ∷ hs) [] t end = ⊥
 CountsAll (h ∷ hs) (request ∷ []) t end = ⊥
 CountsAll (h ∷ hs) (request ∷ reply ∷ trail) t end =
-    (n : ℕ) × SaysTaken (most_in h) reply n × CountsAll hs trail (tallied t h n) end
+    (n : ℕ) × IsReadOf (said_of h) reply n × CountsAll hs trail (tallied t h n) end
 
--- the first of these are, each by its reply, up to the reply that says of none how many were taken
+-- the first of these are, each by its reply, up to one without a reply that says it
 abbrev pub CountsFirst : Refusal → List Handing → List (List ℕ) → Tally → Tally → Type 0
 CountsFirst cause hs [] t end = end ≡ t
 CountsFirst cause [] (request ∷ trail) t end = ⊥
-CountsFirst cause (h ∷ hs) (request ∷ []) t end = end ≡ t
+CountsFirst cause (h ∷ hs) (request ∷ []) t end =
+    (end ≡ t) × IsCauseOf (said_of h) cause None
 CountsFirst cause (h ∷ hs) (request ∷ reply ∷ trail) t end =
-    ((trail ≡ []) × (end ≡ t) × IsUncounted cause (most_in h) reply)
-    ⊎ ((n : ℕ) × SaysTaken (most_in h) reply n × CountsFirst cause hs trail (tallied t h n) end)
+    ((trail ≡ []) × (end ≡ t) × IsCauseOf (said_of h) cause (Some reply))
+    ⊎ ((n : ℕ) × IsReadOf (said_of h) reply n × CountsFirst cause hs trail (tallied t h n) end)
 
 -- all where it is done
 abbrev pub CountsBy : SyncReply → List Handing → List (List ℕ) → Tally → Tally → Type 0

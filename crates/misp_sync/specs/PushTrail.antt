@@ -21,8 +21,8 @@ IsReplyWith key peer h bytes new =
     × Did (handed_there peer.0 now key h (seen_in peer.1)) peer.1 reply (Some new)
     × (bytes ≡ http_text reply true)
 
--- Who the peer is and what it holds is told then: it is what this reply left. Where nothing is told,
--- nothing is then.
+-- Who the peer is and what it holds is told then: it is what this reply left. Where nothing is
+-- told, nothing is then.
 abbrev pub Leaves : List ℕ → Option (Host × Held) → Handing → List ℕ
     → (Option (Host × Held) → Type 0) → Type 0
 Leaves key None h bytes P = P None
@@ -42,8 +42,8 @@ HandsIn key peer (h ∷ hs) (request ∷ reply ∷ trail) =
 abbrev pub AreAll : List Handing → List (List ℕ) → Type 0
 AreAll hs trail = length trail ≡ 2 * length hs
 
--- All of these were handed in, and answered, and this is told of the peer then; of a peer that tells
--- nothing nothing is said.
+-- All of these were handed in, and answered, and this is told of the peer then; of a peer that
+-- tells nothing nothing is said.
 abbrev pub Reaches : List ℕ → Option (Host × Held) → List Handing → List (List ℕ)
     → Option (Host × Held) → Type 0
 Reaches key peer [] [] next = (peer ≡ None) ⊎ (next ≡ peer)
@@ -65,9 +65,9 @@ HandsFor key peer next hs (Err e) trail = HandsIn key peer hs trail
 abbrev pub push_handings : List Group → List Package → List Handing
 push_handings groups packages = HandGroups groups ∷ map HandPart packages
 
--- The requests of a push over this link, from the first on, each with its reply: with the groups that
--- carry, and with each of the packages; all of them where it is done. What is counted is what the
--- replies say was taken.
+-- The requests of a push over this link, from the first on, each with its reply: with the groups
+-- that carry, and with each of the packages; all of them where it is done. What is counted is what
+-- the replies say was taken.
 pub record IsPushTrail (link : Link) (here : Standing) (peer : Option (Host × Held))
     (reply : SyncReply) (trail : List (List ℕ)) : Type 0 where
   pub groups : List Group

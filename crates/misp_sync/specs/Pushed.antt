@@ -145,5 +145,5 @@ counted_by stop lost n = n
 -- a stop leaves the batches that were put, and tells what those brought that were answered
 abbrev pub push_telling : Telling SyncReply
 push_telling stop n lost e =
-    effect (SyncReply.Stopped (count_of (take (counted_by stop lost n) e.batches)) (stop_refusal stop))
-    (take n e.batches)
+    effect (SyncReply.Stopped (count_of (take (counted_by stop lost n) e.batches))
+    (stop_refusal stop)) (take n e.batches)

@@ -1,6 +1,6 @@
 //! Asks a peer, and reads what it replies.
 
-ghost use Rattle.std.specs.Prelude.{◌≡◌, [], ◌∷◌, Err, IfErr, IfOk};
+ghost use Rattle.std.specs.Prelude.{◌≡◌, [], ◌∷◌, Some, Err, IfErr, IfOk, MatchResult};
 ghost use Rattle.std.specs.List.{AllByRecursion};
 ghost use Rattle.misp_ids.specs.Refusal.{bare};
 ghost use Rattle.misp_ids.specs.declared.refusal.RuleName.TheVariants as rules;
@@ -8,7 +8,7 @@ ghost use Rattle.misp_outside.specs.Causes.{HasCause};
 ghost use Rattle.misp_groups.specs.Group.{IsGroup};
 ghost use Rattle.misp_rules.specs.Package.{IsPackage};
 ghost use Rattle.misp_core.specs.Sound.{IsListed};
-ghost use Rattle.misp_sync.specs.Came.{Comes, IsReadOf, NoneIsFound, NoneIsRead};
+ghost use Rattle.misp_sync.specs.Comes.{Comes, IsCauseOf, IsFaultOf, IsReadOf};
 ghost use Rattle.misp_sync.specs.Replied.{Gives, IsBrought, IsOwn, ReadsReplyBy, events_in, groups_in, is_wanted, package_in};
 ghost use Rattle.misp_sync.specs.Serving.{Meet};
 ghost use Rattle.misp_sync.specs.Telling.{IsFetchCause, IsFetched, events_told, groups_told, part_told};
@@ -36,7 +36,8 @@ use std::alloc::Global;
 // The groups that the bytes of a reply bring.
 fn groups_replied(alloc: Global, bytes: &[u8]) -> Result<Vec<Group>, FetchFault>
     ensures read { ReadsReplyBy (λ groups. groups.items) groups_in bytes.now result }
-    ensures is { IfOk result (λ groups. IsReadOf groups_in bytes.now groups.items) }
+    ensures is { MatchResult result (λ groups. IsReadOf groups_in bytes.now groups.items)
+        (λ fault. IsFaultOf groups_in fault (Some bytes.now)) }
     ensures each { IfOk result (λ groups. AllByRecursion IsGroup groups.items) }
     ensures own { IfErr result IsOwn }
 {
@@ -57,7 +58,7 @@ fn groups_brought<W: Wire>(
     ensures trail { GrowsBy (W.trail wire.old) (W.trail wire.new)
         (AsksFor key.now (told_of (W.peer wire.old)) (queries.Groups ∷ []) result) }
     ensures came { GrowsBy (W.trail wire.old) (W.trail wire.new)
-        (Comes (λ groups. groups.items) groups_in (NoneIsFound groups_in) result) }
+        (Comes (λ groups. groups.items) groups_in (IsFaultOf groups_in) result) }
     ensures through { W.through wire.new ≡ W.through wire.old }
     ensures cause { HasCause (W.faults wire.old) (W.faults wire.new)
         (result ≡ Err faults.Link) }
@@ -74,7 +75,8 @@ fn groups_brought<W: Wire>(
 // The events that the bytes of a reply bring.
 fn events_replied(alloc: Global, bytes: &[u8]) -> Result<Vec<EventParts>, FetchFault>
     ensures read { ReadsReplyBy (λ events. events.items) events_in bytes.now result }
-    ensures is { IfOk result (λ events. IsReadOf events_in bytes.now events.items) }
+    ensures is { MatchResult result (λ events. IsReadOf events_in bytes.now events.items)
+        (λ fault. IsFaultOf events_in fault (Some bytes.now)) }
     ensures each { IfOk result (λ events. AllByRecursion IsListed events.items) }
     ensures own { IfErr result IsOwn }
 {
@@ -95,7 +97,7 @@ fn events_brought<W: Wire>(
     ensures trail { GrowsBy (W.trail wire.old) (W.trail wire.new)
         (AsksForList (λ events. events.items) key.now (told_of (W.peer wire.old)) result) }
     ensures came { GrowsBy (W.trail wire.old) (W.trail wire.new)
-        (Comes (λ events. events.items) events_in (NoneIsFound events_in) result) }
+        (Comes (λ events. events.items) events_in (IsFaultOf events_in) result) }
     ensures through { W.through wire.new ≡ W.through wire.old }
     ensures cause { HasCause (W.faults wire.old) (W.faults wire.new)
         (result ≡ Err faults.Link) }
@@ -145,7 +147,8 @@ fn part_replied(
     part: u32,
 ) -> Result<Package, FetchFault>
     ensures read { ReadsReplyBy (λ p. p) (package_in event part) bytes.now result }
-    ensures is { IfOk result (λ p. IsReadOf (package_in event part) bytes.now p) }
+    ensures is { MatchResult result (λ p. IsReadOf (package_in event part) bytes.now p)
+        (λ fault. IsFaultOf (package_in event part) fault (Some bytes.now)) }
     ensures fits { IfOk result IsPackage }
     ensures own { IfErr result IsOwn }
 {
@@ -168,7 +171,7 @@ fn part_brought<W: Wire>(
     ensures trail { GrowsBy (W.trail wire.old) (W.trail wire.new)
         (AsksFor key.now (told_of (W.peer wire.old)) (queries.Part event part ∷ []) result) }
     ensures came { GrowsBy (W.trail wire.old) (W.trail wire.new)
-        (Comes (λ p. p) (package_in event part) (NoneIsFound (package_in event part)) result) }
+        (Comes (λ p. p) (package_in event part) (IsFaultOf (package_in event part)) result) }
     ensures through { W.through wire.new ≡ W.through wire.old }
     ensures cause { HasCause (W.faults wire.old) (W.faults wire.new)
         (result ≡ Err faults.Link) }
@@ -192,7 +195,7 @@ pub(crate) fn fetch_groups<W: Wire>(
     ensures trail { GrowsBy (W.trail wire.old) (W.trail wire.new)
         (AsksFor key.now (told_of (W.peer wire.old)) (queries.Groups ∷ []) result) }
     ensures came { GrowsBy (W.trail wire.old) (W.trail wire.new)
-        (Comes (λ groups. groups.items) groups_in (NoneIsRead groups_in) result) }
+        (Comes (λ groups. groups.items) groups_in (IsCauseOf groups_in) result) }
     ensures through { W.through wire.new ≡ W.through wire.old }
     ensures cause { HasCause (W.faults wire.old) (W.faults wire.new)
         (result ≡ Err (bare rules.LinkFault)) }
@@ -215,7 +218,7 @@ pub(crate) fn fetch_events<W: Wire>(
     ensures trail { GrowsBy (W.trail wire.old) (W.trail wire.new)
         (AsksForList (λ events. events.items) key.now (told_of (W.peer wire.old)) result) }
     ensures came { GrowsBy (W.trail wire.old) (W.trail wire.new)
-        (Comes (λ events. events.items) events_in (NoneIsRead events_in) result) }
+        (Comes (λ events. events.items) events_in (IsCauseOf events_in) result) }
     ensures through { W.through wire.new ≡ W.through wire.old }
     ensures cause { HasCause (W.faults wire.old) (W.faults wire.new)
         (result ≡ Err (bare rules.LinkFault)) }
@@ -240,7 +243,7 @@ pub(crate) fn fetch_part<W: Wire>(
     ensures trail { GrowsBy (W.trail wire.old) (W.trail wire.new)
         (AsksFor key.now (told_of (W.peer wire.old)) (queries.Part event part ∷ []) result) }
     ensures came { GrowsBy (W.trail wire.old) (W.trail wire.new)
-        (Comes (λ p. p) (package_in event part) (NoneIsRead (package_in event part)) result) }
+        (Comes (λ p. p) (package_in event part) (IsCauseOf (package_in event part)) result) }
     ensures through { W.through wire.new ≡ W.through wire.old }
     ensures cause { HasCause (W.faults wire.old) (W.faults wire.new)
         (result ≡ Err (bare rules.LinkFault)) }

@@ -1,6 +1,6 @@
 //! Hands in groups and packages at a peer, and reads how many it took.
 
-ghost use Rattle.std.specs.Prelude.{◌≡◌, [], ◌∷◌, Err, IfErr, IfOk, IfSome, MatchResult, OnOk};
+ghost use Rattle.std.specs.Prelude.{◌≡◌, [], ◌∷◌, Some, Err, IfErr, IfOk, IfSome, MatchResult, OnOk};
 ghost use Rattle.std.specs.List.{AllByRecursion};
 ghost use Rattle.misp_ids.specs.Refusal.{bare};
 ghost use Rattle.misp_ids.specs.declared.refusal.RuleName.TheVariants as rules;
@@ -8,8 +8,9 @@ ghost use Rattle.misp_outside.specs.Causes.{HasCause};
 ghost use Rattle.misp_groups.specs.Group.{IsGroup};
 ghost use Rattle.misp_format.specs.WholeGroup.{groups_text};
 ghost use Rattle.misp_rules.specs.Package.{IsPackage};
+ghost use Rattle.misp_sync.specs.Comes.{IsFaultOf, IsReadOf};
 ghost use Rattle.misp_sync.specs.Handing.{HandGroups, HandPart, Handing, HoldsGroupsAlone, IsHandedReply, IsHanding, MayBeHanded, body_in, most_in, post_text, target_in};
-ghost use Rattle.misp_sync.specs.PushCount.{IsSaid, SaysTaken};
+ghost use Rattle.misp_sync.specs.PushCount.{IsSaid};
 ghost use Rattle.misp_sync.specs.PushSteps.{IsHanded};
 ghost use Rattle.misp_sync.specs.PushTrail.{HandsFor};
 ghost use Rattle.misp_sync.specs.Replied.{IsCutBy, IsOwn, ReadsReplyBy, taken_in};
@@ -64,7 +65,8 @@ fn post<W: PushWire>(
 // How many the bytes of a reply tell, of at most so many.
 fn taken_replied(alloc: Global, bytes: &[u8], most: u64) -> Result<u64, FetchFault>
     ensures read { ReadsReplyBy (λ n. n) (taken_in most) bytes.now result }
-    ensures says { IfOk result (SaysTaken most bytes.now) }
+    ensures says { MatchResult result (IsReadOf (taken_in most) bytes.now)
+        (λ fault. IsFaultOf (taken_in most) fault (Some bytes.now)) }
     ensures own { IfErr result IsOwn }
 {
     match accepted(alloc, bytes) {

@@ -20,8 +20,8 @@ ghost use Rattle.misp_sync.specs.Pushed.{push_telling, pushed};
 use misp_format::a_group_is_read_from_its_text;
 
 /// Where the keepers of two instances hold their tables and groups, a pull of the one from the
-/// other comes to what the history says. Whatever stopped it, its keeper holds afterwards what it is
-/// to hold after the act. No tables and no groups elsewhere change.
+/// other comes to what the history says. Whatever stopped it, its keeper holds afterwards what it
+/// is to hold after the act. No tables and no groups elsewhere change.
 pub fn an_instance_pulls_by_the_history()
     ensures told { (w : World) (here peer : Host) (link : Inst) (own there : Held) →
         Keeps here.name w own → Keeps peer.name w there →
@@ -51,8 +51,8 @@ pub fn an_instance_pulls_by_the_history()
 }
 
 /// Where the keepers of two instances hold their tables and groups, a push of the one to the other
-/// comes to what the history says. Whatever stopped it, the keeper of the other holds afterwards what
-/// it is to hold after the act. No tables and no groups elsewhere change.
+/// comes to what the history says. Whatever stopped it, the keeper of the other holds afterwards
+/// what it is to hold after the act. No tables and no groups elsewhere change.
 pub fn an_instance_pushes_by_the_history()
     ensures told { (w : World) (here peer : Host) (link : Inst) (own there : Held) →
         Keeps here.name w own → Keeps peer.name w there →

@@ -205,7 +205,8 @@ fn take_events<K: Keeper, W: Wire>(
         events.now ≡ map listed_of all → IsStrictlySortedBy by_event events.now →
         Takes (events_taken instance.old.name holder.now (groups_of own) (seen_in own) all)
         (ends None) own instance.new.held tally.old tally.new (cause_of result) }
-    ensures came { GrowsBy (W.trail wire.old) (W.trail wire.new) (EventsCome instance.old.name
+    ensures came { IsStrictlySortedBy by_event events.now →
+        GrowsBy (W.trail wire.old) (W.trail wire.new) (EventsCome instance.old.name
         instance.old.held holder.now events.now instance.new.held tally.old tally.new
         (cause_of result)) }
 {

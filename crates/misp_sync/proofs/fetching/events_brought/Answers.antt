@@ -10,8 +10,8 @@ use Rattle.misp_sync.proofs.Brought.{answered, meet_all}
 use Rattle.misp_sync.proofs.EventsTold.{events_fit}
 use Rattle.misp_sync.specs.Trail.{told_of}
 use Rattle.misp_sync.proofs.ListsTold.{list_failed, list_replied, lists_where}
-use Rattle.misp_sync.specs.Came.{NoneIsFound}
-use Rattle.misp_sync.proofs.Comings.{comes_read, comes_so}
+use Rattle.misp_sync.specs.Comes.{IsFaultOf}
+use Rattle.misp_sync.proofs.Comings.{comes_none, comes_so}
 use Rattle.misp_sync.proofs.fetching.events_brought.Goals as goal
 
 pub returns-in-Ok-clause-told : goal.returns-in-Ok-clause-told
@@ -38,5 +38,9 @@ returns-in-Err-clause-trail g c =
 
 pub returns-in-Ok-clause-came : goal.returns-in-Ok-clause-came
 returns-in-Ok-clause-came g c =
-    comes_so (λ (events : Vec EventParts Global). events.items) events_in (NoneIsFound events_in) (g.W.Wire.trail c.args.wire.now) (g.W.Wire.trail c.ask.new.wire) _ c.in-Ok.bytes.items c.events_replied.result
-    (comes_read (λ (events : Vec EventParts Global). events.items) events_in _ c.in-Ok.bytes.items c.events_replied.result (rw c.deref.ensures.value at c.events_replied.ensures.read) (rw c.deref.ensures.value at c.events_replied.ensures.is)) c.in-Ok.ensures.trail
+    comes_so (λ (events : Vec EventParts Global). events.items) events_in (IsFaultOf events_in) (g.W.Wire.trail c.args.wire.now) (g.W.Wire.trail c.ask.new.wire) _ c.in-Ok.bytes.items c.events_replied.result
+    (rw c.deref.ensures.value at c.events_replied.ensures.is) c.in-Ok.ensures.trail
+
+pub returns-in-Err-clause-came : goal.returns-in-Err-clause-came
+returns-in-Err-clause-came g c =
+    comes_none (λ (events : Vec EventParts Global). events.items) events_in (IsFaultOf events_in) (g.W.Wire.trail c.args.wire.now) (g.W.Wire.trail c.ask.new.wire) _ c.in-Err.fault c.in-Err.ensures.cut c.in-Err.ensures.trail

@@ -1,6 +1,7 @@
 use Rattle.std.proofs.Common.{ℕ, Vec, Global}
 use Rattle.misp_core.specs.declared.reply.EventParts.{EventParts}
 use Rattle.misp_sync.specs.Replied.{events_in}
+use Rattle.misp_sync.proofs.Comings.{body_faulty, body_read}
 use Rattle.misp_sync.proofs.ReadReplies.{read_err, read_ok}
 use Rattle.misp_sync.proofs.fetching.events_replied.Goals as goal
 
@@ -9,3 +10,9 @@ returns-in-Ok-clause-read c = read_ok {X = Vec EventParts Global} (λ events. ev
 
 pub returns-in-Err-clause-read : goal.returns-in-Err-clause-read
 returns-in-Err-clause-read c = read_err {V = Vec ℕ Global} {X = Vec EventParts Global} (λ body. body.items) (λ events. events.items) events_in c.args.bytes.now c.in-Err.fault c.in-Err.ensures
+
+pub returns-in-Ok-clause-is : goal.returns-in-Ok-clause-is
+returns-in-Ok-clause-is c = body_read {X = Vec EventParts Global} (λ events. events.items) events_in c.args.bytes.now c.deref.result.now c.read_events.result (rw c.deref.ensures.value c.in-Ok.ensures) c.read_events.ensures.gives
+
+pub returns-in-Err-clause-is : goal.returns-in-Err-clause-is
+returns-in-Err-clause-is c = body_faulty {V = Vec ℕ Global} (λ body. body.items) events_in c.args.bytes.now c.in-Err.fault c.in-Err.ensures

@@ -10,8 +10,8 @@ use Rattle.misp_sync.proofs.Brought.{answered, meet_all}
 use Rattle.misp_sync.proofs.GroupsTold.{groups_fit}
 use Rattle.misp_sync.specs.Trail.{told_of}
 use Rattle.misp_sync.proofs.Trails.{asks_failed, asks_replied}
-use Rattle.misp_sync.specs.Came.{NoneIsFound}
-use Rattle.misp_sync.proofs.Comings.{comes_read, comes_so}
+use Rattle.misp_sync.specs.Comes.{IsFaultOf}
+use Rattle.misp_sync.proofs.Comings.{comes_none, comes_so}
 use Rattle.misp_sync.proofs.fetching.groups_brought.Goals as goal
 
 pub returns-in-Ok-clause-told : goal.returns-in-Ok-clause-told
@@ -36,5 +36,9 @@ returns-in-Err-clause-trail g c =
 
 pub returns-in-Ok-clause-came : goal.returns-in-Ok-clause-came
 returns-in-Ok-clause-came g c =
-    comes_so (λ (groups : Vec Group Global). groups.items) groups_in (NoneIsFound groups_in) (g.W.Wire.trail c.args.wire.now) (g.W.Wire.trail c.ask.new.wire) _ c.in-Ok.bytes.items c.groups_replied.result
-    (comes_read (λ (groups : Vec Group Global). groups.items) groups_in _ c.in-Ok.bytes.items c.groups_replied.result (rw c.deref.ensures.value at c.groups_replied.ensures.read) (rw c.deref.ensures.value at c.groups_replied.ensures.is)) c.in-Ok.ensures.trail
+    comes_so (λ (groups : Vec Group Global). groups.items) groups_in (IsFaultOf groups_in) (g.W.Wire.trail c.args.wire.now) (g.W.Wire.trail c.ask.new.wire) _ c.in-Ok.bytes.items c.groups_replied.result
+    (rw c.deref.ensures.value at c.groups_replied.ensures.is) c.in-Ok.ensures.trail
+
+pub returns-in-Err-clause-came : goal.returns-in-Err-clause-came
+returns-in-Err-clause-came g c =
+    comes_none (λ (groups : Vec Group Global). groups.items) groups_in (IsFaultOf groups_in) (g.W.Wire.trail c.args.wire.now) (g.W.Wire.trail c.ask.new.wire) _ c.in-Err.fault c.in-Err.ensures.cut c.in-Err.ensures.trail

@@ -9,8 +9,8 @@ use Rattle.misp_sync.proofs.Brought.{answered, meet_all}
 use Rattle.misp_sync.proofs.PartsTold.{part_fit}
 use Rattle.misp_sync.specs.Trail.{told_of}
 use Rattle.misp_sync.proofs.Trails.{asks_failed, asks_replied}
-use Rattle.misp_sync.specs.Came.{NoneIsFound}
-use Rattle.misp_sync.proofs.Comings.{comes_read, comes_so}
+use Rattle.misp_sync.specs.Comes.{IsFaultOf}
+use Rattle.misp_sync.proofs.Comings.{comes_none, comes_so}
 use Rattle.misp_sync.proofs.fetching.part_brought.Goals as goal
 
 pub returns-in-Ok-clause-told : goal.returns-in-Ok-clause-told
@@ -37,5 +37,9 @@ returns-in-Err-clause-trail g c =
 
 pub returns-in-Ok-clause-came : goal.returns-in-Ok-clause-came
 returns-in-Ok-clause-came g c =
-    comes_so (λ (p : PackageFields). p) (package_in c.args.event c.args.part) (NoneIsFound (package_in c.args.event c.args.part)) (g.W.Wire.trail c.args.wire.now) (g.W.Wire.trail c.ask.new.wire) _ c.in-Ok.bytes.items c.part_replied.result
-    (comes_read (λ (p : PackageFields). p) (package_in c.args.event c.args.part) _ c.in-Ok.bytes.items c.part_replied.result (rw c.deref.ensures.value at c.part_replied.ensures.read) (rw c.deref.ensures.value at c.part_replied.ensures.is)) c.in-Ok.ensures.trail
+    comes_so (λ (p : PackageFields). p) (package_in c.args.event c.args.part) (IsFaultOf (package_in c.args.event c.args.part)) (g.W.Wire.trail c.args.wire.now) (g.W.Wire.trail c.ask.new.wire) _ c.in-Ok.bytes.items c.part_replied.result
+    (rw c.deref.ensures.value at c.part_replied.ensures.is) c.in-Ok.ensures.trail
+
+pub returns-in-Err-clause-came : goal.returns-in-Err-clause-came
+returns-in-Err-clause-came g c =
+    comes_none (λ (p : PackageFields). p) (package_in c.args.event c.args.part) (IsFaultOf (package_in c.args.event c.args.part)) (g.W.Wire.trail c.args.wire.now) (g.W.Wire.trail c.ask.new.wire) _ c.in-Err.fault c.in-Err.ensures.cut c.in-Err.ensures.trail

@@ -5,7 +5,7 @@ use Rattle.misp_sync.specs.PushSteps.{IsHanded}
 use Rattle.misp_sync.specs.Replied.{ReadsReplyBy, taken_in}
 use Rattle.misp_sync.proofs.Brought.{meet_all}
 use Rattle.misp_sync.proofs.HandedOver.{bytes_err, bytes_ok}
-use Rattle.misp_sync.proofs.PushCounts.{said_err, said_none, said_ok, uncounted}
+use Rattle.misp_sync.proofs.PushCounts.{said_err, said_none, said_ok}
 use Rattle.misp_sync.proofs.handing.hand.Goals as goal
 
 pub returns-in-Ok-taken_replied-clause-told : goal.returns-in-Ok-taken_replied-clause-told
@@ -34,8 +34,8 @@ returns-in-Ok-taken_replied-clause-said g c = λ h most.
 
 pub returns-in-Ok-clause-said : goal.returns-in-Ok-clause-said
 returns-in-Ok-clause-said g c = λ h most.
-    said_err h (g.W.PushWire.trail c.args.wire.now) (g.W.PushWire.trail c.post.new.wire) _ c.in-Ok.bytes.items c.args.most c.refusal.result most
-    (uncounted c.in-Err-taken_replied.fault c.refusal.result c.args.most c.in-Ok.bytes.items c.refusal.ensures (rw c.deref.ensures.value at c.in-Err-taken_replied.ensures.read)) c.in-Ok.ensures.trail
+    said_err h (g.W.PushWire.trail c.args.wire.now) (g.W.PushWire.trail c.post.new.wire) _ c.in-Ok.bytes.items c.args.most c.in-Err-taken_replied.fault c.refusal.result most c.refusal.ensures
+    (rw c.deref.ensures.value at c.in-Err-taken_replied.ensures.says) c.in-Ok.ensures.trail
 
 pub returns-clause-said : goal.returns-clause-said
-returns-clause-said g c = λ h most. said_none h (g.W.PushWire.trail c.args.wire.now) (g.W.PushWire.trail c.post.new.wire) _ _ c.in-Err.ensures.trail
+returns-clause-said g c = λ h most. said_none h (g.W.PushWire.trail c.args.wire.now) (g.W.PushWire.trail c.post.new.wire) _ c.in-Err.fault c.refusal-in-Err.result c.refusal-in-Err.ensures c.in-Err.ensures.cut c.in-Err.ensures.trail

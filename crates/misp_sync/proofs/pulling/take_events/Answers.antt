@@ -57,11 +57,11 @@ returns-clause-trail g c =
     (queries_all c.args.events.now c.loop-listed.listed-index c.loop-listed-test.false) c.loop-listed.invariant.trail
 
 pub returns-in-Err-clause-came : goal.returns-in-Err-clause-came
-returns-in-Err-clause-came g c =
+returns-in-Err-clause-came g c = λ up.
     grows_stop c.args.instance.now.name _ c.loop-listed.invariant.step.name c.args.instance.now.held c.loop-listed.instance.held c.take_event.new.instance.held c.args.holder.now c.args.events.now c.loop-listed.listed-index _ _ c.loop-listed-test.true refl c.args.tally.now c.loop-listed.tally c.take_event.new.tally
-    (g.W.Wire.trail c.args.wire.now) (g.W.Wire.trail c.loop-listed.wire) (g.W.Wire.trail c.take_event.new.wire) c.loop-listed.invariant.came c.in-Err.cause c.in-Err.ensures.came
+    (g.W.Wire.trail c.args.wire.now) (g.W.Wire.trail c.loop-listed.wire) (g.W.Wire.trail c.take_event.new.wire) c.loop-listed.invariant.came up c.in-Err.cause c.in-Err.ensures.came
 
 pub returns-clause-came : goal.returns-clause-came
-returns-clause-came g c =
+returns-clause-came g c = λ up.
     grows_so (g.W.Wire.trail c.args.wire.now) (g.W.Wire.trail c.loop-listed.wire) (EventsFar c.args.instance.now.name c.args.instance.now.held c.args.holder.now c.args.events.now c.loop-listed.listed-index c.loop-listed.instance.held c.args.tally.now c.loop-listed.tally) (EventsCome c.args.instance.now.name c.args.instance.now.held c.args.holder.now c.args.events.now c.loop-listed.instance.held c.args.tally.now c.loop-listed.tally None)
-    (λ trail far. events_whole c.args.instance.now.name c.args.instance.now.held c.loop-listed.instance.held c.args.holder.now c.args.events.now c.loop-listed.listed-index c.args.tally.now c.loop-listed.tally trail c.loop-listed-test.false far) c.loop-listed.invariant.came
+    (λ trail far. events_whole c.args.instance.now.name c.args.instance.now.held c.loop-listed.instance.held c.args.holder.now c.args.events.now c.loop-listed.listed-index c.args.tally.now c.loop-listed.tally trail up c.loop-listed-test.false far) c.loop-listed.invariant.came

@@ -13,7 +13,8 @@ use Rattle.misp_sync.proofs.PeerTold.{part_fetched}
 use Rattle.misp_sync.proofs.Standings.{part_tell, step_done, step_fetched, step_stopped, step_then}
 use Rattle.misp_sync.specs.Trail.{told_of}
 use Rattle.misp_sync.proofs.Trails.{asks_then_ends}
-use Rattle.misp_sync.specs.Came.{Comes, NoneIsRead, PartsCome}
+use Rattle.misp_sync.specs.Came.{PartsCome}
+use Rattle.misp_sync.specs.Comes.{Comes, IsCauseOf}
 use Rattle.misp_sync.specs.Replied.{package_in}
 use Rattle.misp_sync.proofs.PartsCame.{event_came, none_all, none_came, one_came, one_failed, parcel_came}
 use Rattle.misp_sync.proofs.Trails.{grows_so}
@@ -75,7 +76,7 @@ returns-clause-trail g c =
 pub returns-in-Err-clause-came : goal.returns-in-Err-clause-came
 returns-in-Err-clause-came g c =
     grows_so (g.W.Wire.trail c.args.wire.now) (g.W.Wire.trail c.fetch_part.new.wire)
-    (Comes {X = Package} (λ (p : Package). p) (package_in c.args.event c.args.part) (NoneIsRead (package_in c.args.event c.args.part)) (Err c.in-Err.cause))
+    (Comes {X = Package} (λ (p : Package). p) (package_in c.args.event c.args.part) (IsCauseOf (package_in c.args.event c.args.part)) (Err c.in-Err.cause))
     (PartsCome c.args.instance.now.name c.args.instance.now.held c.args.landing c.args.event c.args.part 1 c.args.instance.now.held c.args.tally.now c.args.tally.now (Err c.in-Err.cause))
     (λ trail k. record {
       parts = [];
@@ -87,11 +88,11 @@ returns-in-Err-clause-came g c =
 pub returns-clause-came : goal.returns-clause-came
 returns-clause-came g c =
     grows_so (g.W.Wire.trail c.args.wire.now) (g.W.Wire.trail c.fetch_part.new.wire)
-    (Comes {X = Package} (λ (p : Package). p) (package_in c.args.event c.args.part) (NoneIsRead (package_in c.args.event c.args.part)) (Ok c.in-Ok.package))
+    (Comes {X = Package} (λ (p : Package). p) (package_in c.args.event c.args.part) (IsCauseOf (package_in c.args.event c.args.part)) (Ok c.in-Ok.package))
     (PartsCome c.args.instance.now.name c.args.instance.now.held c.args.landing c.args.event c.args.part 1 c.take_package.new.self.held c.args.tally.now c.args.tally.now (Err c.stopped.result))
     (λ trail k. record {
       parts = [];
-      came = one_failed (NoneIsRead (package_in c.args.event c.args.part)) c.args.event c.args.part c.in-Ok.package c.in-Err-take_package.fault c.stopped.result c.stopped.ensures trail k;
+      came = one_failed (IsCauseOf (package_in c.args.event c.args.part)) c.args.event c.args.part c.in-Ok.package c.in-Err-take_package.fault c.stopped.result c.stopped.ensures trail k;
       whole = tt;
       put = none_all c.args.instance.now.name c.args.instance.now.held c.take_package.new.self.held c.args.landing c.args.event c.args.tally.now c.stopped.result c.in-Err-take_package.ensures.err;
     }) c.in-Ok.ensures.came
@@ -100,13 +101,13 @@ pub returns-in-Ok-take_package-clause-came : goal.returns-in-Ok-take_package-cla
 returns-in-Ok-take_package-clause-came g c =
     let took = c.in-Ok-take_package.ensures in
     grows_so (g.W.Wire.trail c.args.wire.now) (g.W.Wire.trail c.fetch_part.new.wire)
-    (Comes {X = Package} (λ (p : Package). p) (package_in c.args.event c.args.part) (NoneIsRead (package_in c.args.event c.args.part)) (Ok c.in-Ok.package))
+    (Comes {X = Package} (λ (p : Package). p) (package_in c.args.event c.args.part) (IsCauseOf (package_in c.args.event c.args.part)) (Ok c.in-Ok.package))
     (PartsCome c.args.instance.now.name c.args.instance.now.held c.args.landing c.args.event c.args.part 1 c.take_package.new.self.held c.args.tally.now _ (Ok c.in-Ok-take_package.landed.landing))
     (λ trail k. record {
       parts = c.in-Ok.package.rows ∷ [];
-      came = one_came (NoneIsRead (package_in c.args.event c.args.part)) c.args.event c.args.part c.in-Ok.package trail k;
+      came = one_came (IsCauseOf (package_in c.args.event c.args.part)) c.args.event c.args.part c.in-Ok.package trail k;
       whole = refl;
       put = parcel_came c.args.instance.now.name c.args.landing c.in-Ok-take_package.landed.landing c.in-Ok.package c.take_package.new.self.held c.args.tally.now _ c.in-Ok-take_package.landed.rows
-          (subst IsPackage c.package.view_is c.package.invariant) (rw (sym (event_came (NoneIsRead (package_in c.args.event c.args.part)) c.args.event c.args.part c.in-Ok.package trail k)) at c.add_rows.ensures) c.args.event c.args.instance.now.held
-          (event_came (NoneIsRead (package_in c.args.event c.args.part)) c.args.event c.args.part c.in-Ok.package trail k) took.put took.count took.landing;
+          (subst IsPackage c.package.view_is c.package.invariant) (rw (sym (event_came (IsCauseOf (package_in c.args.event c.args.part)) c.args.event c.args.part c.in-Ok.package trail k)) at c.add_rows.ensures) c.args.event c.args.instance.now.held
+          (event_came (IsCauseOf (package_in c.args.event c.args.part)) c.args.event c.args.part c.in-Ok.package trail k) took.put took.count took.landing;
     }) c.in-Ok.ensures.came

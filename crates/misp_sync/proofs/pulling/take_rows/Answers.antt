@@ -74,4 +74,4 @@ returns-in-Ok-clause-came g c =
 pub returns-in-Err-clause-came : goal.returns-in-Err-clause-came
 returns-in-Err-clause-came g c =
     came_unlisted (λ (events : Vec EventParts Global). events.items) c.args.instance.now.name c.args.instance.now.held c.args.instance.now.held c.args.holder.now c.args.tally.now c.args.tally.now
-    (g.W.Wire.trail c.args.wire.now) (g.W.Wire.trail c.fetch_events.new.wire) (g.W.Wire.trail c.fetch_events.new.wire) c.in-Err.cause c.in-Err.ensures.came
+    (g.W.Wire.trail c.args.wire.now) (g.W.Wire.trail c.fetch_events.new.wire) c.in-Err.cause c.in-Err.ensures.came
