@@ -12,8 +12,11 @@ use Rattle.misp_effects.specs.KeeperStates.{state_at}
 use Rattle.misp_effects.proofs.Courses.{run_kept}
 use Rattle.misp_effects.proofs.KeeperStates.{all_kept}
 use Rattle.misp_core.specs.Prelude.{Held, Standing, seen_in}
+use Rattle.misp_store.specs.declared.reach.Reach.{Reach}
+use Rattle.misp_sync.specs.Comes.{IsBadRow}
 use Rattle.misp_sync.specs.Pulled.{bar_of}
-use Rattle.misp_sync.specs.PushTrail.{IsPushTrail}
+use Rattle.misp_sync.specs.PushCount.{CountsTo}
+use Rattle.misp_sync.specs.PushTrail.{IsPushTrail, push_handings}
 use Rattle.misp_sync.specs.Pushed.{groups_carried, packages_sent}
 use Rattle.misp_sync.specs.Trail.{GrowsBy, IfOn, IsPullTrail}
 use Rattle.misp_sync.specs.declared.reply.SyncReply.{SyncReply}
@@ -105,7 +108,7 @@ on_held link one two peer reply trail held name is = record {
       subst (λ n. IfSome two.held (λ own. packages_sent n link (seen_in own) ≡ Ok is.packages)) (sym name)
       (subst (λ o. IfSome o (λ own. packages_sent one.name link (seen_in own) ≡ Ok is.packages)) (sym held) (is.packages_are beyond));
   whole = is.whole;
-  counts = is.counts;
+  counts = subst (λ o. CountsTo (IsBadRow o Reach.All) reply (push_handings is.groups is.packages) trail) (sym held) is.counts;
 }
 
 if_on : (on : Bool) (P Q : Trail → Type 0) → ((more : Trail) → P more → Q more) → (trail : Trail) → IfOn on P trail → IfOn on Q trail

@@ -1,9 +1,14 @@
 -- What comes of a request, by the bytes of its reply.
-use Rattle.std.proofs.Common.{◌≡◌, ◌⊎◌, ℕ, List, [], ◌∷◌, Option, Some, None, Result, Ok, Err, refl, sym, ap, subst, ◌∙◌, inl, inr, MatchResult}
+use Rattle.std.proofs.Common.{◌≡◌, ◌⊎◌, ℕ, List, [], ◌∷◌, Option, Some, None, Result, Ok, Err, refl, sym, ap, subst, ◌∙◌, inl, inr, IfSome, MatchResult}
 use Rattle.misp_ids.specs.declared.refusal.Refusal.{Refusal}
 use Rattle.misp_http.specs.Reply.{IsReply}
-use Rattle.misp_sync.specs.Comes.{Comes, Ends, IsCauseOf, IsFaultOf, IsReadOf}
+use Rattle.misp_store.specs.Loading.{NamesFault}
+use Rattle.misp_store.specs.declared.fault.LoadFault.{LoadFault}
+use Rattle.misp_store.specs.declared.reach.Reach.{Reach}
+use Rattle.misp_core.specs.Prelude.{Held, seen_in}
+use Rattle.misp_sync.specs.Comes.{Comes, Ends, IsBadRow, IsCauseOf, IsFaultOf, IsReadOf, IsUnasked}
 use Rattle.misp_sync.specs.Replied.{Fails, Gives, ReadsBody, Refuses, Tells, refusal_of}
+use Rattle.misp_sync.specs.Steps.{IsUnread}
 use Rattle.misp_sync.specs.Trail.{GrowsBy, IsUnanswered}
 use Rattle.misp_sync.specs.declared.replies.FetchFault.{FetchFault}
 use Rattle.misp_sync.proofs.ReadReplies.{told_refused}
@@ -95,3 +100,18 @@ module _ {X A : Type 0} (view : X → A) (reads : List ℕ → Result A FetchFau
   fetched_err fault cause tells grows =
       grows_so a b (Comes {X = X} view reads (IsFaultOf reads) (Err fault)) (Comes {X = X} view reads (IsCauseOf reads) (Err cause))
       (λ trail k. ends_so (IsFaultOf reads fault) (IsCauseOf reads cause) (λ reply is. caused reads fault cause reply tells is) trail k) grows
+
+-- ---- nothing was asked for
+
+-- where more can be the row
+pub unasked_so : (Bad More : Refusal → Type 0) → ((cause : Refusal) → Bad cause → More cause) → (cause : Refusal) → IsUnasked Bad cause → IsUnasked More cause
+unasked_so Bad More h cause (inl cut) = inl cut
+unasked_so Bad More h cause (inr (inl keeper)) = inr (inl keeper)
+unasked_so Bad More h cause (inr (inr bad)) = inr (inr (h cause bad))
+
+-- what is held here was not read
+pub unasked_here : (held : Option Held) (reach : Reach) (fault : LoadFault) (cause : Refusal) → IfSome held (λ own. NamesFault ((seen_in own).rows reach) fault) → IsUnread fault cause → IsUnasked (IsBadRow held reach) cause
+unasked_here held reach LoadFault.KeeperFault cause names is = inr (inl is)
+unasked_here held reach LoadFault.NoMemory cause names is = inl (inr is)
+unasked_here held reach (LoadFault.BadRow name) cause names (inl is) = inr (inr (name, is, names))
+unasked_here held reach (LoadFault.BadRow name) cause names (inr is) = inl (inr is)

@@ -1,5 +1,5 @@
 -- Packages of events that came, and what is put of them.
-use Rattle.std.proofs.Common.{◌≡◌, ℕ, zero, suc, ◌+◌, ◌<◌, ◌≤◌, false, List, [], ◌∷◌, ◌++◌, drop, take, get_or, length, map, Option, None, Some, refl, sym, ap, subst, ◌∙◌, inl, inr, arith, append-nil, append_assoc, IfSome, eqb, Less, nat_cmp}
+use Rattle.std.proofs.Common.{◌≡◌, ℕ, zero, suc, ◌+◌, ◌<◌, ◌≤◌, false, List, [], ◌∷◌, ◌++◌, drop, take, get_or, length, map, Option, None, Some, Err, refl, sym, ap, subst, ◌∙◌, inl, inr, arith, append-nil, append_assoc, IfSome, eqb, Less, nat_cmp}
 use Rattle.std.proofs.lemmas.List.{take-append-drop}
 use Rattle.std.proofs.Math.Seq.{take-suc}
 use Rattle.std.specs.List.{AllByRecursion}
@@ -13,10 +13,12 @@ use Rattle.misp_core.specs.Prelude.{EventId, Group, Inst, OrgId, Row, Seen, grou
 use Rattle.misp_core.specs.Sound.{by_event}
 use Rattle.misp_core.specs.declared.reply.EventParts.{EventParts}
 use Rattle.misp_sync.specs.Came.{AllCame, EventPut, EventsBy, EventsCome, FirstCame, IsPut, OwnEventComes, event_batches, events_batches}
+use Rattle.misp_sync.specs.Comes.{IsBadRow}
 use Rattle.misp_sync.specs.Counts.{tally}
 use Rattle.misp_sync.specs.Steps.{IsBeside}
 use Rattle.misp_sync.specs.declared.count.Tally.{Tally}
 use Rattle.misp_sync.proofs.PartLoop.{drop_all}
+use Rattle.misp_sync.proofs.PartsCame.{came_more}
 use Rattle.misp_sync.specs.Trail.{GrowsBy}
 use Rattle.misp_sync.proofs.Takings.{put_more, tally_more}
 use Rattle.misp_sync.proofs.Trails.{grows_then}
@@ -26,20 +28,20 @@ Sent = EventId × List (List Row)
 
 -- ---- what came
 
-pub events_snoc : (ls : List EventParts) (xs : List Sent) (k m : List (List ℕ)) (l : EventParts) (ps : List (List Row)) → EventsBy None ls xs k → AllCame l.event 0 ps m → length ps ≡ l.parts → EventsBy None (ls ++ l ∷ []) (xs ++ (l.event, ps) ∷ []) (k ++ m)
-events_snoc [] [] k m l ps none came many = (m, [], ap (λ t. t ++ m) none ∙ sym (append-nil m), refl, many, came, refl)
-events_snoc [] (x ∷ xs) k m l ps a came many = absurd a
-events_snoc (e ∷ ls) [] k m l ps a came many = absurd a
-events_snoc (e ∷ ls) (x ∷ xs) k m l ps a came many =
-    (a.0, a.1 ++ m, ap (λ t. t ++ m) a.2 ∙ append_assoc a.0 a.1 m, a.3, a.4, a.5, events_snoc ls xs a.1 m l ps a.6 came many)
+pub events_snoc : (Bad : EventId → Refusal → Type 0) (ls : List EventParts) (xs : List Sent) (k m : List (List ℕ)) (l : EventParts) (ps : List (List Row)) → EventsBy Bad None ls xs k → AllCame l.event 0 ps m → length ps ≡ l.parts → EventsBy Bad None (ls ++ l ∷ []) (xs ++ (l.event, ps) ∷ []) (k ++ m)
+events_snoc Bad [] [] k m l ps none came many = (m, [], ap (λ t. t ++ m) none ∙ sym (append-nil m), refl, many, came, refl)
+events_snoc Bad [] (x ∷ xs) k m l ps a came many = absurd a
+events_snoc Bad (e ∷ ls) [] k m l ps a came many = absurd a
+events_snoc Bad (e ∷ ls) (x ∷ xs) k m l ps a came many =
+    (a.0, a.1 ++ m, ap (λ t. t ++ m) a.2 ∙ append_assoc a.0 a.1 m, a.3, a.4, a.5, events_snoc Bad ls xs a.1 m l ps a.6 came many)
 
-pub events_end : (ls more : List EventParts) (xs : List Sent) (k m : List (List ℕ)) (l : EventParts) (ps : List (List Row)) (cause : Refusal) → EventsBy None ls xs k → FirstCame cause l.event 0 ps m
-    → EventsBy (Some cause) ((ls ++ l ∷ []) ++ more) (xs ++ (l.event, ps) ∷ []) (k ++ m)
-events_end [] more [] k m l ps cause none came = inl (refl, refl, subst (λ t. FirstCame cause l.event 0 ps (t ++ m)) (sym none) came)
-events_end [] more (x ∷ xs) k m l ps cause a came = absurd a
-events_end (e ∷ ls) more [] k m l ps cause a came = absurd a
-events_end (e ∷ ls) more (x ∷ xs) k m l ps cause a came =
-    inr (a.0, a.1 ++ m, ap (λ t. t ++ m) a.2 ∙ append_assoc a.0 a.1 m, a.3, a.4, a.5, events_end ls more xs a.1 m l ps cause a.6 came)
+pub events_end : (Bad : EventId → Refusal → Type 0) (ls more : List EventParts) (xs : List Sent) (k m : List (List ℕ)) (l : EventParts) (ps : List (List Row)) (cause : Refusal) → EventsBy Bad None ls xs k → FirstCame (Bad l.event) cause l.event 0 ps m
+    → EventsBy Bad (Some cause) ((ls ++ l ∷ []) ++ more) (xs ++ (l.event, ps) ∷ []) (k ++ m)
+events_end Bad [] more [] k m l ps cause none came = inl (refl, refl, subst (λ t. FirstCame (Bad l.event) cause l.event 0 ps (t ++ m)) (sym none) came)
+events_end Bad [] more (x ∷ xs) k m l ps cause a came = absurd a
+events_end Bad (e ∷ ls) more [] k m l ps cause a came = absurd a
+events_end Bad (e ∷ ls) more (x ∷ xs) k m l ps cause a came =
+    inr (a.0, a.1 ++ m, ap (λ t. t ++ m) a.2 ∙ append_assoc a.0 a.1 m, a.3, a.4, a.5, events_end Bad ls more xs a.1 m l ps cause a.6 came)
 
 -- ---- events that are apart
 
@@ -59,11 +61,11 @@ apart_before (l ∷ ls) (suc n) none up lt =
     let more : n < length ls = omega (arith, lt) in
     (less_apart l.event.0.0 (get_or ls n none).event.0.0 (all_at (λ y. by_event l y ≡ Less) ls n none up.0 more), apart_before ls n none up.1 more)
 
-pub sent_apart : (ls : List EventParts) (xs : List Sent) (trail : List (List ℕ)) (e : EventId) → EventsBy None ls xs trail → AllByRecursion (λ l. same_event l.event e ≡ false) ls → AllByRecursion (λ x. same_event x.0 e ≡ false) xs
-sent_apart [] [] trail e a apart = tt
-sent_apart [] (x ∷ xs) trail e a apart = absurd a
-sent_apart (l ∷ ls) [] trail e a apart = absurd a
-sent_apart (l ∷ ls) (x ∷ xs) trail e a apart = (subst (λ (f : EventId). same_event f e ≡ false) (sym a.3) apart.0, sent_apart ls xs a.1 e a.6 apart.1)
+pub sent_apart : (Bad : EventId → Refusal → Type 0) (ls : List EventParts) (xs : List Sent) (trail : List (List ℕ)) (e : EventId) → EventsBy Bad None ls xs trail → AllByRecursion (λ l. same_event l.event e ≡ false) ls → AllByRecursion (λ x. same_event x.0 e ≡ false) xs
+sent_apart Bad [] [] trail e a apart = tt
+sent_apart Bad [] (x ∷ xs) trail e a apart = absurd a
+sent_apart Bad (l ∷ ls) [] trail e a apart = absurd a
+sent_apart Bad (l ∷ ls) (x ∷ xs) trail e a apart = (subst (λ (f : EventId). same_event f e ≡ false) (sym a.3) apart.0, sent_apart Bad ls xs a.1 e a.6 apart.1)
 
 -- ---- what is put
 
@@ -122,10 +124,14 @@ module _ (here : Inst) (w : OrgId) (sent : List Sent) (e : EventId) (ps : List (
 
 -- ---- the loop
 
+-- of an event a row that is held here does not decode
+abbrev pub bad_row_of : Option Held → OrgId → EventId → Refusal → Type 0
+bad_row_of held w e = IsBadRow held (Reach.Own w e)
+
 -- of the first of the events
 pub record EventsFar (here : Inst) (held : Option Held) (w : OrgId) (events : List EventParts) (n : ℕ) (new : Option Held) (s t : Tally) (trail : List (List ℕ)) : Type 0 where
   pub sent : List Sent
-  pub came : EventsBy None (take n events) sent trail
+  pub came : EventsBy (bad_row_of held w) None (take n events) sent trail
   pub put : IsStrictlySortedBy by_event events → IfSome held (λ own. EventsPut here w sent own new s t)
 
 pub events_none : (here : Inst) (held : Option Held) (w : OrgId) (events : List EventParts) (s : Tally) → EventsFar here held w events 0 held s s []
@@ -148,12 +154,13 @@ module _ (here : Inst) (held mid new : Option Held) (w : OrgId) (events : List E
   more_put cause next up None k = tt
   more_put cause next up (Some own) k =
       let apart = subst (λ (l : EventParts). AllByRecursion (λ e. same_event e.event l.event ≡ false) (take n events)) (sym at) (apart_before events n none up lt) in
-      one_more here w far.sent listed.event next.parts own mid new s t u (sent_apart (take n events) far.sent xs listed.event far.came apart) k next.put
+      one_more here w far.sent listed.event next.parts own mid new s t u (sent_apart (bad_row_of held w) (take n events) far.sent xs listed.event far.came apart) k next.put
 
   pub events_far : OwnEventComes here mid w listed new t u None ys → EventsFar here held w events (n + 1) new s u (xs ++ ys)
   events_far next = record {
     sent = far.sent ++ (listed.event, next.parts) ∷ [];
-    came = subst (λ ls. EventsBy None ls (far.sent ++ (listed.event, next.parts) ∷ []) (xs ++ ys)) (sym events_next) (events_snoc (take n events) far.sent xs ys listed next.parts far.came next.came (next.whole refl));
+    came = subst (λ ls. EventsBy (bad_row_of held w) None ls (far.sent ++ (listed.event, next.parts) ∷ []) (xs ++ ys)) (sym events_next)
+        (events_snoc (bad_row_of held w) (take n events) far.sent xs ys listed next.parts far.came next.came (next.whole refl));
     put = λ up. more_put None next up held (far.put up);
   }
 
@@ -161,11 +168,23 @@ module _ (here : Inst) (held mid new : Option Held) (w : OrgId) (events : List E
   only_put sent None k = tt
   only_put sent (Some own) k = k.put
 
+  -- what an event that was not come to yet has is as it was
+  bad_then : IsStrictlySortedBy by_event events → (name : List ℕ) (o : Option Held) → IfSome o (λ own. EventsPut here w far.sent own mid s t) → IfSome mid (λ h. (seen_in h).rows (Reach.Own w listed.event) ≡ Err name)
+      → IfSome o (λ own. (seen_in own).rows (Reach.Own w listed.event) ≡ Err name)
+  bad_then up name None k bad = tt
+  bad_then up name (Some own) k bad =
+      let middle : Held = put_batches (map spelled (events_batches here w (groups_of own) (seen_in own) far.sent)) own in
+      let near : IsBesideAll w far.sent own middle = subst (λ (o : Option Held). IfSome o (IsBesideAll w far.sent own)) k.put.held k.beside in
+      let told : (seen_in middle).rows (Reach.Own w listed.event) ≡ Err name = subst (λ (o : Option Held). IfSome o (λ h. (seen_in h).rows (Reach.Own w listed.event) ≡ Err name)) k.put.held bad in
+      let apart = subst (λ (l : EventParts). AllByRecursion (λ e. same_event e.event l.event ≡ false) (take n events)) (sym at) (apart_before events n none up lt) in
+      sym (near.rows listed.event (sent_apart (bad_row_of held w) (take n events) far.sent xs listed.event far.came apart)) ∙ told
+
   pub events_stop : IsStrictlySortedBy by_event events → (cause : Refusal) → OwnEventComes here mid w listed new t u (Some cause) ys → EventsCome here held w events new s u (Some cause) (xs ++ ys)
   events_stop up cause next = record {
     sent = far.sent ++ (listed.event, next.parts) ∷ [];
-    came = subst (λ ls. EventsBy (Some cause) ls (far.sent ++ (listed.event, next.parts) ∷ []) (xs ++ ys)) (ap (λ ls. ls ++ drop (n + 1) events) (sym events_next) ∙ take-append-drop (n + 1) events)
-        (events_end (take n events) (drop (n + 1) events) far.sent xs ys listed next.parts cause far.came next.came);
+    came = subst (λ ls. EventsBy (bad_row_of held w) (Some cause) ls (far.sent ++ (listed.event, next.parts) ∷ []) (xs ++ ys)) (ap (λ ls. ls ++ drop (n + 1) events) (sym events_next) ∙ take-append-drop (n + 1) events)
+        (events_end (bad_row_of held w) (take n events) (drop (n + 1) events) far.sent xs ys listed next.parts cause far.came
+        (came_more (bad_row_of mid w listed.event) (bad_row_of held w listed.event) (λ why bad. (bad.0, bad.1, bad_then up bad.0 held (far.put up) bad.2)) (Some cause) listed.event 0 next.parts ys next.came));
     put = only_put (far.sent ++ (listed.event, next.parts) ∷ []) held (more_put (Some cause) next up held (far.put up));
   }
 
@@ -175,7 +194,7 @@ events_whole here held new w events n s t trail up le far =
     let same : take n events ≡ events = sym (append-nil (take n events)) ∙ ap (λ l. take n events ++ l) (sym (drop_all n events le)) ∙ take-append-drop n events in
     record {
       sent = far.sent;
-      came = subst (λ ls. EventsBy None ls far.sent trail) same far.came;
+      came = subst (λ ls. EventsBy (bad_row_of held w) None ls far.sent trail) same far.came;
       put = one held (far.put up);
     }
   where

@@ -18,7 +18,7 @@ use Rattle.misp_core.specs.declared.reply.EventParts.{EventParts}
 use Rattle.misp_core.specs.Prelude.{EventId, Group, Inst, OrgId, Row, groups_of, seen_in, spelled}
 use Rattle.misp_core.specs.Taking.{IsLandingOf, handed_rows, package_taken, with_package}
 use Rattle.misp_sync.specs.Came.{AllCame, CameBy, EventComes, EventPut, FirstCame, IsPut, LandsAfter, OwnEventComes, PartsCome, PartsPut, event_batches, part_batches, rows_after}
-use Rattle.misp_sync.specs.Comes.{Comes, IsCauseOf, IsNotTaken, IsReadOf}
+use Rattle.misp_sync.specs.Comes.{Comes, IsBadRow, IsCauseOf, IsNotTaken, IsReadOf, IsUnasked, NoBadRow}
 use Rattle.misp_sync.specs.Counts.{tally, with_groups, with_rows}
 use Rattle.misp_sync.specs.Pulled.{ends, package_batches}
 use Rattle.misp_sync.specs.Replied.{is_wanted, package_in, wanted}
@@ -26,6 +26,7 @@ use Rattle.misp_sync.specs.Steps.{AreTaken, IsBeside, cause_of, parts_coming, ro
 use Rattle.misp_sync.specs.Telling.{stop_refusal}
 use Rattle.misp_sync.specs.declared.count.Tally.{Tally}
 use Rattle.misp_sync.specs.declared.replies.FetchFault.{FetchFault}
+use Rattle.misp_sync.proofs.Comings.{unasked_so}
 use Rattle.misp_sync.proofs.Beside.{beside_none, beside_now, beside_then}
 use Rattle.misp_sync.proofs.PartsTaken.{package_comes}
 use Rattle.misp_sync.proofs.Takings.{put_more, tally_more}
@@ -33,8 +34,8 @@ use Rattle.misp_sync.proofs.Takings.{put_more, tally_more}
 -- ---- one package
 
 -- of its reply nothing is read
-pub none_came : (e : EventId) (n : ℕ) (cause : Refusal) (trail : List (List ℕ)) → Comes {X = Package} (λ (p : Package). p) (package_in e n) (IsCauseOf (package_in e n)) (Err cause) trail → FirstCame cause e n [] trail
-none_came e n cause [] k = tt
+pub none_came : (e : EventId) (n : ℕ) (cause : Refusal) (trail : List (List ℕ)) → Comes {X = Package} (λ (p : Package). p) (package_in e n) (IsCauseOf (package_in e n)) (Err cause) trail → FirstCame NoBadRow cause e n [] trail
+none_came e n cause [] k = inl k
 none_came e n cause (x ∷ []) k = k
 none_came e n cause (x ∷ y ∷ []) k = inl k
 none_came e n cause (x ∷ y ∷ z ∷ trail) k = absurd k
@@ -52,7 +53,7 @@ own_stop reads bytes x KeeperFault.NoMemory cause read is = inl (inl is)
 
 -- it came, and the own keeper failed
 pub one_failed : {E : Type 0} (lacks : E → Option (List ℕ) → Type 0) (e : EventId) (n : ℕ) (p : Package) (fault : KeeperFault) (cause : Refusal) → cause ≡ stop_refusal (stop_of_keeper fault) → (trail : List (List ℕ))
-    → Comes {X = Package} (λ (p : Package). p) (package_in e n) lacks (Ok p) trail → FirstCame cause e n [] trail
+    → Comes {X = Package} (λ (p : Package). p) (package_in e n) lacks (Ok p) trail → FirstCame NoBadRow cause e n [] trail
 one_failed lacks e n p fault cause is [] k = absurd k
 one_failed lacks e n p fault cause is (x ∷ []) k = absurd k
 one_failed lacks e n p fault cause is (x ∷ y ∷ []) k = own_stop (package_in e n) y p fault cause k is
@@ -60,13 +61,25 @@ one_failed lacks e n p fault cause is (x ∷ y ∷ z ∷ trail) k = absurd k
 
 -- ---- one after another
 
-pub all_came_then : (ps qs : List (List Row)) (xs ys : List (List ℕ)) (cause : Option Refusal) (e : EventId) (n m : ℕ) → m ≡ n + length ps → AllCame e n ps xs → CameBy cause e m qs ys → CameBy cause e n (ps ++ qs) (xs ++ ys)
-all_came_then [] qs [] ys cause e n m is a k = subst (λ l. CameBy cause e l qs ys) (is ∙ (omega arith)) k
-all_came_then [] qs (x ∷ xs) ys cause e n m is a k = absurd a
-all_came_then (p ∷ ps) qs [] ys cause e n m is a k = absurd a
-all_came_then (p ∷ ps) qs (x ∷ []) ys cause e n m is a k = absurd a
-all_came_then (p ∷ ps) qs (x ∷ y ∷ xs) ys None e n m is a k = (a.0, a.1, a.2, all_came_then ps qs xs ys None e (suc n) m (omega (arith, is)) a.3 k)
-all_came_then (p ∷ ps) qs (x ∷ y ∷ xs) ys (Some cause) e n m is a k = (a.0, a.1, a.2, all_came_then ps qs xs ys (Some cause) e (suc n) m (omega (arith, is)) a.3 k)
+pub all_came_then : (Bad : Refusal → Type 0) (ps qs : List (List Row)) (xs ys : List (List ℕ)) (cause : Option Refusal) (e : EventId) (n m : ℕ) → m ≡ n + length ps → AllCame e n ps xs → CameBy Bad cause e m qs ys → CameBy Bad cause e n (ps ++ qs) (xs ++ ys)
+all_came_then Bad [] qs [] ys cause e n m is a k = subst (λ l. CameBy Bad cause e l qs ys) (is ∙ (omega arith)) k
+all_came_then Bad [] qs (x ∷ xs) ys cause e n m is a k = absurd a
+all_came_then Bad (p ∷ ps) qs [] ys cause e n m is a k = absurd a
+all_came_then Bad (p ∷ ps) qs (x ∷ []) ys cause e n m is a k = absurd a
+all_came_then Bad (p ∷ ps) qs (x ∷ y ∷ xs) ys None e n m is a k = (a.0, a.1, a.2, all_came_then Bad ps qs xs ys None e (suc n) m (omega (arith, is)) a.3 k)
+all_came_then Bad (p ∷ ps) qs (x ∷ y ∷ xs) ys (Some cause) e n m is a k = (a.0, a.1, a.2, all_came_then Bad ps qs xs ys (Some cause) e (suc n) m (omega (arith, is)) a.3 k)
+
+-- where more can be the row that ended it
+first_more : (Bad More : Refusal → Type 0) → ((cause : Refusal) → Bad cause → More cause) → (cause : Refusal) (e : EventId) (n : ℕ) (ps : List (List Row)) (trail : List (List ℕ)) → FirstCame Bad cause e n ps trail → FirstCame More cause e n ps trail
+first_more Bad More h cause e n [] [] k = unasked_so Bad More h cause k
+first_more Bad More h cause e n [] (x ∷ trail) k = k
+first_more Bad More h cause e n (p ∷ ps) [] k = absurd k
+first_more Bad More h cause e n (p ∷ ps) (x ∷ []) k = absurd k
+first_more Bad More h cause e n (p ∷ ps) (x ∷ y ∷ trail) k = (k.0, k.1, k.2, first_more Bad More h cause e (suc n) ps trail k.3)
+
+pub came_more : (Bad More : Refusal → Type 0) → ((cause : Refusal) → Bad cause → More cause) → (cause : Option Refusal) (e : EventId) (n : ℕ) (ps : List (List Row)) (trail : List (List ℕ)) → CameBy Bad cause e n ps trail → CameBy More cause e n ps trail
+came_more Bad More h None e n ps trail k = k
+came_more Bad More h (Some cause) e n ps trail k = first_more Bad More h cause e n ps trail k
 
 module _ (here : Inst) (w : OrgId) (gs : List Group) where
   batches_more : (ps qs : List (List Row)) (rows : List Row) → part_batches here w gs rows (ps ++ qs) ≡ part_batches here w gs rows ps ++ part_batches here w gs (rows_after here w gs rows ps) qs
@@ -221,7 +234,7 @@ module _ (here : Inst) (e : EventId) (first now : Landing) (held mid new : Optio
   pub parts_then : PartsCome here held first e 0 (n + 1) new s u result (xs ++ ys)
   parts_then = record {
     parts = far.parts ++ next.parts;
-    came = all_came_then far.parts next.parts xs ys (cause_of result) e 0 n (let many = far.whole in omega (arith, many)) far.came next.came;
+    came = all_came_then NoBadRow far.parts next.parts xs ys (cause_of result) e 0 n (let many = far.whole in omega (arith, many)) far.came next.came;
     whole = whole_then result next.whole;
     put = all_put held far.put;
   }
@@ -242,9 +255,9 @@ module _ (here : Inst) (held new : Option Held) (first : Landing) (listed : Even
 -- ---- an event, over the owner's own rows
 
 -- no package of it came
-pub event_none : (here : Inst) (held new : Option Held) (w : OrgId) (listed : EventParts) (t : Tally) (cause : Refusal) → new ≡ held → OwnEventComes here held w listed new t t (Some cause) []
+pub event_none : (here : Inst) (held new : Option Held) (w : OrgId) (listed : EventParts) (t : Tally) (cause : Refusal) → IsUnasked (IsBadRow held (Reach.Own w listed.event)) cause → new ≡ held → OwnEventComes here held w listed new t t (Some cause) []
 unfolding package_batches tally
-event_none here held new w listed t cause same = record { parts = []; came = tt; whole = λ none. absurd cc; put = one held same }
+event_none here held new w listed t cause unasked same = record { parts = []; came = unasked; whole = λ none. absurd cc; put = one held same }
   where
     nothing : (own : Held) (read : Result (List Row) (List ℕ)) → new ≡ Some own → IsPut (event_batches here w (groups_of own) read []) own new t t
     nothing own (Ok rows) is = record { held = is; counts = refl }
@@ -268,4 +281,9 @@ module _ (here : Inst) (held new : Option Held) (w : OrgId) (owner : IsUid w.0) 
 
   -- over the landing that was made
   pub event_landed_put : IfSome held (IsLandingOf landing here w listed.event) → EventComes here held landing listed new s u cause trail → OwnEventComes here held w listed new s u cause trail
-  event_landed_put lands k = record { parts = k.parts; came = k.came; whole = k.whole; put = landed_put k.parts held lands k.put }
+  event_landed_put lands k = record {
+    parts = k.parts;
+    came = came_more NoBadRow (IsBadRow held (Reach.Own w listed.event)) (λ cause bad. absurd bad) cause listed.event 0 k.parts trail k.came;
+    whole = k.whole;
+    put = landed_put k.parts held lands k.put;
+  }

@@ -17,7 +17,7 @@ use Rattle.misp_sync.specs.declared.count.SyncCount.{SyncCount}
 use Rattle.misp_sync.specs.declared.count.Tally.{Tally}
 use Rattle.misp_sync.specs.declared.replies.FetchFault.{FetchFault}
 use Rattle.misp_sync.specs.declared.reply.SyncReply.{SyncReply}
-use Rattle.misp_sync.proofs.Comings.{caused, comes_none, comes_so}
+use Rattle.misp_sync.proofs.Comings.{caused, comes_none, comes_so, unasked_so}
 use Rattle.misp_sync.proofs.PartsInTurn.{parts_after, parts_next, parts_whole}
 use Rattle.misp_sync.proofs.Trails.{grows_none, grows_then}
 
@@ -61,20 +61,20 @@ all_then (h ∷ hs) ms [] ys t u v a k = absurd a
 all_then (h ∷ hs) ms (x ∷ []) ys t u v a k = absurd a
 all_then (h ∷ hs) ms (x ∷ y ∷ xs) ys t u v a k = (a.0, a.1, all_then hs ms xs ys (tallied t h a.0) u v a.2 k)
 
-first_then : (cause : Refusal) (hs ms : List Handing) (xs ys : List (List ℕ)) (t u v : Tally) → CountsAll hs xs t u → CountsFirst cause ms ys u v → CountsFirst cause (hs ++ ms) (xs ++ ys) t v
-first_then cause [] ms [] ys t u v is k = subst (λ (s : Tally). CountsFirst cause ms ys s v) is k
-first_then cause [] ms (x ∷ xs) ys t u v a k = absurd a
-first_then cause (h ∷ hs) ms [] ys t u v a k = absurd a
-first_then cause (h ∷ hs) ms (x ∷ []) ys t u v a k = absurd a
-first_then cause (h ∷ hs) ms (x ∷ y ∷ xs) ys t u v a k = inr (a.0, a.1, first_then cause hs ms xs ys (tallied t h a.0) u v a.2 k)
+first_then : (Bad : Refusal → Type 0) (cause : Refusal) (hs ms : List Handing) (xs ys : List (List ℕ)) (t u v : Tally) → CountsAll hs xs t u → CountsFirst Bad cause ms ys u v → CountsFirst Bad cause (hs ++ ms) (xs ++ ys) t v
+first_then Bad cause [] ms [] ys t u v is k = subst (λ (s : Tally). CountsFirst Bad cause ms ys s v) is k
+first_then Bad cause [] ms (x ∷ xs) ys t u v a k = absurd a
+first_then Bad cause (h ∷ hs) ms [] ys t u v a k = absurd a
+first_then Bad cause (h ∷ hs) ms (x ∷ []) ys t u v a k = absurd a
+first_then Bad cause (h ∷ hs) ms (x ∷ y ∷ xs) ys t u v a k = inr (a.0, a.1, first_then Bad cause hs ms xs ys (tallied t h a.0) u v a.2 k)
 
 -- the first of more
-first_more : (cause : Refusal) (hs ms : List Handing) (xs : List (List ℕ)) (t end : Tally) → CountsFirst cause hs xs t end → CountsFirst cause (hs ++ ms) xs t end
-first_more cause hs ms [] t end k = k
-first_more cause [] ms (x ∷ xs) t end k = absurd k
-first_more cause (h ∷ hs) ms (x ∷ []) t end k = k
-first_more cause (h ∷ hs) ms (x ∷ y ∷ xs) t end (inl k) = inl k
-first_more cause (h ∷ hs) ms (x ∷ y ∷ xs) t end (inr k) = inr (k.0, k.1, first_more cause hs ms xs (tallied t h k.0) end k.2)
+first_more : (Bad : Refusal → Type 0) (cause : Refusal) (hs ms : List Handing) (xs : List (List ℕ)) (t end : Tally) → CountsFirst Bad cause hs xs t end → CountsFirst Bad cause (hs ++ ms) xs t end
+first_more Bad cause hs ms [] t end k = k
+first_more Bad cause [] ms (x ∷ xs) t end k = absurd k
+first_more Bad cause (h ∷ hs) ms (x ∷ []) t end k = k
+first_more Bad cause (h ∷ hs) ms (x ∷ y ∷ xs) t end (inl k) = inl k
+first_more Bad cause (h ∷ hs) ms (x ∷ y ∷ xs) t end (inr k) = inr (k.0, k.1, first_more Bad cause hs ms xs (tallied t h k.0) end k.2)
 
 -- ---- one hand-in
 
@@ -85,12 +85,12 @@ one_said h n (x ∷ []) t k = absurd k
 one_said h n (x ∷ y ∷ []) t k = (n, k, refl)
 one_said h n (x ∷ y ∷ z ∷ xs) t k = absurd k
 
-pub one_unsaid : (h : Handing) (cause : Refusal) (xs : List (List ℕ)) (t : Tally) → IsSaid h (Err cause) xs → CountsFirst cause (h ∷ []) xs t t
+pub one_unsaid : (Bad : Refusal → Type 0) (h : Handing) (cause : Refusal) (xs : List (List ℕ)) (t : Tally) → IsSaid h (Err cause) xs → CountsFirst Bad cause (h ∷ []) xs t t
 unfolding IsSaid
-one_unsaid h cause [] t k = refl
-one_unsaid h cause (x ∷ []) t k = (refl, k)
-one_unsaid h cause (x ∷ y ∷ []) t k = inl (refl, refl, k)
-one_unsaid h cause (x ∷ y ∷ z ∷ xs) t k = absurd k
+one_unsaid Bad h cause [] t k = (refl, inl k)
+one_unsaid Bad h cause (x ∷ []) t k = (refl, k)
+one_unsaid Bad h cause (x ∷ y ∷ []) t k = inl (refl, refl, k)
+one_unsaid Bad h cause (x ∷ y ∷ z ∷ xs) t k = absurd k
 
 -- ---- packages, one after another
 
@@ -104,12 +104,12 @@ module _ (parts : List Package) (n : ℕ) (p none : Package) (lt : n < length pa
       (subst (λ hs. CountsAll hs (k ++ m) s (tallied t (HandPart p) taken)) (sym (parts_next parts n p none lt at))
       (all_then (map HandPart (take n parts)) (HandPart p ∷ []) k m s t (tallied t (HandPart p) taken) u (one_said (HandPart p) taken m t v)))) far said
 
-  pub count_ended : (cause : Refusal) → GrowsBy b c (IsSaid (HandPart p) (Err cause)) → GrowsBy a c (λ trail. CountsFirst cause (map HandPart parts) trail s t)
-  count_ended cause said =
-      grows_then a b c (λ trail. CountsAll (map HandPart (take n parts)) trail s t) (IsSaid (HandPart p) (Err cause)) (λ trail. CountsFirst cause (map HandPart parts) trail s t)
-      (λ k m u v. subst (λ hs. CountsFirst cause hs (k ++ m) s t) (sym (parts_after parts n p none lt at))
-      (first_more cause (map HandPart (take n parts) ++ HandPart p ∷ []) (map HandPart (drop (n + 1) parts)) (k ++ m) s t
-      (first_then cause (map HandPart (take n parts)) (HandPart p ∷ []) k m s t t u (one_unsaid (HandPart p) cause m t v)))) far said
+  pub count_ended : (Bad : Refusal → Type 0) (cause : Refusal) → GrowsBy b c (IsSaid (HandPart p) (Err cause)) → GrowsBy a c (λ trail. CountsFirst Bad cause (map HandPart parts) trail s t)
+  count_ended Bad cause said =
+      grows_then a b c (λ trail. CountsAll (map HandPart (take n parts)) trail s t) (IsSaid (HandPart p) (Err cause)) (λ trail. CountsFirst Bad cause (map HandPart parts) trail s t)
+      (λ k m u v. subst (λ hs. CountsFirst Bad cause hs (k ++ m) s t) (sym (parts_after parts n p none lt at))
+      (first_more Bad cause (map HandPart (take n parts) ++ HandPart p ∷ []) (map HandPart (drop (n + 1) parts)) (k ++ m) s t
+      (first_then Bad cause (map HandPart (take n parts)) (HandPart p ∷ []) k m s t t u (one_unsaid Bad (HandPart p) cause m t v)))) far said
 
 pub count_all : (parts : List Package) (n : ℕ) → length parts ≤ n → (a b : Option (List (List ℕ))) (s t : Tally) → GrowsBy a b (λ trail. CountsAll (map HandPart (take n parts)) trail s t)
     → GrowsBy a b (λ trail. CountsAll (map HandPart parts) trail s t)
@@ -119,14 +119,26 @@ count_all parts n le a b s t far =
 -- ---- groups and packages
 
 -- which count it tells does not matter
-pub by_cause : {A : Type 0} (result : Result A Refusal) (one two : SyncCount) (hs : List Handing) (trail : List (List ℕ)) (t end : Tally) → CountsBy (reply_of one (cause_of result)) hs trail t end
-    → CountsBy (reply_of two (cause_of result)) hs trail t end
-by_cause (Ok x) one two hs trail t end k = k
-by_cause (Err cause) one two hs trail t end k = k
+pub by_cause : {A : Type 0} (Bad : Refusal → Type 0) (result : Result A Refusal) (one two : SyncCount) (hs : List Handing) (trail : List (List ℕ)) (t end : Tally) → CountsBy Bad (reply_of one (cause_of result)) hs trail t end
+    → CountsBy Bad (reply_of two (cause_of result)) hs trail t end
+by_cause Bad (Ok x) one two hs trail t end k = k
+by_cause Bad (Err cause) one two hs trail t end k = k
 
-pub by_then : (reply : SyncReply) (hs ms : List Handing) (xs ys : List (List ℕ)) (t u v : Tally) → CountsAll hs xs t u → CountsBy reply ms ys u v → CountsBy reply (hs ++ ms) (xs ++ ys) t v
-by_then (SyncReply.Done count) hs ms xs ys t u v a k = all_then hs ms xs ys t u v a k
-by_then (SyncReply.Stopped count cause) hs ms xs ys t u v a k = first_then cause hs ms xs ys t u v a k
+-- where more can be the row that ended it
+first_bad : (Bad More : Refusal → Type 0) → ((cause : Refusal) → Bad cause → More cause) → (cause : Refusal) (hs : List Handing) (xs : List (List ℕ)) (t end : Tally) → CountsFirst Bad cause hs xs t end → CountsFirst More cause hs xs t end
+first_bad Bad More h cause hs [] t end k = (k.0, unasked_so Bad More h cause k.1)
+first_bad Bad More h cause [] (x ∷ xs) t end k = absurd k
+first_bad Bad More h cause (m ∷ hs) (x ∷ []) t end k = k
+first_bad Bad More h cause (m ∷ hs) (x ∷ y ∷ xs) t end (inl k) = inl k
+first_bad Bad More h cause (m ∷ hs) (x ∷ y ∷ xs) t end (inr k) = inr (k.0, k.1, first_bad Bad More h cause hs xs (tallied t m k.0) end k.2)
+
+pub by_bad : (Bad More : Refusal → Type 0) → ((cause : Refusal) → Bad cause → More cause) → (reply : SyncReply) (hs : List Handing) (xs : List (List ℕ)) (t end : Tally) → CountsBy Bad reply hs xs t end → CountsBy More reply hs xs t end
+by_bad Bad More h (SyncReply.Done count) hs xs t end k = k
+by_bad Bad More h (SyncReply.Stopped count cause) hs xs t end k = first_bad Bad More h cause hs xs t end k
+
+pub by_then : (Bad : Refusal → Type 0) (reply : SyncReply) (hs ms : List Handing) (xs ys : List (List ℕ)) (t u v : Tally) → CountsAll hs xs t u → CountsBy Bad reply ms ys u v → CountsBy Bad reply (hs ++ ms) (xs ++ ys) t v
+by_then Bad (SyncReply.Done count) hs ms xs ys t u v a k = all_then hs ms xs ys t u v a k
+by_then Bad (SyncReply.Stopped count cause) hs ms xs ys t u v a k = first_then Bad cause hs ms xs ys t u v a k
 
 pub count_of_reply : {A : Type 0} (result : Result A Refusal) (count : SyncCount) → count_in (reply_of count (cause_of result)) ≡ count
 count_of_reply (Ok x) count = refl

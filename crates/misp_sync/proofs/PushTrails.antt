@@ -1,11 +1,14 @@
 -- What a push handed in and was answered, by its steps.
-use Rattle.std.proofs.Common.{◌≡◌, ℕ, ◌+◌, ◌<◌, ◌≤◌, Bool, true, false, List, [], ◌∷◌, ◌++◌, drop, take, get_or, length, map, Option, None, Some, Result, Ok, Err, refl, sym, ap, subst, ◌∙◌, arith, IfSome, if◌then◌else◌}
+use Rattle.std.proofs.Common.{◌≡◌, ℕ, ◌+◌, ◌<◌, ◌≤◌, Bool, true, false, List, [], ◌∷◌, ◌++◌, drop, take, get_or, length, map, Option, None, Some, Result, Ok, Err, refl, sym, ap, subst, ◌∙◌, arith, inl, inr, IfSome, if◌then◌else◌}
 use Rattle.std.proofs.lemmas.List.{length-append}
+use Rattle.misp_ids.specs.Refusal.{bare}
 use Rattle.misp_ids.specs.declared.refusal.Refusal.{Refusal}
 use Rattle.misp_ids.specs.declared.refusal.RuleName.{RuleName}
 use Rattle.misp_orgs.specs.declared.link.Link.{Link}
 use Rattle.misp_rules.specs.declared.package.PackageFields.{PackageFields as Package}
+use Rattle.misp_store.specs.declared.reach.Reach.{Reach}
 use Rattle.misp_core.specs.Prelude.{Group, Held, Host, Standing, seen_in}
+use Rattle.misp_sync.specs.Comes.{IsBadRow, IsUnasked, NoBadRow}
 use Rattle.misp_sync.specs.Counts.{no_count, no_tally, with_groups}
 use Rattle.misp_sync.specs.Handing.{HandGroups, HandPart, Handing}
 use Rattle.misp_sync.specs.Pulled.{reply_of}
@@ -19,7 +22,7 @@ use Rattle.misp_sync.specs.declared.count.Tally.{Tally}
 use Rattle.misp_sync.specs.declared.reply.SyncReply.{SyncReply}
 use Rattle.misp_sync.proofs.HandTrails.{hands_first, hands_then, hands_within, reaches_all, reaches_hands, reaches_then}
 use Rattle.misp_sync.proofs.PartsInTurn.{parts_after, parts_next, parts_whole}
-use Rattle.misp_sync.proofs.PushCounts.{by_cause, by_then, count_of_reply, grows_both, one_said, one_unsaid}
+use Rattle.misp_sync.proofs.PushCounts.{by_bad, by_cause, by_then, count_of_reply, grows_both, one_said, one_unsaid}
 use Rattle.misp_sync.proofs.PushedParts.{CarriesSo, PacksSo}
 use Rattle.misp_sync.proofs.Trails.{grows_none, grows_so, grows_then}
 
@@ -47,37 +50,37 @@ trail_all parts n le key x y a b far =
 
 module _ (link : Link) (here : Standing) (x : Option (Host × Held)) (a b : Option (List (List ℕ))) (s e : Tally) where
   -- none were made
-  pub parts_none : (cause : Refusal) → e ≡ s → GrowsBy a a (IsPartsTrail link here x s e (reply_of no_count (Some cause)))
-  parts_none cause same = grows_none a (IsPartsTrail link here x s e (reply_of no_count (Some cause))) (record {
+  pub parts_none : (cause : Refusal) → e ≡ s → IsUnasked (IsBadRow here.held Reach.All) cause → GrowsBy a a (IsPartsTrail link here x s e (reply_of no_count (Some cause)))
+  parts_none cause same unasked = grows_none a (IsPartsTrail link here x s e (reply_of no_count (Some cause))) (record {
     packages = [];
     handed = tt;
     packages_are = λ more. absurd (omega (arith, more));
     whole = tt;
-    counts = same;
+    counts = (same, unasked);
   })
 
   handed_so : {A : Type 0} (y : Option (Host × Held)) (parts : List Package) (result : Result A Refusal) → IfSome here.held (PacksSo here.name link parts) → (trail : List (List ℕ)) → HandsFor link.key x y (map HandPart parts) result trail
-      → CountsBy (reply_of no_count (cause_of result)) (map HandPart parts) trail s e → IsPartsTrail link here x s e (reply_of no_count (cause_of result)) trail
-  handed_so y parts (Ok done) packs trail k counts = record {
+      → CountsBy NoBadRow (reply_of no_count (cause_of result)) (map HandPart parts) trail s e → IsPartsTrail link here x s e (reply_of no_count (cause_of result)) trail
+  handed_so {A} y parts (Ok done) packs trail k counts = record {
     packages = parts;
     handed = reaches_hands link.key (map HandPart parts) trail x y k;
     packages_are = λ more. packs;
     whole = reaches_all link.key (map HandPart parts) trail x y k;
-    counts = counts;
+    counts = by_bad NoBadRow (IsBadRow here.held Reach.All) (λ cause bad. absurd bad) (reply_of no_count (cause_of {A = A} (Ok done))) (map HandPart parts) trail s e counts;
   }
   handed_so y parts (Err cause) packs trail k counts = record {
     packages = parts;
     handed = k;
     packages_are = λ more. packs;
     whole = tt;
-    counts = counts;
+    counts = by_bad NoBadRow (IsBadRow here.held Reach.All) (λ cause bad. absurd bad) (reply_of no_count (Some cause)) (map HandPart parts) trail s e counts;
   }
 
   pub parts_handed : {A : Type 0} (y : Option (Host × Held)) (parts : List Package) (result : Result A Refusal) → IfSome here.held (PacksSo here.name link parts)
-      → GrowsBy a b (HandsFor link.key x y (map HandPart parts) result) → GrowsBy a b (λ trail. CountsBy (reply_of no_count (cause_of result)) (map HandPart parts) trail s e)
+      → GrowsBy a b (HandsFor link.key x y (map HandPart parts) result) → GrowsBy a b (λ trail. CountsBy NoBadRow (reply_of no_count (cause_of result)) (map HandPart parts) trail s e)
       → GrowsBy a b (IsPartsTrail link here x s e (reply_of no_count (cause_of result)))
   parts_handed y parts result packs h counts =
-      grows_both a b (HandsFor link.key x y (map HandPart parts) result) (λ trail. CountsBy (reply_of no_count (cause_of result)) (map HandPart parts) trail s e) (IsPartsTrail link here x s e (reply_of no_count (cause_of result)))
+      grows_both a b (HandsFor link.key x y (map HandPart parts) result) (λ trail. CountsBy NoBadRow (reply_of no_count (cause_of result)) (map HandPart parts) trail s e) (IsPartsTrail link here x s e (reply_of no_count (cause_of result)))
       (handed_so y parts result packs) h counts
 
 -- ---- groups and packages
@@ -98,8 +101,8 @@ done_so (Err cause) count hs trail all = tt
 
 module _ (link : Link) (here : Standing) (x : Option (Host × Held)) (a b c : Option (List (List ℕ))) (t : Tally) (new : t ≡ no_tally) where
   -- nothing was handed in
-  pub push_none : (cause : Refusal) → GrowsBy a a (IsPushTrail link here x (reply_of t.count (Some cause)))
-  push_none cause =
+  pub push_none : (cause : Refusal) → cause ≡ bare RuleName.NoMemory → GrowsBy a a (IsPushTrail link here x (reply_of t.count (Some cause)))
+  push_none cause memory =
       let carried = carried_some link here.held in
       grows_none a (IsPushTrail link here x (reply_of t.count (Some cause))) (record {
         groups = carried.0;
@@ -108,7 +111,7 @@ module _ (link : Link) (here : Standing) (x : Option (Host × Held)) (a b c : Op
         groups_are = carried.1;
         packages_are = λ more. absurd (omega (arith, more));
         whole = tt;
-        counts = (t, new, refl);
+        counts = (t, (new, inl (inr memory)), refl);
       })
 
   -- the groups alone
@@ -122,7 +125,7 @@ module _ (link : Link) (here : Standing) (x : Option (Host × Held)) (a b c : Op
         groups_are = carried;
         packages_are = λ more. let few = hands_within link.key (HandGroups gs ∷ []) trail x k in absurd (omega (arith, few, more));
         whole = tt;
-        counts = (no_tally, one_unsaid (HandGroups gs) cause trail no_tally counts, ap (λ (u : Tally). u.count) new);
+        counts = (no_tally, one_unsaid (IsBadRow here.held Reach.All) (HandGroups gs) cause trail no_tally counts, ap (λ (u : Tally). u.count) new);
       }) h said
 
   -- the packages come after one request and its reply
@@ -157,8 +160,8 @@ module _ (link : Link) (here : Standing) (x : Option (Host × Held)) (a b c : Op
         whole = done_so result e.count (push_handings gs v.packages) (k ++ m) (all_done result gs v.packages k m all v.whole);
         counts = (
           e,
-          by_cause result no_count e.count (push_handings gs v.packages) (k ++ m) no_tally e
-              (by_then (reply_of no_count (cause_of result)) (HandGroups gs ∷ []) (map HandPart v.packages) k m no_tally u e first v.counts),
+          by_cause (IsBadRow here.held Reach.All) result no_count e.count (push_handings gs v.packages) (k ++ m) no_tally e
+              (by_then (IsBadRow here.held Reach.All) (reply_of no_count (cause_of result)) (HandGroups gs ∷ []) (map HandPart v.packages) k m no_tally u e first v.counts),
           count_of_reply result e.count,
         );
       }) (grows_both a b (HandsFor {E = Refusal} link.key x y (HandGroups gs ∷ []) (Ok n)) (IsSaid (HandGroups gs) (Ok n)) (FirstSaid y gs n) (λ trail k i. (k, i)) h said) more

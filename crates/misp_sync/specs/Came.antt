@@ -13,7 +13,7 @@ use Rattle.misp_store.specs.declared.reach.Reach.{Reach}
 use Rattle.misp_core.specs.declared.reply.EventParts.{EventParts}
 use Rattle.misp_core.specs.Prelude.{EventId, Group, Held, Inst, OrgId, Row, Seen, groups_of, seen_in, spelled}
 use Rattle.misp_core.specs.Taking.{groups_taken, with_groups_taken}
-use Rattle.misp_sync.specs.Comes.{Ends, IsCauseOf, IsNotTaken, IsReadOf}
+use Rattle.misp_sync.specs.Comes.{Ends, IsBadRow, IsCauseOf, IsNotTaken, IsReadOf, IsUnasked, NoBadRow}
 use Rattle.misp_sync.specs.Counts.{no_tally, tally, with_groups}
 use Rattle.misp_sync.specs.Pulled.{package_batches}
 use Rattle.misp_sync.specs.PushCount.{count_in}
@@ -36,19 +36,21 @@ AllCame e n (rows ∷ ps) (request ∷ reply ∷ trail) =
     × AllCame e (suc n) ps trail
 
 -- the same up to a request without a reply, or with one of which nothing is taken
-abbrev pub FirstCame : Refusal → EventId → ℕ → List (List Row) → List (List ℕ) → Type 0
-FirstCame cause e n [] [] = Unit {0}
-FirstCame cause e n [] (request ∷ trail) =
+abbrev pub FirstCame : (Refusal → Type 0) → Refusal → EventId → ℕ → List (List Row)
+    → List (List ℕ) → Type 0
+FirstCame Bad cause e n [] [] = IsUnasked Bad cause
+FirstCame Bad cause e n [] (request ∷ trail) =
     Ends (IsNotTaken (package_in e n) cause) (request ∷ trail)
-FirstCame cause e n (rows ∷ ps) [] = ⊥
-FirstCame cause e n (rows ∷ ps) (request ∷ []) = ⊥
-FirstCame cause e n (rows ∷ ps) (request ∷ reply ∷ trail) =
+FirstCame Bad cause e n (rows ∷ ps) [] = ⊥
+FirstCame Bad cause e n (rows ∷ ps) (request ∷ []) = ⊥
+FirstCame Bad cause e n (rows ∷ ps) (request ∷ reply ∷ trail) =
     (p : Package) × IsReadOf (package_in e n) reply p × (rows ≡ p.rows)
-    × FirstCame cause e (suc n) ps trail
+    × FirstCame Bad cause e (suc n) ps trail
 
-abbrev pub CameBy : Option Refusal → EventId → ℕ → List (List Row) → List (List ℕ) → Type 0
-CameBy None e n ps trail = AllCame e n ps trail
-CameBy (Some cause) e n ps trail = FirstCame cause e n ps trail
+abbrev pub CameBy : (Refusal → Type 0) → Option Refusal → EventId → ℕ → List (List Row)
+    → List (List ℕ) → Type 0
+CameBy Bad None e n ps trail = AllCame e n ps trail
+CameBy Bad (Some cause) e n ps trail = FirstCame Bad cause e n ps trail
 
 -- ---- what is put of them
 
@@ -86,7 +88,7 @@ pub record PartsCome (here : Inst) (held : Option Held) (landing : Landing) (e :
     (n count : ℕ) (new : Option Held) (before after : Tally) (result : Result Landing Refusal)
     (trail : List (List ℕ)) : Type 0 where
   pub parts : List (List Row)
-  pub came : CameBy (cause_of result) e n parts trail
+  pub came : CameBy NoBadRow (cause_of result) e n parts trail
   pub whole : IfOk result (λ _. length parts ≡ count)
   pub put : IfSome held (λ own. (w : OrgId) (rows : List Row) → IsUid w.0
       → IsLanding landing here w e rows → PartsPut here w e rows parts own new before after
@@ -97,7 +99,7 @@ pub record EventComes (here : Inst) (held : Option Held) (landing : Landing) (li
     (new : Option Held) (before after : Tally) (cause : Option Refusal)
     (trail : List (List ℕ)) : Type 0 where
   pub parts : List (List Row)
-  pub came : CameBy cause listed.event 0 parts trail
+  pub came : CameBy NoBadRow cause listed.event 0 parts trail
   pub whole : cause ≡ None → length parts ≡ listed.parts
   pub put : IfSome held (λ own. (w : OrgId) (rows : List Row) → IsUid w.0
       → IsLanding landing here w listed.event rows
@@ -123,7 +125,7 @@ pub record OwnEventComes (here : Inst) (held : Option Held) (w : OrgId) (listed 
     (new : Option Held) (before after : Tally) (cause : Option Refusal)
     (trail : List (List ℕ)) : Type 0 where
   pub parts : List (List Row)
-  pub came : CameBy cause listed.event 0 parts trail
+  pub came : CameBy (IsBadRow held (Reach.Own w listed.event)) cause listed.event 0 parts trail
   pub whole : cause ≡ None → length parts ≡ listed.parts
   pub put : IfSome held (λ own. EventPut here w listed.event parts own new before after)
 
@@ -145,24 +147,25 @@ CameWhole l x trail P =
     × (length x.1 ≡ l.parts) × AllCame l.event 0 x.1 k × P more
 
 -- the packages of these events came, one event after another, up to the one where it ended
-abbrev pub EventsBy : Option Refusal → List EventParts → List (EventId × List (List Row))
-    → List (List ℕ) → Type 0
-EventsBy None [] [] trail = trail ≡ []
-EventsBy None [] (x ∷ xs) trail = ⊥
-EventsBy None (l ∷ ls) [] trail = ⊥
-EventsBy None (l ∷ ls) (x ∷ xs) trail = CameWhole l x trail (λ more. EventsBy None ls xs more)
-EventsBy (Some cause) [] xs trail = ⊥
-EventsBy (Some cause) (l ∷ ls) [] trail = ⊥
-EventsBy (Some cause) (l ∷ ls) (x ∷ xs) trail =
-    ((xs ≡ []) × (x.0 ≡ l.event) × FirstCame cause l.event 0 x.1 trail)
-    ⊎ CameWhole l x trail (λ more. EventsBy (Some cause) ls xs more)
+abbrev pub EventsBy : (EventId → Refusal → Type 0) → Option Refusal → List EventParts
+    → List (EventId × List (List Row)) → List (List ℕ) → Type 0
+EventsBy Bad None [] [] trail = trail ≡ []
+EventsBy Bad None [] (x ∷ xs) trail = ⊥
+EventsBy Bad None (l ∷ ls) [] trail = ⊥
+EventsBy Bad None (l ∷ ls) (x ∷ xs) trail =
+    CameWhole l x trail (λ more. EventsBy Bad None ls xs more)
+EventsBy Bad (Some cause) [] xs trail = ⊥
+EventsBy Bad (Some cause) (l ∷ ls) [] trail = ⊥
+EventsBy Bad (Some cause) (l ∷ ls) (x ∷ xs) trail =
+    ((xs ≡ []) × (x.0 ≡ l.event) × FirstCame (Bad l.event) cause l.event 0 x.1 trail)
+    ⊎ CameWhole l x trail (λ more. EventsBy Bad (Some cause) ls xs more)
 
 -- what is put of the packages of events that came, each event over the owner's own rows of it
 pub record EventsCome (here : Inst) (held : Option Held) (w : OrgId) (events : List EventParts)
     (new : Option Held) (before after : Tally) (cause : Option Refusal)
     (trail : List (List ℕ)) : Type 0 where
   pub sent : List (EventId × List (List Row))
-  pub came : EventsBy cause events sent trail
+  pub came : EventsBy (λ e. IsBadRow held (Reach.Own w e)) cause events sent trail
   pub put : IfSome held (λ own.
       IsPut (events_batches here w (groups_of own) (seen_in own) sent) own new before after)
 

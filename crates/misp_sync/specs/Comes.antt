@@ -1,9 +1,12 @@
 -- What comes of a request, by the bytes of its reply.
-use Rattle.std.specs.Prelude.{◌≡◌, ◌⊎◌, List, [], ◌∷◌, ℕ, Option, None, Some, Result, Ok, Err}
+use Rattle.std.specs.Prelude.{◌≡◌, ◌⊎◌, List, [], ◌∷◌, ℕ, Option, None, Some, Result, Ok, Err, IfSome}
 use Rattle.misp_ids.specs.Refusal.{bare}
 use Rattle.misp_ids.specs.declared.refusal.Refusal.{Refusal}
 use Rattle.misp_ids.specs.declared.refusal.RuleName.{RuleName}
 use Rattle.misp_http.specs.Reply.{HasNoReplyHead, HasOtherBody, IsReply}
+use Rattle.misp_store.specs.declared.reach.Reach.{Reach}
+use Rattle.misp_core.specs.Answers.{bad_row}
+use Rattle.misp_core.specs.Prelude.{Held, seen_in}
 use Rattle.misp_sync.specs.Replied.{IsCutBy, refusal_of, told_by}
 use Rattle.misp_sync.specs.declared.replies.FetchFault.{FetchFault}
 
@@ -29,11 +32,14 @@ abbrev pub IsFaultOf : {A : Type 0} → (List ℕ → Result A FetchFault) → F
 IsFaultOf reads fault None = IsCutBy fault
 IsFaultOf reads fault (Some bytes) = (fault ≡ FetchFault.NoMemory) ⊎ HasFault reads fault bytes
 
--- the same as a refusal
+-- what carries failed, or memory ran out
+abbrev pub IsCut : Refusal → Type 0
+IsCut cause = (cause ≡ bare RuleName.LinkFault) ⊎ (cause ≡ bare RuleName.NoMemory)
+
+-- why nothing is read so of the reply, as a refusal
 abbrev pub IsCauseOf : {A : Type 0} → (List ℕ → Result A FetchFault) → Refusal
     → Option (List ℕ) → Type 0
-IsCauseOf reads cause None =
-    (cause ≡ bare RuleName.LinkFault) ⊎ (cause ≡ bare RuleName.NoMemory)
+IsCauseOf reads cause None = IsCut cause
 IsCauseOf reads cause (Some bytes) =
     (cause ≡ bare RuleName.NoMemory)
     ⊎ ((fault : FetchFault) × HasFault reads fault bytes × (cause ≡ refusal_of fault))
@@ -45,6 +51,20 @@ IsNotTaken reads cause None = IsCauseOf reads cause None
 IsNotTaken reads cause (Some bytes) =
     IsCauseOf reads cause (Some bytes)
     ⊎ ((x : _) × IsReadOf reads bytes x × (cause ≡ bare RuleName.KeeperFault))
+
+-- of what is held here within this reach a row does not decode, and the first of these is named
+abbrev pub IsBadRow : Option Held → Reach → Refusal → Type 0
+IsBadRow held reach cause =
+    (name : List ℕ) × (cause ≡ bad_row name)
+    × IfSome held (λ own. (seen_in own).rows reach ≡ Err name)
+
+-- nothing was read here, so that no row was bad
+abbrev pub NoBadRow : Refusal → Type 0
+NoBadRow cause = ⊥
+
+-- why nothing was asked for: as where a request has no reply, or what is held here was not read
+abbrev pub IsUnasked : (Refusal → Type 0) → Refusal → Type 0
+IsUnasked Bad cause = IsCut cause ⊎ (cause ≡ bare RuleName.KeeperFault) ⊎ Bad cause
 
 -- a request at most, and of its reply, where there is one, this holds
 abbrev pub Ends : (Option (List ℕ) → Type 0) → List (List ℕ) → Type 0

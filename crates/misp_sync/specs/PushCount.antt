@@ -1,7 +1,7 @@
 -- What a push counts, by the replies to what it handed in.
 use Rattle.std.specs.Prelude.{◌≡◌, ◌⊎◌, ◌==◌, ℕ, cond, List, [], ◌∷◌, None, Some, Result}
 use Rattle.misp_ids.specs.declared.refusal.Refusal.{Refusal}
-use Rattle.misp_sync.specs.Comes.{Comes, IsCauseOf, IsReadOf}
+use Rattle.misp_sync.specs.Comes.{Comes, IsCauseOf, IsReadOf, IsUnasked}
 use Rattle.misp_sync.specs.Counts.{no_tally, with_groups, with_rows}
 use Rattle.misp_sync.specs.Handing.{HandGroups, HandPart, Handing, most_in}
 use Rattle.misp_sync.specs.Replied.{taken_in}
@@ -36,20 +36,25 @@ CountsAll (h ∷ hs) (request ∷ []) t end = ⊥
 CountsAll (h ∷ hs) (request ∷ reply ∷ trail) t end =
     (n : ℕ) × IsReadOf (said_of h) reply n × CountsAll hs trail (tallied t h n) end
 
--- the first of these are, each by its reply, up to one without a reply that says it
-abbrev pub CountsFirst : Refusal → List Handing → List (List ℕ) → Tally → Tally → Type 0
-CountsFirst cause hs [] t end = end ≡ t
-CountsFirst cause [] (request ∷ trail) t end = ⊥
-CountsFirst cause (h ∷ hs) (request ∷ []) t end =
+-- the first of these are, each by its reply, up to one without a reply that says it; or no more was
+-- handed in
+abbrev pub CountsFirst : (Refusal → Type 0) → Refusal → List Handing → List (List ℕ) → Tally
+    → Tally → Type 0
+CountsFirst Bad cause hs [] t end = (end ≡ t) × IsUnasked Bad cause
+CountsFirst Bad cause [] (request ∷ trail) t end = ⊥
+CountsFirst Bad cause (h ∷ hs) (request ∷ []) t end =
     (end ≡ t) × IsCauseOf (said_of h) cause None
-CountsFirst cause (h ∷ hs) (request ∷ reply ∷ trail) t end =
+CountsFirst Bad cause (h ∷ hs) (request ∷ reply ∷ trail) t end =
     ((trail ≡ []) × (end ≡ t) × IsCauseOf (said_of h) cause (Some reply))
-    ⊎ ((n : ℕ) × IsReadOf (said_of h) reply n × CountsFirst cause hs trail (tallied t h n) end)
+    ⊎ ((n : ℕ) × IsReadOf (said_of h) reply n
+    × CountsFirst Bad cause hs trail (tallied t h n) end)
 
 -- all where it is done
-abbrev pub CountsBy : SyncReply → List Handing → List (List ℕ) → Tally → Tally → Type 0
-CountsBy (SyncReply.Done count) hs trail t end = CountsAll hs trail t end
-CountsBy (SyncReply.Stopped count cause) hs trail t end = CountsFirst cause hs trail t end
+abbrev pub CountsBy : (Refusal → Type 0) → SyncReply → List Handing → List (List ℕ) → Tally
+    → Tally → Type 0
+CountsBy Bad (SyncReply.Done count) hs trail t end = CountsAll hs trail t end
+CountsBy Bad (SyncReply.Stopped count cause) hs trail t end =
+    CountsFirst Bad cause hs trail t end
 
 -- ---- what is told
 
@@ -58,6 +63,6 @@ count_in (SyncReply.Done count) = count
 count_in (SyncReply.Stopped count cause) = count
 
 -- what it counts is what the replies say
-abbrev pub CountsTo : SyncReply → List Handing → List (List ℕ) → Type 0
-CountsTo reply hs trail =
-    (end : Tally) × CountsBy reply hs trail no_tally end × (count_in reply ≡ end.count)
+abbrev pub CountsTo : (Refusal → Type 0) → SyncReply → List Handing → List (List ℕ) → Type 0
+CountsTo Bad reply hs trail =
+    (end : Tally) × CountsBy Bad reply hs trail no_tally end × (count_in reply ≡ end.count)

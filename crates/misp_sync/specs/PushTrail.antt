@@ -2,9 +2,11 @@
 use Rattle.std.specs.Prelude.{◌≡◌, ◌⊎◌, ℕ, ◌*◌, true, List, [], ◌∷◌, length, map, Option, None, Some, Ok, Err, IfSome, Result}
 use Rattle.misp_orgs.specs.declared.link.Link.{Link}
 use Rattle.misp_rules.specs.declared.package.PackageFields.{PackageFields as Package}
+use Rattle.misp_store.specs.declared.reach.Reach.{Reach}
 use Rattle.misp_core.specs.Prelude.{Did, Group, Held, Host, Standing, seen_in}
 use Rattle.misp_core.specs.Text.{http_text}
 use Rattle.misp_core.specs.declared.reply.Reply.{Reply}
+use Rattle.misp_sync.specs.Comes.{IsBadRow}
 use Rattle.misp_sync.specs.Handing.{HandGroups, HandPart, Handing, hand_text, handed_there}
 use Rattle.misp_sync.specs.PushCount.{CountsBy, CountsTo}
 use Rattle.misp_sync.specs.Pushed.{groups_carried, packages_sent}
@@ -77,7 +79,8 @@ pub record IsPushTrail (link : Link) (here : Standing) (peer : Option (Host × H
   pub packages_are : GoesBeyond 2 reply trail →
       IfSome here.held (λ own. packages_sent here.name link (seen_in own) ≡ Ok packages)
   pub whole : IfDone reply (AreAll (push_handings groups packages) trail)
-  pub counts : CountsTo reply (push_handings groups packages) trail
+  pub counts :
+      CountsTo (IsBadRow here.held Reach.All) reply (push_handings groups packages) trail
 
 -- the same without the groups, which come first
 pub record IsPartsTrail (link : Link) (here : Standing) (peer : Option (Host × Held))
@@ -87,7 +90,8 @@ pub record IsPartsTrail (link : Link) (here : Standing) (peer : Option (Host × 
   pub packages_are : GoesBeyond 0 reply trail →
       IfSome here.held (λ own. packages_sent here.name link (seen_in own) ≡ Ok packages)
   pub whole : IfDone reply (AreAll (map HandPart packages) trail)
-  pub counts : CountsBy reply (map HandPart packages) trail start end
+  pub counts :
+      CountsBy (IsBadRow here.held Reach.All) reply (map HandPart packages) trail start end
 
 -- over a link that is there and on
 abbrev pub IsPushTrailOver : Option Link → Standing → Option (Host × Held) → SyncReply

@@ -18,6 +18,7 @@ ghost use Rattle.misp_sync.specs.Counts.{no_count, no_tally};
 ghost use Rattle.misp_sync.specs.Handing.{HandPart, IsSameHost};
 ghost use Rattle.misp_sync.specs.Pulled.{bar_of, ends, reply_of, stop_in};
 ghost use Rattle.misp_sync.specs.PushSteps.{IsPushStep, Pushes, StaysSo, held_of};
+ghost use Rattle.misp_sync.specs.Comes.{NoBadRow};
 ghost use Rattle.misp_sync.specs.PushCount.{CountsBy};
 ghost use Rattle.misp_sync.specs.PushTrail.{HandsFor, IsPartsTrail, IsPushTrail, IsPushTrailOver};
 ghost use Rattle.misp_sync.specs.Pushed.{packages_sent, parts_pushed, parts_taken, push_telling, pushed, pushed_through, rows_seen};
@@ -59,7 +60,7 @@ fn hand_parts<W: PushWire>(
         (HandsFor key.now (told_of (W.peer wire.old)) (told_of (W.peer wire.new))
         (map HandPart parts.now) result) }
     ensures counts { GrowsBy (W.trail wire.old) (W.trail wire.new) (λ trail.
-        CountsBy (reply_of no_count (cause_of result)) (map HandPart parts.now) trail
+        CountsBy NoBadRow (reply_of no_count (cause_of result)) (map HandPart parts.now) trail
         tally.old tally.new) }
     ensures taken { (caller : CallerFields) (there : Held) (peer : Standing) →
         W.peer wire.old ≡ Some peer → peer.held ≡ Some there →

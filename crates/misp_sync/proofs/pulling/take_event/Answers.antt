@@ -3,6 +3,7 @@ use Rattle.std.proofs.Common.{◌<◌, ◌^◌, Some, Err, rules, ◌∙◌, IfS
 use Rattle.misp_store.specs.Loading.{NamesFault}
 use Rattle.misp_store.specs.declared.reach.Reach.{Reach}
 use Rattle.misp_core.specs.Prelude.{seen_in}
+use Rattle.misp_sync.proofs.Comings.{unasked_here}
 use Rattle.misp_sync.proofs.EventLoop.{event_landed, event_unread, step_unread}
 use Rattle.misp_sync.proofs.Standings.{step_done, step_then}
 use Rattle.misp_sync.specs.Trail.{AsksFor, GrowsBy, parts_from, told_of}
@@ -43,7 +44,8 @@ returns-in-Err-clause-trail g c =
 pub returns-in-Err-clause-came : goal.returns-in-Err-clause-came
 returns-in-Err-clause-came g c =
     grows_none (g.W.Wire.trail c.args.wire.now) (OwnEventComes c.args.instance.now.name c.args.instance.now.held c.args.holder.now c.args.listed.now c.landing.new.self.held c.args.tally.now c.args.tally.now (Some c.unread.result))
-    (event_none c.args.instance.now.name c.args.instance.now.held c.landing.new.self.held c.args.holder.now c.args.listed.now c.args.tally.now c.unread.result c.in-Err.ensures.held)
+    (event_none c.args.instance.now.name c.args.instance.now.held c.landing.new.self.held c.args.holder.now c.args.listed.now c.args.tally.now c.unread.result
+    (unasked_here c.args.instance.now.held (Reach.Own c.args.holder.now c.args.listed.now.event) c.in-Err.fault c.unread.result c.in-Err.ensures.bad c.unread.ensures) c.in-Err.ensures.held)
 
 pub returns-in-Ok-clause-came : goal.returns-in-Ok-clause-came
 returns-in-Ok-clause-came g c =

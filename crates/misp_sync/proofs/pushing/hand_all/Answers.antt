@@ -39,7 +39,7 @@ returns-in-Ok-hand_groups-clause-taken g c = λ own there peer tell.
 
 pub returns-in-Err-clause-trail : goal.returns-in-Err-clause-trail
 returns-in-Err-clause-trail g c = λ none.
-    push_none c.args.link.now c.args.instance.now (told_of (g.W.PushWire.peer c.args.wire.now)) (g.W.PushWire.trail c.args.wire.now) (g.W.PushWire.trail c.args.wire.now) (g.W.PushWire.trail c.args.wire.now) c.args.tally.now none c.bare.result
+    push_none c.args.link.now c.args.instance.now (told_of (g.W.PushWire.peer c.args.wire.now)) (g.W.PushWire.trail c.args.wire.now) (g.W.PushWire.trail c.args.wire.now) (g.W.PushWire.trail c.args.wire.now) c.args.tally.now none c.bare.result c.bare.ensures
 
 pub returns-clause-trail : goal.returns-clause-trail
 returns-clause-trail g c = λ none.

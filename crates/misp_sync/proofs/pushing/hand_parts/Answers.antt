@@ -1,5 +1,6 @@
 -- What is shown of the handing in of packages.
 use Rattle.std.proofs.Common.{ℕ, None, Some, Ok, Err, arith, refl, inr, ◌∙◌, map, take}
+use Rattle.misp_sync.specs.Comes.{NoBadRow}
 use Rattle.misp_sync.specs.Handing.{HandPart}
 use Rattle.misp_sync.specs.PushCount.{CountsAll}
 use Rattle.misp_sync.specs.PushTrail.{Reaches}
@@ -73,7 +74,7 @@ returns-clause-taken g c =
 pub returns-in-Err-clause-counts : goal.returns-in-Err-clause-counts
 returns-in-Err-clause-counts g c =
     count_ended c.args.parts.now c.loop-part.part-index c.part-item.result c.part-item.result c.loop-part-test.true c.part-item.is (g.W.PushWire.trail c.args.wire.now) (g.W.PushWire.trail c.loop-part.wire) (g.W.PushWire.trail c.hand_part.new.wire) c.args.tally.now c.loop-part.tally c.loop-part.invariant.counts
-    c.in-Err.cause c.in-Err.ensures.said
+    NoBadRow c.in-Err.cause c.in-Err.ensures.said
 
 pub returns-clause-counts : goal.returns-clause-counts
 returns-clause-counts g c =

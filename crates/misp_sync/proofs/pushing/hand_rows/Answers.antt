@@ -6,6 +6,7 @@ use Rattle.misp_core.specs.Prelude.{seen_in}
 use Rattle.misp_sync.specs.PushSteps.{held_of}
 use Rattle.misp_sync.specs.Trail.{told_of}
 use Rattle.misp_sync.proofs.PushStands.{push_over, push_read, push_then, push_unread}
+use Rattle.misp_sync.proofs.Comings.{unasked_here}
 use Rattle.misp_sync.proofs.PushTrails.{parts_handed, parts_none}
 use Rattle.misp_sync.proofs.PushedParts.{packs_so, rows_read, rows_unread}
 use Rattle.misp_sync.proofs.pushing.hand_rows.Goals as goal
@@ -31,6 +32,7 @@ returns-in-Ok-clause-trail g c =
 pub returns-in-Err-clause-trail : goal.returns-in-Err-clause-trail
 returns-in-Err-clause-trail g c =
     parts_none c.args.link.now c.args.instance.now (told_of (g.W.PushWire.peer c.args.wire.now)) (g.W.PushWire.trail c.args.wire.now) (g.W.PushWire.trail c.args.wire.now) c.args.tally.now c.args.tally.now c.unread.result refl
+    (unasked_here c.args.instance.now.held Reach.All c.in-Err.fault c.unread.result c.in-Err.ensures.bad c.unread.ensures)
 
 pub returns-in-Ok-clause-taken : goal.returns-in-Ok-clause-taken
 returns-in-Ok-clause-taken g c = λ caller own there peer tell who may.
