@@ -1,10 +1,10 @@
 /* What connections cost a program that does nothing else.
 
-   connections COUNT SIZE: one process accepts COUNT connections over loopback, one after another,
-   reads a request of each, writes SIZE bytes and waits for the client's end, with the system calls
-   of the door of `misp serve`. Another asks over each once and reads to the end, with those of the
-   dial of `misp sync`. It prints the microseconds of processor of the first and of the second, for
-   each connection. */
+   connections COUNT EACH SIZE: one process accepts COUNT connections over loopback, one after
+   another, reads EACH requests of each, writes SIZE bytes after every one and waits for the client's
+   end, with the system calls of the door of `misp serve`. Another asks so often over each and reads
+   to the end, with those of the dial of `misp sync`. It prints the microseconds of processor of the
+   first and of the second, for each request. */
 
 #define _GNU_SOURCE
 
@@ -41,14 +41,16 @@ static void limit_both(int stream) {
     check(!setsockopt(stream, SOL_SOCKET, SO_SNDTIMEO, &wait, sizeof wait), "setsockopt");
 }
 
-static void answer(int listener, const char *reply, size_t size) {
+static void answer(int listener, long each, const char *reply, size_t size) {
     char into[1024];
     int stream = accept4(listener, NULL, NULL, SOCK_CLOEXEC);
     check(stream >= 0, "accept");
     limit_both(stream);
     int second = fcntl(stream, F_DUPFD_CLOEXEC, 3);
-    check(read(stream, into, sizeof into) > 0, "read");
-    check(write(second, reply, size) == (ssize_t)size, "write");
+    for (long k = 0; k < each; k++) {
+        check(read(stream, into, sizeof into) > 0, "read");
+        check(write(second, reply, size) == (ssize_t)size, "write");
+    }
     check(!shutdown(stream, SHUT_WR), "shutdown");
     limit(stream, 1);
     check(read(stream, into, sizeof into) == 0, "end");
@@ -56,15 +58,23 @@ static void answer(int listener, const char *reply, size_t size) {
     close(second);
 }
 
-static void ask(const struct sockaddr_in *to, char *into, size_t size) {
+static void take(int stream, char *into, size_t size) {
+    for (size_t had = 0; had < size;) {
+        ssize_t count = read(stream, into + had, size - had);
+        check(count > 0, "read");
+        had += count;
+    }
+}
+
+static void ask(const struct sockaddr_in *to, long each, char *into, size_t size) {
     int stream = socket(AF_INET, SOCK_STREAM | SOCK_CLOEXEC, 0);
     check(!connect(stream, (const struct sockaddr *)to, sizeof *to), "connect");
     limit_both(stream);
-    check(write(stream, request, sizeof request - 1) == sizeof request - 1, "write");
-    ssize_t count;
-    while ((count = read(stream, into, size)) > 0) {
+    for (long k = 0; k < each; k++) {
+        check(write(stream, request, sizeof request - 1) == sizeof request - 1, "write");
+        take(stream, into, size);
     }
-    check(count == 0, "read");
+    check(read(stream, into, size) == 0, "end");
     close(stream);
 }
 
@@ -75,9 +85,9 @@ static double spent(int who) {
 }
 
 int main(int words, char **word) {
-    check(words == 3, "usage: connections COUNT SIZE");
-    long count = atol(word[1]);
-    size_t size = strtoul(word[2], NULL, 10);
+    check(words == 4, "usage: connections COUNT EACH SIZE");
+    long count = atol(word[1]), each = atol(word[2]);
+    size_t size = strtoul(word[3], NULL, 10);
     char *bytes = calloc(1, size + 1);
     struct sockaddr_in at = {.sin_family = AF_INET, .sin_addr.s_addr = htonl(INADDR_LOOPBACK)};
     socklen_t length = sizeof at;
@@ -88,14 +98,15 @@ int main(int words, char **word) {
     pid_t server = fork();
     check(server >= 0, "fork");
     if (server == 0) {
-        for (long k = 0; k < count; k++) answer(listener, bytes, size);
+        for (long k = 0; k < count; k++) answer(listener, each, bytes, size);
         _exit(0);
     }
     double before = spent(RUSAGE_SELF);
-    for (long k = 0; k < count; k++) ask(&at, bytes, size);
+    for (long k = 0; k < count; k++) ask(&at, each, bytes, size);
     double client = spent(RUSAGE_SELF) - before;
     int status;
     check(waitpid(server, &status, 0) == server && status == 0, "server");
-    printf("%.1f %.1f\n", spent(RUSAGE_CHILDREN) / count, client / count);
+    double requests = (double)count * each;
+    printf("%.1f %.1f\n", spent(RUSAGE_CHILDREN) / requests, client / requests);
     return 0;
 }

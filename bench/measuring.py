@@ -78,20 +78,20 @@ def peak(words, path):
     return int(said.split()[-1]) * 1024
 
 
-def connections(folder, count, size):
-    """The microseconds of processor that a connection, with a reply of so many bytes, costs a program
-    that does nothing else: the server's end and the client's, or None without a C compiler."""
+def connections(folder, count, each, size):
+    """The microseconds of processor that a request, with a reply of so many bytes and so many on each
+    connection, costs a program that does nothing else: the server's end and the client's, each the
+    least of three runs, or None without a C compiler."""
     compiler = shutil.which("cc")
     if not compiler:
         return None
     built = os.path.join(folder, "connections")
     source = os.path.join(TOP, "bench", "connections.c")
     subprocess.run([compiler, "-O2", "-o", built, source], check=True)
-    runs = [
-        subprocess.run([built, str(count), str(size)], check=True, capture_output=True)
-        for _ in range(3)
-    ]
-    return min([float(word) for word in ran.stdout.split()] for ran in runs)
+    words = [built, str(count), str(each), str(size)]
+    runs = [subprocess.run(words, check=True, capture_output=True) for _ in range(3)]
+    ends = zip(*[[float(word) for word in ran.stdout.split()] for ran in runs])
+    return [min(end) for end in ends]
 
 
 WITHIN = """
