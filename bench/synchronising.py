@@ -7,7 +7,7 @@ import uuid
 
 import measuring
 
-RUNS = 5
+RUNS = 11
 SYNC = "S" * 40
 HAND = "H" * 40
 STEP = measuring.STEP
@@ -102,11 +102,20 @@ def all_answered(lines):
     return check
 
 
-def seconds(program, folder, verb, requests, times, runs):
-    """The best time of a script."""
-    path = measuring.save(folder, "source", script(verb, requests, times))
-    check = all_answered(len(requests) + times)
-    return measuring.best([program, "net"], path, runs, check)
+def seconds(program, folder, verb, requests, counts):
+    """The best time of the script with each of these counts of the line, in several rounds."""
+    scripts = [
+        (measuring.save(folder, f"source{times}", script(verb, requests, times)), times)
+        for times in counts
+    ]
+    rounds = [
+        [
+            measuring.best([program, "net"], path, 1, all_answered(len(requests) + times))
+            for path, times in scripts
+        ]
+        for _ in range(RUNS)
+    ]
+    return [min(times) for times in zip(*rounds)]
 
 
 def held(program, folder, verb, requests):
@@ -123,9 +132,9 @@ def held(program, folder, verb, requests):
     return (both - none) / (2 * (one - none))
 
 
-def taken(program, folder, verb, name, requests, runs):
+def taken(program, folder, verb, name, requests):
     """The times of the first synchronisation and of a second one."""
-    none, one, two = (seconds(program, folder, verb, requests, n, runs) for n in (0, 1, 2))
+    none, one, two = seconds(program, folder, verb, requests, (0, 1, 2))
     print(f"{name}: {none * 1000:.0f} ms to add, the first {verb} {(one - none) * 1000:.0f} ms,")
     print(f"the second {(two - one) * 1000:.0f} ms")
     return one - none, two - one
@@ -134,10 +143,10 @@ def taken(program, folder, verb, name, requests, runs):
 def measure(verb, program):
     """Measures the verb, and prints its ratios."""
     with tempfile.TemporaryDirectory() as folder:
-        few, _ = taken(program, folder, verb, "1,000 events", events(1000), RUNS)
-        many, _ = taken(program, folder, verb, "10,000 events", events(10000), RUNS)
-        small, _ = taken(program, folder, verb, "an event of 10,000 attributes", event(10000), 1)
-        large, again = taken(program, folder, verb, "an event of 40,000 attributes", event(40000), 1)
+        few, _ = taken(program, folder, verb, "1,000 events", events(1000))
+        many, _ = taken(program, folder, verb, "10,000 events", events(10000))
+        small, _ = taken(program, folder, verb, "an event of 10,000 attributes", event(10000))
+        large, again = taken(program, folder, verb, "an event of 40,000 attributes", event(40000))
         share = held(program, folder, verb, events(10000))
     measuring.verdict("ten times the events", many / few, 12)
     if share:
