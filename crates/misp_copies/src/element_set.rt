@@ -133,13 +133,28 @@ fn has_key(elements: &ElementSet, owner: &OrgId, key: &Key) -> bool
     }
 }
 
-/// Whether each of what stands above the row is among these, for this owner, or none is.
-pub fn parents_are(elements: &ElementSet, owner: &OrgId, row: &Row, there: bool) -> bool
-    ensures { result ≡ list_all (key_is elements.now owner.now there) (parents row.now.key) }
+// Whether each of what stands above the key is among these, for this owner, or none is.
+fn each_is(elements: &ElementSet, owner: &OrgId, key: &Key, there: bool) -> bool
+    ensures { result ≡ list_all (key_is elements.now owner.now there) (parents key.now) }
 {
-    let above = parents(&row.key);
+    let above = parents(key);
     above
         .as_slice()
         .iter()
         .all(|key| has_key(elements, owner, key) == there)
+}
+
+/// Whether each of what stands above the row is among these, for this owner, or none is. Above most
+/// rows the event stands alone.
+#[tactic(auto, unfolding(misp_elem::specs::Parents::parents, misp_elem::specs::Parents::above, misp_elem::specs::Parents::event_key, crate::specs::ElementSet::has_key))]
+pub fn parents_are(elements: &ElementSet, owner: &OrgId, row: &Row, there: bool) -> bool
+    ensures { result ≡ list_all (key_is elements.now owner.now there) (parents row.now.key) }
+{
+    match &row.key.form {
+        KeyForm::Element {
+            event,
+            place: Place::Object(_) | Place::Attribute(_),
+        } => has_element(elements, owner, event, &Place::Event) == there,
+        _ => each_is(elements, owner, &row.key, there),
+    }
 }

@@ -7,7 +7,7 @@ ghost use Rattle.misp_copies.specs.StatementsByTarget.{IsByTarget};
 
 use crate::keys::{compare, target_of};
 use crate::rows::copies_of;
-use misp_elem::{Key, Row};
+use misp_elem::{Key, KeyForm, Row};
 use misp_ids::{Items, NoMemory};
 use std::alloc::Global;
 use std::cmp::Ordering;
@@ -33,18 +33,26 @@ impl<'a> Model for StatementsByTarget<'a> {
     ghost invariant = { λ s. AreByTarget s.rows.items };
 }
 
-// How what the first row is about stands to what the second is about.
-fn compare_targets(a: &Row, b: &Row) -> Ordering
-    ensures { result ≡ key_cmp (target_of a.now.key) (target_of b.now.key) }
-{
-    compare(&target_of(a), &target_of(b))
-}
-
-// How what the row is about stands to the key.
+// How what the row is about stands to the key. An element or a reference is about itself.
+#[tactic(auto, unfolding(crate::specs::Keys::target_of))]
 fn compare_to(row: &Row, key: &Key) -> Ordering
     ensures { result ≡ key_cmp (target_of row.now.key) key.now }
 {
-    compare(&target_of(row), key)
+    match &row.key.form {
+        KeyForm::Element { .. } | KeyForm::Reference { .. } => compare(&row.key, key),
+        _ => compare(&target_of(row), key),
+    }
+}
+
+// How what the first row is about stands to what the second is about.
+#[tactic(auto, unfolding(crate::specs::Keys::target_of))]
+fn compare_targets(a: &Row, b: &Row) -> Ordering
+    ensures { result ≡ key_cmp (target_of a.now.key) (target_of b.now.key) }
+{
+    match &b.key.form {
+        KeyForm::Element { .. } | KeyForm::Reference { .. } => compare_to(a, &b.key),
+        _ => compare_to(a, &target_of(b)),
+    }
 }
 
 impl<'a> StatementsByTarget<'a> {

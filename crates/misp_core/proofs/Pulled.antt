@@ -1,5 +1,5 @@
 -- What a pull brings of the rows of one event is what it brings of all.
-use Rattle.std.proofs.Common.{◌≡◌, ℕ, zero, suc, ◌+◌, ◌<◌, List, [], ◌∷◌, Option, Some, None, Contains, ap, arith, eqb, filter_map, get_or, length, map, ◌≤◌, option_to_list, ◌++◌, take, option_map, refl, subst, sym, true, ◌∙◌}
+use Rattle.std.proofs.Common.{◌≡◌, ℕ, zero, suc, ◌+◌, ◌<◌, List, [], ◌∷◌, Option, Some, None, Contains, ap, arith, eqb, filter_map, get_or, length, map, option_to_list, ◌++◌, take, option_map, refl, subst, sym, true, ◌∙◌}
 use Rattle.std.specs.List.{cons_option, dedup, slice_get}
 use Rattle.std.proofs.lemmas.List.{length-map, take_more}
 use Rattle.std.proofs.lemmas.List.Elements.{filter_map-append}
@@ -122,13 +122,3 @@ pub one_more : {X Y : Type 0} (f : X → Option Y) (xs : List X) (i : ℕ) (d : 
 one_more f xs i d found done lt h k =
     (λ j. k j ++ option_to_list (h j)) ∙ ap (λ l. filter_map f (take i xs) ++ l) (single (f (get_or xs i d)))
     ∙ sym (filter_map-append f (take i xs) (get_or xs i d ∷ [])) ∙ ap (filter_map f) (sym (take_more xs i d lt))
-
--- how many there are is told by the first
-pub parts_told : (e : EventId) (ps slice : List Package) (first : Package) (all : List (List Row)) → slice ≡ ps → 1 ≤ length slice → first ≡ get_or slice 0 first → AreNumbered e ps → map (λ p. p.rows) ps ≡ all
-    → ◌≡◌ {A = Option EventParts} (Some (record { event = e; parts = first.parts })) (parts_where e (length all))
-unfolding AreNumberedFrom
-parts_told e [] slice first all same le is numbered packed = let none : length slice ≡ 0 = ap length same in absurd (omega arith)
-parts_told e (p ∷ ps) slice first all same le is numbered packed =
-    ap (λ (q : Package). Some (record { event = e; parts = q.parts })) (is ∙ ap (λ l. get_or l 0 first) same)
-    ∙ (λ i. Some (record { event = e; parts = numbered.0.1.1 i }))
-    ∙ ap (parts_where e) (sym (length-map (p ∷ ps) (λ (q : Package). q.rows)) ∙ ap length packed)

@@ -31,7 +31,7 @@ use crate::site::{Site, asker, partner};
 use misp_elem::{NoMemory, Row};
 use misp_groups::{Group, Groups, carries};
 use misp_ids::{EventId, InstId, Items, OrgId, Refusal, RuleName, Way};
-use misp_package::{Via, outgoing};
+use misp_package::{Via, count_outgoing, outgoing};
 use misp_rules::Package;
 use std::alloc::Global;
 
@@ -176,6 +176,24 @@ pub(crate) fn plan_part(
     }
 }
 
+// How many packages of an event a pull brings, where these are its rows here.
+fn count_pulled(
+    alloc: Global,
+    site: &Site<'_>,
+    event: &EventId,
+    rows: &[Row],
+) -> Result<u32, NoMemory>
+    ensures { IsTable rows.now →
+        list_all (λ row. same_event (event_of row.key) event.now) rows.now ≡ true →
+        IfOk result (λ count. count
+        ≡ length (packages (pulled_rows (seeing (pull_scene site.now) rows.now)))) }
+{
+    match partner(site.caller) {
+        Some(dest) => count_outgoing(alloc, rows, event, &way_to(site, dest)),
+        None => Ok(0),
+    }
+}
+
 // An event with the number of its packages, where there is one and these are its rows here.
 fn event_parts(
     alloc: Global,
@@ -189,13 +207,9 @@ fn event_parts(
         (length (packages (pulled_rows (seeing (pull_scene site.now) rows.now))))) }
     ensures counted { IfOk result (λ parts. IfSome parts (IsCountOf event)) }
 {
-    let packages = pulled_packages(alloc, site, &event, rows)?;
-    match packages.as_slice() {
-        [first, ..] => Ok(Some(EventParts {
-            event,
-            parts: first.get().parts,
-        })),
-        [] => Ok(None),
+    match count_pulled(alloc, site, &event, rows)? {
+        0 => Ok(None),
+        parts => Ok(Some(EventParts { event, parts })),
     }
 }
 

@@ -39,9 +39,11 @@ module _ (sent : Option OrgId) (out : List Row) (groups : List Group) (route : R
       same true o l a h = refl
       same false o l a h = sym h
 
-  pub elements_are : (list es gs : List Row) → es ≡ filter (is_eligible sent out groups route) gs → IsByTarget list (filter (λ r. not (is_statement r.key)) es) →
+  pub elements_are : (list es gs : List Row) (told : Bool) → told ≡ true → es ≡ filter (is_eligible sent out groups route) gs → IsByTarget list (filter (λ r. told && not (is_statement r.key)) es) →
       IsByTarget list (filter (is_all_out sent out groups route) gs)
-  elements_are list es gs e h = λ k. h k ∙ ap (filter (λ r. is_about k r.key)) (ap (filter (λ r. not (is_statement r.key))) e ∙ no_statements gs)
+  elements_are list es gs told t e h = λ k.
+      h k ∙ ap (λ b. filter (λ r. is_about k r.key) (filter (λ r. b && not (is_statement r.key)) es)) t
+      ∙ ap (filter (λ r. is_about k r.key)) (ap (filter (λ r. not (is_statement r.key))) e ∙ no_statements gs)
 
 -- the eligible rows that pass are the granted rows that pass
 module _ (p : Passage) (groups : List Group) (route : Route) where

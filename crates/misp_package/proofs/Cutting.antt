@@ -67,6 +67,23 @@ module _ {X : Type 0} where
   pub parts_short : (xs : List X) → AllByRecursion (λ c. length c ≤ 64) (cut 64 xs)
   parts_short xs = short_all (cut 64 xs) (cut_short 64 xs)
 
+  -- ---- how many parts there are
+
+  onto_count : (x y : X) (cs ds : List (List X)) → length cs ≡ length ds → length (onto x cs) ≡ length (onto y ds)
+  onto_count x y [] [] e = refl
+  onto_count x y [] (d ∷ ds) e = absurd (omega (arith, e))
+  onto_count x y (c ∷ cs) [] e = absurd (omega (arith, e))
+  onto_count x y (c ∷ cs) (d ∷ ds) e = e
+
+  -- lists of one length are cut into as many parts
+  pub cut_count : (n : ℕ) (xs ys : List X) → length xs ≡ length ys → length (cut n xs) ≡ length (cut n ys)
+  unfolding cut
+  cut_count n [] [] e = refl
+  cut_count n [] (y ∷ ys) e = absurd (omega (arith, e))
+  cut_count n (x ∷ xs) [] e = absurd (omega (arith, e))
+  cut_count zero (x ∷ xs) (y ∷ ys) e = ap suc (onto_count x y (cut 63 xs) (cut 63 ys) (cut_count 63 xs ys (omega (arith, e))))
+  cut_count (suc n) (x ∷ xs) (y ∷ ys) e = onto_count x y (cut n xs) (cut n ys) (cut_count n xs ys (omega (arith, e)))
+
 module _ {X Y : Type 0} (f : X → Y) where
   onto_map : (x : X) (cs : List (List X)) → map (map f) (onto x cs) ≡ onto (f x) (map (map f) cs)
   onto_map x [] = refl

@@ -1,5 +1,5 @@
 -- Rows in the order of their keys.
-use Rattle.std.proofs.Common.{◌≡◌, ◌↔◌, subst, ◌+◌, ◌<◌, ℕ, zero, suc, arith, length, slice_index_or, Bool, true, false, refl, ap, sym, ◌∙◌, List, [], ◌∷◌, map, Bor, not, is_lt, is_eq, IsSortedBy, Ordering, Less, Equal, Greater}
+use Rattle.std.proofs.Common.{◌≡◌, ◌↔◌, cond, subst, ◌+◌, ◌<◌, ℕ, zero, suc, arith, length, slice_index_or, Bool, true, false, refl, ap, sym, ◌∙◌, List, [], ◌∷◌, map, Bor, not, is_lt, is_eq, IsSortedBy, Ordering, Less, Equal, Greater}
 use Rattle.std.specs.Cmp.{IsTotalOrder, IsStrictWeakOrder}
 use Rattle.std.specs.List.{AllAdjacentBelow, IsAllAdjacentAnswer}
 use Rattle.std.specs.List.Sorted.{IsStableBy, IsStrictlySortedBy}
@@ -41,6 +41,17 @@ key_level a b = sym (level_is a.key b.key)
 
 pub keys_ascend : (rows : List Row) → IsDistinct one_key rows → IsStrictlySortedBy key_order (sorted_by key_order rows)
 keys_ascend rows apart = ascend_sorted key_order key_total one_key key_level rows apart
+
+-- rows that ascend are by their keys
+pub ascending_by_keys : (rows : List Row) → IsStrictlySortedBy key_order rows → rows ≡ sorted_by key_order rows
+unfolding IsStrictlySortedBy in_order put
+ascending_by_keys [] s = refl
+ascending_by_keys (x ∷ []) s = refl
+ascending_by_keys (x ∷ y ∷ ys) s =
+    sym (ap (put (λ a b. not (is_lt (key_order b a))) x) (sym (ascending_by_keys (y ∷ ys) s.1)) ∙ stays (key_order y x) (key_total.antisymm y x ∙ ap ordering_reverse s.0.0))
+  where
+    stays : (o : Ordering) → o ≡ Greater → cond (not (is_lt o)) (x ∷ y ∷ ys) (y ∷ put (λ a b. not (is_lt (key_order b a))) x ys) ≡ x ∷ y ∷ ys
+    stays o e = rw (e) refl
 
 -- two orders that agree on those that are apart
 module _ {X : Type 0} (same : X → X → Bool) (p r : X → X → Bool) (agree : (x y : X) → same x y ≡ false → p x y ≡ r x y) where

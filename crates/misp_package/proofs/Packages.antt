@@ -1,7 +1,7 @@
 -- What passes of one event is packed in the order of its keys as what arrives is.
-use Rattle.std.proofs.Common.{◌≡◌, ◌↔◌, ℕ, suc, ◌≤◌, get_or, Bool, true, false, refl, ap, sym, ◌∙◌, arith, List, [], ◌∷◌, map, filter, length, not, is_lt, is_eq, eqb, ltb, cond, Bor, ◌&&◌, ◌||◌, Contains, subst, append-nil, ◌⊎◌, flat_map, inl, inr, Less, nat_cmp, le-leb}
+use Rattle.std.proofs.Common.{◌≡◌, ◌↔◌, ℕ, suc, ◌≤◌, get_or, Bool, true, false, refl, ap, sym, ◌∙◌, arith, List, [], ◌∷◌, map, filter, length, not, is_lt, is_eq, eqb, ltb, cond, Bor, ◌&&◌, ◌||◌, Contains, subst, append-nil, ◌⊎◌, Global, Option, Some, Vec, option_map, flat_map, inl, inr, Less, nat_cmp, le-leb}
 use Rattle.std.specs.List.Sorted.{IsStrictlySortedBy}
-use Rattle.misp_lists.specs.Order.{in_order, sorted_by, is_less}
+use Rattle.misp_lists.specs.Order.{in_order, put, sorted_by, is_less}
 use Rattle.misp_lists.proofs.All.{all_among, all_both, all_implied, all_map, all_of, all_true}
 use Rattle.misp_lists.proofs.Elements.{all_has, found, here, first_or, of_part}
 use Rattle.misp_lists.proofs.Lists.{all-filter, all_implies, map_twice}
@@ -19,8 +19,8 @@ use Rattle.misp_history.proofs.Passed.{no_tombstone_passes, with_own}
 use Rattle.misp_copies.proofs.KeyOrder.{in_numbers}
 use Rattle.misp_package.specs.declared.via.Via.{Via}
 use Rattle.misp_package.specs.Passing.{route_of}
-use Rattle.misp_package.specs.Packing.{ArePackable, IsPart, is_packable, is_whole, key_order, on_wire, rows_in}
-use Rattle.misp_package.proofs.Cutting.{cut_all, cut_ascends, cut_map, parts_short}
+use Rattle.misp_package.specs.Packing.{ArePackable, IsPacking, IsPart, is_packable, is_whole, key_order, on_wire, rows_in}
+use Rattle.misp_package.proofs.Cutting.{cut_all, cut_ascends, cut_count, cut_map, parts_short}
 use Rattle.misp_package.proofs.KeyOrders.{apart_same, before_is, key_level, keys_ascend, one_key}
 use Rattle.misp_package.proofs.Once.{keys_once}
 use Rattle.misp_elem.specs.Spelling as spelling
@@ -40,6 +40,21 @@ module _ {X : Type 0} where
   dropped true true xs ys h = refl
   dropped false b xs ys h = refl
   dropped true false xs ys h = absurd (false≢true h)
+
+-- a list in order is as long
+put_length : {X : Type 0} (before : X → X → Bool) (x : X) (ys : List X) → length (put before x ys) ≡ suc (length ys)
+unfolding put
+put_length before x [] = refl
+put_length {X} before x (y ∷ ys) = one (before x y) (put_length before x ys)
+  where
+    one : (b : Bool) → length (put before x ys) ≡ suc (length ys) → length (cond b (x ∷ y ∷ ys) (y ∷ put before x ys)) ≡ suc (suc (length ys))
+    one true e = refl
+    one false e = ap suc e
+
+in_order_length : {X : Type 0} (before : X → X → Bool) (xs : List X) → length (in_order before xs) ≡ length xs
+unfolding in_order
+in_order_length before [] = refl
+in_order_length before (x ∷ xs) = put_length before x (in_order before xs) ∙ ap suc (in_order_length before xs)
 
 -- the rows of the parts of a list
 pub rows_cut : (parts : List (Bor (List (Bor Row)))) (others : List (Bor Row)) → map (λ part. part.now) parts ≡ cut 64 others → rows_in parts ≡ cut 64 (map (λ r. r.now) others)
@@ -270,17 +285,39 @@ module _ (rows : List Row) (groups : List Group) (v : Via) (e : EventId) (table 
     unfolding event_key
     packable_here = record { first = own_key; each = each; ascend = ascends }
 
+  -- as many packages as the others of what passes are cut into, whichever goes first
+  pub packages_counted : (own : Row) (others : List Row) → loose ≡ own ∷ others → length (packages (arriving_rows rows groups (route_of v))) ≡ length (cut 64 others)
+  packages_counted own others is = by_keys sorted refl
+    where
+      size : (xs : List Row) → sorted ≡ xs → length xs ≡ suc (length others)
+      size xs e = ap length (sym e) ∙ in_order_length (λ a b. not (is_lt (key_order b a))) loose ∙ ap length is
+
+      by_keys : (xs : List Row) → sorted ≡ xs → length (packages (arriving_rows rows groups (route_of v))) ≡ length (cut 64 others)
+      by_keys [] e = let none = size [] e in absurd (omega (arith, none))
+      by_keys (x ∷ xs) e =
+          let more = size (x ∷ xs) e in
+          ap length (packed_are x xs e) ∙ length-map (cut 64 xs) (λ part. map on_wire (x ∷ part)) ∙ cut_count 64 xs others (omega (arith, more))
+
+  -- and none where nothing passes
+  pub none_counted : loose ≡ [] → length (packages (arriving_rows rows groups (route_of v))) ≡ 0
+  unfolding in_order
+  none_counted is = ap length (none_packed (ap (sorted_by key_order) is))
+
   -- where it cannot, nothing passes
-  pub not_packed : (list : List Row) (r : Bool) → sorted ≡ list → (r ≡ true) ↔ ArePackable e list → r ≡ false → packages (arriving_rows rows groups (route_of v)) ≡ []
-  not_packed [] r is where_ never = none_packed is
-  not_packed (own ∷ others) r is where_ never = absurd (false≢true (sym never ∙ where_.1 (packable_here own others is)))
+  pub not_packed : (list : List Row) → list ≡ loose → (ArePackable e (sorted_by key_order list) → ⊥) → packages (arriving_rows rows groups (route_of v)) ≡ []
+  not_packed list same never = one sorted refl
+    where
+      one : (xs : List Row) → sorted ≡ xs → packages (arriving_rows rows groups (route_of v)) ≡ []
+      one [] is = none_packed is
+      one (own ∷ others) is = absurd (never (subst (ArePackable e) (sym (ap (sorted_by key_order) same ∙ is)) (packable_here own others is)))
 
 -- ---- from lists of references
 
--- the rows that were sorted are those that pass, by their keys
-pub by_keys_is : (rows : List Row) (groups : List Group) (v : Via) (list found : List (Bor Row)) → map (λ r. r.now) found ≡ passing_rows rows groups (route_of v) → map (λ r. r.now) list ≡ sorted_by key_order (map (λ r. r.now) found)
-    → sorted_by key_order (passing_rows rows groups (route_of v)) ≡ map (λ r. r.now) list
-by_keys_is rows groups v list found h k = sym (k ∙ ap (sorted_by key_order) h)
+-- those that are found stand by their keys, and can go into packages
+pub some_packable : (e : EventId) (list : List (Bor Row)) (found : Option (Vec (Bor Row) Global)) (some : Vec (Bor Row) Global) → found ≡ Some some →
+    IsPacking e (map (λ r. r.now) list) (option_map (λ l. map (λ r. r.now) l.items) found) → (map (λ r. r.now) some.items ≡ sorted_by key_order (map (λ r. r.now) list)) × ArePackable e (map (λ r. r.now) some.items)
+unfolding IsPacking
+some_packable e list found some is h = subst (λ o. IsPacking e (map (λ r. r.now) list) (option_map (λ l. map (λ r. r.now) l.items) o)) is h
 
 pub nothing_left : (list : List (Bor Row)) → length list ≡ 0 → map (λ r. r.now) list ≡ []
 nothing_left [] e = refl

@@ -1,6 +1,7 @@
 -- Rows on the wire, and in packages.
-use Rattle.std.specs.Prelude.{◌≡◌, Bool, true, false, not, ◌&&◌, List, [], ◌∷◌, ℕ, suc, length, map}
+use Rattle.std.specs.Prelude.{◌≡◌, Bool, true, false, not, ◌&&◌, List, [], ◌∷◌, ℕ, suc, length, map, Option, Some, None}
 use Rattle.std.specs.List.Sorted.{IsStrictlySortedBy}
+use Rattle.misp_lists.specs.Order.{sorted_by}
 use Rattle.misp_levels.specs.Levels.{down}
 use Rattle.misp_elem.specs.Fields.{IsBetween}
 use Rattle.misp_elem.specs.RowFacts.{is_tombstone}
@@ -46,6 +47,11 @@ pub record ArePackable (e : EventId) (rows : List Row) : Type 0 where
   pub first : BeginsWith e rows
   pub each : list_all (is_packable e) rows ≡ true
   pub ascend : IsStrictlySortedBy key_order rows
+
+-- these are the rows by their keys, where they can go into packages of the event
+unfoldable pub IsPacking : EventId → List Row → Option (List Row) → Type 0
+IsPacking e rows None = ArePackable e (sorted_by key_order rows) → ⊥
+IsPacking e rows (Some list) = (list ≡ sorted_by key_order rows) × ArePackable e list
 
 -- the rows of one package of the event
 pub record IsPart (e : EventId) (part : List Row) : Type 0 where

@@ -1,6 +1,6 @@
 //! What a synchronisation carries of an event.
 
-ghost use Rattle.std.specs.Prelude.{◌≡◌, true, map, IfOk};
+ghost use Rattle.std.specs.Prelude.{◌≡◌, true, length, map, IfOk};
 ghost use Rattle.std.specs.List.{list_all};
 ghost use Rattle.misp_elem.specs.Parents.{event_of};
 ghost use Rattle.misp_ids.specs.Same.{same_event};
@@ -9,8 +9,7 @@ ghost use Rattle.misp_history.specs.Merging.{arriving_rows, packages};
 ghost use Rattle.misp_package.specs.Packing.{AreNumbered};
 ghost use Rattle.misp_package.specs.Passing.{route_of};
 
-use crate::fitting::are_packable;
-use crate::key_order::by_keys;
+use crate::fitting::packable;
 use crate::packing::{packed, parts_of};
 use crate::passing::passing;
 use crate::via::Via;
@@ -35,14 +34,36 @@ pub fn outgoing(
     ensures numbered { IfOk result (λ ps. AreNumbered event.now ps.items) }
 {
     let list = passing(alloc, rows, event, via)?;
-    let list = by_keys(list)?;
-    if !are_packable(list.as_slice(), event) {
+    let Some(list) = packable(list, event)? else {
         return Ok(Vec::new(alloc));
-    }
+    };
     let Some((own, others)) = list.as_slice().split_first() else {
         return Ok(Vec::new(alloc));
     };
     let parts = parts_of(alloc, others)?;
     let packages = packed(alloc, event, own, parts.as_slice())?;
     Ok(packages)
+}
+
+/// How many packages `outgoing` makes of an event. No row is copied for it.
+pub fn count_outgoing(
+    alloc: Global,
+    rows: &[Row],
+    event: &EventId,
+    via: &Via,
+) -> Result<u32, NoMemory>
+    ensures { IsTable rows.now →
+        list_all (λ row. same_event (event_of row.key) event.now) rows.now ≡ true →
+        IfOk result (λ count. count
+        ≡ length (packages (arriving_rows rows.now via.now.groups.now (route_of via.now)))) }
+{
+    let list = passing(alloc, rows, event, via)?;
+    let Some((_own, others)) = list.as_slice().split_first() else {
+        return Ok(0);
+    };
+    let parts = parts_of(alloc, others)?;
+    match u32::try_from(parts.len()) {
+        Ok(count) => Ok(count),
+        Err(_) => Err(NoMemory),
+    }
 }

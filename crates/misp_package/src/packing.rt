@@ -41,7 +41,7 @@ fn all_on_wire(alloc: Global, own: &Row, others: &[&Row]) -> Result<Vec<Row>, No
         ≡ map on_wire (own.now ∷ map (λ r. r.now) others.now)) }
     ensures rows { OnOk result (AreRows (map on_wire (own.now ∷ map (λ r. r.now) others.now))) }
 {
-    let mut rows = Vec::new(alloc);
+    let mut rows = Vec::with_capacity(alloc, others.len().saturating_add(1))?;
     rows.push(on_wire(own)?)?;
     for row in others {
         rows.push(on_wire(row)?)?;

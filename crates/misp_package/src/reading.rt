@@ -157,7 +157,7 @@ impl Reader<'_> {
     fn rows(&mut self, alloc: Global, event: EventId, count: u32) -> Result<Items<Row>, Stop>
         ensures { Gives result self.new (rows_after event None count self.old) }
     {
-        let mut rows: Vec<Row> = Vec::new(alloc);
+        let mut rows: Vec<Row> = Vec::with_capacity(alloc, count as usize)?;
         let mut before = None;
         for _ in 0..count {
             let row = self.row(alloc, event, before)?;

@@ -7,7 +7,7 @@ use Rattle.misp_package.proofs.reading.Reader.rows.Goals as goal
 
 pub returns-in_err-row : goal.returns-in_err-row
 returns-in_err-row c =
-    let p = err_from_is_err_and c.from_residual.result c.from_residual.ensures.1 in
+    let p = err_from_is_err_and c.from_residual-in_err-row.result c.from_residual-in_err-row.ensures.1 in
     rw (p.1, p.2)
     (stops_at c.args.event c.loop.before c.loop.rows.items c.args.count c.loop.counter c.loop.self (rows_after c.args.event None c.args.count c.args.self.now)
     c.in_err-row.field-0.0 c.loop-test.true c.in_err-row.ensures c.loop.invariant)
