@@ -1,6 +1,8 @@
 -- What is told of the streams of the system: what their reader or writer tells, and how often they
--- have failed. And what is told of sockets.
-use Rattle.std.specs.Prelude.{ℕ, Bool, List, Option}
+-- have failed. And what is told of sockets, and of the words of the clock.
+use Rattle.std.specs.Prelude.{ℕ, Bool, ◌*◌, ◌==◌, List, take, drop, Option, if◌then◌else◌}
+use Rattle.std.specs.Int.{w128, from_be_bytes}
+use Rattle.misp_outside.specs.declared.adapters.clock.SystemClock.{SystemClock}
 use Rattle.misp_outside.specs.declared.adapters.input.StandardInput.{StandardInput}
 use Rattle.misp_outside.specs.declared.adapters.output.StandardOutput.{StandardOutput}
 use Rattle.misp_outside.specs.declared.adapters.dial.TcpDial.{TcpDial}
@@ -35,12 +37,24 @@ tcp_faults door = door.faults
 
 -- how often reading a connection has failed
 abbrev pub tcp_source_faults : TcpSource → ℕ
-tcp_source_faults source = source.faults
+tcp_source_faults source = input_faults source.input
 
 -- how often writing to a connection has failed
 abbrev pub tcp_sink_faults : TcpSink → ℕ
-tcp_sink_faults sink = sink.faults
+tcp_sink_faults sink = output_faults sink.output
 
 -- how often the dial over sockets has failed
 abbrev pub tcp_dial_faults : TcpDial → ℕ
 tcp_dial_faults dial = dial.faults
+
+-- how many words a clock has left of those that it had from the system
+abbrev pub words_left : SystemClock → ℕ
+words_left clock = clock.left
+
+-- how many it gives the next word of: those that are left, or 16 new ones
+abbrev pub words_to_give : ℕ → ℕ
+words_to_give left = if left == 0 then 16 else left
+
+-- the word at a place of those that it had from the system
+abbrev pub random_word : SystemClock → ℕ → ℕ
+random_word clock place = from_be_bytes w128 (take 16 (drop (16 * place) clock.random))

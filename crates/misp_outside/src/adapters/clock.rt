@@ -1,6 +1,8 @@
 //! The clock of the system.
 
-ghost use Rattle.std.specs.Prelude.{None};
+ghost use Rattle.std.specs.Prelude.{◌≡◌, ◌≤◌, ◌<◌, ◌+◌, ◌*◌, None, IfOk, IsOk, OnOk, take, drop};
+ghost use Rattle.std.specs.Int.{w128, from_be_bytes};
+ghost use Rattle.misp_outside.specs.declared.adapters.clock.TheConstants.{WORDS};
 
 use crate::Clock;
 use misp_ids::LAST_SECOND;
@@ -20,9 +22,12 @@ pub struct SystemClock<'a> {
     random: [u8; 16 * WORDS],
     left: usize,
     counted: u32,
+    ghost in_range: { left ≤ WORDS },
 }
 
 impl<'a> SystemClock<'a> {
+    ghost use Rattle.misp_outside.specs.System.{random_word, words_left, words_to_give};
+
     pub fn new(system: &'a HostRuntime) -> Self {
         SystemClock {
             system,
@@ -43,7 +48,11 @@ impl<'a> SystemClock<'a> {
     }
 
     // Has more random bytes from the system where none are left.
-    fn refill(&mut self) -> io::Result<()> {
+    fn refill(&mut self) -> io::Result<()>
+        ensures left { OnOk result (words_left self.new ≡ words_to_give (words_left self.old)) }
+        ensures kept { 0 < words_left self.old → self.new ≡ self.old }
+        ensures some { 0 < words_left self.old → IsOk result }
+    {
         if self.left == 0 {
             self.system.fill_bytes(&mut self.random)?;
             self.left = WORDS;
@@ -51,13 +60,17 @@ impl<'a> SystemClock<'a> {
         Ok(())
     }
 
-    fn random(&mut self) -> io::Result<u128> {
+    // The last of the words that are left, which is used up.
+    fn random(&mut self) -> io::Result<u128>
+        ensures word { IfOk result (λ word. word ≡ random_word self.new (words_left self.new)) }
+        ensures left { IfOk result
+            (λ _. words_left self.new + 1 ≡ words_to_give (words_left self.old)) }
+        ensures kept { 0 < words_left self.old → self.new.random ≡ self.old.random }
+        ensures some { 0 < words_left self.old → IsOk result }
+    {
         self.refill()?;
-        self.left = self.left.saturating_sub(1);
-        let at = 16 * (self.left % WORDS);
-        let mut bytes = [0u8; 16];
-        bytes.copy_from_slice(&self.random[at..at + 16]);
-        Ok(u128::from_be_bytes(bytes))
+        self.left -= 1;
+        Ok(word_at(&self.random, self.left))
     }
 
     // The seconds and a running number of 30 bits, in bits that an identifier keeps.
@@ -68,7 +81,20 @@ impl<'a> SystemClock<'a> {
     }
 }
 
+// The word at a place of those that were had from the system.
+fn word_at(words: &[u8; 16 * WORDS], place: usize) -> u128
+    requires { place < WORDS }
+    ensures { result ≡ from_be_bytes w128 (take 16 (drop (16 * place) words.now)) }
+{
+    let at = 16 * place;
+    let mut bytes = [0u8; 16];
+    bytes.copy_from_slice(&words[at..at + 16]);
+    u128::from_be_bytes(bytes)
+}
+
 impl<'a> Clock for SystemClock<'a> {
+    ghost use Rattle.misp_outside.specs.System.{random_word, words_left};
+
     ghost time = { λ _. None };
 
     ghost next_word = { λ _. None };
@@ -77,7 +103,11 @@ impl<'a> Clock for SystemClock<'a> {
         self.seconds().min(LAST_SECOND)
     }
 
-    fn word(&mut self) -> u128 {
+    fn word(&mut self) -> u128
+        ensures left { 0 < words_left self.old → words_left self.new + 1 ≡ words_left self.old }
+        ensures given { 0 < words_left self.old
+            → result ≡ random_word self.old (words_left self.new) }
+    {
         match self.random() {
             Ok(word) => word,
             Err(_) => self.counted(),

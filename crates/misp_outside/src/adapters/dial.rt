@@ -1,7 +1,9 @@
 //! Asks over sockets.
 
-ghost use Rattle.std.specs.Prelude.{◌≡◌, None, Err};
-ghost use Rattle.misp_outside.specs.Causes.{HasCause};
+ghost use Rattle.std.specs.Prelude.{◌≡◌, ◌≤◌, ◌↔◌, None, Err, IfSome, IfOk, OnOk, vec_len};
+ghost use Rattle.std.specs.Io.KnownBytes.{Appends};
+ghost use Rattle.std.specs.IoError.{error_kind};
+ghost use Rattle.misp_outside.specs.Causes.{HasCause, StaysUnless};
 
 use super::tcp::WAIT_SECONDS;
 use crate::{Dial, WireFault};
@@ -39,6 +41,8 @@ impl<'a> TcpDial<'a> {
     pub fn send(&mut self, address: &str, bytes: &[u8]) -> Result<TcpWaiting, WireFault>
         ensures cause { HasCause (tcp_dial_faults self.old) (tcp_dial_faults self.new)
             (result ≡ Err WireFault.Failed) }
+        ensures stays { StaysUnless (tcp_dial_faults self.old) (tcp_dial_faults self.new)
+            (result ≡ Err WireFault.Failed) }
     {
         match sent(self.system, address, bytes) {
             Ok(waiting) => Ok(waiting),
@@ -50,8 +54,10 @@ impl<'a> TcpDial<'a> {
     pub fn receive(&mut self, waiting: TcpWaiting) -> Result<Vec<u8>, WireFault>
         ensures cause { HasCause (tcp_dial_faults self.old) (tcp_dial_faults self.new)
             (result ≡ Err WireFault.Failed) }
+        ensures stays { StaysUnless (tcp_dial_faults self.old) (tcp_dial_faults self.new)
+            (result ≡ Err WireFault.Failed) }
     {
-        match received(self.system.alloc(), waiting) {
+        match whole_reply(self.system.alloc(), waiting.stream) {
             Ok(reply) => Ok(reply),
             Err(error) => Err(self.fault(error)),
         }
@@ -59,7 +65,10 @@ impl<'a> TcpDial<'a> {
 
     // Counts the error, unless memory ran out.
     fn fault(&mut self, error: io::Error) -> WireFault
+        ensures kind { (result ≡ WireFault.NoMemory) ↔ (error_kind error ≡ ErrorKind.OutOfMemory) }
         ensures cause { HasCause (tcp_dial_faults self.old) (tcp_dial_faults self.new)
+            (result ≡ WireFault.Failed) }
+        ensures stays { StaysUnless (tcp_dial_faults self.old) (tcp_dial_faults self.new)
             (result ≡ WireFault.Failed) }
     {
         if error.kind() == ErrorKind::OutOfMemory {
@@ -83,18 +92,30 @@ impl<'a> Dial for TcpDial<'a> {
     }
 }
 
+// Connects, and sends the bytes.
 fn sent(system: &HostRuntime, address: &str, bytes: &[u8]) -> io::Result<TcpWaiting> {
     let mut stream = TcpStream::connect(system, address)?;
     stream.set_read_timeout(Some(Duration::from_secs(WAIT_SECONDS)))?;
     stream.set_write_timeout(Some(Duration::from_secs(WAIT_SECONDS)))?;
-    stream.write_all(bytes)?;
+    send_whole(&mut stream, bytes)?;
     Ok(TcpWaiting { stream })
 }
 
-// One byte more than the most is read, and is an error.
-fn received(alloc: Global, waiting: TcpWaiting) -> io::Result<Vec<u8>> {
+// Writes all of the bytes.
+fn send_whole<W: Write>(stream: &mut W, bytes: &[u8]) -> io::Result<()>
+    ensures { OnOk result (Appends (W.contents stream.old) (W.contents stream.new) bytes.now) }
+{
+    stream.write_all(bytes)
+}
+
+// Reads all that is left. One byte more than the most is read, and is an error.
+fn whole_reply<R: Read + Drop>(alloc: Global, stream: R) -> io::Result<Vec<u8>>
+    ensures whole { IfOk result
+        (λ reply. IfSome (R.remaining stream) (λ left. reply.items ≡ left)) }
+    ensures most { IfOk result (λ reply. vec_len reply ≤ MOST_BYTES) }
+{
     let mut reply = Vec::new(alloc);
-    let count = waiting.stream.take(MOST_BYTES + 1).read_to_end(&mut reply)?;
+    let count = stream.take(MOST_BYTES + 1).read_to_end(&mut reply)?;
     if MOST_BYTES < count as u64 {
         return Err(io::Error::from(ErrorKind::FileTooLarge));
     }

@@ -1,9 +1,11 @@
 //! Sockets.
 
-ghost use Rattle.std.specs.Prelude.{◌≡◌, None, false};
+ghost use Rattle.std.specs.Prelude.{◌≡◌, None, false, OnOk, OnErr, IsErr, IsTrue};
+ghost use Rattle.misp_outside.specs.Causes.{HasCause, StaysUnless};
 
+use super::{StandardInput, StandardOutput};
 use crate::{Door, DoorFault, NoMemory, Sink, SinkFault, Source, SourceFault};
-use std::io::{self, Read, Write};
+use std::io::{self, Read};
 use std::net::{Shutdown, TcpListener, TcpStream};
 use std::time::{Duration, Instant};
 
@@ -19,8 +21,7 @@ const LINGER_READS: u32 = 1024;
 /// The bytes that come from a socket. It tells nothing of them.
 #[derive(Drop)]
 pub struct TcpSource {
-    stream: TcpStream,
-    faults: u64,
+    input: StandardInput<TcpStream>,
 }
 
 impl Source for TcpSource {
@@ -31,13 +32,7 @@ impl Source for TcpSource {
     ghost faults = { tcp_source_faults };
 
     fn read(&mut self, into: &mut [u8]) -> Result<usize, SourceFault> {
-        match self.stream.read(into) {
-            Ok(count) => Ok(count),
-            Err(_) => {
-                self.faults = self.faults.saturating_add(1);
-                Err(SourceFault::Failed)
-            }
-        }
+        self.input.read(into)
     }
 }
 
@@ -45,8 +40,7 @@ impl Source for TcpSource {
 /// write of no byte where there are some is a fault too.
 #[derive(Drop)]
 pub struct TcpSink {
-    stream: TcpStream,
-    faults: u64,
+    output: StandardOutput<TcpStream>,
 }
 
 impl Sink for TcpSink {
@@ -63,13 +57,7 @@ impl Sink for TcpSink {
     }
 
     fn write(&mut self, from: &[u8]) -> Result<usize, SinkFault> {
-        match self.stream.write(from) {
-            Ok(count) if 0 < count || from.is_empty() => Ok(count),
-            _ => {
-                self.faults = self.faults.saturating_add(1);
-                Err(SinkFault::Failed)
-            }
-        }
+        self.output.write(from)
     }
 }
 
@@ -104,26 +92,47 @@ impl<'a> TcpDoor<'a> {
         stream.set_write_timeout(Some(Duration::from_secs(WAIT_SECONDS)))?;
         let second = stream.try_clone()?;
         Ok((
-            TcpSource { stream, faults: 0 },
+            TcpSource {
+                input: StandardInput::new(stream),
+            },
             TcpSink {
-                stream: second,
-                faults: 0,
+                output: StandardOutput::new(second),
             },
         ))
+    }
+
+    // The ends of the next connection, which is out then. An error is a fault that is counted.
+    fn accepted(&mut self) -> Result<(TcpSource, TcpSink), DoorFault>
+        ensures out { OnOk result (IsTrue (tcp_is_out self.new)) }
+        ensures err { OnErr result (tcp_is_out self.new ≡ tcp_is_out self.old) }
+        ensures cause { HasCause (tcp_faults self.old) (tcp_faults self.new) (IsErr result) }
+        ensures stays { StaysUnless (tcp_faults self.old) (tcp_faults self.new) (IsErr result) }
+    {
+        match self.ends() {
+            Ok(ends) => {
+                self.out = true;
+                Ok(ends)
+            }
+            Err(_) => {
+                self.faults = self.faults.saturating_add(1);
+                Err(DoorFault::Failed)
+            }
+        }
     }
 
     // Closes the writing side, and reads what the client still sends: the system resets a
     // connection that is closed with unread bytes, and the reply may be lost with it. A wait of 0
     // is an error, and ends it.
-    fn linger(&self, mut from: TcpSource) -> io::Result<()> {
-        from.stream.shutdown(Shutdown::Write)?;
+    fn linger(&self, from: TcpSource) -> io::Result<()> {
+        let mut stream = from.input.into_reader();
+        stream.shutdown(Shutdown::Write)?;
         let most = Duration::from_secs(LINGER_SECONDS);
         let begun = Instant::now(self.system)?;
         let mut unread = [0u8; 1024];
         for _ in 0..LINGER_READS {
             let left = most.saturating_sub(begun.elapsed(self.system)?);
-            from.stream.set_read_timeout(Some(left))?;
-            if from.stream.read(&mut unread)? == 0 {
+            stream.set_read_timeout(Some(left))?;
+            if stream.read(&mut unread)? == 0 {
                 break;
             }
         }
@@ -147,16 +156,7 @@ impl<'a> Door for TcpDoor<'a> {
     ghost faults = { tcp_faults };
 
     fn next(&mut self) -> Result<Option<(Self::From, Self::To)>, DoorFault> {
-        match self.ends() {
-            Ok(ends) => {
-                self.out = true;
-                Ok(Some(ends))
-            }
-            Err(_) => {
-                self.faults = self.faults.saturating_add(1);
-                Err(DoorFault::Failed)
-            }
-        }
+        Ok(Some(self.accepted()?))
     }
 
     fn close(&mut self, from: Self::From, _to: Self::To) {

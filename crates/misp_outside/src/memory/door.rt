@@ -1,7 +1,8 @@
 //! A door in memory.
 
-ghost use Rattle.std.specs.Prelude.{◌≡◌, ◌≤◌, ◌+◌, Some, [], map, false, IfOk, if◌then◌else◌, vec_len, vec_capacity};
+ghost use Rattle.std.specs.Prelude.{◌≡◌, ◌≤◌, ◌+◌, ◌++◌, Some, [], ◌∷◌, map, false, IfOk, OnErr, IsErr, MatchOption, IsTrue, is_err, if◌then◌else◌, vec_len, vec_capacity};
 ghost use Rattle.std.specs.VecDeque.{deque_len};
+ghost use Rattle.misp_outside.specs.Causes.{HasCause, StaysUnless};
 
 use super::failing::Failing;
 use super::{MemSink, MemSource};
@@ -55,7 +56,8 @@ impl MemDoor {
 }
 
 impl Door for MemDoor {
-    ghost use Rattle.misp_outside.specs.Doors.{door_coming, door_back, door_is_out, door_faults};
+    ghost use Rattle.misp_outside.specs.Doors.{connection_of, door_coming, door_back, door_is_out, door_faults, door_calls, door_failing, door_fails};
+    ghost use Rattle.misp_outside.specs.Failing.{one_call_more};
 
     type From = MemSource;
 
@@ -69,7 +71,21 @@ impl Door for MemDoor {
 
     ghost faults = { door_faults };
 
-    fn next(&mut self) -> Result<Option<(Self::From, Self::To)>, DoorFault> {
+    fn next(&mut self) -> Result<Option<(Self::From, Self::To)>, DoorFault>
+        ensures given { IfOk result (λ given. MatchOption given
+            ((door_coming self.old ≡ []) × (door_coming self.new ≡ []))
+            (λ ends. door_coming self.old ≡ connection_of ends ∷ door_coming self.new)) }
+        ensures out { IfOk result (λ given. MatchOption given
+            (door_is_out self.new ≡ door_is_out self.old) (λ _. IsTrue (door_is_out self.new))) }
+        ensures err { OnErr result ((door_coming self.new ≡ door_coming self.old)
+            × (door_is_out self.new ≡ door_is_out self.old)) }
+        ensures back { door_back self.new ≡ door_back self.old }
+        ensures cause { HasCause (door_faults self.old) (door_faults self.new) (IsErr result) }
+        ensures stays { StaysUnless (door_faults self.old) (door_faults self.new) (IsErr result) }
+        ensures fails { is_err result ≡ door_fails self.old }
+        ensures calls { door_calls self.new ≡ one_call_more (door_calls self.old) }
+        ensures numbers { door_failing self.new ≡ door_failing self.old }
+    {
         if self.failing.next() {
             return Err(DoorFault::Failed);
         }
@@ -82,7 +98,15 @@ impl Door for MemDoor {
         }
     }
 
-    fn close(&mut self, from: Self::From, to: Self::To) {
+    fn close(&mut self, from: Self::From, to: Self::To)
+        requires { IsTrue (door_is_out self.old) }
+        ensures back { door_back self.new ≡ door_back self.old ++ connection_of (from, to) ∷ [] }
+        ensures out { door_is_out self.new ≡ false }
+        ensures coming { door_coming self.new ≡ door_coming self.old }
+        ensures faults { door_faults self.new ≡ door_faults self.old }
+        ensures calls { door_calls self.new ≡ door_calls self.old }
+        ensures numbers { door_failing self.new ≡ door_failing self.old }
+    {
         self.back.push((from, to)).unwrap();
         self.out = false;
     }
