@@ -2,7 +2,7 @@
 
 ghost use Rattle.std.specs.Prelude.{◌≡◌, true, false, ◌≢◌, ◌≤◌, ◌<◌, ◌+◌, ◌++◌, ℕ, List, Ok, Err, IfSome, IfOk, IfErr, OnOk, vec_len, length, drop};
 ghost use Rattle.std.specs.Io.KnownBytes.{prepend_known, Keeps, IsAtEnd};
-ghost use Rattle.misp_outside.specs.Causes.{HasCause};
+ghost use Rattle.misp_outside.specs.Causes.{HasCause, StaysUnless};
 ghost use Rattle.httparse.specs.Grammar.{RequestHead, HasNoRequest};
 ghost use Rattle.misp_http.specs.Limits.{head_limit};
 ghost use Rattle.misp_http.specs.Parsing.{IsSeen};
@@ -35,6 +35,8 @@ fn read_more<S: Source>(
     ensures end { IfOk result (λ count. count ≡ 0 → IsAtEnd (S.left source.new)) }
     ensures stops { IfErr result IsFailure }
     ensures cause { HasCause (S.faults source.old) (S.faults source.new)
+        (result ≡ Err ReadEnd.ReadFault) }
+    ensures stays { StaysUnless (S.faults source.old) (S.faults source.new)
         (result ≡ Err ReadEnd.ReadFault) }
 {
     let Ok(count) = source.read(buffer) else {
@@ -111,6 +113,8 @@ fn read_head<S: Source>(
     ensures here { HasFound rest.new.items result }
     ensures cause { HasCause (S.faults source.old) (S.faults source.new)
         (result ≡ Err ReadEnd.ReadFault) }
+    ensures stays { StaysUnless (S.faults source.old) (S.faults source.new)
+        (result ≡ Err ReadEnd.ReadFault) }
 {
     let mut lines = LineScanner {
         scanned: 0,
@@ -146,6 +150,8 @@ fn read_at_least<S: Source>(
         × IsAtEnd (S.left source.new) × (length rest.new.items < size) }
     ensures ends { IfErr result IsBodyEnd }
     ensures cause { HasCause (S.faults source.old) (S.faults source.new)
+        (result ≡ Err ReadEnd.ReadFault) }
+    ensures stays { StaysUnless (S.faults source.old) (S.faults source.new)
         (result ≡ Err ReadEnd.ReadFault) }
 {
     while rest.len() < size {
@@ -191,6 +197,8 @@ fn read_body<S: Source>(
     ensures unasked { head.size + head.body_size ≤ length rest.old.items → source.new ≡ source.old }
     ensures cause { HasCause (S.faults source.old) (S.faults source.new)
         (result ≡ Err ReadEnd.ReadFault) }
+    ensures stays { StaysUnless (S.faults source.old) (S.faults source.new)
+        (result ≡ Err ReadEnd.ReadFault) }
 {
     let size = head.size + head.body_size;
     if rest.len() >= size {
@@ -216,6 +224,8 @@ pub fn read_request<S: Source>(
     // Where the bytes that were read before begin with a whole request, the source is not asked.
     ensures unasked { BeginsWithRequest rest.old.items → source.new ≡ source.old }
     ensures cause { HasCause (S.faults source.old) (S.faults source.new)
+        (result ≡ Err ReadEnd.ReadFault) }
+    ensures stays { StaysUnless (S.faults source.old) (S.faults source.new)
         (result ≡ Err ReadEnd.ReadFault) }
 {
     let mut buffer = [0u8; PIECE];

@@ -46,7 +46,7 @@ loop-lines-preserved g c = record {
   kept = keeps_more _ _ _ c.loop-lines.invariant.kept c.in_ok-read_more.ensures.keeps;
   first = inr (undecided_at _ _ c.loop-lines.rest.items c.args.rest.now.items c.deref.result.now _ _ _ c.deref.ensures.value (omega (arith, c.loop-lines-test.true, c.len.ensures, c.loop-lines.rest.ok.0)) c.loop-lines.invariant.first (c.head_if_ended.ensures.undecided (c.in_ok-head.was ∙ ap Ok c.in-Undecided.is)));
   room = c.in_ok-read_more.ensures.room ∙ c.loop-lines.invariant.room;
-  later = omega (arith, c.in_ok-read_more.ensures.cause.later, c.loop-lines.invariant.later);
+  same = c.in_ok-read_more.ensures.stays (λ failed. cc) ∙ c.loop-lines.invariant.same;
 }
 
 pub returns-in-Whole-clause-here : goal.returns-in-Whole-clause-here

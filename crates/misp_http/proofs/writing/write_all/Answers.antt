@@ -22,5 +22,5 @@ loop-rest-preserved g c =
         appends_more _ _ _ sent.0 front sent.2 (rw c.split_at.ensures.front c.in_ok-count.ensures.bytes),
       );
       room = c.in_ok-count.ensures.room (length back) (rw left at c.loop-rest.invariant.room);
-      later = omega (arith, c.in_ok-count.ensures.cause.later, c.loop-rest.invariant.later);
+      same = c.in_ok-count.ensures.stays (λ failed. cc) ∙ c.loop-rest.invariant.same;
     }
