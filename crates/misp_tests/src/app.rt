@@ -2,13 +2,11 @@
 
 mod cases;
 
+use crate::outside::{idle_dial, idle_door, keepers, ran};
 use cases::{CASES, Case, NAMES};
-use misp_app::{KEEPERS, Status, run};
+use misp_app::Status;
 use misp_ids::{EventId, Items, Uid};
-use misp_outside::{
-    AdminRow, Keeper, MemDial, MemDoor, MemKeeper, MemSink, MemSource, RawBatch, RawRow, StepClock,
-    SureCarry,
-};
+use misp_outside::{AdminRow, Keeper, MemKeeper, MemSink, MemSource, RawBatch, RawRow, SureCarry};
 use std::alloc::Global;
 use std::test::Fail;
 
@@ -37,16 +35,6 @@ fn first_keeper(alloc: Global, fails: u64, admin: Vec<AdminRow>) -> Result<MemKe
     Ok(first)
 }
 
-// That keeper, and 15 that hold nothing.
-fn keepers(alloc: Global, first: MemKeeper) -> Result<Vec<MemKeeper>, Fail> {
-    let mut keepers = Vec::new(alloc);
-    keepers.push(first)?;
-    for _ in 0..15 {
-        keepers.push(MemKeeper::new(alloc, Vec::new(alloc)))?;
-    }
-    Ok(keepers)
-}
-
 /// How a run ended, what was written, and how many batches each keeper has applied.
 #[derive(Drop)]
 struct Outcome {
@@ -68,40 +56,33 @@ fn filled(alloc: Global, text: &str, len: usize) -> Result<Vec<u8>, Fail> {
     Ok(bytes)
 }
 
-#[tactic(auto, using(misp_app::proofs::Hosted::enough_keepers))]
-fn ran(alloc: Global, case: &Case<'_>, admin: Vec<AdminRow>) -> Result<Outcome, Fail> {
+// How that case ends, where its first keeper holds these rows of the administration.
+fn outcome(alloc: Global, case: &Case<'_>, admin: Vec<AdminRow>) -> Result<Outcome, Fail> {
     let [reads, writes, calls] = case.fails;
-    let mut words = Vec::new(alloc);
-    for word in case.words.split(' ') {
-        words.push(String::from_str(alloc, word)?)?;
-    }
     let bytes = filled(alloc, case.source, case.len)?;
-    let mut source = MemSource::new(bytes, vec![in alloc; 5usize]?, vec![in alloc; reads]?);
-    let mut sink = MemSink::new(alloc, vec![in alloc; writes]?);
+    let source = MemSource::new(bytes, vec![in alloc; 5usize]?, vec![in alloc; reads]?);
+    let sink = MemSink::new(alloc, vec![in alloc; writes]?);
     let mut keepers = keepers(alloc, first_keeper(alloc, calls, admin)?)?;
-    if keepers.len() < KEEPERS {
-        return Err(Fail::from("too few keepers"));
-    }
-    let door = MemDoor::new(alloc, Vec::new(alloc), Vec::new(alloc));
-    let mut door = door.ok().ok_or("no memory")?;
-    let status = run(
+    let mut door = idle_door(alloc)?;
+    let mut dial = idle_dial(alloc);
+    let mut carry = SureCarry::new();
+    let (status, written) = ran(
         alloc,
-        &words,
-        &mut source,
-        &mut sink,
+        case.words,
+        source,
+        sink,
         &mut keepers,
-        &mut SureCarry::new(),
+        &mut carry,
         &mut door,
-        &mut MemDial::new(alloc, Vec::new(alloc), Vec::new(alloc)),
-        &mut StepClock { time: 0, word: 0 },
-    );
+        &mut dial,
+    )?;
     let mut batches = Vec::new(alloc);
     for keeper in &keepers {
         batches.push(keeper.batches())?;
     }
     Ok(Outcome {
         status,
-        written: String::from_utf8(sink.bytes().to_vec(alloc)?)?,
+        written,
         batches,
     })
 }
@@ -115,7 +96,7 @@ fn applied(first: u64) -> [u64; 16] {
 fn runs_end_and_write_as_the_table_says(rt: HostRuntime) -> Result<(), Fail> {
     for case in &CASES {
         let source = case.source;
-        let ran = ran(rt.alloc(), case, Vec::new(rt.alloc()))?;
+        let ran = outcome(rt.alloc(), case, Vec::new(rt.alloc()))?;
         let written = named(rt.alloc(), case.written)?;
         let batches = applied(case.batches);
         assert_eq!(rt; ran.status, case.status, "after {source}");
@@ -150,7 +131,7 @@ fn a_row_of_the_administration_that_is_none_ends_the_run(rt: HostRuntime) -> Res
         written: "",
         batches: 1,
     };
-    let ran = ran(rt.alloc(), &case, none(rt.alloc())?)?;
+    let ran = outcome(rt.alloc(), &case, none(rt.alloc())?)?;
     assert_eq!(rt; ran.status, case.status);
     assert_eq!(rt; ran.written.as_str(), case.written);
     assert_eq!(rt; ran.batches.as_slice(), applied(case.batches).as_slice());

@@ -1,7 +1,8 @@
 //! Pulls and pushes over a carry in memory that fails at one of its calls.
 
-use misp_app::{KEEPERS, Status, run};
-use misp_outside::{MemCarry, MemDial, MemDoor, MemKeeper, MemSink, MemSource, StepClock};
+use crate::outside::{empty_keepers, idle_dial, idle_door, ran, sink, source};
+use misp_app::Status;
+use misp_outside::MemCarry;
 use std::alloc::Global;
 use std::test::Fail;
 
@@ -83,43 +84,29 @@ const PUSHES: [(u64, &str, &str, &str); 8] = [
     (8, "2", "0", "0"),
 ];
 
-fn keepers(alloc: Global) -> Result<Vec<MemKeeper>, Fail> {
-    let mut keepers = Vec::new(alloc);
-    for _ in 0..KEEPERS {
-        keepers.push(MemKeeper::new(alloc, Vec::new(alloc)))?;
-    }
-    Ok(keepers)
-}
-
 // What is written for a source where the carry fails at this call.
-#[tactic(auto, using(misp_app::proofs::Hosted::enough_keepers))]
-fn written(alloc: Global, source: &str, fails: u64) -> Result<String, Fail> {
-    let text = misp_samples::filled(alloc, &NAMES, source)?;
-    let mut source = MemSource::new(text.into_bytes(), Vec::new(alloc), Vec::new(alloc));
-    let mut sink = MemSink::new(alloc, Vec::new(alloc));
-    let mut keepers = keepers(alloc)?;
-    if keepers.len() < KEEPERS {
-        return Err(Fail::from("too few keepers"));
-    }
-    let door = MemDoor::new(alloc, Vec::new(alloc), Vec::new(alloc));
-    let mut door = door.ok().ok_or("no memory")?;
-    let mut words = Vec::new(alloc);
-    words.push(String::from_str(alloc, "net")?)?;
-    let status = run(
+fn written(alloc: Global, text: &str, fails: u64) -> Result<String, Fail> {
+    let text = misp_samples::filled(alloc, &NAMES, text)?;
+    let source = source(alloc, text.as_str())?;
+    let mut keepers = empty_keepers(alloc)?;
+    let mut carry = MemCarry::new(alloc, vec![in alloc; fails]?);
+    let mut door = idle_door(alloc)?;
+    let mut dial = idle_dial(alloc);
+    let sink = sink(alloc);
+    let (status, written) = ran(
         alloc,
-        &words,
-        &mut source,
-        &mut sink,
+        "net",
+        source,
+        sink,
         &mut keepers,
-        &mut MemCarry::new(alloc, vec![in alloc; fails]?),
+        &mut carry,
         &mut door,
-        &mut MemDial::new(alloc, Vec::new(alloc), Vec::new(alloc)),
-        &mut StepClock { time: 0, word: 0 },
-    );
+        &mut dial,
+    )?;
     if status != Status::Done {
         return Err(Fail::from("the run is not done"));
     }
-    Ok(String::from_utf8(sink.bytes().to_vec(alloc)?)?)
+    Ok(written)
 }
 
 // The line that stopped after so many packages, and the next one, which takes so much.

@@ -1,7 +1,8 @@
 //! Synchronisations over a dial in memory.
 
-use misp_app::{KEEPERS, Status, run};
-use misp_outside::{MemDial, MemDoor, MemKeeper, MemSink, MemSource, StepClock, SureCarry};
+use crate::outside::{empty_keepers, idle_door, ran, sink, source};
+use misp_app::Status;
+use misp_outside::{MemDial, SureCarry};
 use std::alloc::Global;
 use std::test::Fail;
 
@@ -114,41 +115,23 @@ fn answering(alloc: Global, replies: &[&str]) -> Result<MemDial, Fail> {
     Ok(MemDial::new(alloc, all, Vec::new(alloc)))
 }
 
-fn keepers(alloc: Global) -> Result<Vec<MemKeeper>, Fail> {
-    let mut keepers = Vec::new(alloc);
-    for _ in 0..KEEPERS {
-        keepers.push(MemKeeper::new(alloc, Vec::new(alloc)))?;
-    }
-    Ok(keepers)
-}
-
 // How a run of these words ends, and what it writes.
-#[tactic(auto, using(misp_app::proofs::Hosted::enough_keepers))]
 fn synced(alloc: Global, line: &str, dial: &mut MemDial) -> Result<(Status, String), Fail> {
-    let mut words = Vec::new(alloc);
-    for word in line.split(' ') {
-        words.push(String::from_str(alloc, word)?)?;
-    }
-    let bytes = NET.as_bytes().to_vec(alloc)?;
-    let mut source = MemSource::new(bytes, Vec::new(alloc), Vec::new(alloc));
-    let mut sink = MemSink::new(alloc, Vec::new(alloc));
-    let mut keepers = keepers(alloc)?;
-    if keepers.len() < KEEPERS {
-        return Err(Fail::from("too few keepers"));
-    }
-    let door = MemDoor::new(alloc, Vec::new(alloc), Vec::new(alloc));
-    let status = run(
+    let source = source(alloc, NET)?;
+    let mut keepers = empty_keepers(alloc)?;
+    let mut carry = SureCarry::new();
+    let mut door = idle_door(alloc)?;
+    let sink = sink(alloc);
+    ran(
         alloc,
-        &words,
-        &mut source,
-        &mut sink,
+        line,
+        source,
+        sink,
         &mut keepers,
-        &mut SureCarry::new(),
-        &mut door.ok().ok_or("no memory")?,
+        &mut carry,
+        &mut door,
         dial,
-        &mut StepClock { time: 0, word: 0 },
-    );
-    Ok((status, String::from_utf8(sink.bytes().to_vec(alloc)?)?))
+    )
 }
 
 #[test]

@@ -2,20 +2,12 @@
 #![tactic(auto)]
 
 #[cfg(test)]
-mod dates;
-#[cfg(test)]
 mod elem;
 #[cfg(test)]
-mod fields;
-#[cfg(test)]
 mod http;
-#[cfg(test)]
-mod ids;
 #[cfg(test)]
 mod outside;
 #[cfg(test)]
 mod script;
-#[cfg(test)]
-mod types;
 #[cfg(test)]
 mod words;

@@ -1,13 +1,9 @@
-//! Descriptions and lines, and what each is read as.
+//! Descriptions and sources, and what each is read as.
 
 mod limits;
 
-use misp_ids::Way;
 use misp_samples::filled;
-use misp_script::{
-    Command, DescFault, Directory, GroupLine, RawLine, RequestLine, SyncLine, read_description,
-    read_line, split_line, split_source,
-};
+use misp_script::{DescFault, read_description, split_line, split_source};
 use std::alloc::Global;
 use std::fmt::Write;
 use std::test::Fail;
@@ -181,147 +177,6 @@ fn descriptions_are_read_or_their_first_fault_is_told(rt: HostRuntime) -> Result
             let is = shown(alloc, description.as_str())?;
             assert!(rt; is.as_str() == *told, "{text} is {is}");
         }
-    }
-    Ok(())
-}
-
-/// A request, as a test shows it.
-fn request_shown(alloc: Global, request: &RequestLine<'_>) -> Result<String, Fail> {
-    let at = request.at;
-    let key = request.key.unwrap_or("none");
-    let method = request.method;
-    let target = request.target;
-    let body = std::str::from_utf8(request.body)?;
-    Ok(format!(in alloc; "{at} {key} {method} {target} [{body}]")?)
-}
-
-/// The bytes of a connection, as a test shows them.
-fn raw_shown(alloc: Global, raw: &RawLine<'_>) -> Result<String, Fail> {
-    let at = raw.at;
-    let hex = std::str::from_utf8(raw.hex)?;
-    Ok(format!(in alloc; "{at} raw [{hex}]")?)
-}
-
-/// The administration of a group, as a test shows it.
-fn group_shown(alloc: Global, group: &GroupLine<'_>) -> Result<String, Fail> {
-    let at = group.at;
-    let command = if group.add { "adds" } else { "edits" };
-    let org = group.org.0.to_text(alloc)?;
-    let org = org.as_str();
-    let body = std::str::from_utf8(group.body)?;
-    Ok(format!(in alloc; "{at} {org} {command} [{body}]")?)
-}
-
-/// A pull or a push, as a test shows it.
-fn sync_shown(alloc: Global, sync: &SyncLine) -> Result<String, Fail> {
-    let at = sync.at;
-    let verb = match sync.way {
-        Way::Pull => "pull",
-        Way::Push => "push",
-    };
-    let link = sync.link.text();
-    Ok(format!(in alloc; "{at} {verb} {link}")?)
-}
-
-/// What a line is read as: its step, or the place of its fault.
-fn step_shown(alloc: Global, line: &str, directory: &Directory) -> Result<String, Fail> {
-    match read_line(line.as_bytes(), directory) {
-        Ok(step) => {
-            let time = step.time.get();
-            let command = match &step.command {
-                Command::Nothing => String::from_str(alloc, "none")?,
-                Command::Request(request) => request_shown(alloc, request)?,
-                Command::Raw(raw) => raw_shown(alloc, raw)?,
-                Command::Group(group) => group_shown(alloc, group)?,
-                Command::Sync(sync) => sync_shown(alloc, sync)?,
-            };
-            Ok(format!(in alloc; "{time} {command}")?)
-        }
-        Err(bad) => {
-            let place = bad.place;
-            Ok(format!(in alloc; "bad {place}")?)
-        }
-    }
-}
-
-const WORDS: [(&str, &str); 5] = [
-    ("{word}", "0123456789abcdef0123456789abcdef"),
-    ("{WORD}", "0123456789ABCDEF0123456789abcdef"),
-    ("{a}", "aaaaaaaa-0000-4000-8000-000000000001"),
-    ("{A}", "AAAAAAAA-0000-4000-8000-000000000001"),
-    ("{b}", "aaaaaaaa-0000-4000-8000-000000000002"),
-];
-
-/// Lines of a script, and what each is read as.
-const LINES: [(&str, &str); 55] = [
-    ("x", "bad 0"),
-    ("", "bad 0"),
-    ("1700000000", "bad 10"),
-    ("1700000000 0 none", "bad 11"),
-    ("01 {word} none", "bad 0"),
-    ("0 {word} none", "0 none"),
-    ("253402300799 {word} none", "253402300799 none"),
-    ("253402300800 {word} none", "bad 0"),
-    ("1 {word}", "bad 34"),
-    ("1 {word} ", "bad 35"),
-    ("1 {WORD} none", "bad 2"),
-    ("1 {word} sync one", "bad 35"),
-    ("1 {word} none ", "bad 40"),
-    ("1 {word} none x", "bad 40"),
-    ("1 {word} req", "bad 38"),
-    ("1 {word} req two - GET /", "bad 39"),
-    ("1 {word} req one", "bad 42"),
-    ("1 {word} req one  GET /", "bad 43"),
-    ("1 {word} req one - GET", "bad 48"),
-    ("1 {word} req one - GET /\u{e9}", "bad 49"),
-    ("1 {word} req one - GET /", "1 0 none GET / []"),
-    ("1 {word} req one k POST /a  b c", "1 0 k POST /a [ b c]"),
-    ("1 {word} raw", "bad 38"),
-    ("1 {word} raw one", "bad 42"),
-    ("1 {word} raw two 00", "bad 39"),
-    ("1 {word} raw one 0", "bad 43"),
-    ("1 {word} raw one 0G", "bad 43"),
-    ("1 {word} raw one 0A", "bad 43"),
-    ("1 {word} raw one 0a ", "bad 46"),
-    ("1 {word} raw one ", "1 0 raw []"),
-    ("1 {word} raw one 00ff", "1 0 raw [00ff]"),
-    ("1 {word} group-add", "bad 44"),
-    ("1 {word} group-add two {a} {}", "bad 45"),
-    ("1 {word} group-add one", "bad 48"),
-    ("1 {word} group-add one a {}", "bad 49"),
-    ("1 {word} group-add one {b} {}", "bad 49"),
-    ("1 {word} group-add one {a}", "bad 85"),
-    ("1 {word} group-add one {A} ", "1 0 {a} adds []"),
-    ("1 {word} group-edit one {a} {} b", "1 0 {a} edits [{} b]"),
-    ("1 {word} group-del one {a} {}", "bad 35"),
-    ("1 {word} pull", "bad 39"),
-    ("1 {word} pull two up", "bad 40"),
-    ("1 {word} pull one", "bad 43"),
-    ("1 {word} pull one ", "bad 44"),
-    ("1 {word} pull one Up", "bad 44"),
-    ("1 {word} pull one up ", "bad 47"),
-    ("1 {word} pull one up-2", "1 0 pull up-2"),
-    ("1 {word} push", "bad 39"),
-    ("1 {word} push two up", "bad 40"),
-    ("1 {word} push one", "bad 43"),
-    ("1 {word} push one ", "bad 44"),
-    ("1 {word} push one Up", "bad 44"),
-    ("1 {word} push one up ", "bad 47"),
-    ("1 {word} push one up-2", "1 0 push up-2"),
-    ("1 {word} pushes one up", "bad 35"),
-];
-
-#[test]
-fn lines_are_steps_or_bad_at_a_place(rt: HostRuntime) -> Result<(), Fail> {
-    let alloc = rt.alloc();
-    let network = filled(alloc, TABLES.as_slice(), "{org}{host}")?;
-    let described = read_description(alloc, network.as_str().as_bytes())?;
-    let directory = described.directory(alloc)?;
-    for (line, told) in &LINES {
-        let line = filled(alloc, WORDS.as_slice(), line)?;
-        let told = filled(alloc, WORDS.as_slice(), told)?;
-        let is = step_shown(alloc, line.as_str(), &directory)?;
-        assert!(rt; is.as_str() == told.as_str(), "{line} is {is}");
     }
     Ok(())
 }

@@ -1,8 +1,8 @@
 //! Each limit of a description, at its last good and its first bad value.
 
+use misp_samples::filled;
 use misp_script::{DescFault, Entry, read_description};
 use std::alloc::Global;
-use std::fmt::Write;
 use std::test::Fail;
 
 const NET: &str = "[[org]]\nname = 'A'\nuuid = 'aaaaaaaa-0000-4000-8000-000000000001'\n\
@@ -33,112 +33,60 @@ fn shown(alloc: Global, text: &str) -> Result<String, Fail> {
     }
 }
 
-/// So many further organisations.
-fn with_orgs(alloc: Global, count: u32) -> Result<String, Fail> {
+/// The description with so many of these tables, whose numbers stand at `$n`.
+fn with(alloc: Global, table: &str, count: u32) -> Result<String, Fail> {
     let mut text = String::from_str(alloc, NET)?;
     for n in 0..count {
-        let number = 100_000 + u64::from(n);
-        write!(
-            text,
-            "[[org]]\nname = '{n}'\nuuid = 'bbbbbbbb-0000-4000-8000-000000{number}'\n"
-        )?;
+        let number = format!(in alloc; "{}", 100_000 + n)?;
+        text.push_str(table.replace(alloc, "$n", number.as_str())?.as_str())?;
     }
     Ok(text)
 }
 
-#[test]
-fn a_description_has_at_most_1000_organisations(rt: HostRuntime) -> Result<(), Fail> {
-    let alloc = rt.alloc();
-    let most = shown(alloc, with_orgs(alloc, 999)?.as_str())?;
-    let more = shown(alloc, with_orgs(alloc, 1000)?.as_str())?;
-    assert_eq!(rt; most.as_str(), "2 1000 0 0");
-    assert_eq!(rt; more.as_str(), "org limit");
-    Ok(())
-}
+/// Tables, how often they stand in a description, and what that is read as.
+const LIMITS: [(&str, u32, &str); 10] = [
+    ("{org}name = '$n'\n", 999, "2 1000 0 0"),
+    ("{org}name = '$n'\n", 1000, "org limit"),
+    ("[[instance]]\nname = 'i$n'\n", 14, "16 1 0 0"),
+    ("[[instance]]\nname = 'i$n'\n", 15, "instance limit"),
+    ("{key}", 1000, "2 1 1000 0"),
+    ("{key}", 1001, "key limit"),
+    ("{link}", 200, "2 1 0 200"),
+    ("{link}", 201, "link limit"),
+    ("{org}name = '{name}'\n", 1, "2 2 0 0"),
+    ("{org}name = '{name}n'\n", 1, "org[1].name name"),
+];
 
-/// So many further instances.
-fn with_instances(alloc: Global, count: u32) -> Result<String, Fail> {
-    let mut text = String::from_str(alloc, NET)?;
-    for n in 0..count {
-        write!(text, "[[instance]]\nname = 'i{n}'\n")?;
+/// What the words in these tables stand for.
+const TABLES: [(&str, &str); 4] = [
+    (
+        "{org}",
+        "[[org]]\nuuid = 'bbbbbbbb-0000-4000-8000-000000$n'\n",
+    ),
+    (
+        "{key}",
+        "[[key]]\ninstance = 'one'\nkey = 'kkkkkkkkkkkkkkkkkkkkkkkkkkkkkkkkkk$n'\n\
+         org = 'A'\nrole = 'user'\n",
+    ),
+    (
+        "{link}",
+        "[[link]]\nname = 'l$n'\nat = 'one'\nto = 'two'\n\
+         key = 'kkkkkkkkkkkkkkkkkkkkkkkkkkkkkkkkkkkkkkkk'\nholder = 'A'\npush_org = 'A'\n",
+    ),
+    (
+        "{name}",
+        "nnnnnnnnnnnnnnnnnnnnnnnnnnnnnnnnnnnnnnnnnnnnnnnnnnnnnnnnnnnnnnnn",
+    ),
+];
+
+#[test]
+fn descriptions_are_read_up_to_their_limits(rt: HostRuntime) -> Result<(), Fail> {
+    let alloc = rt.alloc();
+    for (table, count, wanted) in &LIMITS {
+        let table = filled(alloc, TABLES.as_slice(), table)?;
+        let text = with(alloc, table.as_str(), *count)?;
+        let is = shown(alloc, text.as_str())?;
+        assert!(rt; is.as_str() == *wanted, "{count} of {table} are {is}");
     }
-    Ok(text)
-}
-
-#[test]
-fn a_description_has_at_most_16_instances(rt: HostRuntime) -> Result<(), Fail> {
-    let alloc = rt.alloc();
-    let most = shown(alloc, with_instances(alloc, 14)?.as_str())?;
-    let more = shown(alloc, with_instances(alloc, 15)?.as_str())?;
-    assert_eq!(rt; most.as_str(), "16 1 0 0");
-    assert_eq!(rt; more.as_str(), "instance limit");
-    Ok(())
-}
-
-/// So many keys.
-fn with_keys(alloc: Global, count: u32) -> Result<String, Fail> {
-    let mut text = String::from_str(alloc, NET)?;
-    for n in 0..count {
-        let key = 100_000 + u64::from(n);
-        write!(
-            text,
-            "[[key]]\ninstance = 'one'\nkey = 'kkkkkkkkkkkkkkkkkkkkkkkkkkkkkkkkkk{key}'\n\
-             org = 'A'\nrole = 'user'\n"
-        )?;
-    }
-    Ok(text)
-}
-
-#[test]
-fn a_description_has_at_most_1000_keys(rt: HostRuntime) -> Result<(), Fail> {
-    let alloc = rt.alloc();
-    let most = shown(alloc, with_keys(alloc, 1000)?.as_str())?;
-    let more = shown(alloc, with_keys(alloc, 1001)?.as_str())?;
-    assert_eq!(rt; most.as_str(), "2 1 1000 0");
-    assert_eq!(rt; more.as_str(), "key limit");
-    Ok(())
-}
-
-/// So many links.
-fn with_links(alloc: Global, count: u32) -> Result<String, Fail> {
-    let mut text = String::from_str(alloc, NET)?;
-    for n in 0..count {
-        write!(
-            text,
-            "[[link]]\nname = 'l{n}'\nat = 'one'\nto = 'two'\n\
-             key = 'kkkkkkkkkkkkkkkkkkkkkkkkkkkkkkkkkkkkkkkk'\nholder = 'A'\npush_org = 'A'\n"
-        )?;
-    }
-    Ok(text)
-}
-
-#[test]
-fn a_description_has_at_most_200_links(rt: HostRuntime) -> Result<(), Fail> {
-    let alloc = rt.alloc();
-    let most = shown(alloc, with_links(alloc, 200)?.as_str())?;
-    let more = shown(alloc, with_links(alloc, 201)?.as_str())?;
-    assert_eq!(rt; most.as_str(), "2 1 0 200");
-    assert_eq!(rt; more.as_str(), "link limit");
-    Ok(())
-}
-
-/// An organisation whose name has so many bytes.
-fn with_name(alloc: Global, len: u32) -> Result<String, Fail> {
-    let mut text = String::from_str(alloc, NET)?;
-    text.push_str("[[org]]\nuuid = 'bbbbbbbb-0000-4000-8000-000000000001'\nname = '")?;
-    for _ in 0..len {
-        text.push_str("n")?;
-    }
-    text.push_str("'\n")?;
-    Ok(text)
-}
-
-#[test]
-fn a_name_has_at_most_64_bytes(rt: HostRuntime) -> Result<(), Fail> {
-    let alloc = rt.alloc();
-    let most = shown(alloc, with_name(alloc, 64)?.as_str())?;
-    let more = shown(alloc, with_name(alloc, 65)?.as_str())?;
-    assert_eq!(rt; most.as_str(), "2 2 0 0");
-    assert_eq!(rt; more.as_str(), "org[1].name name");
     Ok(())
 }

@@ -1,5 +1,0 @@
-//! The tests of bodies read and written.
-#![tactic(auto)]
-
-#[cfg(test)]
-mod format;
