@@ -57,7 +57,7 @@ fn filled(alloc: Global, text: &str, len: usize) -> Result<Vec<u8>, Fail> {
 }
 
 // How that case ends, where its first keeper holds these rows of the administration.
-fn outcome(alloc: Global, case: &Case<'_>, admin: Vec<AdminRow>) -> Result<Outcome, Fail> {
+fn case_ended(alloc: Global, case: &Case<'_>, admin: Vec<AdminRow>) -> Result<Outcome, Fail> {
     let [reads, writes, calls] = case.fails;
     let bytes = filled(alloc, case.source, case.len)?;
     let source = MemSource::new(bytes, vec![in alloc; 5usize]?, vec![in alloc; reads]?);
@@ -96,7 +96,7 @@ fn applied(first: u64) -> [u64; 16] {
 fn runs_end_and_write_as_the_table_says(rt: HostRuntime) -> Result<(), Fail> {
     for case in &CASES {
         let source = case.source;
-        let ran = outcome(rt.alloc(), case, Vec::new(rt.alloc()))?;
+        let ran = case_ended(rt.alloc(), case, Vec::new(rt.alloc()))?;
         let written = named(rt.alloc(), case.written)?;
         let batches = applied(case.batches);
         assert_eq!(rt; ran.status, case.status, "after {source}");
@@ -131,7 +131,7 @@ fn a_row_of_the_administration_that_is_none_ends_the_run(rt: HostRuntime) -> Res
         written: "",
         batches: 1,
     };
-    let ran = outcome(rt.alloc(), &case, none(rt.alloc())?)?;
+    let ran = case_ended(rt.alloc(), &case, none(rt.alloc())?)?;
     assert_eq!(rt; ran.status, case.status);
     assert_eq!(rt; ran.written.as_str(), case.written);
     assert_eq!(rt; ran.batches.as_slice(), applied(case.batches).as_slice());
