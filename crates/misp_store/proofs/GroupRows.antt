@@ -19,7 +19,6 @@ use Rattle.misp_rules.proofs.Prelude.{AllByRecursion, Group, GroupId, IsUid, and
 use Rattle.misp_store.specs.Raw.{onto}
 use Rattle.misp_store.specs.Sharing.{carried_flag, group_name, group_row, flagged, group_told, is_id, is_row_of, group_where, group_in, groups_in, HoldsGroups}
 use Rattle.misp_store.specs.Decoding.{put_onto}
-use Rattle.misp_outside.specs.Held as held
 
 -- ---- names
 

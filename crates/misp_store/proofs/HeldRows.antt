@@ -6,7 +6,6 @@ use Rattle.misp_rules.proofs.Prelude.{AreRows, EventId, IsRow, Row, and_from, by
 use Rattle.misp_rules.specs.Machine.{event_number}
 use Rattle.misp_rules.proofs.NameOrder.{rows_in_bytes, same_in_bytes, before_is_less}
 use Rattle.misp_store.specs.Raw.{raw_row, stands_under, row_read, row_in, onto, rows_in}
-use Rattle.misp_outside.specs.Held as held
 
 -- ---- reading
 

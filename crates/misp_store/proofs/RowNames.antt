@@ -1,52 +1,75 @@
--- A name has the sixteen bytes of an owner, and then those of a key.
-use Rattle.std.proofs.Common.{◌≡◌, ℕ, ◌+◌, ◌<◌, ◌≤◌, List, [], ◌∷◌, ◌++◌, length, take, drop, Bool, true, false, refl, sym, ap, ◌∙◌, arith, ◌&&◌, bytes_eq, is_eq, nat_cmp, take-append-drop, length-append, length-take}
-use Rattle.std.specs.Int.{w128, to_be_bytes}
-use Rattle.misp_lists.proofs.Prelude.{bytes_eq-Decides, false_from_ne_true, is_eq-slice_cmp, slice_cmp}
-use Rattle.misp_elem.specs.Spelling.{uid, key}
-use Rattle.misp_format.specs.Prelude.{KeyForm, Uid}
+-- The bytes of a row have its name after their first, and how long that name is.
+use Rattle.std.proofs.Common.{◌≡◌, ℕ, ◌+◌, ◌-◌, List, [], ◌∷◌, ◌++◌, length, take, drop, false, refl, sym, ap, ◌∙◌, arith, bytes_eq, length-append, append_assoc, take_all, take_at}
+use Rattle.misp_lists.proofs.Prelude.{bytes_eq-Decides, false_from_ne_true}
+use Rattle.misp_elem.specs.Spelling.{content, flags, inst_name, key, label, place, proposal_name, row, stamp, uid}
+use Rattle.misp_elem.specs.declared.key.KeyForm.{KeyForm}
+use Rattle.misp_elem.specs.declared.key.KeyForm.TheVariants.{Element, Proposal, Reference, Sighting, Verdict}
+use Rattle.misp_elem.specs.declared.key.ProposalName.{ProposalName}
+use Rattle.misp_format.specs.Prelude.{Uid}
+use Rattle.misp_effects.specs.Prelude.{Row}
+use Rattle.misp_rules.specs.Machine.{name_bytes}
 
--- the bytes spell a key, which is compared
-pub spelled : (bytes : List ℕ) (found k : KeyForm) → bytes ≡ key found → is_eq (slice_cmp nat_cmp (key found) (key k)) ≡ bytes_eq bytes (key k)
-spelled bytes found k e = is_eq-slice_cmp (key found) (key k) ∙ ap (λ b. bytes_eq b (key k)) (sym e)
-
--- bytes are equal where both parts are
-both_parts : (a b c d : List ℕ) → length a ≡ length c → bytes_eq (a ++ b) (c ++ d) ≡ (bytes_eq a c && bytes_eq b d)
-both_parts [] b [] d e = refl
-both_parts [] b (y ∷ c) d e = absurd (omega arith)
-both_parts (x ∷ a) b [] d e = absurd (omega arith)
-both_parts (x ∷ a) b (y ∷ c) d e = grind (arith, both_parts a b c d)
+-- ---- how long it is
 
 pub uid_length : (u : Uid) → length (uid u) ≡ 16
 unfolding uid
 uid_length u = refl
 
-pub name_parts : (name rest : List ℕ) (u : Uid) → 16 ≤ length name → (bytes_eq (take 16 name) (uid u) && bytes_eq (drop 16 name) rest) ≡ bytes_eq name (uid u ++ rest)
-name_parts name rest u long =
-    sym (both_parts (take 16 name) (drop 16 name) (uid u) rest (front ∙ sym (uid_length u)))
-    ∙ ap (λ bytes. bytes_eq bytes (uid u ++ rest)) (take-append-drop 16 name)
-  where
-    front : length (take 16 name) ≡ 16
-    front = omega (arith, length-take 16 name)
+-- sixteen bytes before others
+before : (u : Uid) (rest : List ℕ) → length (uid u ++ rest) ≡ 16 + length rest
+before u rest = omega (arith, length-append (uid u) rest, uid_length u)
 
-pub no_name : (name rest : List ℕ) (u : Uid) → length name < 16 → false ≡ bytes_eq name (uid u ++ rest)
-no_name name rest u short =
-    sym (false_from_ne_true _ (λ t.
-    let same : name ≡ uid u ++ rest = (bytes_eq-Decides name (uid u ++ rest)).0 t in
-    let long : length name ≡ length (uid u) + length rest = ap length same ∙ length-append (uid u) rest in
-    absurd (omega (arith, uid_length u))))
+-- and after them
+behind : (front : List ℕ) (u : Uid) → length (front ++ uid u) ≡ length front + 16
+behind front u = omega (arith, length-append front (uid u), uid_length u)
 
--- the owner's bytes are there, and the others are those of the key or not
-pub owner_there : (name rest front back : List ℕ) (u : Uid) (result : Bool) → 16 ≤ length name → front ≡ take 16 name → back ≡ drop 16 name → bytes_eq front (to_be_bytes w128 u.0) ≡ true
-    → result ≡ bytes_eq back rest → result ≡ bytes_eq name (uid u ++ rest)
-unfolding uid
-owner_there name rest front back u result long f b there is =
-    is ∙ ap (λ bytes. bytes_eq bytes rest) b
-    ∙ sym (ap (λ same. same && bytes_eq (drop 16 name) rest) (ap (λ bytes. bytes_eq bytes (to_be_bytes w128 u.0)) (sym f) ∙ there))
-    ∙ name_parts name rest u long
+pub proposal_long : (n : ProposalName) → length (proposal_name n) ≡ length (place n.target) + length (inst_name n.at) + 32
+proposal_long n =
+    omega (arith, length-append (place n.target) (inst_name n.at ++ (uid n.by.0 ++ uid n.uuid.0)), length-append (inst_name n.at) (uid n.by.0 ++ uid n.uuid.0), before n.by.0 (uid n.uuid.0), uid_length n.uuid.0)
 
--- they are not
-pub no_owner : (name rest front : List ℕ) (u : Uid) → 16 ≤ length name → front ≡ take 16 name → bytes_eq front (to_be_bytes w128 u.0) ≡ false → false ≡ bytes_eq name (uid u ++ rest)
-unfolding uid
-no_owner name rest front u long f other =
-    sym (ap (λ same. same && bytes_eq (drop 16 name) rest) (ap (λ bytes. bytes_eq bytes (to_be_bytes w128 u.0)) (sym f) ∙ other))
-    ∙ name_parts name rest u long
+-- what stands beside the places and names of a key is of one length
+abbrev pub key_long : KeyForm → ℕ
+key_long (Element event target) = 17 + length (place target)
+key_long (Reference event object target uuid) = 49 + length (place target)
+key_long (Proposal event name) = 17 + length (proposal_name name)
+key_long (Verdict event name at judge) = 33 + length (proposal_name name) + length (inst_name at)
+key_long (Sighting event target at by uuid) = 49 + length (place target) + length (inst_name at)
+
+pub key_long_is : (k : KeyForm) → length (key k) ≡ key_long k
+key_long_is (Element event target) = omega (arith, before event.0 (place target))
+key_long_is (Reference event object target uuid) =
+    omega (arith, before event.0 (uid object.0 ++ (place target ++ uid uuid.0)), before object.0 (place target ++ uid uuid.0), behind (place target) uuid.0)
+key_long_is (Proposal event name) = omega (arith, before event.0 (proposal_name name))
+key_long_is (Verdict event name at judge) =
+    omega (arith, before event.0 (proposal_name name ++ (inst_name at ++ uid judge.0)), length-append (proposal_name name) (inst_name at ++ uid judge.0), behind (inst_name at) judge.0)
+key_long_is (Sighting event target at by uuid) =
+    omega (arith, before event.0 (place target ++ (inst_name at ++ (uid by.0 ++ uid uuid.0))), length-append (place target) (inst_name at ++ (uid by.0 ++ uid uuid.0)), length-append (inst_name at) (uid by.0 ++ uid uuid.0), before by.0 (uid uuid.0), uid_length uuid.0)
+
+pub name_long : (r : Row) → length (name_bytes r) ≡ 16 + length (key r.key)
+unfolding name_bytes
+name_long r = before r.owner.0 (key r.key)
+
+-- ---- where it is
+
+-- what follows the name
+abbrev after_name : Row → List ℕ
+after_name r = stamp r.stamp ++ (label r.label ++ (flags (r.held, r.carried) ++ content r.content))
+
+name_first : (r : Row) → drop 1 (row r) ≡ name_bytes r ++ after_name r
+unfolding name_bytes
+name_first r = sym (append_assoc (uid r.owner.0) (key r.key) (after_name r))
+
+-- all bytes after the first
+pub after_first : (bytes : List ℕ) → take (length bytes - 1) (drop 1 bytes) ≡ drop 1 bytes
+after_first [] = refl
+after_first (b ∷ bytes) = take_all (length (b ∷ bytes) - 1) bytes (omega arith)
+
+-- of names of this length that of the row is there
+pub named : (r : Row) (name rest : List ℕ) → rest ≡ drop 1 (row r) → length name ≡ length (name_bytes r) → bytes_eq name (take (length name) rest) ≡ bytes_eq name (name_bytes r)
+named r name rest e long =
+    ap (bytes_eq name) (ap (take (length name)) (e ∙ name_first r) ∙ take_at (name_bytes r) (after_name r) (length name) (sym long))
+
+-- and no other name is of another length
+pub other_long : (r : Row) (name : List ℕ) → (length name ≡ length (name_bytes r) → ⊥) → false ≡ bytes_eq name (name_bytes r)
+other_long r name other =
+    sym (false_from_ne_true _ (λ t. other (ap length ((bytes_eq-Decides name (name_bytes r)).0 t))))

@@ -6,6 +6,7 @@ mod batches;
 mod fault;
 mod laws;
 mod loading;
+mod naming;
 mod reach;
 mod rows;
 mod sharing;

@@ -2,7 +2,7 @@
 
 ghost use Rattle.std.specs.Prelude.{◌≡◌, Ok, Err, IfOk, IfErr, IfSome, IsTrue};
 ghost use Rattle.misp_rules.specs.View.{IsTable};
-ghost use Rattle.misp_outside.specs.Causes.{HasCause};
+ghost use Rattle.misp_outside.specs.Causes.{HasCause, StaysUnless};
 ghost use Rattle.misp_lists.specs.Order.{ascend};
 ghost use Rattle.misp_outside.specs.Held.{comes_before};
 ghost use Rattle.misp_store.specs.Loading.{NamesFault};
@@ -32,6 +32,8 @@ fn held_within<K: Keeper>(
     ensures held { (K.state keeper.new).held ≡ (K.state keeper.old).held }
     ensures cause { HasCause (K.state keeper.old).faults (K.state keeper.new).faults
         (result ≡ Err KeeperFault.Failed) }
+    ensures stays { StaysUnless (K.state keeper.old).faults (K.state keeper.new).faults
+        (result ≡ Err KeeperFault.Failed) }
     ensures unasked { reach.now ≡ Reach.Nothing → keeper.new ≡ keeper.old }
 {
     match reach {
@@ -53,6 +55,8 @@ pub fn load<K: Keeper>(keeper: &mut K, alloc: Global, reach: &Reach) -> Result<V
     ensures held { (K.state keeper.new).held ≡ (K.state keeper.old).held }
     ensures cause { HasCause (K.state keeper.old).faults (K.state keeper.new).faults
         (result ≡ Err LoadFault.KeeperFault) }
+    ensures stays { StaysUnless (K.state keeper.old).faults (K.state keeper.new).faults
+        (result ≡ Err LoadFault.KeeperFault) }
 
     // Of nothing no keeper is asked.
     ensures unasked { reach.now ≡ Reach.Nothing → keeper.new ≡ keeper.old }
@@ -68,6 +72,8 @@ pub fn load_groups<K: Keeper>(keeper: &mut K, alloc: Global) -> Result<Groups, L
         IfSome (K.state keeper.old).held (λ held. NamesFault (groups_in held.admin) fault)) }
     ensures held { (K.state keeper.new).held ≡ (K.state keeper.old).held }
     ensures cause { HasCause (K.state keeper.old).faults (K.state keeper.new).faults
+        (result ≡ Err LoadFault.KeeperFault) }
+    ensures stays { StaysUnless (K.state keeper.old).faults (K.state keeper.new).faults
         (result ≡ Err LoadFault.KeeperFault) }
 {
     let rows = keeper.load_admin(alloc)?;

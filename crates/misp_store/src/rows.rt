@@ -1,8 +1,6 @@
 //! Rows as a keeper holds them.
 
-ghost use Rattle.std.specs.Prelude.{◌≡◌, ◌&&◌, Some, None, Ok, map, [], IfOk, IfErr, IsErr, bytes_eq};
-ghost use Rattle.misp_elem.specs.Key.{IsKey};
-ghost use Rattle.misp_elem.specs.Row.{IsRow};
+ghost use Rattle.std.specs.Prelude.{◌≡◌, ◌&&◌, Some, None, Ok, map, [], IfOk, IfErr, IsErr};
 ghost use Rattle.misp_elem.specs.Spelling as spelling;
 ghost use Rattle.misp_ids.specs.Same.{same_event};
 ghost use Rattle.misp_elem.specs.Parents.{event_of};
@@ -10,10 +8,9 @@ ghost use Rattle.misp_store.specs.Raw.{rows_in, row_in, raw_row, stands_under};
 ghost use Rattle.misp_store.specs.Decoding.{IsNoRow, NamesBadRow};
 
 use crate::fault::RowFault;
-use misp_elem::{
-    DecodeFault, Key, NoMemory, Row, compare_keys, decode, decode_key, encode, encode_name,
-};
-use misp_ids::{EventId, Items, OrgId};
+use crate::naming::is_named;
+use misp_elem::{DecodeFault, NoMemory, Row, decode, encode, encode_name};
+use misp_ids::{EventId, Items};
 use misp_outside::RawRow;
 use std::alloc::Global;
 
@@ -31,36 +28,13 @@ fn is_at_event(raw: &RawRow, row: &Row) -> bool
     event_of(row).0.0 == raw.event.0.0
 }
 
-// Whether the bytes spell the key.
-fn spells(bytes: &[u8], key: &Key) -> bool
-    requires { IsKey key.now }
-    ensures { result ≡ bytes_eq bytes.now (spelling.key key.now) }
-{
-    match decode_key(bytes) {
-        Ok(found) => compare_keys(&found, key).is_eq(),
-        Err(_) => false,
-    }
-}
-
-// Whether this is the name of the owner and the key.
-fn is_name(name: &[u8], owner: &OrgId, key: &Key) -> bool
-    requires { IsKey key.now }
-    ensures { result ≡ bytes_eq name.now (spelling.name owner.now key.now) }
-{
-    if name.len() < 16 {
-        return false;
-    }
-    let (front, rest) = name.split_at(16);
-    front == owner.0.0.to_be_bytes().as_slice() && spells(rest, key)
-}
-
 // Whether the row is held under its own event and name.
-#[tactic(auto, unfolding(crate::specs::Raw::stands_under, misp_rules::specs::Machine::name_bytes))]
+#[tactic(auto, unfolding(crate::specs::Raw::stands_under))]
 fn stands_under(raw: &RawRow, row: &Row) -> bool
-    requires { IsRow row.now }
+    requires { raw.now.bytes ≡ spelling.row row.now }
     ensures { result ≡ stands_under raw.now row.now }
 {
-    is_at_event(raw, row) && is_name(raw.name.as_slice(), &row.owner, &row.key)
+    is_at_event(raw, row) && is_named(raw, row)
 }
 
 fn bad_row<T>(raw: &RawRow) -> Result<T, RowFault>
