@@ -1,10 +1,13 @@
 //! Asks of a dial in memory, and over sockets.
 
 use super::doors::answered;
-use misp_outside::{Dial, MemDial, TcpDial, TcpDoor, WireFault};
+use misp_outside::{Dial, Door, MemDial, Source, TcpDial, TcpDoor, WireFault};
 use std::alloc::Global;
 use std::net::TcpListener;
 use std::test::Fail;
+
+// The bytes of a long request, which a connection takes before it is accepted.
+const LONG: usize = 40_000;
 
 // The reply to an ask, or its fault.
 fn told<L: Dial>(alloc: Global, dial: &mut L, address: &str, text: &str) -> Result<String, Fail> {
@@ -76,5 +79,35 @@ fn a_dial_asks_over_a_socket(rt: HostRuntime) -> Result<(), Fail> {
         "failed"
     );
     assert_eq!(rt; told(alloc, &mut dial, "", "more")?.as_str(), "failed");
+    Ok(())
+}
+
+// How many bytes a connection gives until there are so many.
+fn arrived<S: Source>(source: &mut S, whole: usize) -> usize {
+    let mut into = [0; 1024];
+    let mut count: usize = 0;
+    for _ in 0..1000 {
+        if count >= whole {
+            break;
+        }
+        match source.read(&mut into) {
+            Ok(more) => count = count.saturating_add(more),
+            Err(_) => break,
+        }
+    }
+    count
+}
+
+#[test]
+fn a_long_request_arrives_whole(rt: HostRuntime) -> Result<(), Fail> {
+    let listener = TcpListener::bind(&rt, "127.0.0.1:0")?;
+    let port = listener.local_addr()?.port();
+    let address = format!(in rt.alloc(); "127.0.0.1:{port}")?;
+    let mut dial = TcpDial::new(&rt);
+    let sent = dial.send(address.as_str(), &[b'a'; LONG]);
+    let Ok(Some((mut from, _to))) = TcpDoor::new(&rt, listener).next() else {
+        return Err(Fail::from("nobody comes"));
+    };
+    assert_eq!(rt; (sent.is_ok(), arrived(&mut from, LONG)), (true, LONG));
     Ok(())
 }

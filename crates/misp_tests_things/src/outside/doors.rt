@@ -1,7 +1,7 @@
 //! Connections that come through doors in memory and over sockets.
 
 use super::write;
-use misp_outside::{Door, DoorFault, MemDoor, MemSink, MemSource, Source, TcpDoor};
+use misp_outside::{Door, DoorFault, MemDoor, MemSink, MemSource, Source, SourceFault, TcpDoor};
 use std::alloc::Global;
 use std::io::{Read, Write};
 use std::net::{Shutdown, TcpListener, TcpStream};
@@ -71,5 +71,31 @@ fn a_client_reads_its_reply_to_the_end(rt: HostRuntime) -> Result<(), Fail> {
         let (asked, reply) = exchanged(&rt, text, ends)?;
         assert_eq!(rt; (asked.as_str(), reply.as_str()), ("asked", "told"));
     }
+    Ok(())
+}
+
+#[test]
+fn an_error_of_a_socket_is_a_fault_and_no_end(rt: HostRuntime) -> Result<(), Fail> {
+    let listener = TcpListener::bind(&rt, "127.0.0.1:0")?;
+    let mut client = TcpStream::connect(&rt, listener.local_addr()?)?;
+    let mut door = TcpDoor::new(&rt, listener);
+    let Ok(Some((mut from, mut to))) = door.next() else {
+        return Err(Fail::from("nobody comes"));
+    };
+    assert_eq!(rt; write(&mut to, b"told")?, Ok(4));
+
+    // A client that closes with unread bytes resets the connection.
+    let count = client.read(&mut [0])?;
+    drop(client);
+    assert_eq!(rt; (count, from.read(&mut [0])), (1, Err(SourceFault::Failed)));
+    Ok(())
+}
+
+#[test]
+fn a_failed_accept_is_a_fault(rt: HostRuntime) -> Result<(), Fail> {
+    let listener = TcpListener::bind(&rt, "127.0.0.1:0")?;
+    listener.set_nonblocking(true)?;
+    let mut door = TcpDoor::new(&rt, listener);
+    assert!(rt; matches!(door.next(), Err(DoorFault::Failed)));
     Ok(())
 }
