@@ -4,6 +4,7 @@ ghost use Rattle.std.specs.Prelude.{◌≡◌, map, option_map, string_bytes};
 ghost use Rattle.misp_words.specs.Words.{begins_with_dash, command_data, serve_data, serve_words, sync_data, sync_words, way_of, command_named, command_with, command_of};
 
 use crate::count::read_count;
+use crate::names::{CHECK, NET, SERVE, SYNC};
 use misp_ids::{InstId, Way};
 
 /// What the program is to do.
@@ -85,8 +86,8 @@ fn command_named<'a>(word: &str) -> Option<Command<'a>>
     ensures { option_map command_data result ≡ command_named word.now }
 {
     match word {
-        "net" => Some(Command::Net),
-        "check" => Some(Command::Check),
+        NET => Some(Command::Net),
+        CHECK => Some(Command::Check),
         _ => None,
     }
 }
@@ -96,11 +97,11 @@ fn command_with<'a>(word: &str, name: &str, other: &'a str, last: &str) -> Optio
         ≡ command_with word.now name.now other.now last.now }
 {
     match word {
-        "serve" => match serve_words(name, other, last) {
+        SERVE => match serve_words(name, other, last) {
             Some(words) => Some(Command::Serve(words)),
             None => None,
         },
-        "sync" => match sync_words(name, other, last) {
+        SYNC => match sync_words(name, other, last) {
             Some(words) => Some(Command::Sync(words)),
             None => None,
         },

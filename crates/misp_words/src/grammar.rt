@@ -1,5 +1,6 @@
 //! The words as the crate `clap` reads them.
 
+use crate::names::{CHECK, NET, SERVE, SYNC};
 use clap::{Arg, ArgAction, ArgMatches, Command, Error};
 use std::alloc::Global;
 
@@ -42,16 +43,16 @@ fn grammar<'a>(alloc: Global) -> Result<Command<'a>, Error> {
             .no_binary_name(true)
             .disable_help_subcommand(true)
             .subcommand_required(true)
-            .subcommand(without_help(alloc, "net"))?
-            .subcommand(without_help(alloc, "check"))?
-            .subcommand(with_words(alloc, "serve", ADDRESS, COUNT)?)?
-            .subcommand(with_words(alloc, "sync", LINK, WAY)?)?,
+            .subcommand(without_help(alloc, NET))?
+            .subcommand(without_help(alloc, CHECK))?
+            .subcommand(with_words(alloc, SERVE, ADDRESS, COUNT)?)?
+            .subcommand(with_words(alloc, SYNC, LINK, WAY)?)?,
     )
 }
 
 // Whether these are the values of the arguments of a command.
 fn has_values(found: &ArgMatches, command: &str, values: &[String]) -> bool {
-    let (second, third) = if command == "sync" {
+    let (second, third) = if command == SYNC {
         (LINK, WAY)
     } else {
         (ADDRESS, COUNT)

@@ -5,6 +5,7 @@ mod command;
 mod count;
 mod grammar;
 mod laws;
+mod names;
 mod reading;
 
 pub use command::{Command, ServeWords, SyncWords};
