@@ -3,7 +3,7 @@
 ghost use Rattle.std.specs.Prelude.{◌≡◌, ◌<◌, ◌≤◌, length, IfOk, IfErr, IfSome, vec_len};
 ghost use Rattle.misp_app.specs.Limits.{source_limit};
 ghost use Rattle.misp_app.specs.Ends.{IsReadEnd};
-ghost use Rattle.misp_outside.specs.Causes.{HasCause};
+ghost use Rattle.misp_outside.specs.Causes.{HasCause, StaysUnless};
 
 use crate::{MAX_SOURCE, Status};
 use misp_outside::Source;
@@ -18,6 +18,8 @@ pub(crate) fn read_all<S: Source>(alloc: Global, source: &mut S) -> Result<Vec<u
     ensures too_much { result ≡ Err Status.TooMuch →
         IfSome (S.left source.old) (λ left. source_limit < length left) }
     ensures cause { HasCause (S.faults source.old) (S.faults source.new)
+        (result ≡ Err Status.ReadFault) }
+    ensures stays { StaysUnless (S.faults source.old) (S.faults source.new)
         (result ≡ Err Status.ReadFault) }
     ensures others { IfErr result IsReadEnd }
 {
