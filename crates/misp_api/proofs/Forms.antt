@@ -1,5 +1,5 @@
 -- What a request asks is built, its role permits it, and its caller is the one whose key it has.
-use Rattle.std.proofs.Common.{◌≡◌, ℕ, Bool, true, false, List, refl, Option, Some, None, Result, Ok, Err, if◌then◌else◌}
+use Rattle.std.proofs.Common.{◌≡◌, ℕ, Bool, true, false, List, refl, subst, Option, Some, None, Result, Ok, Err, if◌then◌else◌}
 use Rattle.misp_core.specs.Answers.{IsBuilt}
 use Rattle.misp_api.specs.Commands.{AsksBuilt}
 use Rattle.misp_api.specs.Prelude.{Admin, Ask, Caller, Command, Commanded, FormatFault, Group, Reading, RequestData, Route, RuleName, barred, caller_in, command_of, form_of, formed, is_allowed, read_of}
@@ -34,6 +34,10 @@ groups_built (Err FormatFault.NoMemory) = tt
 
 command_built : (route : Route) (body : List ℕ) (word : ℕ) → BuiltCommand (command_of route body word)
 command_built = command_is BuiltCommand (λ ask built. built) asked_built groups_built
+
+-- what a request asks is built
+pub asks_built : (route : Route) (body : List ℕ) (word : ℕ) (command : Command) → command_of route body word ≡ Ok command → AsksBuilt command
+asks_built route body word command is = subst BuiltCommand is (command_built route body word)
 
 body_built : (caller : Caller) (read : Reading Command) → BuiltCommand read → BuiltForm (by_body caller read)
 body_built caller (Ok command) built = built

@@ -142,58 +142,53 @@ ask_command read = read >>= λ ask. Ok (Command.Asks ask)
 abbrev pub groups_command : rows.Reading (List Group) → rows.Reading Command
 groups_command read = read >>= λ groups. Ok (Command.TakesGroups groups)
 
--- an ask that is in the path alone
-abbrev pub said : Ask → Reading Command
-said ask = Ok (Command.Asks ask)
+-- ---- what a request is, by its route
 
--- what a request of this route is, is in its body
-abbrev pub ReadsBody : Route → Type 0
-ReadsBody (Route.ViewEvent event owner) = ⊥
-ReadsBody (Route.DeleteEvent event) = ⊥
-ReadsBody (Route.Publish event) = ⊥
-ReadsBody (Route.DeleteAttribute event place) = ⊥
-ReadsBody (Route.DeleteObject event object) = ⊥
-ReadsBody (Route.DeleteReference event object reference) = ⊥
-ReadsBody Route.Groups = ⊥
-ReadsBody Route.SyncGroups = ⊥
-ReadsBody Route.SyncEvents = ⊥
-ReadsBody (Route.SyncPart event part) = ⊥
-ReadsBody route = Unit {0}
+-- the ask of a request whose path says all of it
+abbrev pub path_ask : Route → Option Ask
+path_ask (Route.ViewEvent event owner) = Some (View event owner)
+path_ask (Route.DeleteEvent event) = Some (Ask.Change (Change.DeleteEvent event))
+path_ask (Route.Publish event) = Some (Ask.Change (Change.Publish event))
+path_ask (Route.DeleteAttribute event place) = Some (Ask.Change (Change.Delete event place))
+path_ask (Route.DeleteObject event object) =
+    Some (Ask.Change (Change.Delete event (Place.Object object)))
+path_ask (Route.DeleteReference event object reference) =
+    Some (Ask.Change (Change.DeleteReference event object reference))
+path_ask Route.Groups = Some Ask.Groups
+path_ask Route.SyncGroups = Some Ask.SyncGroups
+path_ask Route.SyncEvents = Some Ask.SyncEvents
+path_ask (Route.SyncPart event part) = Some (Ask.SyncPart event part)
+path_ask route = None
+
+-- what the body of another request is: the ask of its route, or groups that are handed in
+abbrev pub body_command : Route → List ℕ → ℕ → rows.Reading Command
+body_command Route.AddEvent body word = ask_command (event_in body word)
+body_command (Route.EditEvent event) body word = ask_command (event_edit_in event body)
+body_command (Route.AddAttributes event object) body word =
+    ask_command (parts_in event object PartForm.Attributes body word)
+body_command (Route.EditAttribute event place) body word =
+    ask_command (attribute_edit_in event place body)
+body_command (Route.AddObject event) body word =
+    ask_command (parts_in event None PartForm.Object body word)
+body_command (Route.EditObject event object) body word =
+    ask_command (object_edit_in event object body)
+body_command (Route.AddReference event object) body word =
+    ask_command (parts_in event (Some object) PartForm.Reference body word)
+body_command (Route.Tag event place) body word = ask_command (tag_in event place body)
+body_command (Route.Untag event place) body word = ask_command (untag_in event place body)
+body_command (Route.Propose event target) body word =
+    ask_command (proposal_in event target body word)
+body_command (Route.Judge event accept) body word = ask_command (judgement_in event accept body)
+body_command (Route.Sight event target) body word =
+    ask_command (sighting_in event target body word)
+body_command Route.TakePart body word = ask_command (package_in body)
+body_command route body word = groups_command (groups_in body)
+
+-- the ask of the path, or what was read of the body
+abbrev pub command_by : Option Ask → rows.Reading Command → Reading Command
+command_by (Some ask) read = Ok (Command.Asks ask)
+command_by None read = formed read
 
 -- what a request of this route is
 unfoldable pub command_of : Route → List ℕ → ℕ → Reading Command
-command_of Route.AddEvent body word = formed (ask_command (event_in body word))
-command_of (Route.ViewEvent event owner) body word = said (View event owner)
-command_of (Route.EditEvent event) body word = formed (ask_command (event_edit_in event body))
-command_of (Route.DeleteEvent event) body word = said (Ask.Change (Change.DeleteEvent event))
-command_of (Route.Publish event) body word = said (Ask.Change (Change.Publish event))
-command_of (Route.AddAttributes event object) body word =
-    formed (ask_command (parts_in event object PartForm.Attributes body word))
-command_of (Route.EditAttribute event place) body word =
-    formed (ask_command (attribute_edit_in event place body))
-command_of (Route.DeleteAttribute event place) body word =
-    said (Ask.Change (Change.Delete event place))
-command_of (Route.AddObject event) body word =
-    formed (ask_command (parts_in event None PartForm.Object body word))
-command_of (Route.EditObject event object) body word =
-    formed (ask_command (object_edit_in event object body))
-command_of (Route.DeleteObject event object) body word =
-    said (Ask.Change (Change.Delete event (Place.Object object)))
-command_of (Route.AddReference event object) body word =
-    formed (ask_command (parts_in event (Some object) PartForm.Reference body word))
-command_of (Route.DeleteReference event object reference) body word =
-    said (Ask.Change (Change.DeleteReference event object reference))
-command_of (Route.Tag event place) body word = formed (ask_command (tag_in event place body))
-command_of (Route.Untag event place) body word = formed (ask_command (untag_in event place body))
-command_of (Route.Propose event target) body word =
-    formed (ask_command (proposal_in event target body word))
-command_of (Route.Judge event accept) body word =
-    formed (ask_command (judgement_in event accept body))
-command_of (Route.Sight event target) body word =
-    formed (ask_command (sighting_in event target body word))
-command_of Route.TakePart body word = formed (ask_command (package_in body))
-command_of Route.TakeGroups body word = formed (groups_command (groups_in body))
-command_of Route.Groups body word = said Ask.Groups
-command_of Route.SyncGroups body word = said Ask.SyncGroups
-command_of Route.SyncEvents body word = said Ask.SyncEvents
-command_of (Route.SyncPart event part) body word = said (Ask.SyncPart event part)
+command_of route body word = command_by (path_ask route) (body_command route body word)

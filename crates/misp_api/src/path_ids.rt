@@ -7,7 +7,7 @@ ghost use Rattle.misp_api.specs.Pattern.{is_slash};
 use misp_ids::Uid;
 
 /// The identifiers at the end of a path, in their order.
-#[derive(Clone, Copy, Debug, PartialEq, Eq)]
+#[derive(Clone, Copy)]
 pub enum PathIds {
     Nobody,
     One(Uid),

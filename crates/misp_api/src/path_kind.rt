@@ -1,7 +1,7 @@
 //! What paths are for, by their patterns.
 
 /// What a path is for, whatever identifiers it ends with.
-#[derive(Clone, Copy, Debug, PartialEq, Eq, Drop)]
+#[derive(Clone, Copy, Drop)]
 pub enum PathKind {
     ViewEvent,
     AddEvent,

@@ -13,7 +13,7 @@ use misp_ids::{ElemId, EventId, OrgId};
 use misp_rules::{AttributePlace, TaggedPlace};
 
 /// What a request asks for, by its method and path.
-#[derive(Clone, Copy, Debug, PartialEq, Eq)]
+#[derive(Clone, Copy)]
 pub enum Route {
     AddEvent,
     /// An event: the chosen copy, or that of this owner.
