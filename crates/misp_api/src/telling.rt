@@ -18,15 +18,25 @@ use misp_ids::NoMemory;
 use misp_outside::{Keeper, KeeperFault};
 use std::alloc::Global;
 
+// Writes a reply, and takes room for one byte after it.
+fn put_told(text: &mut Vec<u8>, alloc: Global, reply: &Reply) -> Result<(), NoMemory>
+    ensures text { OnOk result (text.new.items ≡ text.old.items ++ reply_text reply.now) }
+    ensures room { OnOk result (vec_len text.new < vec_capacity text.new) }
+{
+    put_reply(text, alloc, reply)?;
+    Ok(text.reserve(1)?)
+}
+
 /// Writes a reply, and takes room for one byte after it.
 pub(crate) fn told(text: &mut Vec<u8>, alloc: Global, reply: Reply) -> Result<Reply, NoMemory>
     ensures reply { IfOk result (λ told. told ≡ reply) }
     ensures text { OnOk result (text.new.items ≡ text.old.items ++ reply_text reply) }
     ensures room { OnOk result (vec_len text.new < vec_capacity text.new) }
 {
-    put_reply(text, alloc, &reply)?;
-    text.reserve(1)?;
-    Ok(reply)
+    match put_told(text, alloc, &reply) {
+        Ok(()) => Ok(reply),
+        Err(stop) => Err(stop),
+    }
 }
 
 // The text of the refusal of what a keeper stopped.
