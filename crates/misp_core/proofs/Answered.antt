@@ -6,14 +6,14 @@ use Rattle.misp_store.specs.Sharing.{HoldsGroups, or_none}
 use Rattle.misp_store.specs.declared.fault.LoadFault.{LoadFault}
 use Rattle.misp_core.specs.Prelude.{Ask, Asked, Effect, Group, Held, Host, IsPlanned, Plan, Plans, Refusal, Reply, Row, Seen, Standing, asked_over, asked_where, forbidden, is_permitted, reach_of, refused, requested, scene_at, seeing}
 use Rattle.misp_core.specs.Prelude.{Scene, seen_in}
-use Rattle.misp_core.specs.Answers.{bare_scene}
-use Rattle.misp_core.specs.Effects.{asked}
-use Rattle.misp_core.specs.Planning.{IsBarred}
-use Rattle.misp_core.specs.Handing.{IsUnread}
+use Rattle.misp_core.specs.Answers.{bad_row, bare_scene}
+use Rattle.misp_core.specs.Effects.{asked, by_keeper}
+use Rattle.misp_core.specs.Planning.{IsBarred, stop_planned}
+use Rattle.misp_core.specs.Handing.{IsUnread, TellsFault}
 use Rattle.misp_core.specs.declared.planning.NoPlan.{NoPlan}
 use Rattle.misp_core.proofs.Alike.{partner_asked}
 use Rattle.misp_rules.specs.Machine.{pulls}
-use Rattle.misp_core.proofs.Carried.{is_planned}
+use Rattle.misp_core.proofs.Carried.{asks_none, is_planned}
 
 module _ (host : Host) (now : ℕ) (it : Asked) where
   -- what is permitted comes to what is asked, and what is not to its refusal
@@ -77,3 +77,17 @@ just_barred i ask (NoPlan.Refused refusal) plans =
     record { just = inl (ap (λ (r : Refusal). Err (NoPlan.Refused r)) same); still = refl }
 just_barred i ask NoPlan.KeeperFault plans = absurd plans
 just_barred i ask NoPlan.NoMemory plans = record { just = inr refl; still = refl }
+
+-- ---- faults of reading
+
+-- a keeper's fault is told of a keeper's fault alone
+pub told_of_keeper : (fault : LoadFault) (why : NoPlan) → TellsFault fault why → stop_planned (Err why) ≡ by_keeper → fault ≡ LoadFault.KeeperFault
+told_of_keeper LoadFault.KeeperFault why told is = refl
+told_of_keeper (LoadFault.BadRow name) why told is = absurd (asks_none (Err why) (refused (bad_row name)) told is)
+told_of_keeper LoadFault.NoMemory why told is =
+    let none : stop_planned (Err NoPlan.NoMemory) ≡ by_keeper = subst (λ (w : NoPlan). stop_planned (Err w) ≡ by_keeper) told is in
+    absurd cc
+
+-- and it is told of each
+pub keeper_told : (fault : LoadFault) (why : NoPlan) → TellsFault fault why → fault ≡ LoadFault.KeeperFault → stop_planned (Err why) ≡ by_keeper
+keeper_told fault why told is = ap (λ (w : NoPlan). stop_planned (Err w)) (subst (λ (f : LoadFault). TellsFault f why) is told)

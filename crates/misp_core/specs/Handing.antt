@@ -1,9 +1,10 @@
 -- What the code of an instance hands on: scenes, and rows that are not read.
-use Rattle.std.specs.Prelude.{◌≡◌, List, cond}
+use Rattle.std.specs.Prelude.{◌≡◌, Err, List, cond}
 use Rattle.misp_rules.specs.Machine.{pulls}
 use Rattle.misp_rules.specs.declared.ask.Ask.{Ask}
 use Rattle.misp_store.specs.declared.fault.LoadFault.{LoadFault}
-use Rattle.misp_core.specs.Prelude.{Effect, Host, Reply, Row, Scene, refused}
+use Rattle.misp_core.specs.Prelude.{Effect, Host, Plans, Reply, Row, Scene, refused}
+use Rattle.misp_core.specs.declared.planning.NoPlan.{NoPlan}
 use Rattle.misp_core.specs.declared.site.Site.{Site}
 use Rattle.misp_core.specs.Answers.{bad_row, bare_scene}
 
@@ -27,7 +28,22 @@ pull_scene s = record (scene_in s) { partner = s.caller.now.partner }
 abbrev pub scene_for : Site → Ask → Scene
 scene_for s ask = cond (pulls ask) (pull_scene s) (scene_in s)
 
+-- the ask is none of a pull, and hands in no package
+abbrev pub IsOwn : Ask → Type 0
+IsOwn Ask.SyncGroups = ⊥
+IsOwn Ask.SyncEvents = ⊥
+IsOwn (Ask.SyncPart event part) = ⊥
+IsOwn (Ask.TakePart part) = ⊥
+IsOwn ask = Unit {0}
+
 -- the effect is that of rows which are not read: a row that does not decode is refused
 abbrev pub IsUnread : LoadFault → Effect Reply → Type 0
 IsUnread (LoadFault.BadRow name) e = e ≡ refused (bad_row name)
 IsUnread fault e = Unit {0}
+
+-- nothing is planned for just this fault: what a keeper failed is told as its fault, a row that does
+-- not decode is refused unless memory runs out for its name, and lack of memory is told as that
+abbrev pub TellsFault : LoadFault → NoPlan → Type 0
+TellsFault LoadFault.KeeperFault why = why ≡ NoPlan.KeeperFault
+TellsFault (LoadFault.BadRow name) why = Plans (Err why) (refused (bad_row name))
+TellsFault LoadFault.NoMemory why = why ≡ NoPlan.NoMemory

@@ -1,7 +1,9 @@
 -- What arrives by a synchronisation, and what of it an instance takes.
-use Rattle.std.specs.Prelude.{◌≡◌, List, [], ◌∷◌, ◌++◌, Ok, cond, map, true, IfOk}
+use Rattle.std.specs.Prelude.{◌≡◌, List, [], ◌∷◌, ◌++◌, Ok, Option, cond, map, true, IfOk}
+use Rattle.std.specs.Option.{option_or}
 use Rattle.misp_outside.specs.Held.{with_batch}
 use Rattle.misp_groups.specs.Changes.{take_group, takes_group}
+use Rattle.misp_groups.specs.Prelude.{GroupId, IsStrictlySortedBy, by_name, known_group}
 use Rattle.misp_rules.specs.declared.package.PackageFields.{PackageFields as Package}
 use Rattle.misp_history.specs.Merging.{handed, rows_taken}
 use Rattle.misp_effects.specs.Batches.{batch}
@@ -50,6 +52,15 @@ groups_taken groups [] = []
 groups_taken groups (g ∷ gs) =
     cond (takes_group groups g) (record g { carried = true } ∷ []) []
     ++ groups_taken (take_group groups g) gs
+
+-- of these groups, and of those that are taken over them, the one of a name: the last that is taken
+abbrev pub latest_of : List Group → List Group → GroupId → Option Group
+latest_of groups latest id = option_or (known_group latest id) (known_group groups id)
+
+-- they are these groups with those that are taken over them, in their order
+pub record IsOver (all groups latest : List Group) : Type 0 where
+  pub known : (id : GroupId) → known_group all id ≡ latest_of groups latest id
+  pub ascend : IsStrictlySortedBy by_name all
 
 -- what is held once these groups are put
 abbrev pub with_groups : List Group → Held → Held

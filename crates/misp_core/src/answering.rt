@@ -4,9 +4,9 @@ ghost use Rattle.std.specs.Prelude.{◌≡◌, Err};
 ghost use Rattle.misp_effects.specs.Effect.{Effect};
 ghost use Rattle.misp_core.specs.Answers.{bad_row};
 ghost use Rattle.misp_rules.specs.Permission.{no_permission};
-ghost use Rattle.misp_core.specs.Effects.{refused, by_keeper};
-ghost use Rattle.misp_core.specs.Planning.{Plans, IsPlanned, stop_planned};
-ghost use Rattle.misp_core.specs.Handing.{IsUnread};
+ghost use Rattle.misp_core.specs.Effects.{refused};
+ghost use Rattle.misp_core.specs.Planning.{Plans, IsPlanned};
+ghost use Rattle.misp_core.specs.Handing.{IsUnread, TellsFault};
 ghost use Rattle.misp_core.specs.declared.reply.Reply.{Reply as Answered};
 
 use crate::planning::NoPlan;
@@ -43,7 +43,7 @@ fn bad_row(alloc: Global, name: &[u8]) -> NoPlan
 /// Why nothing is planned where the rows were not read.
 pub(crate) fn unread(alloc: Global, fault: LoadFault) -> NoPlan
     ensures plans { (e : Effect Answered) → IsUnread fault e → IsPlanned (Err result) e }
-    ensures cause { stop_planned (Err result) ≡ by_keeper → fault ≡ LoadFault.KeeperFault }
+    ensures told { TellsFault fault result }
 {
     match fault {
         LoadFault::KeeperFault => NoPlan::KeeperFault,

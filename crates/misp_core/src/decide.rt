@@ -1,6 +1,6 @@
 //! What a request comes to over the rows of its event.
 
-ghost use Rattle.std.specs.Prelude.{◌≡◌, List, IfOk, true};
+ghost use Rattle.std.specs.Prelude.{◌≡◌, List, IfOk, false, true};
 ghost use Rattle.misp_elem.specs.declared.row.RowFields.{RowFields};
 ghost use Rattle.misp_rules.specs.View.{IsTable};
 ghost use Rattle.misp_rules.specs.Machine.{pulls, seeing};
@@ -8,7 +8,7 @@ ghost use Rattle.misp_rules.specs.declared.ask.Ask.TheVariants.{View};
 ghost use Rattle.misp_rules.specs.declared.ask.Ask.TheVariants as asks;
 ghost use Rattle.misp_core.specs.Ahead.{StaysOrIsPacked};
 ghost use Rattle.misp_core.specs.Answers.{IsBuilt, named_event};
-ghost use Rattle.misp_core.specs.Handing.{scene_in, scene_for, pull_scene, knowing};
+ghost use Rattle.misp_core.specs.Handing.{IsOwn, scene_in, scene_for, pull_scene, knowing};
 ghost use Rattle.misp_core.specs.KeptLanding.{StaysOrLands};
 ghost use Rattle.misp_core.specs.Effects.{asked, by_keeper};
 ghost use Rattle.misp_core.specs.Sound.{IsSoundAnswer};
@@ -107,6 +107,35 @@ fn list(alloc: Global, site: &Site<'_>) -> Result<Plan, NoPlan>
     Ok(told(Answer::Groups(Items::of(groups))))
 }
 
+// What is planned for a request that neither pulls nor hands in, over the rows that are read for it.
+#[tactic(auto, unfolding(misp_rules::specs::Machine::pulls))]
+fn plan_own(alloc: Global, site: &Site<'_>, ask: Ask, rows: Vec<Row>) -> Result<Plan, NoPlan>
+    requires built { IsBuilt ask }
+    requires own { IsOwn ask }
+    ensures plan { IsTable rows.items → Plans result (asked site.now.admin.now
+        (seeing (scene_in site.now) rows.items) ask) }
+    ensures pulls { pulls ask ≡ false }
+    ensures no_fault { stop_planned result ≡ by_keeper → ⊥ }
+{
+    match ask {
+        Ask::View { event, owner } => view(alloc, site, &event, owner, &rows),
+        Ask::Groups => list(alloc, site),
+        Ask::Change(change) => change_known(alloc, site, change, rows),
+        Ask::Propose(draft) => plan_proposal(alloc, site, &draft, rows),
+        Ask::Judge {
+            event,
+            proposal,
+            accept,
+        } => plan_judgement(alloc, site, &event, &proposal, accept, rows),
+        Ask::Sight {
+            event,
+            target,
+            draft,
+        } => plan_sighting(alloc, site, &event, &target, &draft, rows),
+        _ => unreachable!(),
+    }
+}
+
 /// What is planned for a request, over the rows that are read for it. Of a pull the packages that
 /// are not asked for yet are kept, and of a package that is handed in what its caller has of the
 /// event.
@@ -131,24 +160,10 @@ pub(crate) fn plan_request(
     ensures no_fault { stop_planned result ≡ by_keeper → ⊥ }
 {
     match ask {
-        Ask::View { event, owner } => view(alloc, site, &event, owner, &rows),
-        Ask::Groups => list(alloc, site),
-        Ask::Change(change) => change_known(alloc, site, change, rows),
-        Ask::Propose(draft) => plan_proposal(alloc, site, &draft, rows),
-        Ask::Judge {
-            event,
-            proposal,
-            accept,
-        } => plan_judgement(alloc, site, &event, &proposal, accept, rows),
-        Ask::Sight {
-            event,
-            target,
-            draft,
-        } => plan_sighting(alloc, site, &event, &target, &draft, rows),
         Ask::SyncGroups => plan_pulled_groups(alloc, site),
         Ask::SyncEvents => plan_event_list(alloc, site, rows),
         Ask::SyncPart { event, part } => plan_part(alloc, site, &event, part, rows, kept),
         Ask::TakePart(part) => plan_package(alloc, site, &part, rows, landed),
-        _ => unreachable!(),
+        own => plan_own(alloc, site, own, rows),
     }
 }

@@ -2,7 +2,7 @@
 
 ghost use Rattle.std.specs.Prelude.{◌≡◌, ◌≤◌, false, true, Err, filter, length, List, IfOk, IfErr, IfSome, OnOk, OnErr, IsOk, Ok, option_map};
 ghost use Rattle.std.specs.List.{AllByRecursion};
-ghost use Rattle.misp_outside.specs.Causes.{HasCause};
+ghost use Rattle.misp_outside.specs.Causes.{HasCause, StaysUnless};
 ghost use Rattle.misp_outside.specs.Held.{with_batch};
 ghost use Rattle.misp_store.specs.Sharing.{groups_in, groups_of, is_sound, AreStorable};
 ghost use Rattle.misp_store.specs.Batches.{spelled};
@@ -106,6 +106,8 @@ impl<K: Keeper> Instance<K> {
             IfSome (K.state keeper).held (λ held. NamesFault (groups_in held.admin) e.0)) }
         ensures cause { IfErr result (λ e.
             HasCause (K.state keeper).faults (K.state e.1).faults (e.0 ≡ faults.KeeperFault)) }
+        ensures stays { IfErr result (λ e. StaysUnless (K.state keeper).faults
+            (K.state e.1).faults (e.0 ≡ faults.KeeperFault)) }
     {
         let mut keeper = keeper;
         match load_groups(&mut keeper, alloc) {
@@ -174,6 +176,8 @@ impl<K: Keeper> Instance<K> {
         // What is held stays.
         ensures held { self.new.held ≡ self.old.held }
         ensures cause { HasCause self.old.faults self.new.faults
+            (stop_planned result ≡ by_keeper) }
+        ensures stays { StaysUnless self.old.faults self.new.faults
             (stop_planned result ≡ by_keeper) }
         ensures name { self.new.name ≡ self.old.name }
         ensures admin { self.new.admin ≡ self.old.admin }
@@ -244,6 +248,8 @@ impl<K: Keeper> Instance<K> {
         ensures err { OnErr result (self.new.held ≡ self.old.held) }
         ensures cause { HasCause self.old.faults self.new.faults
             (result ≡ Err KeeperFault.Failed) }
+        ensures stays { StaysUnless self.old.faults self.new.faults
+            (result ≡ Err KeeperFault.Failed) }
         ensures name { self.new.name ≡ self.old.name }
         ensures admin { self.new.admin ≡ self.old.admin }
     {
@@ -278,6 +284,8 @@ impl<K: Keeper> Instance<K> {
             NamesFault ((seen_in held).rows (reach.Own owner.now event.now)) fault)) }
         ensures held { self.new.held ≡ self.old.held }
         ensures cause { HasCause self.old.faults self.new.faults
+            (result ≡ Err faults.KeeperFault) }
+        ensures stays { StaysUnless self.old.faults self.new.faults
             (result ≡ Err faults.KeeperFault) }
         ensures name { self.new.name ≡ self.old.name }
         ensures admin { self.new.admin ≡ self.old.admin }
@@ -315,6 +323,8 @@ impl<K: Keeper> Instance<K> {
         ensures err { OnErr result (self.new.held ≡ self.old.held) }
         ensures cause { HasCause self.old.faults self.new.faults
             (result ≡ Err KeeperFault.Failed) }
+        ensures stays { StaysUnless self.old.faults self.new.faults
+            (result ≡ Err KeeperFault.Failed) }
         ensures name { self.new.name ≡ self.old.name }
         ensures admin { self.new.admin ≡ self.old.admin }
     {
@@ -341,6 +351,8 @@ impl<K: Keeper> Instance<K> {
         ensures none { result ≡ Ok 0 → self.new ≡ self.old }
         ensures err { OnErr result (self.new.held ≡ self.old.held) }
         ensures cause { HasCause self.old.faults self.new.faults
+            (result ≡ Err KeeperFault.Failed) }
+        ensures stays { StaysUnless self.old.faults self.new.faults
             (result ≡ Err KeeperFault.Failed) }
         ensures name { self.new.name ≡ self.old.name }
         ensures admin { self.new.admin ≡ self.old.admin }
@@ -385,6 +397,8 @@ impl<K: Keeper> Instance<K> {
             NamesFault ((seen_in held).rows reach.All) fault)) }
         ensures held { self.new.held ≡ self.old.held }
         ensures cause { HasCause self.old.faults self.new.faults
+            (result ≡ Err faults.KeeperFault) }
+        ensures stays { StaysUnless self.old.faults self.new.faults
             (result ≡ Err faults.KeeperFault) }
         ensures name { self.new.name ≡ self.old.name }
         ensures admin { self.new.admin ≡ self.old.admin }

@@ -6,7 +6,7 @@ ghost use Rattle.misp_elem.specs.Parents.{event_of};
 ghost use Rattle.misp_elem.specs.Row.{AreRows};
 ghost use Rattle.misp_ids.specs.Same.{same_event};
 ghost use Rattle.misp_ids.specs.Same.{Inst};
-ghost use Rattle.misp_outside.specs.Causes.{HasCause};
+ghost use Rattle.misp_outside.specs.Causes.{HasCause, StaysUnless};
 ghost use Rattle.misp_outside.specs.Held.{with_batch};
 ghost use Rattle.misp_store.specs.Batches.{spelled};
 ghost use Rattle.misp_store.specs.Sharing.{AreStorable, HoldsGroups};
@@ -98,6 +98,8 @@ pub(crate) fn settle_beside<K: Keeper>(
         IfSome landed.old (LandsBeside here (K.state keeper.old).held) →
         IfSome landed.new (LandsBeside here (K.state keeper.new).held) }
     ensures cause { HasCause (K.state keeper.old).faults (K.state keeper.new).faults
+        (result ≡ Err KeeperFault.Failed) }
+    ensures stays { StaysUnless (K.state keeper.old).faults (K.state keeper.new).faults
         (result ≡ Err KeeperFault.Failed) }
 {
     let after = going_on(landed.take(), put.rows.as_slice());

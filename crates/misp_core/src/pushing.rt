@@ -5,7 +5,7 @@ ghost use Rattle.std.specs.List.{AllByRecursion, list_all};
 ghost use Rattle.misp_elem.specs.declared.row.RowFields.{RowFields};
 ghost use Rattle.misp_elem.specs.Parents.{event_of};
 ghost use Rattle.misp_ids.specs.Same.{same_event};
-ghost use Rattle.misp_outside.specs.Causes.{HasCause};
+ghost use Rattle.misp_outside.specs.Causes.{HasCause, StaysUnless};
 ghost use Rattle.misp_rules.specs.Package.{IsPackage};
 ghost use Rattle.misp_rules.specs.Packing.{packages};
 ghost use Rattle.misp_rules.specs.View.{IsTable};
@@ -126,6 +126,8 @@ pub(crate) fn load_outgoing<K: Keeper>(
         (λ held. NamesFault ((seen_in held).rows reach.All) fault)) }
     ensures held { (K.state keeper.new).held ≡ (K.state keeper.old).held }
     ensures cause { HasCause (K.state keeper.old).faults (K.state keeper.new).faults
+        (result ≡ Err faults.KeeperFault) }
+    ensures stays { StaysUnless (K.state keeper.old).faults (K.state keeper.new).faults
         (result ≡ Err faults.KeeperFault) }
 {
     let rows = match load(keeper, alloc, &Reach::All) {

@@ -1,7 +1,7 @@
 //! What a permitted request comes to, by what is kept for it, or over the rows that are read.
 
 ghost use Rattle.std.specs.Prelude.{◌≡◌, true, IfOk, IfSome};
-ghost use Rattle.misp_outside.specs.Causes.{HasCause};
+ghost use Rattle.misp_outside.specs.Causes.{HasCause, StaysUnless};
 ghost use Rattle.misp_rules.specs.Machine.{pulls};
 ghost use Rattle.misp_rules.specs.Permission.{is_permitted};
 ghost use Rattle.misp_store.specs.Seen.{seen_in};
@@ -46,6 +46,8 @@ pub(crate) fn plan_permitted<K: Keeper>(
     ensures beside { IsBeside (host_at site.now) (K.state keeper.new).held
         site.now.groups.now ahead.new landed.new }
     ensures cause { HasCause (K.state keeper.old).faults (K.state keeper.new).faults
+        (stop_planned result ≡ by_keeper) }
+    ensures stays { StaysUnless (K.state keeper.old).faults (K.state keeper.new).faults
         (stop_planned result ≡ by_keeper) }
 {
     if let Some(part) = take_kept(ahead, site.caller, &ask) {

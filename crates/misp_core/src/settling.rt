@@ -2,7 +2,7 @@
 
 ghost use Rattle.std.specs.Prelude.{◌≡◌, ◌≤◌, Err, length, OnOk, OnErr, option_map};
 ghost use Rattle.misp_groups.specs.declared.group.GroupFields.{GroupFields};
-ghost use Rattle.misp_outside.specs.Causes.{HasCause};
+ghost use Rattle.misp_outside.specs.Causes.{HasCause, StaysUnless};
 ghost use Rattle.misp_outside.specs.Held.{with_batch};
 ghost use Rattle.misp_groups.specs.Groups.{put_groups};
 ghost use Rattle.misp_store.specs.Sharing.{AreStorable};
@@ -39,6 +39,8 @@ pub(crate) fn settle<K: Keeper>(
     ensures err { OnErr result ((K.state keeper.new).held ≡ (K.state keeper.old).held) }
     ensures same { OnErr result (groups.new ≡ groups.old) }
     ensures cause { HasCause (K.state keeper.old).faults (K.state keeper.new).faults
+        (result ≡ Err KeeperFault.Failed) }
+    ensures stays { StaysUnless (K.state keeper.old).faults (K.state keeper.new).faults
         (result ≡ Err KeeperFault.Failed) }
 {
     let raw = spell(alloc, put.rows.as_slice(), put.groups.as_slice())?;

@@ -6,7 +6,7 @@ ghost use Rattle.misp_ids.specs.declared.uid.OrgId.{OrgId as Owner};
 ghost use Rattle.misp_rules.specs.Machine.{put_all};
 ghost use Rattle.misp_elem.specs.declared.row.RowFields.{RowFields};
 ghost use Rattle.misp_groups.specs.declared.group.GroupFields.{GroupFields};
-ghost use Rattle.misp_outside.specs.Causes.{HasCause};
+ghost use Rattle.misp_outside.specs.Causes.{HasCause, StaysUnless};
 ghost use Rattle.misp_effects.specs.Batches.{batch};
 ghost use Rattle.misp_history.specs.Merging.{merged, rows_taken};
 ghost use Rattle.misp_ids.specs.Same.{Inst};
@@ -71,6 +71,8 @@ pub(crate) fn load_landing<K: Keeper>(
     ensures held { (K.state keeper.new).held ≡ (K.state keeper.old).held }
     ensures cause { HasCause (K.state keeper.old).faults (K.state keeper.new).faults
         (result ≡ Err faults.KeeperFault) }
+    ensures stays { StaysUnless (K.state keeper.old).faults (K.state keeper.new).faults
+        (result ≡ Err faults.KeeperFault) }
 {
     match load(keeper, alloc, &Reach::Own(*owner, *event)) {
         Ok(rows) => landing_of(alloc, &rows, owner, event, here),
@@ -103,6 +105,8 @@ fn put_rows<K: Keeper>(
     ensures beside { HoldsGroups (K.state keeper.old).held groups.old →
         HoldsGroups (K.state keeper.new).held groups.new }
     ensures cause { HasCause (K.state keeper.old).faults (K.state keeper.new).faults
+        (result ≡ Err KeeperFault.Failed) }
+    ensures stays { StaysUnless (K.state keeper.old).faults (K.state keeper.new).faults
         (result ≡ Err KeeperFault.Failed) }
 {
     let [_, ..] = rows.as_slice() else {
@@ -152,6 +156,8 @@ pub(crate) fn take_package<K: Keeper>(
     ensures beside { HoldsGroups (K.state keeper.old).held groups.old →
         HoldsGroups (K.state keeper.new).held groups.new }
     ensures cause { HasCause (K.state keeper.old).faults (K.state keeper.new).faults
+        (result ≡ Err KeeperFault.Failed) }
+    ensures stays { StaysUnless (K.state keeper.old).faults (K.state keeper.new).faults
         (result ≡ Err KeeperFault.Failed) }
 {
     let taken = landing.taken(alloc, coming, groups)?;

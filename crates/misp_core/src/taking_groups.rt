@@ -1,33 +1,51 @@
 //! Groups that arrive by a synchronisation, and are taken.
 
-ghost use Rattle.std.specs.Prelude.{◌≡◌, ◌++◌, List, [], ◌∷◌, true, cond, length, Ok, Err, IfOk, OnOk, OnErr, option_map};
+ghost use Rattle.std.specs.Prelude.{◌≡◌, ◌&&◌, ◌++◌, List, [], ◌∷◌, true, cond, length, ltb, Ok, Err, IfOk, OnOk, OnErr, option_map};
 ghost use Rattle.std.specs.List.{AllByRecursion};
-ghost use Rattle.misp_groups.specs.Changes.{take_group, take_groups, takes_group};
+ghost use Rattle.misp_groups.specs.Changes.{put_group, take_group, take_groups, takes_group};
 ghost use Rattle.misp_groups.specs.Group.{IsGroup};
 ghost use Rattle.misp_groups.specs.Groups.{put_groups};
 ghost use Rattle.misp_groups.specs.declared.group.GroupFields.{GroupFields};
-ghost use Rattle.misp_outside.specs.Causes.{HasCause};
+ghost use Rattle.misp_outside.specs.Causes.{HasCause, StaysUnless};
 ghost use Rattle.misp_effects.specs.Batches.{batch};
 ghost use Rattle.misp_store.specs.Sharing.{AreStorable, HoldsGroups};
 ghost use Rattle.misp_core.specs.Planning.{batch_of};
-ghost use Rattle.misp_core.specs.Taking.{groups_taken, with_groups};
+ghost use Rattle.misp_core.specs.Taking.{IsOver, groups_taken, latest_of, with_groups};
 
 use crate::planning::Batch;
 use crate::settling::settle;
-use misp_groups::{Group, Groups, Taken};
-use misp_ids::{Items, NoMemory};
+use misp_groups::{Group, Groups};
+use misp_ids::{GroupId, Items, NoMemory};
 use misp_outside::{Keeper, KeeperFault};
 use std::alloc::Global;
 
-// The same groups once more.
-fn copy_of(alloc: Global, groups: &Groups) -> Result<Groups, NoMemory>
-    ensures { IfOk result (λ copy. copy ≡ groups.now) }
+// The group of a name: the last of it that is taken, or else the one that was known before.
+fn known<'a>(groups: &'a Groups, latest: &'a Groups, id: &GroupId) -> Option<&'a Group>
+    ensures { option_map (λ group. group.now) result
+        ≡ latest_of groups.now latest.now id.now }
 {
-    let mut copy = Groups::new(alloc);
-    for group in groups.as_slice() {
-        drop(copy.put(group.copied()?)?);
+    match latest.get(id) {
+        Some(group) => Some(group),
+        None => groups.get(id),
     }
-    Ok(copy)
+}
+
+// Whether the group that is known came so too and is older than the other.
+fn is_older(held: &Group, group: &Group) -> bool
+    ensures { result ≡ (held.now.carried && ltb held.now.modified group.now.modified) }
+{
+    held.carried && held.modified.get() < group.modified.get()
+}
+
+// Whether the group is taken: none of its name is known, or an older one that came so too.
+fn is_taken(groups: &Groups, latest: &Groups, group: &Group) -> bool
+    ensures { (all : List GroupFields) → IsOver all groups.now latest.now →
+        result ≡ takes_group all group.now }
+{
+    match known(groups, latest, &group.id) {
+        Some(held) => is_older(held, group),
+        None => true,
+    }
 }
 
 // The group as one that came by a synchronisation.
@@ -38,21 +56,37 @@ fn carried(mut group: Group) -> Group
     group
 }
 
-// Takes a group into those that are known, and adds it to those that are taken where it is.
-fn take_one(known: &mut Groups, taken: &mut Vec<Group>, group: Group) -> Result<(), NoMemory>
-    ensures known { OnOk result (known.new ≡ take_group known.old group) }
-    ensures taken { OnOk result (taken.new.items ≡ taken.old.items
-        ++ cond (takes_group known.old group) (record group { carried = true } ∷ []) []) }
+// Adds a group to those that are taken.
+fn add(latest: &mut Groups, taken: &mut Vec<Group>, group: Group) -> Result<(), NoMemory>
+    ensures latest { OnOk result (latest.new ≡ put_group group latest.old) }
+    ensures taken { OnOk result (taken.new.items ≡ taken.old.items ++ group ∷ []) }
 {
-    let _ascending = known.as_slice();
-    let more = carried(group.copied()?);
-    match known.take(group)? {
-        Taken::New | Taken::Newer => Ok(taken.push(more)?),
-        Taken::Held => Ok(()),
-    }
+    drop(latest.put(group.copied()?)?);
+    Ok(taken.push(group)?)
 }
 
-/// Those of the groups that are taken, one after another, where these are known.
+// Takes a group over those that were known and those that are taken, and adds it to the latter
+// where it is.
+fn take_one(
+    groups: &Groups,
+    latest: &mut Groups,
+    taken: &mut Vec<Group>,
+    group: Group,
+) -> Result<(), NoMemory>
+    ensures known { OnOk result ((all : List GroupFields) → IsOver all groups.now latest.old →
+        IsOver (take_group all group) groups.now latest.new) }
+    ensures taken { OnOk result ((all : List GroupFields) → IsOver all groups.now latest.old →
+        taken.new.items ≡ taken.old.items
+        ++ cond (takes_group all group) (record group { carried = true } ∷ []) []) }
+{
+    if !is_taken(groups, latest, &group) {
+        return Ok(());
+    }
+    add(latest, taken, carried(group))
+}
+
+/// Those of the groups that are taken, one after another, where these are known. Of the groups that
+/// are known none is copied.
 pub(crate) fn taken_of(
     alloc: Global,
     groups: &Groups,
@@ -60,10 +94,11 @@ pub(crate) fn taken_of(
 ) -> Result<Vec<Group>, NoMemory>
     ensures { IfOk result (λ taken. taken.items ≡ groups_taken groups.now coming.items) }
 {
-    let mut known = copy_of(alloc, groups)?;
+    let _ascending = groups.as_slice();
+    let mut latest = Groups::new(alloc);
     let mut taken = Vec::new(alloc);
     for group in coming {
-        take_one(&mut known, &mut taken, group)?;
+        take_one(groups, &mut latest, &mut taken, group)?;
     }
     Ok(taken)
 }
@@ -97,6 +132,8 @@ fn put_groups<K: Keeper>(
         HoldsGroups (K.state keeper.new).held groups.new }
     ensures cause { HasCause (K.state keeper.old).faults (K.state keeper.new).faults
         (result ≡ Err KeeperFault.Failed) }
+    ensures stays { StaysUnless (K.state keeper.old).faults (K.state keeper.new).faults
+        (result ≡ Err KeeperFault.Failed) }
 {
     let [_, ..] = taken.as_slice() else {
         return Ok(());
@@ -123,6 +160,8 @@ pub(crate) fn take_groups<K: Keeper>(
     ensures beside { HoldsGroups (K.state keeper.old).held groups.old →
         HoldsGroups (K.state keeper.new).held groups.new }
     ensures cause { HasCause (K.state keeper.old).faults (K.state keeper.new).faults
+        (result ≡ Err KeeperFault.Failed) }
+    ensures stays { StaysUnless (K.state keeper.old).faults (K.state keeper.new).faults
         (result ≡ Err KeeperFault.Failed) }
 {
     let taken = taken_of(alloc, groups, coming)?;

@@ -1,7 +1,8 @@
-use Rattle.std.proofs.Common.{arith, ap, sym, subst, Err}
+use Rattle.std.proofs.Common.{◌≡◌, arith, ap, sym, subst, Err}
+use Rattle.misp_store.specs.declared.fault.LoadFault.{LoadFault}
 use Rattle.misp_core.specs.Ahead.{IsBeside}
 use Rattle.misp_core.specs.Handing.{host_at}
-use Rattle.misp_core.proofs.Answered.{asked_planned, unread_planned}
+use Rattle.misp_core.proofs.Answered.{asked_planned, keeper_told, told_of_keeper, unread_planned}
 use Rattle.misp_core.proofs.KeptLandings.{landed_planned, never_pulls, still_lands}
 use Rattle.misp_core.proofs.KeptParts.{kept_planned, left_answers, still_answers}
 use Rattle.misp_core.proofs.reading.plan_permitted.Goals as goal
@@ -68,6 +69,9 @@ returns-in-Ok-clause-cause g c = record {
   rose = λ is. absurd (c.plan_request.ensures.no_fault is);
 }
 
+pub returns-in-Ok-clause-stays : goal.returns-in-Ok-clause-stays
+returns-in-Ok-clause-stays g c = λ not_. c.in-Ok.ensures.stays (λ is. absurd cc)
+
 -- ---- none are read
 
 pub returns-in-Err-clause-planned : goal.returns-in-Err-clause-planned
@@ -87,5 +91,11 @@ returns-in-Err-clause-beside g c =
 pub returns-in-Err-clause-cause : goal.returns-in-Err-clause-cause
 returns-in-Err-clause-cause g c = record {
   later = c.in-Err.ensures.cause.later;
-  rose = λ is. c.in-Err.ensures.cause.rose (ap Err (c.unread.ensures.cause is));
+  rose = λ is. c.in-Err.ensures.cause.rose (ap Err (told_of_keeper c.in-Err.fault c.unread.result c.unread.ensures.told is));
 }
+
+pub returns-in-Err-clause-stays : goal.returns-in-Err-clause-stays
+returns-in-Err-clause-stays g c = λ not_.
+    c.in-Err.ensures.stays (λ is.
+    let same : c.in-Err.fault ≡ LoadFault.KeeperFault = cc in
+    not_ (keeper_told c.in-Err.fault c.unread.result c.unread.ensures.told same))
