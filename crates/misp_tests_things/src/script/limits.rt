@@ -37,7 +37,7 @@ fn shown(alloc: Global, text: &str) -> Result<String, Fail> {
 fn with(alloc: Global, table: &str, count: u32) -> Result<String, Fail> {
     let mut text = String::from_str(alloc, NET)?;
     for n in 0..count {
-        let number = format!(in alloc; "{}", 100_000 + n)?;
+        let number = format!(in alloc; "{}", 100_000 + u64::from(n))?;
         text.push_str(table.replace(alloc, "$n", number.as_str())?.as_str())?;
     }
     Ok(text)
