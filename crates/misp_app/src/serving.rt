@@ -15,7 +15,7 @@ use misp_outside::{Clock, Door, Keeper, Sink, SinkFault};
 use std::alloc::Global;
 
 /// Why connections are not served on.
-#[derive(Clone, Copy, Debug, PartialEq, Eq)]
+#[derive(Clone, Copy, PartialEq, Eq)]
 pub enum ServeFault {
     DoorFault,
     WriteFault,

@@ -7,7 +7,7 @@ use misp_ids::{ElemId, GroupId, NoMemory, Uid};
 use std::alloc::{AllocError, AllocFailed};
 
 /// Why an event or a part of it is not changed, or a statement not taken.
-#[derive(Clone, Copy, Debug, PartialEq, Eq)]
+#[derive(Clone, Copy, PartialEq, Eq)]
 pub enum ChangeFault {
     /// The caller sees no such event, or its copy has no such live element.
     NotGranted,

@@ -12,7 +12,7 @@ use misp_elem::{Key, KeyForm, Place, Row};
 use misp_ids::{InstId, OrgId};
 
 /// What an owner has of an event.
-#[derive(Clone, Copy, Debug, PartialEq, Eq)]
+#[derive(Clone, Copy, PartialEq, Eq)]
 pub enum CopyState {
     /// Nothing.
     None,

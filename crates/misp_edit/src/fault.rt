@@ -6,7 +6,7 @@ ghost use Rattle.misp_edit.specs.declared.fault.AddFault.TheVariants.{NoMemory};
 use misp_ids::{NoMemory, Refusal};
 
 /// Why an event is not added.
-#[derive(Debug, Drop)]
+#[derive(Drop)]
 pub enum AddFault {
     /// A rule refuses it.
     Refused(Refusal),

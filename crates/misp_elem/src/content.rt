@@ -3,7 +3,7 @@
 use misp_ids::{Items, OrgId, Stamp, Text, Uid};
 
 /// A tag. Its colour is red, green and blue.
-#[derive(Debug, Drop)]
+#[derive(Drop)]
 pub struct Tag {
     pub name: Text,
     pub colour: [u8; 3],
@@ -11,7 +11,7 @@ pub struct Tag {
 }
 
 /// An event. Its date is written `YYYY-MM-DD`.
-#[derive(Debug, Drop)]
+#[derive(Drop)]
 pub struct EventBody {
     pub info: Text,
     pub date: Text,
@@ -28,7 +28,7 @@ pub struct EventBody {
     pub tags: Items<Tag>,
 }
 
-#[derive(Debug, Drop)]
+#[derive(Drop)]
 pub struct ObjectBody {
     pub name: Text,
     pub meta_category: Text,
@@ -39,7 +39,7 @@ pub struct ObjectBody {
     pub deleted: bool,
 }
 
-#[derive(Debug, Drop)]
+#[derive(Drop)]
 pub struct AttributeBody {
     pub kind: Text,
     /// Its number, from 0 to 15, in the order in which the core format lists the categories.
@@ -51,14 +51,14 @@ pub struct AttributeBody {
     pub tags: Items<Tag>,
 }
 
-#[derive(Debug, Drop)]
+#[derive(Drop)]
 pub struct ReferenceBody {
     pub relationship_type: Text,
     pub comment: Text,
     pub deleted: bool,
 }
 
-#[derive(Debug, Drop)]
+#[derive(Drop)]
 pub struct ProposalBody {
     /// Whether it asks to delete its target.
     pub remove: bool,
@@ -70,7 +70,7 @@ pub struct ProposalBody {
     pub value: Text,
 }
 
-#[derive(Debug, Drop)]
+#[derive(Drop)]
 pub struct SightingBody {
     pub by_name: Text,
     pub kind: u8,
@@ -79,7 +79,7 @@ pub struct SightingBody {
 }
 
 /// What a row says of what its key names.
-#[derive(Debug, Drop)]
+#[derive(Drop)]
 pub enum Content {
     Event(EventBody),
     Object(ObjectBody),

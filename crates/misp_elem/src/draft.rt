@@ -9,7 +9,7 @@ use std::marker::Model;
 /// place's kind, and its label is one that such an element can have.
 ///
 /// A contract sees it as its fields.
-#[derive(Debug, Drop)]
+#[derive(Drop)]
 pub struct Draft {
     /// Its place in the reading order of the body, where an event has 0.
     pub number: u32,
@@ -33,7 +33,7 @@ impl Model for Draft {
 /// A reference of an object, as a body brings it.
 ///
 /// A contract sees it as its fields.
-#[derive(Debug, Drop)]
+#[derive(Drop)]
 pub struct ReferenceDraft {
     /// Its place in the reading order of the body, where an event has 0.
     pub number: u32,
@@ -68,7 +68,7 @@ impl Model for ReferenceDraft {
 /// An event, as a body brings it. Without a date it has that of the moment.
 ///
 /// A contract sees it as its fields.
-#[derive(Debug, Drop)]
+#[derive(Drop)]
 pub struct EventDraft {
     pub info: Text,
     pub date: Option<Text>,
@@ -106,7 +106,7 @@ impl Model for EventDraft {
 /// body, its label is not `Inherit`.
 ///
 /// A contract sees it as its fields.
-#[derive(Debug, Drop)]
+#[derive(Drop)]
 pub struct Submission {
     pub event: EventId,
     pub body: Option<EventDraft>,

@@ -11,7 +11,7 @@ pub(crate) const MOST: usize = 4;
 /// The keys of what stands above an element or a statement, at most four.
 ///
 /// A contract sees it as the list of their forms.
-#[derive(Debug, Drop)]
+#[derive(Drop)]
 pub struct Parents {
     pub(crate) count: usize,
     pub(crate) keys: [Key; MOST],

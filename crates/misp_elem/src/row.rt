@@ -9,7 +9,7 @@ use std::marker::Model;
 /// label `Own` and no flag.
 ///
 /// A contract sees it as its fields.
-#[derive(Debug, Drop)]
+#[derive(Drop)]
 pub struct Row {
     pub owner: OrgId,
     pub key: Key,
@@ -23,7 +23,7 @@ pub struct Row {
 }
 
 /// The fields of a row, whether they fit or not.
-#[derive(Debug, Drop)]
+#[derive(Drop)]
 pub struct RowFields {
     pub owner: OrgId,
     pub key: KeyForm,

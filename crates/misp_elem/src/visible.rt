@@ -4,7 +4,7 @@ use crate::row::Row;
 use misp_ids::{GroupId, Items, Text};
 
 /// An attribute, with the proposals for it and the sightings of it.
-#[derive(Debug, Drop)]
+#[derive(Drop)]
 pub struct VisibleAttribute {
     pub row: Row,
     pub proposals: Items<Row>,
@@ -12,7 +12,7 @@ pub struct VisibleAttribute {
 }
 
 /// An object, with its attributes and references.
-#[derive(Debug, Drop)]
+#[derive(Drop)]
 pub struct VisibleObject {
     pub row: Row,
     pub attributes: Items<VisibleAttribute>,
@@ -20,7 +20,7 @@ pub struct VisibleObject {
 }
 
 /// An event, with what is in it, and the proposals for new attributes.
-#[derive(Debug, Drop)]
+#[derive(Drop)]
 pub struct VisibleEvent {
     pub row: Row,
     /// The name of the holder, empty where it is not known here.

@@ -8,7 +8,7 @@ use misp_ids::Text;
 use std::alloc::{AllocError, AllocFailed};
 
 /// Why a text or a body was not read.
-#[derive(Debug, PartialEq, Eq, Drop)]
+#[derive(PartialEq, Eq, Drop)]
 pub enum FormatFault {
     /// The text is no JSON.
     NoJson,

@@ -4,7 +4,7 @@ use misp_ids::{GroupId, InstId, Items, OrgId, Stamp, Text};
 use std::marker::Model;
 
 /// An organisation of a group.
-#[derive(Debug, Drop)]
+#[derive(Drop)]
 pub struct GroupOrg {
     pub org: OrgId,
     pub name: Text,
@@ -13,7 +13,7 @@ pub struct GroupOrg {
 }
 
 /// An instance of a group.
-#[derive(Debug, Drop)]
+#[derive(Drop)]
 pub struct GroupServer {
     pub name: InstId,
     /// Whether all organisations of the instance belong to the group.
@@ -24,7 +24,7 @@ pub struct GroupServer {
 /// ascend by their identifiers, and its instances by the bytes of their names.
 ///
 /// A contract sees it as its fields.
-#[derive(Debug, Drop)]
+#[derive(Drop)]
 pub struct Group {
     pub id: GroupId,
     pub name: Text,
@@ -40,7 +40,7 @@ pub struct Group {
 }
 
 /// The fields of a group, whether they fit or not.
-#[derive(Debug, Drop)]
+#[derive(Drop)]
 pub struct GroupFields {
     pub id: GroupId,
     pub name: Text,

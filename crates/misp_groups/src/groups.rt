@@ -16,7 +16,7 @@ use std::mem;
 /// The groups that are known at an instance, by their names.
 ///
 /// A contract sees it as the list of its groups, which ascend by creator and then by uuid.
-#[derive(Debug, Drop)]
+#[derive(Drop)]
 pub struct Groups {
     pub(crate) groups: Vec<Group>,
 }
@@ -51,7 +51,7 @@ pub(crate) fn place_of(groups: &[Group], id: &GroupId) -> Result<usize, usize>
 }
 
 /// What became of a group that came by a synchronisation.
-#[derive(Clone, Copy, Debug, PartialEq, Eq)]
+#[derive(Clone, Copy, PartialEq, Eq)]
 pub enum Taken {
     /// None of its name was known.
     New,

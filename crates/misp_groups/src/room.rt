@@ -16,7 +16,7 @@ use std::mem;
 /// Groups, by their names, with memory for some more.
 ///
 /// A contract sees it as the list of its groups, and the number of those for which there is memory.
-#[derive(Debug, Drop)]
+#[derive(Drop)]
 pub struct Room {
     groups: Vec<Group>,
     spare: usize,

@@ -7,7 +7,7 @@ use misp_ids::{NoMemory, Refusal, RuleName, Text};
 use std::alloc::Global;
 
 /// What is wrong with a head.
-#[derive(Clone, Copy, Debug, PartialEq, Eq)]
+#[derive(Clone, Copy, PartialEq, Eq)]
 pub enum HeadFault {
     /// There are too many headers.
     ManyHeaders,
@@ -42,7 +42,7 @@ impl HeadFault {
 }
 
 /// What is wrong with the bytes of a request.
-#[derive(Clone, Copy, Debug, PartialEq, Eq)]
+#[derive(Clone, Copy, PartialEq, Eq)]
 pub enum Fault {
     /// They begin with no head, whatever follows.
     NoHead,

@@ -1,7 +1,7 @@
 //! Kinds of bodies.
 
 /// What the body of a reply is (RFC 9110, section 8.3).
-#[derive(Clone, Copy, Debug, PartialEq, Eq)]
+#[derive(Clone, Copy, PartialEq, Eq)]
 pub enum BodyKind {
     Json,
     Octets,

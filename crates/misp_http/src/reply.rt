@@ -10,7 +10,7 @@ use misp_ids::NoMemory;
 use std::alloc::{AllocError, Global};
 
 /// Why bytes are no reply.
-#[derive(Clone, Copy, Debug, PartialEq, Eq)]
+#[derive(Clone, Copy, PartialEq, Eq)]
 pub enum ReplyFault {
     /// They begin with no head of at most 64 headers that says one length.
     Head,

@@ -7,7 +7,7 @@ use misp_ids::{Items, NoMemory, Text};
 use std::alloc::{AllocError, AllocFailed};
 
 /// A request.
-#[derive(Debug, Drop)]
+#[derive(Drop)]
 pub struct Request {
     pub method: Text,
     pub target: Text,
@@ -19,7 +19,7 @@ pub struct Request {
 }
 
 /// What was read.
-#[derive(Debug, Drop)]
+#[derive(Drop)]
 pub enum Read {
     Request(Request),
     /// The bytes are refused.
@@ -27,7 +27,7 @@ pub enum Read {
 }
 
 /// Why nothing was read.
-#[derive(Clone, Copy, Debug, PartialEq, Eq)]
+#[derive(Clone, Copy, PartialEq, Eq)]
 pub enum ReadEnd {
     /// There are no bytes any more.
     Ended,

@@ -7,7 +7,7 @@ use crate::text::Text;
 use std::alloc::Global;
 
 /// The rules by which requests are refused.
-#[derive(Clone, Copy, Debug, PartialEq, Eq)]
+#[derive(Clone, Copy, PartialEq, Eq)]
 pub enum RuleName {
     NoKey,
     BadRequest,
@@ -51,7 +51,7 @@ pub enum RuleName {
 }
 
 /// A rule, and the place or the further words that belong to it.
-#[derive(Debug, Drop)]
+#[derive(Drop)]
 pub struct Refusal {
     pub name: RuleName,
     pub place: Text,

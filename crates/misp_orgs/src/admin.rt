@@ -16,7 +16,7 @@ use std::marker::Model;
 /// The organisations that are known at an instance, its keys and its links.
 ///
 /// A contract sees it as its fields.
-#[derive(Debug, Drop)]
+#[derive(Drop)]
 pub struct Admin {
     /// In ascending order of their identifiers.
     pub orgs: Items<Org>,

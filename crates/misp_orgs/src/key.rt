@@ -7,7 +7,7 @@ use std::marker::Model;
 /// A key of an organisation at an instance.
 ///
 /// A contract sees it as its fields.
-#[derive(Clone, Copy, Debug, PartialEq, Eq)]
+#[derive(Clone, Copy, PartialEq, Eq)]
 pub struct KeyRecord {
     pub key: ApiKey,
     pub org: OrgId,
@@ -33,7 +33,7 @@ impl Model for KeyRecord {
 /// Who asks.
 ///
 /// A contract sees it as its fields.
-#[derive(Clone, Copy, Debug, PartialEq, Eq)]
+#[derive(Clone, Copy, PartialEq, Eq)]
 pub struct Caller {
     pub org: OrgId,
     pub role: Role,

@@ -3,7 +3,7 @@
 use misp_ids::{ApiKey, InstId, OrgId};
 
 /// A link of an instance to another.
-#[derive(Clone, Copy, Debug, PartialEq, Eq)]
+#[derive(Clone, Copy, PartialEq, Eq)]
 pub struct Link {
     pub name: InstId,
     /// The other instance.

@@ -21,7 +21,7 @@ pub fn is_short(name: &str) -> bool
 /// An organisation and its name.
 ///
 /// A contract sees it as its fields.
-#[derive(Debug, Drop)]
+#[derive(Drop)]
 pub struct Org {
     pub uuid: OrgId,
     pub name: Text,

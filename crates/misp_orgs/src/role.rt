@@ -4,7 +4,7 @@ ghost use Rattle.std.specs.Prelude.{◌≡◌};
 ghost use Rattle.misp_orgs.specs.Roles.{permits, perm_name};
 
 /// In which role a key asks.
-#[derive(Clone, Copy, Debug, PartialEq, Eq)]
+#[derive(Clone, Copy, PartialEq, Eq)]
 pub enum Role {
     Reader,
     User,
@@ -16,7 +16,7 @@ pub enum Role {
 }
 
 /// What a role permits.
-#[derive(Clone, Copy, Debug, PartialEq, Eq)]
+#[derive(Clone, Copy, PartialEq, Eq)]
 pub enum Perm {
     /// To view and to search.
     Read,

@@ -19,7 +19,7 @@ use std::marker::Model;
 const MOST_ROWS: u32 = 65;
 
 /// Why reading stopped.
-#[derive(Clone, Copy, Debug, PartialEq, Eq)]
+#[derive(Clone, Copy, PartialEq, Eq)]
 pub(crate) enum Stop {
     NoMemory,
     /// So many bytes were left where the first field stands that is not of its form.

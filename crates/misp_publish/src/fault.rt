@@ -7,7 +7,7 @@ use misp_ids::NoMemory;
 use std::alloc::{AllocError, AllocFailed};
 
 /// Why a copy is not published.
-#[derive(Clone, Copy, Debug, PartialEq, Eq)]
+#[derive(Clone, Copy, PartialEq, Eq)]
 pub enum PublishFault {
     /// The event has the last stamp.
     TimeLimit,

@@ -7,7 +7,7 @@ use crate::statement::{ProposalDraft, SightingDraft};
 use misp_ids::{EventId, OrgId};
 
 /// What an organisation asks of an instance.
-#[derive(Debug, Drop)]
+#[derive(Drop)]
 pub enum Ask {
     /// Shows an event: the chosen copy, or that of the named owner.
     View {

@@ -7,7 +7,7 @@ use misp_elem::Submission;
 use misp_ids::{ElemId, EventId, Text};
 
 /// A change of an event, of its elements or of its tags.
-#[derive(Debug, Drop)]
+#[derive(Drop)]
 pub enum Change {
     AddEvent(Submission),
     AddParts {

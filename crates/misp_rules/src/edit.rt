@@ -6,13 +6,13 @@ use std::marker::Model;
 /// An edit of an event. What is given is such as an event may have.
 ///
 /// A contract sees it as its fields.
-#[derive(Debug, Drop)]
+#[derive(Drop)]
 pub struct EventEdit {
     pub fields: EventEditFields,
 }
 
 /// The fields of an edit of an event, whether they fit or not.
-#[derive(Debug, Drop)]
+#[derive(Drop)]
 pub struct EventEditFields {
     pub stamp: Option<Stamp>,
     pub label: Option<Label>,
@@ -58,13 +58,13 @@ impl EventEdit {
 /// An edit of an attribute. What is given is such as an attribute may have.
 ///
 /// A contract sees it as its fields.
-#[derive(Debug, Drop)]
+#[derive(Drop)]
 pub struct AttributeEdit {
     pub fields: AttributeEditFields,
 }
 
 /// The fields of an edit of an attribute, whether they fit or not.
-#[derive(Debug, Drop)]
+#[derive(Drop)]
 pub struct AttributeEditFields {
     pub stamp: Option<Stamp>,
     pub label: Option<Label>,
@@ -110,13 +110,13 @@ impl AttributeEdit {
 /// An edit of an object. What is given is such as an object may have.
 ///
 /// A contract sees it as its fields.
-#[derive(Debug, Drop)]
+#[derive(Drop)]
 pub struct ObjectEdit {
     pub fields: ObjectEditFields,
 }
 
 /// The fields of an edit of an object, whether they fit or not.
-#[derive(Debug, Drop)]
+#[derive(Drop)]
 pub struct ObjectEditFields {
     pub stamp: Option<Stamp>,
     pub label: Option<Label>,

@@ -8,13 +8,13 @@ use std::marker::Model;
 /// rows are nobody's, carried and not held.
 ///
 /// A contract sees it as its fields.
-#[derive(Debug, Drop)]
+#[derive(Drop)]
 pub struct Package {
     pub fields: PackageFields,
 }
 
 /// The fields of a package, whether they fit or not.
-#[derive(Debug, Drop)]
+#[derive(Drop)]
 pub struct PackageFields {
     pub event: EventId,
     /// From 0 on.

@@ -6,7 +6,7 @@ use std::marker::Model;
 /// Elements for an event that is there: a submission without a body, whose label inherits.
 ///
 /// A contract sees it as the submission.
-#[derive(Debug, Drop)]
+#[derive(Drop)]
 pub struct Parts {
     pub submission: Submission,
 }
@@ -39,7 +39,7 @@ impl Parts {
 /// A tag that may be attached: a name of 1 to 255 bytes.
 ///
 /// A contract sees it as the tag.
-#[derive(Debug, Drop)]
+#[derive(Drop)]
 pub struct NewTag {
     pub tag: Tag,
 }

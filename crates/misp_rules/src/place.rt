@@ -6,7 +6,7 @@ use std::marker::Model;
 /// The place of an attribute, in an object or not.
 ///
 /// A contract sees it as a place.
-#[derive(Clone, Copy, Debug, PartialEq, Eq)]
+#[derive(Clone, Copy, PartialEq, Eq)]
 pub struct AttributePlace {
     pub place: Place,
 }
@@ -59,7 +59,7 @@ impl AttributePlace {
 /// The place of an object or of an attribute.
 ///
 /// A contract sees it as a place.
-#[derive(Clone, Copy, Debug, PartialEq, Eq)]
+#[derive(Clone, Copy, PartialEq, Eq)]
 pub struct ElementPlace {
     pub place: Place,
 }
@@ -117,7 +117,7 @@ impl ElementPlace {
 /// The place of the event or of an attribute: where tags are, and what proposals are for.
 ///
 /// A contract sees it as a place.
-#[derive(Clone, Copy, Debug, PartialEq, Eq)]
+#[derive(Clone, Copy, PartialEq, Eq)]
 pub struct TaggedPlace {
     pub place: Place,
 }
@@ -173,7 +173,7 @@ impl TaggedPlace {
 /// What names a proposal within its event. It is for the event or an attribute.
 ///
 /// A contract sees it as the name.
-#[derive(Clone, Copy, Debug, PartialEq, Eq)]
+#[derive(Clone, Copy, PartialEq, Eq)]
 pub struct NamedProposal {
     pub name: ProposalName,
 }

@@ -8,13 +8,13 @@ use std::marker::Model;
 /// attribute does not ask to delete, and none has the name of its organisation.
 ///
 /// A contract sees it as its fields.
-#[derive(Debug, Drop)]
+#[derive(Drop)]
 pub struct ProposalDraft {
     pub fields: ProposalDraftFields,
 }
 
 /// The fields of a proposal, whether they fit or not.
-#[derive(Debug, Drop)]
+#[derive(Drop)]
 pub struct ProposalDraftFields {
     pub event: EventId,
     pub target: Place,
@@ -57,13 +57,13 @@ impl ProposalDraft {
 /// A sighting. Its kind is 0, 1 or 2.
 ///
 /// A contract sees it as its fields.
-#[derive(Debug, Drop)]
+#[derive(Drop)]
 pub struct SightingDraft {
     pub fields: SightingDraftFields,
 }
 
 /// The fields of a sighting, whether they fit or not.
-#[derive(Debug, Drop)]
+#[derive(Drop)]
 pub struct SightingDraftFields {
     pub uuid: ElemId,
     pub kind: u8,

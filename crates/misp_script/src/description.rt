@@ -9,13 +9,13 @@ use misp_orgs::{Admin, KeyRecord, Link};
 use std::alloc::Global;
 
 /// The instances of a network, in the order in which they are listed.
-#[derive(Debug, Drop)]
+#[derive(Drop)]
 pub struct Description {
     pub instances: Items<Entry>,
 }
 
 /// An instance, its address, which may be empty, and what is set up there.
-#[derive(Debug, Drop)]
+#[derive(Drop)]
 pub struct Entry {
     pub name: InstId,
     pub address: Text,

@@ -8,7 +8,7 @@ use misp_ids::Text;
 use std::alloc::{AllocError, AllocFailed};
 
 /// What was needed at the first faulty place of a description.
-#[derive(Clone, Copy, Debug, PartialEq, Eq)]
+#[derive(Clone, Copy, PartialEq, Eq)]
 pub enum DescNeed {
     /// A text of TOML.
     Toml,
@@ -54,7 +54,7 @@ impl DescNeed {
 }
 
 /// Why a description was not read.
-#[derive(Debug, PartialEq, Eq, Drop)]
+#[derive(PartialEq, Eq, Drop)]
 pub enum DescFault {
     /// At the first faulty place something else was needed. The path of the whole text is `-`; the
     /// others are as in `key[2].org`.

@@ -5,7 +5,7 @@ ghost use Rattle.misp_script.specs.Fields.{Shows, is_space, up_to_space, after_s
 ghost use Rattle.misp_script.specs.Seen.{field_of};
 
 /// A line that is not of its form: the first byte of the first field that is missing or not so.
-#[derive(Clone, Copy, Debug, PartialEq, Eq)]
+#[derive(Clone, Copy, PartialEq, Eq)]
 pub struct BadLine {
     pub place: usize,
 }

@@ -3,7 +3,7 @@
 use misp_ids::{InstId, OrgId, Stamp, Way};
 
 /// What a line of a script says.
-#[derive(Clone, Copy, Debug, PartialEq, Eq)]
+#[derive(Clone, Copy, PartialEq, Eq)]
 pub struct Step<'a> {
     /// The moment of the step.
     pub time: Stamp,
@@ -13,7 +13,7 @@ pub struct Step<'a> {
 }
 
 /// What is done in a step.
-#[derive(Clone, Copy, Debug, PartialEq, Eq)]
+#[derive(Clone, Copy, PartialEq, Eq)]
 pub enum Command<'a> {
     Nothing,
     Request(RequestLine<'a>),
@@ -23,7 +23,7 @@ pub enum Command<'a> {
 }
 
 /// A request to an instance.
-#[derive(Clone, Copy, Debug, PartialEq, Eq)]
+#[derive(Clone, Copy, PartialEq, Eq)]
 pub struct RequestLine<'a> {
     /// The place of the instance in the description, from 0.
     pub at: usize,
@@ -35,7 +35,7 @@ pub struct RequestLine<'a> {
 }
 
 /// The bytes of a connection to an instance.
-#[derive(Clone, Copy, Debug, PartialEq, Eq)]
+#[derive(Clone, Copy, PartialEq, Eq)]
 pub struct RawLine<'a> {
     /// The place of the instance in the description, from 0.
     pub at: usize,
@@ -44,7 +44,7 @@ pub struct RawLine<'a> {
 }
 
 /// The administration of a sharing group at an instance.
-#[derive(Clone, Copy, Debug, PartialEq, Eq)]
+#[derive(Clone, Copy, PartialEq, Eq)]
 pub struct GroupLine<'a> {
     /// The place of the instance in the description, from 0.
     pub at: usize,
@@ -57,7 +57,7 @@ pub struct GroupLine<'a> {
 }
 
 /// A synchronisation of an instance over one of its links.
-#[derive(Clone, Copy, Debug, PartialEq, Eq)]
+#[derive(Clone, Copy, PartialEq, Eq)]
 pub struct SyncLine {
     /// The place of the instance in the description, from 0.
     pub at: usize,

@@ -6,7 +6,7 @@ ghost use Rattle.misp_types.specs.declared.fault.ValueFault.TheVariants.{NoMemor
 use std::alloc::AllocError;
 
 /// Why a value is none of its type.
-#[derive(Clone, Copy, Debug, PartialEq, Eq)]
+#[derive(Clone, Copy, PartialEq, Eq)]
 pub enum ValueFault {
     /// The value has not the number of bytes that its type wants.
     WrongLength,

@@ -4,7 +4,7 @@ ghost use Rattle.std.specs.Prelude.{◌≡◌};
 ghost use Rattle.misp_types.specs.Kinds.{form_of, rule_of};
 
 /// What a text has to be.
-#[derive(Clone, Copy, Debug, PartialEq, Eq)]
+#[derive(Clone, Copy, PartialEq, Eq)]
 pub(crate) enum Form {
     /// So many hexadecimal digits.
     Digest(usize),
@@ -16,7 +16,7 @@ pub(crate) enum Form {
 }
 
 /// What a value has to be.
-#[derive(Clone, Copy, Debug, PartialEq, Eq)]
+#[derive(Clone, Copy, PartialEq, Eq)]
 pub(crate) enum Rule {
     One(Form),
     /// Two texts, parted by the last `|`.

@@ -22,7 +22,7 @@ use serde_json::Value;
 use std::alloc::Global;
 
 /// What a body brings for an event that is there.
-#[derive(Clone, Copy, Debug, PartialEq, Eq)]
+#[derive(Clone, Copy, PartialEq, Eq)]
 pub enum PartForm {
     /// One attribute or a list of them, for an object or outside objects.
     Attributes,
