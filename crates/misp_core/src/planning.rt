@@ -9,14 +9,14 @@ use misp_ids::{Items, Refusal};
 use std::alloc::{AllocError, AllocFailed};
 
 /// What is put at once.
-#[derive(Debug, Drop)]
+#[derive(Drop)]
 pub struct Batch {
     pub(crate) rows: Items<Row>,
     pub(crate) groups: Items<Group>,
 }
 
 /// What is answered once the batch is put.
-#[derive(Debug, Drop)]
+#[derive(Drop)]
 pub struct Plan {
     pub(crate) answer: Answer,
     pub(crate) batch: Option<Batch>,
@@ -44,7 +44,7 @@ pub(crate) fn told(answer: Answer) -> Plan
 }
 
 /// Why nothing is planned.
-#[derive(Debug, Drop)]
+#[derive(Drop)]
 pub enum NoPlan {
     Refused(Refusal),
     /// The keeper failed while rows were read.

@@ -13,14 +13,14 @@ use misp_rules::Package;
 use std::alloc::Global;
 
 /// An event of which a pull brings something, with the number of its packages.
-#[derive(Clone, Copy, Debug, PartialEq, Eq)]
+#[derive(Clone, Copy, PartialEq, Eq)]
 pub struct EventParts {
     pub event: EventId,
     pub parts: u32,
 }
 
 /// What an accepted request is answered.
-#[derive(Debug, Drop)]
+#[derive(Drop)]
 pub enum Answer {
     /// So many rows of the event were written, the newest of them with this stamp.
     Saved {
@@ -39,7 +39,7 @@ pub enum Answer {
     Part(Package),
 }
 
-#[derive(Debug, Drop)]
+#[derive(Drop)]
 pub enum Reply {
     Ok(Answer),
     Refused(Refusal),

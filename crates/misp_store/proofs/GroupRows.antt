@@ -252,7 +252,7 @@ put_more groups row g (Ok hs) = refl
 put_more groups row g (Err name) = refl
 
 module _ (rows : List AdminRow) (i : ℕ) (groups : List Group) (total : Result (List Group) (List ℕ)) (so_far : put_onto groups (groups_in (drop i rows)) ≡ total) where
-  pub put_next : (row : AdminRow) (g : Group) (put : List Group) → i < length rows → row ≡ get_or rows i row → group_in row ≡ Some g → put ≡ put_group g groups → put_onto put (groups_in (drop (i + 1) rows)) ≡ total
+  put_next : (row : AdminRow) (g : Group) (put : List Group) → i < length rows → row ≡ get_or rows i row → group_in row ≡ Some g → put ≡ put_group g groups → put_onto put (groups_in (drop (i + 1) rows)) ≡ total
   unfolding groups_in
   put_next row g put l is told e =
       ap (λ gs. put_onto gs (groups_in (drop (i + 1) rows))) e
@@ -260,6 +260,12 @@ module _ (rows : List AdminRow) (i : ℕ) (groups : List Group) (total : Result 
       ∙ ap (λ found. put_onto groups (onto row.name found (groups_in (drop (i + 1) rows)))) (sym told)
       ∙ ap (λ rs. put_onto groups (groups_in rs)) (ap (λ (r : AdminRow). r ∷ drop (i + 1) rows) is ∙ sym (drop_more rows i row l))
       ∙ so_far
+
+  -- the same, where what is put is what the row tells
+  pub put_told : (row : AdminRow) (found : Option Group) (put : List Group) → Some put ≡ option_map (λ g. put_group g groups) found → group_in row ≡ found → i < length rows → row ≡ get_or rows i row
+      → put_onto put (groups_in (drop (i + 1) rows)) ≡ total
+  put_told row None put e told l is = absurd cc
+  put_told row (Some g) put e told l is = let same : put ≡ put_group g groups = cc in put_next row g put l is told same
 
   pub put_all_done : length rows ≤ i → total ≡ Ok groups
   unfolding groups_in put_groups

@@ -8,7 +8,7 @@ use misp_outside::KeeperFault;
 use std::alloc::{AllocError, AllocFailed};
 
 /// Why rows were not read.
-#[derive(Debug, Drop)]
+#[derive(Drop)]
 pub(crate) enum RowFault {
     /// The bytes under this name are no row's, or those of a row of another event or name.
     BadRow { name: Items<u8> },
@@ -46,7 +46,7 @@ impl<T: Drop> From<AllocFailed<T>> for RowFault {
 }
 
 /// Why what a keeper holds was not loaded.
-#[derive(Debug, Drop)]
+#[derive(Drop)]
 pub enum LoadFault {
     KeeperFault,
     /// What is held under this name is no row, or no group's row.

@@ -9,7 +9,7 @@ use misp_rules::{Ask, Change};
 
 /// How much of the rows of events is read: none, those that one organisation has of one event, all
 /// of one event, or all.
-#[derive(Clone, Copy, Debug, PartialEq, Eq)]
+#[derive(Clone, Copy, PartialEq, Eq)]
 pub enum Reach {
     Nothing,
     Own(OrgId, EventId),

@@ -1,6 +1,6 @@
 //! Rows as a keeper holds them.
 
-ghost use Rattle.std.specs.Prelude.{◌≡◌, ◌&&◌, Some, None, Ok, map, [], IfOk, IfErr, IsErr};
+ghost use Rattle.std.specs.Prelude.{◌≡◌, ◌&&◌, ◌++◌, ◌∷◌, Some, None, Ok, map, option_map, [], IfOk, IfErr, IsErr, OnOk};
 ghost use Rattle.misp_elem.specs.Spelling as spelling;
 ghost use Rattle.misp_ids.specs.Same.{same_event};
 ghost use Rattle.misp_elem.specs.Parents.{event_of};
@@ -57,12 +57,22 @@ fn decode_row(alloc: Global, raw: &RawRow) -> Result<Row, RowFault>
             if stands_under(raw, &row) {
                 Ok(row)
             } else {
+                drop(row);
                 bad_row(raw)
             }
         }
         Err(DecodeFault::BadRow { .. }) => bad_row(raw),
         Err(DecodeFault::NoMemory) => Err(RowFault::NoMemory),
     }
+}
+
+// Adds the row that is held there.
+fn add_row(alloc: Global, rows: &mut Vec<Row>, raw: RawRow) -> Result<(), RowFault>
+    ensures ok { OnOk result (Some rows.new.items
+        ≡ option_map (λ row. rows.old.items ++ row ∷ []) (row_in raw)) }
+    ensures bad { IfErr result (IsNoRow raw) }
+{
+    Ok(rows.push(decode_row(alloc, &raw)?)?)
 }
 
 /// The rows that are held there, or the first that is none.
@@ -73,7 +83,7 @@ pub(crate) fn decode_rows(alloc: Global, raws: Vec<RawRow>) -> Result<Vec<Row>, 
 {
     let mut rows = Vec::with_capacity(alloc, raws.len())?;
     for raw in raws {
-        rows.push(decode_row(alloc, &raw)?)?;
+        add_row(alloc, &mut rows, raw)?;
     }
     Ok(rows)
 }

@@ -1,7 +1,8 @@
 //! Sharing groups as a keeper holds them.
 
-ghost use Rattle.std.specs.Prelude.{◌≡◌, ◌&&◌, Some, None, Ok, [], map, IfOk, IfErr, OnOk, IsErr, bytes_eq};
+ghost use Rattle.std.specs.Prelude.{◌≡◌, ◌&&◌, Some, None, Ok, [], map, option_map, IfOk, IfErr, OnOk, IsErr, bytes_eq};
 ghost use Rattle.misp_outside.specs.Held.{same_admin};
+ghost use Rattle.misp_groups.specs.Changes.{put_group};
 ghost use Rattle.misp_store.specs.Sharing.{group_name, group_row, group_told, is_row_of, group_in, groups_in, IsStorable, AreStorable};
 ghost use Rattle.misp_store.specs.Decoding.{put_onto, IsNoGroup, NamesBadGroup};
 
@@ -100,22 +101,48 @@ fn bad_row<T>(row: &AdminRow) -> Result<T, RowFault>
     })
 }
 
+// The group that the bytes of the row tell, where it is just the row of that group.
+#[tactic(auto, unfolding(crate::specs::Sharing::group_in))]
+fn placed(alloc: Global, row: &AdminRow, group: Group) -> Result<Group, RowFault>
+    requires { group_told row.now.bytes ≡ Some group }
+    ensures ok { IfOk result (λ placed. group_in row.now ≡ Some placed) }
+    ensures bad { IfErr result (IsNoGroup row.now) }
+{
+    match is_row_of(alloc, row, &group) {
+        Ok(true) => Ok(group),
+        Ok(false) => {
+            drop(group);
+            bad_row(row)
+        }
+        Err(NoMemory) => {
+            drop(group);
+            Err(RowFault::NoMemory)
+        }
+    }
+}
+
 // The group that is held there.
 #[tactic(auto, unfolding(crate::specs::Sharing::group_in))]
 fn decode_group(alloc: Global, row: &AdminRow) -> Result<Group, RowFault>
     ensures ok { IfOk result (λ group. group_in row.now ≡ Some group) }
     ensures bad { IfErr result (IsNoGroup row.now) }
 {
-    match group_told(alloc, row.bytes.as_slice())? {
-        Some(group) => {
-            if is_row_of(alloc, row, &group)? {
-                Ok(group)
-            } else {
-                bad_row(row)
-            }
-        }
-        None => bad_row(row),
+    match group_told(alloc, row.bytes.as_slice()) {
+        Ok(Some(group)) => placed(alloc, row, group),
+        Ok(None) => bad_row(row),
+        Err(NoMemory) => Err(RowFault::NoMemory),
     }
+}
+
+// Puts the group that is held there in its place.
+fn put_held(alloc: Global, groups: &mut Groups, row: &AdminRow) -> Result<(), RowFault>
+    ensures ok { OnOk result (Some groups.new
+        ≡ option_map (λ group. put_group group groups.old) (group_in row.now)) }
+    ensures bad { IfErr result (IsNoGroup row.now) }
+{
+    let group = decode_group(alloc, row)?;
+    drop(groups.put(group)?);
+    Ok(())
 }
 
 /// The groups that are held there, each put in its place, or the first row that is none.
@@ -126,7 +153,7 @@ pub(crate) fn decode_groups(alloc: Global, rows: &[AdminRow]) -> Result<Groups, 
 {
     let mut groups = Groups::new(alloc);
     for row in rows {
-        drop(groups.put(decode_group(alloc, row)?)?);
+        put_held(alloc, &mut groups, row)?;
     }
     Ok(groups)
 }
