@@ -1,2 +1,3 @@
 pub mod Count
+pub mod Reading
 pub mod Words

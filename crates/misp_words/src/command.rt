@@ -8,7 +8,7 @@ use crate::names::{CHECK, NET, SERVE, SYNC};
 use misp_ids::{InstId, Way};
 
 /// What the program is to do.
-#[derive(Clone, Copy, Debug, PartialEq, Eq)]
+#[derive(Clone, Copy, PartialEq, Eq)]
 pub enum Command<'a> {
     /// Runs the script of a source.
     Net,
@@ -21,7 +21,7 @@ pub enum Command<'a> {
 }
 
 /// The words after `serve`.
-#[derive(Clone, Copy, Debug, PartialEq, Eq)]
+#[derive(Clone, Copy, PartialEq, Eq)]
 pub struct ServeWords<'a> {
     /// The instance, which need not be in the description.
     pub name: InstId,
@@ -32,7 +32,7 @@ pub struct ServeWords<'a> {
 }
 
 /// The words after `sync`.
-#[derive(Clone, Copy, Debug, PartialEq, Eq)]
+#[derive(Clone, Copy, PartialEq, Eq)]
 pub struct SyncWords {
     /// The instance, which need not be in the description.
     pub name: InstId,

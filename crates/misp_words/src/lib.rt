@@ -10,7 +10,7 @@ mod reading;
 
 pub use command::{Command, ServeWords, SyncWords};
 pub use laws::a_word_with_a_dash_asks_for_nothing;
-pub use reading::{WordsFault, read_words};
+pub use reading::{Words, WordsFault, read_words};
 
 /// The most connections that can be asked for.
 pub const MAX_COUNT: u32 = 1_000_000;
