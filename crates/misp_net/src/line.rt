@@ -13,7 +13,7 @@ use misp_sync::SyncReply;
 use std::alloc::Global;
 
 /// What a line of a script comes to.
-#[derive(Debug, Drop)]
+#[derive(Drop)]
 pub enum Output {
     /// The line is none, and its first faulty field begins here, counted in bytes from 0.
     Bad(usize),

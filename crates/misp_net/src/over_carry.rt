@@ -1,7 +1,7 @@
 //! A wire to an instance of this process.
 
 ghost use Rattle.std.specs.Prelude.{◌≡◌, ◌≤◌, Some, [], ◌∷◌, Err, IfOk, IfSome, MatchResult, OnErr, Ok};
-ghost use Rattle.misp_outside.specs.Causes.{HasCause};
+ghost use Rattle.misp_outside.specs.Causes.{HasCause, StaysUnless};
 ghost use Rattle.misp_http.specs.Reading.{IsRead};
 ghost use Rattle.misp_http.specs.declared.request.Read.{Read as WasRead};
 ghost use Rattle.misp_api.specs.Answering.{IsPull};
@@ -76,6 +76,8 @@ impl<'a, K: Keeper, C: Carry> OverCarry<'a, K, C> {
         ensures peer { self.new.peer.ghost_name ≡ self.old.peer.ghost_name }
         ensures carry { self.new.carry.ghost_name ≡ self.old.carry.ghost_name }
         ensures cause { HasCause (C.faults self.old.carry.now) (C.faults self.new.carry.now)
+            (result ≡ Err WireFault.Failed) }
+        ensures stays { StaysUnless (C.faults self.old.carry.now) (C.faults self.new.carry.now)
             (result ≡ Err WireFault.Failed) }
     {
         let sent = self.carry.pass(alloc, bytes)?;

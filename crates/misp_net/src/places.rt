@@ -14,7 +14,7 @@ use misp_script::Entry;
 use std::alloc::{AllocError, Global};
 
 /// Why a run ends without its lines.
-#[derive(Clone, Copy, Debug, PartialEq, Eq)]
+#[derive(Clone, Copy, PartialEq, Eq)]
 pub enum NetFault {
     /// A keeper failed while an instance was opened.
     KeeperFault,

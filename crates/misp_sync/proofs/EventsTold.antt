@@ -87,10 +87,10 @@ events_only body f h =
 abbrev Up : List EventParts → Type 0
 Up xs = IsStrictlySortedBy by_event xs
 
-events_up : (body : List ℕ) (xs : List EventParts) → events_in body ≡ Ok xs → Up xs
+pub events_up : (body : List ℕ) (events : List EventParts) → events_in body ≡ Ok events → IsStrictlySortedBy by_event events
 unfolding events_in
-events_up body xs h =
-    text_ok Up events_at FetchFault.Events (λ d x e. list_ok Up listed_in FetchFault.Events (λ ds x e. or_ok Up FetchFault.Events (events_after None ds) (λ y read. (ascending None ds y read).1) x e) (list_of d) x e) (json_in body) xs h
+events_up body events h =
+    text_ok Up events_at FetchFault.Events (λ d x e. list_ok Up listed_in FetchFault.Events (λ ds x e. or_ok Up FetchFault.Events (events_after None ds) (λ y read. (ascending None ds y read).1) x e) (list_of d) x e) (json_in body) events h
 
 -- ---- THE LAW: what is read is what the reply tells
 

@@ -1,4 +1,3 @@
-pub mod Ascending
 pub mod Beside
 pub mod Bringing
 pub mod Brought
@@ -64,3 +63,4 @@ pub mod TakenTexts
 pub mod Takings
 pub mod TrailSteps
 pub mod Trails
+pub mod WireFaults

@@ -20,7 +20,7 @@ use Rattle.misp_sync.specs.declared.count.Tally.{Tally}
 use Rattle.misp_sync.specs.declared.reply.SyncReply.{SyncReply}
 use Rattle.misp_lists.proofs.Prelude.{IsStrictlySortedBy}
 use Rattle.misp_core.specs.Sound.{by_event}
-use Rattle.misp_sync.proofs.Ascending.{events_ascend}
+use Rattle.misp_sync.proofs.EventsTold.{events_up}
 use Rattle.misp_sync.proofs.Comings.{ends_so}
 use Rattle.misp_sync.proofs.PartsCame.{own_stop}
 use Rattle.misp_sync.proofs.Trails.{grows_none, grows_so, grows_then}
@@ -41,7 +41,7 @@ module _ {X : Type 0} (view : X → List EventParts) (here : Inst) (held new : O
   listed_ascends : (events : X) (xs : List (List ℕ)) → Comes {E = Refusal} view events_in (IsCauseOf events_in) (Ok events) xs → IsStrictlySortedBy by_event (view events)
   listed_ascends events [] k = absurd k
   listed_ascends events (x ∷ []) k = absurd k
-  listed_ascends events (x ∷ y ∷ []) k = events_ascend k.body (view events) k.is
+  listed_ascends events (x ∷ y ∷ []) k = events_up k.body (view events) k.is
   listed_ascends events (x ∷ y ∷ z ∷ xs) k = absurd k
 
 pub rows_listed : {X : Type 0} (view : X → List EventParts) (here : Inst) (held new : Option Held) (w : OrgId) (s t : Tally) (a b c : Option (List (List ℕ))) (events : X) (cause : Option Refusal)

@@ -1,7 +1,7 @@
 //! Writes the requests that a pull asks with, and sends them.
 
 ghost use Rattle.std.specs.Prelude.{◌≡◌, [], ◌∷◌, Err, IfErr, IfOk, MatchResult, string_bytes};
-ghost use Rattle.misp_outside.specs.Causes.{HasCause};
+ghost use Rattle.misp_outside.specs.Causes.{HasCause, StaysUnless};
 ghost use Rattle.misp_sync.specs.Query.{IsPart, part_target, query_text, target_of};
 ghost use Rattle.misp_sync.specs.Replied.{IsCutBy};
 ghost use Rattle.misp_sync.specs.Serving.{IsAnswered, IsStill, Meet};
@@ -79,6 +79,8 @@ pub(crate) fn ask<W: Wire>(
     ensures cut { IfErr result IsCutBy }
     ensures through { W.through wire.new ≡ W.through wire.old }
     ensures cause { HasCause (W.faults wire.old) (W.faults wire.new)
+        (result ≡ Err faults.Link) }
+    ensures stays { StaysUnless (W.faults wire.old) (W.faults wire.new)
         (result ≡ Err faults.Link) }
 {
     is_part(query);

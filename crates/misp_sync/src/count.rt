@@ -7,7 +7,7 @@ use misp_ids::EventId;
 
 /// What was taken: groups, events of which a row was taken, rows, and packages of which a row was
 /// taken. Each stays at the greatest value of its type.
-#[derive(Clone, Copy, Debug, PartialEq, Eq)]
+#[derive(Clone, Copy, PartialEq, Eq)]
 pub struct SyncCount {
     pub groups: u64,
     pub events: u64,
@@ -47,7 +47,7 @@ impl SyncCount {
 }
 
 /// A count, and the event of which a row was taken last.
-#[derive(Clone, Copy, Debug, PartialEq, Eq)]
+#[derive(Clone, Copy, PartialEq, Eq)]
 pub(crate) struct Tally {
     pub(crate) count: SyncCount,
     pub(crate) last: Option<EventId>,

@@ -4,7 +4,7 @@ ghost use Rattle.std.specs.Prelude.{◌≡◌, [], ◌∷◌, Some, Err, IfErr, 
 ghost use Rattle.std.specs.List.{AllByRecursion};
 ghost use Rattle.misp_ids.specs.Refusal.{bare};
 ghost use Rattle.misp_ids.specs.declared.refusal.RuleName.TheVariants as rules;
-ghost use Rattle.misp_outside.specs.Causes.{HasCause};
+ghost use Rattle.misp_outside.specs.Causes.{HasCause, StaysUnless};
 ghost use Rattle.misp_groups.specs.Group.{IsGroup};
 ghost use Rattle.misp_rules.specs.Package.{IsPackage};
 ghost use Rattle.misp_core.specs.Sound.{IsListed};
@@ -62,6 +62,8 @@ fn groups_brought<W: Wire>(
     ensures through { W.through wire.new ≡ W.through wire.old }
     ensures cause { HasCause (W.faults wire.old) (W.faults wire.new)
         (result ≡ Err faults.Link) }
+    ensures stays { StaysUnless (W.faults wire.old) (W.faults wire.new)
+        (result ≡ Err faults.Link) }
 {
     a_group_is_read_from_its_text();
     match ask(alloc, wire, key, &Query::Groups) {
@@ -100,6 +102,8 @@ fn events_brought<W: Wire>(
         (Comes (λ events. events.items) events_in (IsFaultOf events_in) result) }
     ensures through { W.through wire.new ≡ W.through wire.old }
     ensures cause { HasCause (W.faults wire.old) (W.faults wire.new)
+        (result ≡ Err faults.Link) }
+    ensures stays { StaysUnless (W.faults wire.old) (W.faults wire.new)
         (result ≡ Err faults.Link) }
 {
     match ask(alloc, wire, key, &Query::Events) {
@@ -175,6 +179,8 @@ fn part_brought<W: Wire>(
     ensures through { W.through wire.new ≡ W.through wire.old }
     ensures cause { HasCause (W.faults wire.old) (W.faults wire.new)
         (result ≡ Err faults.Link) }
+    ensures stays { StaysUnless (W.faults wire.old) (W.faults wire.new)
+        (result ≡ Err faults.Link) }
 {
     match ask(alloc, wire, key, &Query::Part(event, part)) {
         Ok(bytes) => part_replied(alloc, &bytes, event, part),
@@ -199,6 +205,8 @@ pub(crate) fn fetch_groups<W: Wire>(
     ensures through { W.through wire.new ≡ W.through wire.old }
     ensures cause { HasCause (W.faults wire.old) (W.faults wire.new)
         (result ≡ Err (bare rules.LinkFault)) }
+    ensures stays { StaysUnless (W.faults wire.old) (W.faults wire.new)
+        (result ≡ Err (bare rules.LinkFault)) }
     ensures why { IfErr result IsFetchCause }
 {
     match groups_brought(alloc, wire, key) {
@@ -221,6 +229,8 @@ pub(crate) fn fetch_events<W: Wire>(
         (Comes (λ events. events.items) events_in (IsCauseOf events_in) result) }
     ensures through { W.through wire.new ≡ W.through wire.old }
     ensures cause { HasCause (W.faults wire.old) (W.faults wire.new)
+        (result ≡ Err (bare rules.LinkFault)) }
+    ensures stays { StaysUnless (W.faults wire.old) (W.faults wire.new)
         (result ≡ Err (bare rules.LinkFault)) }
     ensures why { IfErr result IsFetchCause }
 {
@@ -246,6 +256,8 @@ pub(crate) fn fetch_part<W: Wire>(
         (Comes (λ p. p) (package_in event part) (IsCauseOf (package_in event part)) result) }
     ensures through { W.through wire.new ≡ W.through wire.old }
     ensures cause { HasCause (W.faults wire.old) (W.faults wire.new)
+        (result ≡ Err (bare rules.LinkFault)) }
+    ensures stays { StaysUnless (W.faults wire.old) (W.faults wire.new)
         (result ≡ Err (bare rules.LinkFault)) }
     ensures why { IfErr result IsFetchCause }
 {

@@ -4,7 +4,7 @@ ghost use Rattle.std.specs.Prelude.{◌≡◌, [], ◌∷◌, Some, Err, IfErr, 
 ghost use Rattle.std.specs.List.{AllByRecursion};
 ghost use Rattle.misp_ids.specs.Refusal.{bare};
 ghost use Rattle.misp_ids.specs.declared.refusal.RuleName.TheVariants as rules;
-ghost use Rattle.misp_outside.specs.Causes.{HasCause};
+ghost use Rattle.misp_outside.specs.Causes.{HasCause, StaysUnless};
 ghost use Rattle.misp_groups.specs.Group.{IsGroup};
 ghost use Rattle.misp_format.specs.WholeGroup.{groups_text};
 ghost use Rattle.misp_rules.specs.Package.{IsPackage};
@@ -53,6 +53,8 @@ fn post<W: PushWire>(
     ensures through { W.through wire.new ≡ W.through wire.old }
     ensures cause { HasCause (W.faults wire.old) (W.faults wire.new)
         (result ≡ Err faults.Link) }
+    ensures stays { StaysUnless (W.faults wire.old) (W.faults wire.new)
+        (result ≡ Err faults.Link) }
 {
     let bytes = request_bytes(alloc, "POST", target, Some(key.text()), body, true)?;
     match wire.hand(alloc, &bytes) {
@@ -97,6 +99,8 @@ fn hand<W: PushWire>(
     ensures through { W.through wire.new ≡ W.through wire.old }
     ensures cause { HasCause (W.faults wire.old) (W.faults wire.new)
         (result ≡ Err (bare rules.LinkFault)) }
+    ensures stays { StaysUnless (W.faults wire.old) (W.faults wire.new)
+        (result ≡ Err (bare rules.LinkFault)) }
     ensures why { IfErr result IsFetchCause }
 {
     match post(alloc, wire, key, target, body) {
@@ -138,6 +142,8 @@ pub(crate) fn hand_groups<W: PushWire>(
     ensures through { W.through wire.new ≡ W.through wire.old }
     ensures cause { HasCause (W.faults wire.old) (W.faults wire.new)
         (result ≡ Err (bare rules.LinkFault)) }
+    ensures stays { StaysUnless (W.faults wire.old) (W.faults wire.new)
+        (result ≡ Err (bare rules.LinkFault)) }
     ensures why { IfErr result IsFetchCause }
 {
     match groups_bytes(alloc, groups) {
@@ -163,6 +169,8 @@ pub(crate) fn hand_part<W: PushWire>(
         (IsSaid (HandPart part.now) result) }
     ensures through { W.through wire.new ≡ W.through wire.old }
     ensures cause { HasCause (W.faults wire.old) (W.faults wire.new)
+        (result ≡ Err (bare rules.LinkFault)) }
+    ensures stays { StaysUnless (W.faults wire.old) (W.faults wire.new)
         (result ≡ Err (bare rules.LinkFault)) }
     ensures why { IfErr result IsFetchCause }
 {

@@ -1,7 +1,7 @@
 //! What a push hands in through.
 
 ghost use Rattle.std.specs.Prelude.{◌≡◌, ℕ, List, [], ◌∷◌, Option, Err, IfSome, MatchResult};
-ghost use Rattle.misp_outside.specs.Causes.{HasCause};
+ghost use Rattle.misp_outside.specs.Causes.{HasCause, StaysUnless};
 ghost use Rattle.misp_core.specs.Standing.{Standing};
 ghost use Rattle.misp_sync.specs.Handing.{Handing, HoldsGroupsAlone, IsHandable, IsHandedReply, MayBeHanded, hand_text};
 ghost use Rattle.misp_sync.specs.Serving.{Meet};
@@ -42,5 +42,7 @@ pub trait PushWire {
             (λ reply. more ≡ bytes.now ∷ reply.items ∷ []) (λ _. IsUnanswered bytes.now more)) }
         ensures through { through self.new ≡ through self.old }
         ensures cause { HasCause (faults self.old) (faults self.new)
+            (result ≡ Err WireFault.Failed) }
+        ensures stays { StaysUnless (faults self.old) (faults self.new)
             (result ≡ Err WireFault.Failed) };
 }

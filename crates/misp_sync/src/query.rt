@@ -3,7 +3,7 @@
 use misp_ids::EventId;
 
 /// What a pull asks of its peer.
-#[derive(Clone, Copy, Debug, PartialEq, Eq)]
+#[derive(Clone, Copy, PartialEq, Eq)]
 pub enum Query {
     /// The groups that carry.
     Groups,

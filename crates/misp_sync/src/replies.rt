@@ -1,9 +1,10 @@
 //! Reads whether a peer accepts or refuses.
 
-ghost use Rattle.std.specs.Prelude.{◌≡◌, IfOk};
+ghost use Rattle.std.specs.Prelude.{◌≡◌, IfOk, IsOk};
 ghost use Rattle.serde_json.specs.View.{view};
 ghost use Rattle.misp_sync.specs.Replied.{Gives, IsFault, ReadsBody, Tells, peer_words, refusal_of, rule_in, rule_told, refused_in};
 ghost use Rattle.misp_sync.specs.Telling.{garbled};
+ghost use Rattle.misp_sync.specs.declared.replies.FetchFault.TheVariants as faults;
 
 use misp_fields::{member, number};
 use misp_format::{FormatFault, read_json};
@@ -14,7 +15,7 @@ use std::alloc::{AllocError, AllocFailed, Global};
 use std::fmt::Write;
 
 /// Why a peer's reply brings nothing.
-#[derive(Clone, Copy, Debug, PartialEq, Eq)]
+#[derive(Clone, Copy, PartialEq, Eq)]
 pub(crate) enum FetchFault {
     /// The wire failed.
     Link,
@@ -92,7 +93,8 @@ fn refused(alloc: Global, status: u16, rule: u64) -> Result<Refusal, NoMemory>
 
 impl FetchFault {
     fn in_words(self, alloc: Global) -> Result<Refusal, NoMemory>
-        ensures { IfOk result (λ refusal. refusal ≡ refusal_of self) }
+        ensures told { IfOk result (λ refusal. refusal ≡ refusal_of self) }
+        ensures link { self ≡ faults.Link → IsOk result }
     {
         match self {
             FetchFault::Link => Ok(Refusal::bare(alloc, RuleName::LinkFault)),
@@ -109,7 +111,8 @@ impl FetchFault {
 
     /// The refusal that tells it.
     pub(crate) fn refusal(self, alloc: Global) -> Refusal
-        ensures { Tells result (refusal_of self) }
+        ensures told { Tells result (refusal_of self) }
+        ensures link { self ≡ faults.Link → result ≡ refusal_of self }
     {
         match self.in_words(alloc) {
             Ok(refusal) => refusal,

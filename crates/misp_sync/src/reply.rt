@@ -4,7 +4,7 @@ use crate::count::SyncCount;
 use misp_ids::Refusal;
 
 /// What a synchronisation is told.
-#[derive(Debug, Drop)]
+#[derive(Drop)]
 pub enum SyncReply {
     /// All that passes was taken, so far as it is new.
     Done(SyncCount),

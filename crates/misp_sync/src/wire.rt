@@ -1,7 +1,7 @@
 //! What a synchronisation asks through.
 
 ghost use Rattle.std.specs.Prelude.{◌≡◌, ℕ, List, [], ◌∷◌, Option, Err, MatchResult};
-ghost use Rattle.misp_outside.specs.Causes.{HasCause};
+ghost use Rattle.misp_outside.specs.Causes.{HasCause, StaysUnless};
 ghost use Rattle.misp_core.specs.Standing.{Standing};
 ghost use Rattle.misp_sync.specs.Query.{IsAskable, query_text};
 ghost use Rattle.misp_sync.specs.Serving.{IsAnswered, IsStill, Meet};
@@ -38,5 +38,7 @@ pub trait Wire {
             (λ reply. more ≡ bytes.now ∷ reply.items ∷ []) (λ _. IsUnanswered bytes.now more)) }
         ensures through { through self.new ≡ through self.old }
         ensures cause { HasCause (faults self.old) (faults self.new)
+            (result ≡ Err WireFault.Failed) }
+        ensures stays { StaysUnless (faults self.old) (faults self.new)
             (result ≡ Err WireFault.Failed) };
 }
