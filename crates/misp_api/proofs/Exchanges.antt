@@ -1,5 +1,5 @@
 -- The one request that bytes are.
-use Rattle.std.proofs.Common.{◌≡◌, ◌≢◌, ◌++◌, ℕ, Bool, List, [], refl, ap, ◌∙◌, subst, arith, inl, inr, Option, Some, None, Result, Ok, Err, IfOk, IfSome, OnOk, OnErr}
+use Rattle.std.proofs.Common.{◌≡◌, ◌≢◌, ◌++◌, ℕ, Bool, List, [], append-nil, refl, ap, ◌∙◌, subst, arith, inl, inr, Option, Some, None, Result, Ok, Err, IfOk, IfSome, OnOk, OnErr}
 use Rattle.std.proofs.lemmas.Option.{IfSome_then}
 use Rattle.std.specs.Io.KnownBytes.{prepend_known}
 use Rattle.misp_outside.specs.Causes.{HasCause}
@@ -24,6 +24,11 @@ never_fails cause failed = absurd (omega (arith, cause.rose failed))
 pub read_of : (front left text : List ℕ) (result : Result Read ReadEnd) (after : Option (List ℕ)) → front ≡ [] → left ≡ text
     → IfSome (prepend_known front (Some left)) (λ bytes. IsRead bytes result after) → IsRead text result after
 read_of front left text result after none same is = subst (λ bytes. IsRead bytes result after) ((λ i. none i ++ same i)) is
+
+-- what is read of these bytes, where a source has no more
+pub read_whole : (bytes left : List ℕ) (result : Result Read ReadEnd) (after : Option (List ℕ)) → left ≡ []
+    → IfSome (prepend_known bytes (Some left)) (λ all. IsRead all result after) → IsRead bytes result after
+read_whole bytes left result after none is = subst (λ all. IsRead all result after) (ap (λ l. bytes ++ l) none ∙ append-nil bytes) is
 
 read_in : Read → Result Read ReadEnd → Read
 read_in other (Ok read) = read

@@ -191,3 +191,19 @@ pub no_memory : (close : Bool) → no_memory_text close ≡ http_text (refused_b
 unfolding no_memory_text http.reply_text
 no_memory true = with_end (connection_line true)
 no_memory false = with_end []
+
+-- ---- what a keeper stopped
+
+failed_rule : decimal 26 ≡ codes "26"
+failed_rule =
+    let first : decimal 26 ≡ decimal 2 ++ 54 ∷ [] = decimal_step 26 (omega arith) (omega arith) in
+    let last : decimal 2 ≡ 50 ∷ [] = decimal_digit 2 (omega arith) in
+    rw (first, last) refl
+
+pub failed_text : codes "503 {\"name\":\"KeeperFault\",\"place\":\"\",\"rule\":26}" ≡ reply_text (refused_by RuleName.KeeperFault)
+unfolding reason_of refusal_data rule_name escape_byte
+failed_text = rw (three 503 refl, failed_rule) refl
+
+pub lost_text : codes "507 {\"name\":\"NoMemory\",\"place\":\"\",\"rule\":27}" ≡ reply_text (refused_by RuleName.NoMemory)
+unfolding reason_of refusal_data rule_name escape_byte
+lost_text = rw (three 507 refl, rule) refl

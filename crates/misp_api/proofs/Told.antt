@@ -2,7 +2,9 @@
 use Rattle.std.proofs.Common.{◌≡◌, ◌⊎◌, ℕ, false, ◌≤◌, List, [], ◌++◌, length, take, length-append, refl, sym, ◌∙◌, ap, subst, inl, inr, arith, Option, Some, None, Result, Ok, Err, take_at, IfSome, IfOk, IfErr, IsOkAnd, OnOk, OnErr}
 use Rattle.std.proofs.lemmas.Option.{IfSome_then}
 use Rattle.misp_outside.specs.Causes.{Rose, HasCause}
+use Rattle.misp_outside.specs.declared.fault.KeeperFault.{KeeperFault}
 use Rattle.misp_effects.specs.Effect.{effect}
+use Rattle.misp_core.specs.Effects.{rule_of_stop}
 use Rattle.misp_core.specs.Prelude.{AreReadable, Did, Effect, Held, IsPlanned, IsRefused, Plans, Standing, host_of, left, seen_in, spelled, stop_in}
 use Rattle.misp_core.specs.Planning.{IsPlan, batches_of, unplanned, stop_planned, IsBarred}
 use Rattle.misp_core.specs.declared.planning.Plan.{Plan}
@@ -13,7 +15,9 @@ use Rattle.misp_api.specs.Commands.{AsksBuilt}
 use Rattle.misp_api.specs.Prelude.{Commanded, Reply, RequestData, RuleName, barred, by_keeper, commanded, form_of, is_allowed, read_of, refused_by}
 use Rattle.misp_api.specs.Order.{IsInOrder, order}
 use Rattle.misp_api.specs.Refusing.{TurnsAway}
-use Rattle.misp_core.specs.Text.{reply_text}
+use Rattle.misp_core.specs.Text.{has_octets, reply_text}
+use Rattle.misp_core.specs.declared.reply.Answer.{Answer}
+use Rattle.misp_rules.specs.declared.package.PackageFields.{PackageFields}
 use Rattle.misp_api.specs.Answering.{IsReplied}
 use Rattle.misp_api.proofs.Turning.{lost_there, turned_there, turned_by_step}
 use Rattle.misp_api.proofs.Replying.{by_step}
@@ -95,6 +99,11 @@ module _ {E : Type 0} where
 pub no_stop_in : (reply : Reply) → (IsRefused reply → ⊥) → stop_in reply ≡ by_keeper → ⊥
 no_stop_in (Reply.Ok answer) answered is = absurd cc
 no_stop_in (Reply.Refused refusal) answered is = answered tt
+
+-- what tells that the keeper failed is the refusal of that
+pub stopped_keeper : (stop : KeeperFault) → stop_in (refused_by (rule_of_stop stop)) ≡ by_keeper → stop ≡ KeeperFault.Failed
+stopped_keeper KeeperFault.Failed is = refl
+stopped_keeper KeeperFault.NoMemory is = absurd cc
 
 -- no fault was met
 pub unmet : {P : Type 0} (count : ℕ) → (P → ⊥) → HasCause count count P

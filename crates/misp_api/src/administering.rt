@@ -20,7 +20,7 @@ use misp_outside::Keeper;
 use std::alloc::Global;
 
 /// What an organisation asks of a sharing group.
-#[derive(Clone, Copy, Debug, PartialEq, Eq)]
+#[derive(Clone, Copy, PartialEq, Eq)]
 pub struct GroupRequest<'a> {
     /// By whom it is administered: an organisation that is known at the instance.
     pub by: OrgId,

@@ -5,7 +5,7 @@ use misp_ids::Items;
 use misp_rules::Ask;
 
 /// What a request is, whoever it comes from.
-#[derive(Debug, Drop)]
+#[derive(Drop)]
 pub enum Command {
     Asks(Ask),
     /// Takes what is new of groups that are handed in.

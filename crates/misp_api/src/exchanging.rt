@@ -1,6 +1,6 @@
 //! Answers the bytes of one request, as a wire of one process needs it.
 
-ghost use Rattle.std.specs.Prelude.{◌≡◌, ◌≢◌, ◌≤◌, ◌++◌, ℕ, List, Option, Ok, Err, IfOk, IfSome, OnOk, OnErr};
+ghost use Rattle.std.specs.Prelude.{◌≡◌, ◌≢◌, ◌≤◌, ◌++◌, ℕ, List, [], Option, Ok, Err, IfOk, IfSome, OnOk, OnErr};
 ghost use Rattle.misp_http.specs.Reading.{IsRead};
 ghost use Rattle.misp_http.specs.declared.request.Read.{Read as WasRead};
 ghost use Rattle.misp_http.specs.declared.request.ReadEnd.{ReadEnd as NotRead};
@@ -21,13 +21,13 @@ use misp_ids::{NoMemory, Stamp};
 use misp_outside::{Keeper, SureSource};
 use std::alloc::Global;
 
-// What the bytes are read as.
-fn read_bytes(alloc: Global, bytes: Vec<u8>) -> Result<Read, ReadEnd>
+/// What bytes are as a request, after which no more follow.
+pub fn read_bytes(alloc: Global, bytes: Vec<u8>) -> Result<Read, ReadEnd>
     ensures read { (left : Option (List ℕ)) × IsRead bytes.items result left }
     ensures no_fault { result ≢ Err NotRead.ReadFault }
 {
-    let mut source = SureSource::new(bytes);
-    let mut rest = Vec::new(alloc);
+    let mut rest = bytes;
+    let mut source = SureSource::new(Vec::new(alloc));
     read_request(alloc, &mut source, &mut rest)
 }
 
@@ -39,21 +39,21 @@ fn answer_to<K: Keeper>(
     instance: &mut Instance<K>,
     now: Stamp,
     word: u128,
-    read: Read,
+    read: &Read,
 ) -> Result<Reply, NoMemory>
     ensures text { IfOk result (λ reply. text.new.items ≡ text.old.items ++ reply_text reply) }
-    ensures answered { IfOk result (IsAnswered now word read instance.old instance.new) }
+    ensures answered { IfOk result (IsAnswered now word read.now instance.old instance.new) }
     ensures unwritten { OnErr result (instance.new.held ≡ instance.old.held) }
-    ensures sound { IsPull (read_form instance.old.admin word read) → IfOk result IsSound }
-    ensures still { IsPull (read_form instance.old.admin word read) →
+    ensures sound { IsPull (read_form instance.old.admin word read.now) → IfOk result IsSound }
+    ensures still { IsPull (read_form instance.old.admin word read.now) →
         instance.new.held ≡ instance.old.held }
     ensures later { instance.old.faults ≤ instance.new.faults }
     ensures name { instance.new.name ≡ instance.old.name }
     ensures admin { instance.new.admin ≡ instance.old.admin }
 {
     match read {
-        Read::Request(request) => answer(text, alloc, routes, instance, now, word, &request),
-        Read::Refused(fault) => refuse(text, alloc, fault),
+        Read::Request(request) => answer(text, alloc, routes, instance, now, word, request),
+        Read::Refused(fault) => refuse(text, alloc, *fault),
     }
 }
 
@@ -92,19 +92,19 @@ fn reply_to_read<K: Keeper>(
     instance: &mut Instance<K>,
     now: Stamp,
     word: u128,
-    read: Read,
+    read: &Read,
 ) -> Result<Vec<u8>, NoMemory>
     ensures answered { IfOk result (λ bytes.
-        IsExchanged now word read instance.old instance.new bytes.items) }
+        IsExchanged now word read.now instance.old instance.new bytes.items) }
     ensures left { OnErr result (IfSome instance.old.held (λ held. IsLeftSo now
-        (read_form instance.old.admin word read) instance.old held instance.new.held)) }
-    ensures still { IsPull (read_form instance.old.admin word read) →
+        (read_form instance.old.admin word read.now) instance.old held instance.new.held)) }
+    ensures still { IsPull (read_form instance.old.admin word read.now) →
         instance.new.held ≡ instance.old.held }
     ensures later { instance.old.faults ≤ instance.new.faults }
     ensures name { instance.new.name ≡ instance.old.name }
     ensures admin { instance.new.admin ≡ instance.old.admin }
 {
-    let close = closes(&read);
+    let close = closes(read);
     let mut text = Vec::new(alloc);
     let reply = answer_to(&mut text, alloc, routes, instance, now, word, read)?;
     let reply = worded(reply);
@@ -113,7 +113,9 @@ fn reply_to_read<K: Keeper>(
 
 // There is no reply to bytes that are no request.
 fn unread(alloc: Global, end: ReadEnd) -> Result<Vec<u8>, NoMemory>
-    ensures { OnOk result (end ≢ NotRead.NoMemory) }
+    ensures read { OnOk result (end ≢ NotRead.NoMemory) }
+    ensures none { IfOk result (λ bytes. bytes.items ≡ []) }
+    ensures memory { OnErr result (end ≡ NotRead.NoMemory) }
 {
     match end {
         ReadEnd::NoMemory => Err(NoMemory),
@@ -150,7 +152,7 @@ pub fn exchange<K: Keeper>(
     ensures admin { instance.new.admin ≡ instance.old.admin }
 {
     match read_bytes(alloc, bytes) {
-        Ok(read) => reply_to_read(alloc, routes, instance, now, word, read),
+        Ok(read) => reply_to_read(alloc, routes, instance, now, word, &read),
         Err(end) => unread(alloc, end),
     }
 }

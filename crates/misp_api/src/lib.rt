@@ -25,7 +25,7 @@ pub use administering::{GroupRequest, administer};
 pub use answering::answer;
 pub use asking::read_command;
 pub use command::Command;
-pub use exchanging::exchange;
+pub use exchanging::{exchange, read_bytes};
 pub use limits::the_limits_are_as_stated;
 pub use reply::{body_in, has_octets, put_number, put_reply, put_text};
 pub use request::AskFault;

@@ -10,7 +10,7 @@ use misp_ids::{Refusal, RuleName, Text};
 use std::alloc::{AllocError, AllocFailed, Global};
 
 /// Why a request was not read.
-#[derive(Debug, Drop)]
+#[derive(Drop)]
 pub enum AskFault {
     Refused(Refusal),
     NoMemory,

@@ -25,7 +25,7 @@ use misp_outside::{Clock, Keeper, Sink};
 use std::alloc::Global;
 
 /// How a reply went out.
-#[derive(Clone, Copy, Debug, PartialEq, Eq)]
+#[derive(Clone, Copy, PartialEq, Eq)]
 pub enum Delivery {
     Written,
     /// It could not be written whole.
@@ -116,27 +116,27 @@ fn answer_read<K: Keeper, T: Clock>(
     routes: &Routes,
     instance: &mut Instance<K>,
     clock: &mut T,
-    read: Read,
+    read: &Read,
 ) -> Result<Reply, NoMemory>
     ensures text { IfOk result (λ reply. text.new.items ≡ reply_text reply) }
     ensures answered { (time word : ℕ) → T.time clock.old ≡ Some time →
         T.next_word clock.old ≡ Some word →
-        IfOk result (IsAnswered time word read instance.old instance.new) }
+        IfOk result (IsAnswered time word read.now instance.old instance.new) }
 
     // What changes anything is told in a short text. So where the text is long, or memory ran out
     // for it, it may as well be told that memory ran out.
     ensures dropped { (time word : ℕ) → T.time clock.old ≡ Some time →
         T.next_word clock.old ≡ Some word →
         IfOk result (λ reply. CHANGE_TEXT < length (reply_text reply)) →
-        IsAnswered time word read instance.old instance.new (refused_by RuleName.NoMemory) }
+        IsAnswered time word read.now instance.old instance.new (refused_by RuleName.NoMemory) }
     ensures time { T.time clock.new ≡ T.time clock.old }
     ensures word { (word : ℕ) → T.next_word clock.old ≡ Some word →
-        T.next_word clock.new ≡ Some (next_word read word) }
+        T.next_word clock.new ≡ Some (next_word read.now word) }
 {
     text.clear();
     match read {
-        Read::Request(request) => answer_next(text, alloc, routes, instance, clock, &request),
-        Read::Refused(fault) => refuse(text, alloc, fault),
+        Read::Request(request) => answer_next(text, alloc, routes, instance, clock, request),
+        Read::Refused(fault) => refuse(text, alloc, *fault),
     }
 }
 
@@ -230,6 +230,37 @@ fn put_some<W: Sink>(
         .unwrap();
 }
 
+// Answers what was read, and puts the bytes of the reply into the room.
+fn put_answered<K: Keeper, W: Sink, T: Clock>(
+    alloc: Global,
+    routes: &Routes,
+    instance: &mut Instance<K>,
+    sink: &mut W,
+    clock: &mut T,
+    buffers: &mut Buffers,
+    read: &Read,
+    close: bool,
+)
+    requires none { buffers.old.out.items ≡ [] }
+    requires empty { vec_len buffers.old.out ≡ 0 }
+    requires own { REPLY_ROOM ≤ vec_capacity buffers.old.out }
+    requires room { HasRoom (W.space sink.old) REPLY_ROOM }
+    ensures put { (time word : ℕ) → T.time clock.old ≡ Some time →
+        T.next_word clock.old ≡ Some word → (reply : Answered) ×
+        IsAnswered time word read.now instance.old instance.new reply ×
+        (buffers.new.out.items ≡ http_text reply close) }
+    ensures room { HasRoom (W.space sink.new) (length buffers.new.out.items) }
+    ensures bytes { W.written sink.new ≡ W.written sink.old }
+    ensures faults { W.faults sink.new ≡ W.faults sink.old }
+    ensures time { T.time clock.new ≡ T.time clock.old }
+    ensures word { (word : ℕ) → T.next_word clock.old ≡ Some word →
+        T.next_word clock.new ≡ Some (next_word read.now word) }
+    ensures rest { buffers.new.rest ≡ buffers.old.rest }
+{
+    let answered = answer_read(&mut buffers.text, alloc, routes, instance, clock, read);
+    put_some(sink, &mut buffers.out, &answered, &buffers.text, close);
+}
+
 /// Answers what was read, and writes the reply.
 pub(crate) fn reply_to<K: Keeper, W: Sink, T: Clock>(
     alloc: Global,
@@ -242,8 +273,8 @@ pub(crate) fn reply_to<K: Keeper, W: Sink, T: Clock>(
     close: bool,
 ) -> Delivery
     ensures went { (time word : ℕ) → T.time clock.old ≡ Some time →
-        T.next_word clock.old ≡ Some word → WentOut time word read close instance.old instance.new
-        (W.written sink.old) (W.written sink.new) result }
+        T.next_word clock.old ≡ Some word → WentOut time word read close instance.old
+        instance.new (W.written sink.old) (W.written sink.new) result }
     ensures time { T.time clock.new ≡ T.time clock.old }
     ensures word { (word : ℕ) → T.next_word clock.old ≡ Some word → result ≢ Delivery.NoRoom →
         T.next_word clock.new ≡ Some (next_word read word) }
@@ -253,10 +284,11 @@ pub(crate) fn reply_to<K: Keeper, W: Sink, T: Clock>(
         (result ≡ Delivery.WriteFault) }
 {
     if make_room(sink, &mut buffers.out).is_err() {
+        drop(read);
         return Delivery::NoRoom;
     }
-    let answered = answer_read(&mut buffers.text, alloc, routes, instance, clock, read);
-    put_some(sink, &mut buffers.out, &answered, &buffers.text, close);
+    put_answered(alloc, routes, instance, sink, clock, buffers, &read, close);
+    drop(read);
     match write_all(sink, &buffers.out) {
         Ok(()) => Delivery::Written,
         Err(_) => Delivery::WriteFault,

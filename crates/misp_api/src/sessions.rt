@@ -17,7 +17,7 @@ use misp_outside::{Clock, Keeper, Sink, Source};
 use std::alloc::Global;
 
 /// How a session ends.
-#[derive(Clone, Copy, Debug, PartialEq, Eq)]
+#[derive(Clone, Copy, PartialEq, Eq)]
 pub enum End {
     /// A request asked to close, or bytes were refused.
     Closed,
@@ -65,7 +65,7 @@ impl From<ReadEnd> for End {
 }
 
 /// How many requests were answered, and how the session ended.
-#[derive(Clone, Copy, Debug, PartialEq, Eq)]
+#[derive(Clone, Copy, PartialEq, Eq)]
 pub struct SessionEnd {
     /// Those that were refused count, and one whose reply was not written whole.
     pub requests: u32,

@@ -1,15 +1,19 @@
 //! Tells what was planned, and puts it.
 
-ghost use Rattle.std.specs.Prelude.{◌≡◌, true, false, ◌⊎◌, ◌+◌, ◌<◌, ◌≤◌, ◌++◌, None, Some, IfOk, IfErr, IfSome, OnOk, OnErr, length, take, vec_len, vec_capacity};
+ghost use Rattle.std.specs.Prelude.{◌≡◌, true, false, ◌⊎◌, ◌+◌, ◌<◌, ◌≤◌, ◌++◌, None, Some, Err, IfOk, IfErr, IfSome, OnOk, OnErr, length, take, option_map, vec_len, vec_capacity};
 ghost use Rattle.misp_outside.specs.Causes.{Rose, HasCause};
+ghost use Rattle.misp_outside.specs.Held.{with_batch};
 ghost use Rattle.misp_effects.specs.Effect.{Effect};
+ghost use Rattle.misp_store.specs.Batches.{spelled};
+ghost use Rattle.misp_store.specs.Sharing.{AreStorable};
 ghost use Rattle.misp_core.specs.Effects.{Did, IsRefused, refused_by, rule_of_stop, stop_in, by_keeper};
-ghost use Rattle.misp_core.specs.Planning.{IsPlan, IsPlanned, unplanned, stop_planned};
+ghost use Rattle.misp_core.specs.Planning.{IsPlan, IsPlanned, batch_of, unplanned, stop_planned};
 ghost use Rattle.misp_core.specs.declared.planning.Plan.{Plan as Planned};
 ghost use Rattle.misp_core.specs.declared.reply.Reply.{Reply as Answered};
 ghost use Rattle.misp_core.specs.Sound.{IsSound, IsSoundAnswer};
 ghost use Rattle.misp_core.specs.Text.{has_octets, reply_text};
 ghost use Rattle.misp_api.specs.declared.TheConstants.{CHANGE_TEXT};
+ghost use Rattle.misp_api.specs.declared.telling.TheConstants.{STOP_TEXT};
 
 use crate::CHANGE_TEXT;
 use crate::reply::{has_octets, put_reply};
@@ -39,13 +43,18 @@ pub(crate) fn told(text: &mut Vec<u8>, alloc: Global, reply: Reply) -> Result<Re
     }
 }
 
+// The most bytes in the text of the refusal of what a keeper stopped.
+const STOP_TEXT: usize = 47;
+
 // The text of the refusal of what a keeper stopped.
-fn stop_text(alloc: Global, stop: KeeperFault) -> Result<Vec<u8>, NoMemory>
-    ensures { IfOk result (λ text. text.items ≡ reply_text (refused_by (rule_of_stop stop))) }
+fn stop_text(stop: KeeperFault) -> &'static str
+    ensures text { result.now ≡ reply_text (refused_by (rule_of_stop stop)) }
+    ensures short { length result.now ≤ STOP_TEXT }
 {
-    let mut text = Vec::new(alloc);
-    put_reply(&mut text, alloc, &Reply::stopped_by(alloc, stop))?;
-    Ok(text)
+    match stop {
+        KeeperFault::Failed => "503 {\"name\":\"KeeperFault\",\"place\":\"\",\"rule\":26}",
+        KeeperFault::NoMemory => "507 {\"name\":\"NoMemory\",\"place\":\"\",\"rule\":27}",
+    }
 }
 
 // Writes a text in place of what is after the start. It takes no memory.
@@ -59,99 +68,93 @@ fn take_back(text: &mut Vec<u8>, start: usize, instead: &[u8])
     text.extend_from_slice(instead).unwrap();
 }
 
-// The texts of the refusals that may take the place of an answer.
-#[derive(Drop)]
-struct StopTexts {
-    failed: Vec<u8>,
-    no_memory: Vec<u8>,
-}
-
-// The refusal of each that a keeper may stop, as its text.
-fn stop_texts(alloc: Global) -> Result<StopTexts, NoMemory>
-    ensures failed { IfOk result (λ stops.
-        stops.failed.items ≡ reply_text (refused_by (rule_of_stop KeeperFault.Failed))) }
-    ensures no_memory { IfOk result (λ stops.
-        stops.no_memory.items ≡ reply_text (refused_by (rule_of_stop KeeperFault.NoMemory))) }
+// Writes the reply to a change, with room for each refusal after it, and for one byte more. So any
+// of them fits in place of it. One that is longer than the answer to any change is given no memory,
+// and neither are octets.
+fn put_change(text: &mut Vec<u8>, alloc: Global, reply: &Reply) -> Result<(), NoMemory>
+    ensures text { OnOk result (text.new.items ≡ text.old.items ++ reply_text reply.now) }
+    ensures room { OnOk result (vec_len text.new + STOP_TEXT < vec_capacity text.new) }
+    ensures short { OnOk result (length (reply_text reply.now) ≤ CHANGE_TEXT) }
+    ensures no_octets { OnOk result (has_octets reply.now ≡ false) }
 {
-    let failed = stop_text(alloc, KeeperFault::Failed)?;
-    let no_memory = stop_text(alloc, KeeperFault::NoMemory)?;
-    Ok(StopTexts { failed, no_memory })
+    if has_octets(reply) {
+        return Err(NoMemory);
+    }
+    let start = text.len();
+    put_reply(text, alloc, reply)?;
+    if text.len().saturating_sub(start) > CHANGE_TEXT {
+        return Err(NoMemory);
+    }
+    Ok(text.reserve(STOP_TEXT + 1)?)
 }
 
-// Takes room for either text after what is there, and for one byte after that.
-fn take_room(text: &mut Vec<u8>, stops: &StopTexts) -> Result<(), NoMemory>
-    ensures text { text.new.items ≡ text.old.items }
-    ensures failed { OnOk result
-        (vec_len text.old + vec_len stops.now.failed < vec_capacity text.new) }
-    ensures no_memory { OnOk result
-        (vec_len text.old + vec_len stops.now.no_memory < vec_capacity text.new) }
-{
-    let longest = stops.failed.len().max(stops.no_memory.len());
-    text.reserve(longest + 1)?;
-    Ok(())
-}
-
-// What is written before a batch is put: the answer, and beside it the refusals that may take its
-// place.
-#[derive(Drop)]
-struct Written {
-    reply: Reply,
-    stops: StopTexts,
-}
-
-// Writes an answer, with room for each refusal in place of it, and for one byte after. One that is
-// longer than the answer to any change is given no memory, and neither are octets.
-fn write_answer(text: &mut Vec<u8>, alloc: Global, answer: Answer) -> Result<Written, NoMemory>
-    ensures reply { IfOk result (λ written. written.reply ≡ Answered.Ok answer) }
-    ensures failed { IfOk result (λ written.
-        written.stops.failed.items ≡ reply_text (refused_by (rule_of_stop KeeperFault.Failed))) }
-    ensures no_memory { IfOk result (λ written. written.stops.no_memory.items
-        ≡ reply_text (refused_by (rule_of_stop KeeperFault.NoMemory))) }
+// Writes an answer to a change, with room for what may take its place.
+fn write_answer(text: &mut Vec<u8>, alloc: Global, answer: Answer) -> Result<Reply, NoMemory>
+    ensures reply { IfOk result (λ reply. reply ≡ Answered.Ok answer) }
     ensures text { OnOk result
         (text.new.items ≡ text.old.items ++ reply_text (Answered.Ok answer)) }
-    ensures room { OnOk result (vec_len text.new < vec_capacity text.new) }
-    ensures room_failed { IfOk result (λ written.
-        vec_len text.old + vec_len written.stops.failed < vec_capacity text.new) }
-    ensures room_no_memory { IfOk result (λ written.
-        vec_len text.old + vec_len written.stops.no_memory < vec_capacity text.new) }
+    ensures room { OnOk result (vec_len text.new + STOP_TEXT < vec_capacity text.new) }
     ensures short { OnOk result (length (reply_text (Answered.Ok answer)) ≤ CHANGE_TEXT) }
     ensures no_octets { OnOk result (has_octets (Answered.Ok answer) ≡ false) }
 {
-    let start = text.len();
-    let stops = stop_texts(alloc)?;
-    let reply = told(text, alloc, Reply::Ok(answer))?;
-    if text.len().saturating_sub(start) > CHANGE_TEXT || has_octets(&reply) {
-        return Err(NoMemory);
+    let reply = Reply::Ok(answer);
+    match put_change(text, alloc, &reply) {
+        Ok(()) => Ok(reply),
+        Err(stop) => Err(stop),
     }
-    take_room(text, &stops)?;
-    Ok(Written { reply, stops })
 }
 
-// Puts the batch of an answer that is written. Where it is not put, its refusal stands there
-// instead. It takes no memory for that.
+// Puts a batch. Where it is not put, its refusal stands in place of what is after the start. It
+// takes no memory for that.
+fn put_or_refuse<K: Keeper>(
+    text: &mut Vec<u8>,
+    alloc: Global,
+    instance: &mut Instance<K>,
+    start: usize,
+    put: Batch,
+) -> Result<(), KeeperFault>
+    requires start { start ≤ vec_len text.old }
+    requires room { vec_len text.old + STOP_TEXT < vec_capacity text.old }
+    ensures left { OnOk result (text.new.items ≡ text.old.items) }
+    ensures text { IfErr result (λ stop. text.new.items ≡
+        take start text.old.items ++ reply_text (refused_by (rule_of_stop stop))) }
+    ensures room { vec_len text.new < vec_capacity text.new }
+    ensures put { OnOk result (instance.new.held ≡
+        option_map (with_batch (spelled (batch_of put))) instance.old.held) }
+    ensures storable { OnOk result (AreStorable put.groups) }
+    ensures err { OnErr result (instance.new.held ≡ instance.old.held) }
+    ensures cause { HasCause instance.old.faults instance.new.faults
+        (result ≡ Err KeeperFault.Failed) }
+    ensures name { instance.new.name ≡ instance.old.name }
+    ensures admin { instance.new.admin ≡ instance.old.admin }
+{
+    match instance.settle(alloc, put) {
+        Ok(()) => Ok(()),
+        Err(stop) => {
+            take_back(text, start, stop_text(stop).as_bytes());
+            Err(stop)
+        }
+    }
+}
+
+// Puts the batch of an answer that is written. Where it is not put, its refusal is answered.
 fn settled<K: Keeper>(
     text: &mut Vec<u8>,
     alloc: Global,
     instance: &mut Instance<K>,
     start: usize,
-    written: Written,
+    reply: Reply,
     put: Batch,
 ) -> Reply
-    requires answer { IsRefused written.reply → ⊥ }
+    requires answer { IsRefused reply → ⊥ }
     requires start { start ≤ vec_len text.old }
-    requires text { text.old.items ≡ take start text.old.items ++ reply_text written.reply }
-    requires room { vec_len text.old < vec_capacity text.old }
-    requires failed { written.stops.failed.items
-        ≡ reply_text (refused_by (rule_of_stop KeeperFault.Failed)) }
-    requires no_memory { written.stops.no_memory.items
-        ≡ reply_text (refused_by (rule_of_stop KeeperFault.NoMemory)) }
-    requires room_failed { start + vec_len written.stops.failed < vec_capacity text.old }
-    requires room_no_memory { start + vec_len written.stops.no_memory < vec_capacity text.old }
-    requires short { length (reply_text written.reply) ≤ CHANGE_TEXT }
-    requires no_octets { has_octets written.reply ≡ false }
+    requires text { text.old.items ≡ take start text.old.items ++ reply_text reply }
+    requires room { vec_len text.old + STOP_TEXT < vec_capacity text.old }
+    requires short { length (reply_text reply) ≤ CHANGE_TEXT }
+    requires no_octets { has_octets reply ≡ false }
     ensures text { text.new.items ≡ take start text.old.items ++ reply_text result }
     ensures room { vec_len text.new < vec_capacity text.new }
-    ensures done { (p : Planned) (e : Effect Answered) → written.reply ≡ Answered.Ok p.answer →
+    ensures done { (p : Planned) (e : Effect Answered) → reply ≡ Answered.Ok p.answer →
         p.batch ≡ Some put → IsPlan p e →
         IfSome instance.old.held (λ held. Did e held result instance.new.held) }
     ensures refused { IsRefused result → instance.new.held ≡ instance.old.held }
@@ -159,22 +162,15 @@ fn settled<K: Keeper>(
         instance.new.held ≡ instance.old.held }
     ensures octets { has_octets result ≡ true → instance.new.held ≡ instance.old.held }
     ensures silent { instance.old.held ≡ None → instance.new.held ≡ None }
-    ensures sound { IsSound written.reply → IsSound result }
+    ensures sound { IsSound reply → IsSound result }
     ensures cause { HasCause instance.old.faults instance.new.faults
         (stop_in result ≡ by_keeper) }
     ensures name { instance.new.name ≡ instance.old.name }
     ensures admin { instance.new.admin ≡ instance.old.admin }
 {
-    match instance.settle(alloc, put) {
-        Ok(()) => written.reply,
-        Err(KeeperFault::Failed) => {
-            take_back(text, start, &written.stops.failed);
-            Reply::stopped_by(alloc, KeeperFault::Failed)
-        }
-        Err(KeeperFault::NoMemory) => {
-            take_back(text, start, &written.stops.no_memory);
-            Reply::stopped_by(alloc, KeeperFault::NoMemory)
-        }
+    match put_or_refuse(text, alloc, instance, start, put) {
+        Ok(()) => reply,
+        Err(stop) => Reply::stopped_by(alloc, stop),
     }
 }
 
@@ -206,8 +202,8 @@ fn told_and_put<K: Keeper>(
     ensures admin { instance.new.admin ≡ instance.old.admin }
 {
     let start = text.len();
-    let written = write_answer(text, alloc, answer)?;
-    Ok(settled(text, alloc, instance, start, written, put))
+    let reply = write_answer(text, alloc, answer)?;
+    Ok(settled(text, alloc, instance, start, reply, put))
 }
 
 /// Tells what was planned, and puts it. The text of the reply is written before anything is put.

@@ -14,7 +14,7 @@ use misp_outside::{Clock, Keeper, Sink, Source};
 use std::alloc::Global;
 
 /// How a turn of a session went.
-#[derive(Clone, Copy, Debug, PartialEq, Eq)]
+#[derive(Clone, Copy, PartialEq, Eq)]
 pub enum Turn {
     /// A request was answered, and the connection stays open.
     Goes,

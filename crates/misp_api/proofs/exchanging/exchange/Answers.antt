@@ -26,7 +26,7 @@ returns-in-Ok-clause-left g c = λ read left is.
 -- they are none
 pub returns-in-Err-clause-answered : goal.returns-in-Err-clause-answered
 returns-in-Err-clause-answered g c = λ read left is.
-    no_reply c.unread.result _ c.unread.ensures
+    no_reply c.unread.result _ c.unread.ensures.read
     (λ memory. not_unread c.args.bytes.items c.in-Err.end read c.in-Err.ensures.read.0 left memory c.in-Err.ensures.no_fault c.in-Err.ensures.read.1 is)
 
 pub returns-in-Err-clause-left : goal.returns-in-Err-clause-left

@@ -1,17 +1,16 @@
-use Rattle.std.proofs.Common.{◌≡◌, ◌∙◌, arith, sym, subst}
+use Rattle.std.proofs.Common.{◌≡◌, ◌∙◌, Err, ap, arith, sym, subst}
 use Rattle.std.proofs.lemmas.Bool.{true≢false}
-use Rattle.misp_outside.specs.declared.fault.KeeperFault.{KeeperFault}
 use Rattle.misp_core.proofs.Carried.{DidThere, settled_did, stopped_did}
 use Rattle.misp_core.specs.Effects.{stop_in, by_keeper}
-use Rattle.misp_api.proofs.Told.{no_stop_in}
+use Rattle.misp_api.proofs.Told.{no_stop_in, stopped_keeper}
 use Rattle.misp_api.proofs.telling.settled.Goals as goal
 
 pub returns-in-Ok-clause-text : goal.returns-in-Ok-clause-text
-returns-in-Ok-clause-text g c = c.requires.text
+returns-in-Ok-clause-text g c = c.in-Ok.ensures.left ∙ c.requires.text
 
 pub returns-in-Ok-clause-done : goal.returns-in-Ok-clause-done
 returns-in-Ok-clause-done g c = λ p e same some plans.
-    subst (λ reply. DidThere e c.args.instance.now.held reply c.settle.new.self.held) (sym same)
+    subst (λ reply. DidThere e c.args.instance.now.held reply c.put_or_refuse.new.instance.held) (sym same)
     (settled_did p c.args.put e _ _ plans some c.in-Ok.ensures.storable c.in-Ok.ensures.put)
 
 pub returns-in-Ok-clause-refused : goal.returns-in-Ok-clause-refused
@@ -25,18 +24,15 @@ returns-in-Ok-clause-octets g c = λ is. absurd (true≢false (sym is ∙ c.requ
 
 pub returns-in-Ok-clause-cause : goal.returns-in-Ok-clause-cause
 returns-in-Ok-clause-cause g c = record {
-  later = c.settle.ensures.cause.later;
-  rose = λ is. absurd (no_stop_in c.args.written.reply c.requires.answer is);
+  later = c.put_or_refuse.ensures.cause.later;
+  rose = λ is. absurd (no_stop_in c.args.reply c.requires.answer is);
 }
 
-pub returns-in-Err-Failed-clause-done : goal.returns-in-Err-Failed-clause-done
-returns-in-Err-Failed-clause-done g c = λ p e same some plans. rw c.stopped_by.ensures (stopped_did KeeperFault.Failed e _ _ c.in-Err-Failed.ensures.err)
+pub returns-in-Err-clause-done : goal.returns-in-Err-clause-done
+returns-in-Err-clause-done g c = λ p e same some plans. rw c.stopped_by.ensures (stopped_did c.in-Err.stop e _ _ c.in-Err.ensures.err)
 
-pub returns-clause-done : goal.returns-clause-done
-returns-clause-done g c = λ p e same some plans. rw c.stopped_by-in-Err-NoMemory.ensures (stopped_did KeeperFault.NoMemory e _ _ c.in-Err-NoMemory.ensures.err)
-
-pub returns-clause-cause : goal.returns-clause-cause
-returns-clause-cause g c = record {
-  later = c.settle.ensures.cause.later;
-  rose = λ is. absurd (let told = subst (λ r. stop_in r ≡ by_keeper) c.stopped_by-in-Err-NoMemory.ensures is in cc);
+pub returns-in-Err-clause-cause : goal.returns-in-Err-clause-cause
+returns-in-Err-clause-cause g c = record {
+  later = c.put_or_refuse.ensures.cause.later;
+  rose = λ is. c.put_or_refuse.ensures.cause.rose (c.in-Err.is ∙ ap Err (stopped_keeper c.in-Err.stop (subst (λ r. stop_in r ≡ by_keeper) c.stopped_by.ensures is)));
 }
