@@ -2,11 +2,11 @@
 
 mod cases;
 
-use crate::outside::{idle_dial, idle_door, keepers, ran};
+use crate::outside::{carry, idle_dial, idle_door, keepers, ran};
 use cases::{CASES, Case, NAMES};
 use misp_app::Status;
 use misp_ids::{EventId, Items, Uid};
-use misp_outside::{AdminRow, Keeper, MemKeeper, MemSink, MemSource, RawBatch, RawRow, SureCarry};
+use misp_outside::{AdminRow, Keeper, MemKeeper, MemSink, MemSource, RawBatch, RawRow};
 use std::alloc::Global;
 use std::test::Fail;
 
@@ -65,7 +65,7 @@ fn case_ended(alloc: Global, case: &Case<'_>, admin: Vec<AdminRow>) -> Result<Ou
     let mut keepers = keepers(alloc, first_keeper(alloc, calls, admin)?)?;
     let mut door = idle_door(alloc)?;
     let mut dial = idle_dial(alloc);
-    let mut carry = SureCarry::new();
+    let mut carry = carry(alloc);
     let (status, written) = ran(
         alloc,
         case.words,

@@ -1,7 +1,7 @@
 //! What is outside of a run: streams, keepers, a door and a dial in memory.
 
 use misp_app::{KEEPERS, Status, run};
-use misp_outside::{Carry, Door, MemDial, MemDoor, MemKeeper, MemSink, MemSource, StepClock};
+use misp_outside::{Door, MemCarry, MemDial, MemDoor, MemKeeper, MemSink, MemSource, StepClock};
 use std::alloc::Global;
 use std::test::Fail;
 
@@ -31,6 +31,11 @@ pub(super) fn sink(alloc: Global) -> MemSink {
     MemSink::new(alloc, Vec::new(alloc))
 }
 
+/// A carry of which no call fails.
+pub(super) fn carry(alloc: Global) -> MemCarry {
+    MemCarry::new(alloc, Vec::new(alloc))
+}
+
 /// A door to which nobody comes.
 pub(super) fn idle_door(alloc: Global) -> Result<MemDoor, Fail> {
     let door = MemDoor::new(alloc, Vec::new(alloc), Vec::new(alloc));
@@ -44,13 +49,13 @@ pub(super) fn idle_dial(alloc: Global) -> MemDial {
 
 /// How a run of these words ends over these, and what it writes.
 #[tactic(auto, using(misp_app::proofs::Hosted::enough_keepers))]
-pub(super) fn ran<C: Carry, D: Door>(
+pub(super) fn ran<D: Door>(
     alloc: Global,
     line: &str,
     mut source: MemSource,
     mut sink: MemSink,
     keepers: &mut Vec<MemKeeper>,
-    carry: &mut C,
+    carry: &mut MemCarry,
     door: &mut D,
     dial: &mut MemDial,
 ) -> Result<(Status, String), Fail> {

@@ -2,9 +2,9 @@
 
 mod sockets;
 
-use crate::outside::{empty_keepers, idle_dial, ran, sink, source};
+use crate::outside::{carry, empty_keepers, idle_dial, ran, sink, source};
 use misp_app::Status;
-use misp_outside::{Door, MemDoor, MemSink, MemSource, SureCarry};
+use misp_outside::{Door, MemDoor, MemSink, MemSource};
 use std::alloc::Global;
 use std::test::Fail;
 
@@ -35,7 +35,7 @@ fn sends(alloc: Global, text: &str, often: usize) -> Result<(MemSource, MemSink)
 fn served<D: Door>(alloc: Global, line: &str, door: &mut D) -> Result<(Status, String), Fail> {
     let source = source(alloc, NET)?;
     let mut keepers = empty_keepers(alloc)?;
-    let mut carry = SureCarry::new();
+    let mut carry = carry(alloc);
     let mut dial = idle_dial(alloc);
     let sink = sink(alloc);
     ran(

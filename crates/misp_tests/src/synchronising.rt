@@ -1,8 +1,8 @@
 //! Synchronisations over a dial in memory.
 
-use crate::outside::{empty_keepers, idle_door, ran, sink, source};
+use crate::outside::{carry, empty_keepers, idle_door, ran, sink, source};
 use misp_app::Status;
-use misp_outside::{MemDial, SureCarry};
+use misp_outside::MemDial;
 use std::alloc::Global;
 use std::test::Fail;
 
@@ -119,7 +119,7 @@ fn answering(alloc: Global, replies: &[&str]) -> Result<MemDial, Fail> {
 fn synced(alloc: Global, line: &str, dial: &mut MemDial) -> Result<(Status, String), Fail> {
     let source = source(alloc, NET)?;
     let mut keepers = empty_keepers(alloc)?;
-    let mut carry = SureCarry::new();
+    let mut carry = carry(alloc);
     let mut door = idle_door(alloc)?;
     let sink = sink(alloc);
     ran(
