@@ -1,0 +1,26 @@
+use Rattle.std.proofs.Common.{◌∙◌, arith}
+use Rattle.sqlite.specs.Held.{state}
+use Rattle.sqlite.specs.State.{HasCleanDisk}
+use Rattle.misp_sqlite.specs.Standing.{kept_of}
+use Rattle.misp_sqlite.specs.Putting.{with_admin_rows}
+use Rattle.misp_sqlite.proofs.Inside.{admins_done, admins_step, steps_then}
+use Rattle.misp_sqlite.proofs.putting.put_admins.Goals as goal
+
+pub loop-row-preserved : goal.loop-row-preserved
+loop-row-preserved g c =
+    let old = state g.A.Store c.args.transaction.now.conn.now in
+    let mid = state g.A.Store c.loop-row.transaction.conn.now in
+    let new = state g.A.Store c.put_admin.new.transaction.conn.now in
+    let earlier = λ (clean : HasCleanDisk new). let late : HasCleanDisk mid = omega (arith, c.put_admin.ensures.steps.survives.clean) in late in
+    record {
+      same_reference = c.put_admin.ensures.same_reference ∙ c.loop-row.invariant.same_reference;
+      steps = steps_then old mid new c.loop-row.invariant.inside c.loop-row.invariant.steps c.put_admin.ensures.steps;
+      inside = λ clean inside. (c.in_ok-put_admin.ensures.done clean (c.loop-row.invariant.inside (earlier clean) inside)).0;
+      done = λ clean inside. admins_step c.args.rows.now c.loop-row.row-index c.row-item.result c.as_slice.result.now c.as_slice-in-loop-row.result.now
+          (with_admin_rows c.args.rows.now (kept_of old)) (kept_of mid) (kept_of new) c.loop-row-test.true c.row-item.is c.as_slice.ensures c.as_slice-in-loop-row.ensures
+          (c.loop-row.invariant.done (earlier clean) inside) (c.in_ok-put_admin.ensures.done clean (c.loop-row.invariant.inside (earlier clean) inside)).1;
+    }
+
+pub returns-clause-done : goal.returns-clause-done
+returns-clause-done g c clean inside =
+    (c.loop-row.invariant.inside clean inside, admins_done c.args.rows.now c.loop-row.row-index (kept_of (state g.A.Store c.args.transaction.now.conn.now)) (kept_of (state g.A.Store c.loop-row.transaction.conn.now)) c.loop-row-test.false (c.loop-row.invariant.done clean inside))

@@ -1,0 +1,16 @@
+use Rattle.std.proofs.Common.{◌≡◌, drop}
+use Rattle.sqlite.specs.Held.{state}
+use Rattle.sqlite.specs.State.{HasCleanDisk}
+use Rattle.misp_sqlite.specs.Putting.{with_rows}
+use Rattle.misp_sqlite.specs.Standing.{IsInside, Steps, kept_of}
+use Rattle.misp_sqlite.proofs.putting.put_rows.Given as goal
+
+-- the rows that are left come to what all come to at the beginning
+abbrev pub invariant-loop-row : goal.invariant-loop-row
+invariant-loop-row g l = record {
+  same_reference : l.transaction.conn.ghost_name ≡ l.initial.transaction.conn.ghost_name;
+  steps : Steps (state g.A.Store l.initial.transaction.conn.now) (state g.A.Store l.transaction.conn.now);
+  inside : HasCleanDisk (state g.A.Store l.transaction.conn.now) → IsInside (state g.A.Store l.initial.transaction.conn.now) → IsInside (state g.A.Store l.transaction.conn.now);
+  done : HasCleanDisk (state g.A.Store l.transaction.conn.now) → IsInside (state g.A.Store l.initial.transaction.conn.now) →
+      with_rows (drop l.row-index l.rows) (kept_of (state g.A.Store l.transaction.conn.now)) ≡ with_rows l.rows (kept_of (state g.A.Store l.initial.transaction.conn.now));
+}
