@@ -40,7 +40,7 @@ def program(words, usage):
     path = words[0] if words else PROGRAM
     if not os.access(path, os.X_OK):
         sys.exit(f"{os.path.relpath(path)} is not there: rt ci builds it")
-    return path
+    return os.path.realpath(path)
 
 
 def spent():

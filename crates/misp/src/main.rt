@@ -1,16 +1,22 @@
-//! The program: the real streams, keepers in memory, a socket for who is served or asked, and
-//! the status as its exit status. Words that are not accepted are answered by the usage.
+//! The program: the real streams, keepers in memory or a file of records, a socket for who is
+//! served or asked, and the status as its exit status. Words that are not accepted are answered by
+//! the usage.
 #![tactic(auto)]
 
-ghost use Rattle.std.specs.Prelude.{◌≡◌, ◌≤◌, IfOk, vec_len};
+ghost use Rattle.std.specs.Prelude.{◌≡◌, ◌≤◌, IfOk, map, string_bytes, vec_len};
 ghost use Rattle.misp_app.specs.Limits.{least_keepers};
+ghost use Rattle.misp_app.specs.Status.{HasKeepers};
+ghost use Rattle.misp_words.specs.Words.{command_of};
+
+mod records;
 
 use misp_app::{KEEPERS, Status, run};
+use misp_ids::InstId;
 use misp_outside::{
-    Dial, Door, MemDial, MemDoor, StandardInput, StandardOutput, SureCarry, SureKeeper,
+    Dial, Door, Keeper, MemDial, MemDoor, StandardInput, StandardOutput, SureCarry, SureKeeper,
     SystemClock, TcpDial, TcpDoor,
 };
-use misp_words::{Command, USAGE, WordsFault, read_words};
+use misp_words::{Command, ServeWords, USAGE, WordsFault, read_words};
 use std::alloc::{AllocError, Global};
 use std::env;
 use std::io::{self, BufReader};
@@ -37,24 +43,25 @@ fn no_dial(alloc: Global) -> MemDial {
     MemDial::new(alloc, Vec::new(alloc), Vec::new(alloc))
 }
 
-// What the words ask for, over the streams of the system, a door and a dial.
-#[tactic(auto, using(misp_app::proofs::Hosted::enough_keepers))]
-fn run_between<D: Door, L: Dial>(
+// What the words ask for, over the streams of the system, keepers, a door and a dial.
+fn run_between<K: Keeper, D: Door, L: Dial>(
     rt: &HostRuntime,
     words: &[String],
+    keepers: &mut Vec<K>,
     door: &mut D,
     dial: &mut L,
-) -> io::Result<Status> {
+) -> io::Result<Status>
+    requires { HasKeepers (command_of (map string_bytes words.now)) (vec_len keepers.old) }
+{
     let alloc = rt.alloc();
     let mut source = StandardInput::new(BufReader::new(alloc, rt.reader())?);
     let mut sink = StandardOutput::new(io::writer(rt));
-    let mut keepers = keepers(alloc)?;
     Ok(run(
         alloc,
         words,
         &mut source,
         &mut sink,
-        &mut keepers,
+        keepers,
         &mut SureCarry::new(),
         door,
         dial,
@@ -62,34 +69,75 @@ fn run_between<D: Door, L: Dial>(
     ))
 }
 
-// The same behind a socket. Where it cannot be had, nothing is run.
-fn serve_at(rt: &HostRuntime, words: &[String], address: &str) -> io::Result<Status> {
+// The same over the records of an instance. Where they cannot be had, nothing is run.
+fn run_with_records<D: Door, L: Dial>(
+    rt: &HostRuntime,
+    words: &[String],
+    name: &InstId,
+    door: &mut D,
+    dial: &mut L,
+) -> io::Result<Status>
+    requires { HasKeepers (command_of (map string_bytes words.now)) 1 }
+{
+    let keeper = match records::open(rt, name) {
+        Ok(keeper) => keeper,
+        Err(status) => return Ok(status),
+    };
+    let mut keepers = vec![in rt.alloc(); keeper]?;
+    let status = run_between(rt, words, &mut keepers, door, dial)?;
+    records::close(keepers);
+    Ok(status)
+}
+
+// Serves an instance behind a socket. Where it cannot be had, nothing is run.
+fn serve_at(rt: &HostRuntime, words: &[String], serve: &ServeWords<'_>) -> io::Result<Status>
+    requires { HasKeepers (command_of (map string_bytes words.now)) 1 }
+{
     let mut dial = no_dial(rt.alloc());
-    match TcpListener::bind(rt, address) {
-        Ok(listener) => run_between(rt, words, &mut TcpDoor::new(rt, listener), &mut dial),
+    match TcpListener::bind(rt, serve.address) {
+        Ok(listener) => {
+            let mut door = TcpDoor::new(rt, listener);
+            run_with_records(rt, words, &serve.name, &mut door, &mut dial)
+        }
         Err(_) => Ok(Status::DoorFault),
     }
 }
 
-// The same where nobody comes, and peers are asked over sockets.
-fn sync_with(rt: &HostRuntime, words: &[String]) -> io::Result<Status> {
-    run_between(rt, words, &mut no_door(rt.alloc())?, &mut TcpDial::new(rt))
+// Synchronises an instance with peers that are asked over sockets.
+fn sync_with(rt: &HostRuntime, words: &[String], name: &InstId) -> io::Result<Status>
+    requires { HasKeepers (command_of (map string_bytes words.now)) 1 }
+{
+    run_with_records(
+        rt,
+        words,
+        name,
+        &mut no_door(rt.alloc())?,
+        &mut TcpDial::new(rt),
+    )
 }
 
-// The same where nobody comes or is asked.
-fn run_alone(rt: &HostRuntime, words: &[String]) -> io::Result<Status> {
+// Runs what needs no file, where nobody comes or is asked.
+#[tactic(auto, using(misp_app::proofs::Hosted::enough_keepers))]
+fn run_in_memory(rt: &HostRuntime, words: &[String]) -> io::Result<Status> {
     let alloc = rt.alloc();
-    run_between(rt, words, &mut no_door(alloc)?, &mut no_dial(alloc))
+    let mut keepers = keepers(alloc)?;
+    run_between(
+        rt,
+        words,
+        &mut keepers,
+        &mut no_door(alloc)?,
+        &mut no_dial(alloc),
+    )
 }
 
 fn main(rt: HostRuntime) -> io::Result<ExitCode> {
     let alloc = rt.alloc();
     let words: Vec<String> = env::args(&rt)?.skip(1).collect(alloc)?;
     let status = match read_words(alloc, &words) {
-        Ok(Command::Serve(serve)) => serve_at(&rt, &words, serve.address)?,
-        Ok(Command::Sync(_)) => sync_with(&rt, &words)?,
+        Ok(Command::Serve(serve)) => serve_at(&rt, &words, &serve)?,
+        Ok(Command::Sync(sync)) => sync_with(&rt, &words, &sync.name)?,
         Err(WordsFault::OutOfMemory) => Status::OutOfMemory,
-        _ => run_alone(&rt, &words)?,
+        _ => run_in_memory(&rt, &words)?,
     };
     if status == Status::Usage {
         // Where standard error takes nothing, the exit status says it alone.
