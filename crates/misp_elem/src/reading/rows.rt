@@ -108,10 +108,11 @@ fn whole_row(alloc: Global, bytes: &[u8]) -> Result<RowFields, Stop>
 {
     let mut reader = Reader { rest: bytes };
     let fields = reader.row(alloc)?;
-    if !reader.rest.is_empty() {
-        return Err(Stop::Bad(reader.bad()));
+    if reader.rest.is_empty() {
+        return Ok(fields);
     }
-    Ok(fields)
+    drop(fields);
+    Err(Stop::Bad(reader.bad()))
 }
 
 /// The row that the bytes spell, all of the bytes.

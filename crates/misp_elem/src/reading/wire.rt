@@ -156,10 +156,11 @@ fn whole_row(
 {
     let mut reader = Reader { rest: bytes };
     let fields = reader.row_on_wire(alloc, event, before)?;
-    if !reader.rest.is_empty() {
-        return Err(Stop::Bad(reader.bad()));
+    if reader.rest.is_empty() {
+        return Ok(fields);
     }
-    Ok(fields)
+    drop(fields);
+    Err(Stop::Bad(reader.bad()))
 }
 
 /// The row that the bytes spell, all of the bytes, as it stands on the wire among those of the
