@@ -1,6 +1,6 @@
 //! What a change makes of what a row says.
 
-ghost use Rattle.std.specs.Prelude.{◌≡◌, true, IfOk};
+ghost use Rattle.std.specs.Prelude.{◌≡◌, true, IfOk, OnOk};
 ghost use Rattle.misp_rules.specs.Edits.{given, edited, edited_event, edited_object};
 ghost use Rattle.misp_rules.specs.Edits.{at_attribute, at_event, at_object, as_deleted};
 
@@ -56,19 +56,37 @@ pub(crate) fn label_after(label: Label, new: Option<Label>) -> Label
     }
 }
 
-// The text that is given, or else the one that was there.
+// Puts the text that is given in the place of the one that was there.
 #[tactic(auto, unfolding(misp_rules::specs::Edits::given))]
-fn text_after(text: &Text, new: &Option<Text>) -> Result<Text, NoMemory>
-    ensures { IfOk result (λ made. made ≡ given new.now text.now) }
+fn put_text(text: &mut Text, new: &Option<Text>) -> Result<(), NoMemory>
+    ensures { OnOk result (text.new ≡ given new.now text.old) }
 {
-    match new {
-        Some(text) => Ok(text.clone()?),
-        None => Ok(text.clone()?),
+    if let Some(new) = new {
+        *text = new.clone()?;
     }
+    Ok(())
+}
+
+// Edits an attribute.
+#[tactic(auto, unfolding(misp_rules::specs::Edits::edited, misp_rules::specs::Edits::given))]
+fn put_attribute(body: &mut AttributeBody, edit: &AttributeEditFields) -> Result<(), NoMemory>
+    ensures { OnOk result (body.new ≡ edited edit.now body.old) }
+{
+    if let Some(category) = edit.category {
+        body.category = category;
+    }
+    if let Some(to_ids) = edit.to_ids {
+        body.to_ids = to_ids;
+    }
+    put_text(&mut body.comment, &edit.comment)?;
+    if let Some(pair) = &edit.kind_value {
+        body.kind = pair.0.clone()?;
+        body.value = pair.1.clone()?;
+    }
+    Ok(())
 }
 
 // The attribute after an edit.
-#[tactic(auto, unfolding(misp_rules::specs::Edits::edited, misp_rules::specs::Edits::given))]
 fn attribute_after(
     body: &AttributeBody,
     edit: &AttributeEditFields,
@@ -76,18 +94,13 @@ fn attribute_after(
     ensures { IfOk result (λ made. made ≡ edited edit.now body.now) }
 {
     let mut made = body.clone()?;
-    if let Some(category) = edit.category {
-        made.category = category;
+    match put_attribute(&mut made, edit) {
+        Ok(()) => Ok(made),
+        Err(NoMemory) => {
+            drop(made);
+            Err(NoMemory)
+        }
     }
-    if let Some(to_ids) = edit.to_ids {
-        made.to_ids = to_ids;
-    }
-    made.comment = text_after(&body.comment, &edit.comment)?;
-    if let Some(pair) = &edit.kind_value {
-        made.kind = pair.0.clone()?;
-        made.value = pair.1.clone()?;
-    }
-    Ok(made)
 }
 
 /// The element after an edit of an attribute.
@@ -104,24 +117,37 @@ pub(crate) fn edited_attribute(
     }
 }
 
-// The event after an edit.
+// Edits an event.
 #[tactic(auto, unfolding(misp_rules::specs::Edits::edited_event, misp_rules::specs::Edits::given))]
+fn put_event(body: &mut EventBody, edit: &EventEditFields) -> Result<(), NoMemory>
+    ensures { OnOk result (body.new ≡ edited_event edit.now body.old) }
+{
+    put_text(&mut body.info, &edit.info)?;
+    put_text(&mut body.date, &edit.date)?;
+    if let Some(level) = edit.threat_level_id {
+        body.threat_level_id = level;
+    }
+    if let Some(analysis) = edit.analysis {
+        body.analysis = analysis;
+    }
+    if let Some(extends) = edit.extends_uuid {
+        body.extends_uuid = extends;
+    }
+    Ok(())
+}
+
+// The event after an edit.
 fn event_after(body: &EventBody, edit: &EventEditFields) -> Result<EventBody, NoMemory>
     ensures { IfOk result (λ made. made ≡ edited_event edit.now body.now) }
 {
     let mut made = body.clone()?;
-    made.info = text_after(&body.info, &edit.info)?;
-    made.date = text_after(&body.date, &edit.date)?;
-    if let Some(level) = edit.threat_level_id {
-        made.threat_level_id = level;
+    match put_event(&mut made, edit) {
+        Ok(()) => Ok(made),
+        Err(NoMemory) => {
+            drop(made);
+            Err(NoMemory)
+        }
     }
-    if let Some(analysis) = edit.analysis {
-        made.analysis = analysis;
-    }
-    if let Some(extends) = edit.extends_uuid {
-        made.extends_uuid = extends;
-    }
-    Ok(made)
 }
 
 /// The element after an edit of an event.
@@ -135,15 +161,27 @@ pub(crate) fn edited_event(content: &Content, edit: &EventEditFields) -> Result<
     }
 }
 
-// The object after an edit.
+// Edits an object.
 #[tactic(auto, unfolding(misp_rules::specs::Edits::edited_object))]
+fn put_object(body: &mut ObjectBody, edit: &ObjectEditFields) -> Result<(), NoMemory>
+    ensures { OnOk result (body.new ≡ edited_object edit.now body.old) }
+{
+    put_text(&mut body.comment, &edit.comment)?;
+    put_text(&mut body.description, &edit.description)
+}
+
+// The object after an edit.
 fn object_after(body: &ObjectBody, edit: &ObjectEditFields) -> Result<ObjectBody, NoMemory>
     ensures { IfOk result (λ made. made ≡ edited_object edit.now body.now) }
 {
     let mut made = body.clone()?;
-    made.comment = text_after(&body.comment, &edit.comment)?;
-    made.description = text_after(&body.description, &edit.description)?;
-    Ok(made)
+    match put_object(&mut made, edit) {
+        Ok(()) => Ok(made),
+        Err(NoMemory) => {
+            drop(made);
+            Err(NoMemory)
+        }
+    }
 }
 
 /// The element after an edit of an object.

@@ -1,6 +1,6 @@
 //! The rows of an added event, and of added parts.
 
-ghost use Rattle.std.specs.Prelude.{◌≡◌, ◌++◌, map, IfOk, IfSome, Some, is_some, true};
+ghost use Rattle.std.specs.Prelude.{◌≡◌, ◌++◌, [], ◌∷◌, map, IfOk, IfSome, Some, is_some, true};
 ghost use Rattle.std.specs.List.{filter_map};
 ghost use Rattle.misp_dates.specs.Dates.{date_of};
 ghost use Rattle.misp_elem.specs.Fields.{IsText, IsDate};
@@ -220,6 +220,29 @@ fn event_row(
     Ok(held_row(owner, key, now, label, Content::Event(body)))
 }
 
+// The event's own row, with room for so many others.
+fn event_rows(
+    alloc: Global,
+    draft: EventDraft,
+    label: Label,
+    owner: OrgId,
+    name: &Text,
+    event: EventId,
+    now: Stamp,
+    others: usize,
+) -> Result<Vec<Row>, NoMemory>
+    requires name { IsText 0 64 name.now }
+    requires label { IsLabelOf (Some draft) label }
+    ensures all { IfOk result (λ rows. rows.items
+        ≡ event_row owner name.now (date_of now) event now label draft ∷ []) }
+    ensures are_rows { IfOk result (λ rows. AreRows rows.items) }
+{
+    let mut rows = Vec::with_capacity(alloc, others.saturating_add(1))?;
+    let name = name.clone()?;
+    rows.push(event_row(alloc, draft, label, owner, name, event, now)?)?;
+    Ok(rows)
+}
+
 // The rows of the event, of its parts, and of its references that have a target.
 #[tactic(auto, unfolding(crate::specs::Rows::added_rows))]
 pub(crate) fn added_rows(
@@ -248,13 +271,18 @@ pub(crate) fn added_rows(
         Some(draft) => draft,
         None => unreachable!(),
     };
-    let room = parts
+    let others = parts
         .as_slice()
         .len()
         .saturating_add(references.as_slice().len());
-    let mut rows = Vec::with_capacity(alloc, room.saturating_add(1))?;
-    let name = name.clone()?;
-    rows.push(event_row(alloc, draft, label, owner, name, event, now)?)?;
+    let rows = match event_rows(alloc, draft, label, owner, name, event, now, others) {
+        Ok(rows) => rows,
+        Err(NoMemory) => {
+            drop(parts);
+            drop(references);
+            return Err(NoMemory);
+        }
+    };
     let rows = with_parts(rows, parts.into_vec(), owner, event, now)?;
     with_references(rows, references.into_vec(), targets, owner, event, now)
 }
