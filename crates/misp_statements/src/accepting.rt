@@ -1,6 +1,6 @@
 //! What accepting a proposal makes of the caller's copy.
 
-ghost use Rattle.std.specs.Prelude.{◌≡◌, [], ◌∷◌, true, false, eqb, None, Some, IfOk, IfErr, IfSome};
+ghost use Rattle.std.specs.Prelude.{◌≡◌, [], ◌∷◌, true, false, eqb, None, Some, IfOk, IfErr, IfSome, OnOk};
 ghost use Rattle.std.specs.Option.{option_copied};
 ghost use Rattle.misp_elem.specs.Contents.{IsProposalBody};
 ghost use Rattle.misp_elem.specs.declared.key.KeyForm.TheVariants.{Proposal};
@@ -43,22 +43,35 @@ fn made(alloc: Global, body: &ProposalBody) -> Result<AttributeBody, NoMemory>
     })
 }
 
-// The attribute as the proposal makes it: deleted, or with the proposal's texts.
+// Makes the attribute as the proposal asks: deleted, or with the proposal's texts.
 #[tactic(auto, unfolding(misp_rules::specs::Statements::accepted))]
-fn accepted(body: &ProposalBody, own: &AttributeBody) -> Result<AttributeBody, NoMemory>
-    ensures { IfOk result (λ attribute. attribute ≡ accepted body.now own.now) }
+fn accept(body: &ProposalBody, attribute: &mut AttributeBody) -> Result<(), NoMemory>
+    ensures { OnOk result (attribute.new ≡ accepted body.now attribute.old) }
 {
-    let mut attribute = own.clone()?;
     if body.remove {
         attribute.deleted = true;
-        return Ok(attribute);
+        return Ok(());
     }
     attribute.kind = body.kind.clone()?;
     attribute.category = body.category;
     attribute.to_ids = body.to_ids;
     attribute.comment = body.comment.clone()?;
     attribute.value = body.value.clone()?;
-    Ok(attribute)
+    Ok(())
+}
+
+// The attribute as the proposal makes it.
+fn accepted(body: &ProposalBody, own: &AttributeBody) -> Result<AttributeBody, NoMemory>
+    ensures { IfOk result (λ attribute. attribute ≡ accepted body.now own.now) }
+{
+    let mut attribute = own.clone()?;
+    match accept(body, &mut attribute) {
+        Ok(()) => Ok(attribute),
+        Err(NoMemory) => {
+            drop(attribute);
+            Err(NoMemory)
+        }
+    }
 }
 
 #[tactic(auto, unfolding(misp_rules::specs::Edits::at_attribute))]
