@@ -1,7 +1,8 @@
 -- What is in one copy of an event, by the lists of what shows there.
-use Rattle.std.specs.Prelude.{◌≡◌, ℕ, eqb, List, map, filter}
-use Rattle.misp_rules.specs.Prelude.{Bor, BTreeSet, Row, in_order, list_any}
+use Rattle.std.specs.Prelude.{◌≡◌, ℕ, eqb, List, [], map, filter}
+use Rattle.misp_rules.specs.Prelude.{Bor, BTreeSet, EventId, Row, VisibleEvent, event_key, in_order, list_any}
 use Rattle.misp_copies.specs.declared.copy_view.CopyView.{CopyView}
+use Rattle.misp_copies.specs.Keys.{is_about}
 use Rattle.misp_copies.specs.Kinds.{is_link}
 use Rattle.misp_copies.specs.ElementSet.{Numbers}
 use Rattle.misp_copies.specs.CopyView.{IsSeen}
@@ -36,3 +37,14 @@ pub record IsInside (n : Inside) (v : CopyView) (proposals sightings rows : List
       ≡ map (object_in (in_list Kind.Inner v seen rows) (in_list Kind.Reference v seen rows)
       proposals sightings)
       (in_list Kind.Object v seen rows)
+
+-- the event's row with what is inside the copy, and with those of the proposals that are about the
+-- event, and no names
+pub record IsFormWith (f : VisibleEvent) (v : CopyView) (proposals sightings rows : List Row)
+    (e : EventId) (row : Row) : Type 0 where
+  pub row_is : f.row ≡ row
+  pub inside : IsInside (record { attributes = f.attributes; objects = f.objects })
+      v proposals sightings rows
+  pub on_event : f.proposals ≡ filter (λ (r : Row). is_about (event_key e) r.key) proposals
+  pub no_name : f.org_name ≡ []
+  pub no_names : f.group_names ≡ []

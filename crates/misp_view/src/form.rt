@@ -9,11 +9,14 @@ ghost use Rattle.std.specs.Option.{option_copied};
 ghost use Rattle.misp_rules.specs.Shown.{creator, event_row, form_of, shown};
 ghost use Rattle.misp_view.specs.View.{scene_of};
 ghost use Rattle.misp_view.specs.Form.{is_granted_row_of};
+ghost use Rattle.misp_view.specs.Inside.{IsFormWith};
 
 use crate::choice::chosen_row;
 use crate::inside::inside_of;
 use crate::statements::{proposals, sightings, told};
-use misp_copies::{CopyView, Viewer, copy, event_key, is_granted, is_row_of_event};
+use misp_copies::{
+    CopyView, StatementsByTarget, Viewer, copy, event_key, is_granted, is_row_of_event,
+};
 use misp_elem::{Content, Row, VisibleEvent};
 use misp_groups::Groups;
 use misp_ids::{EventId, InstId, Items, NoMemory, OrgId, Text};
@@ -67,6 +70,38 @@ fn creator(row: &Row) -> OrgId
     }
 }
 
+// The form of one copy with these proposals and sightings, by its row of the event itself.
+fn form_with(
+    alloc: Global,
+    rows: &[Row],
+    copy_view: &CopyView,
+    proposals: &StatementsByTarget,
+    sightings: &StatementsByTarget,
+    event: &EventId,
+    row: &Row,
+) -> Result<VisibleEvent, NoMemory>
+    ensures { IfOk result (λ form. IsFormWith form
+        copy_view.now proposals.now sightings.now rows.now event.now row.now) }
+{
+    let on_event = proposals.about(alloc, &event_key(event))?;
+    let inside = inside_of(alloc, rows, copy_view, proposals, sightings)?;
+    match copy(row) {
+        Ok(row) => Ok(VisibleEvent {
+            row,
+            org_name: Text::of(String::new(alloc)),
+            attributes: inside.attributes,
+            objects: inside.objects,
+            proposals: on_event,
+            group_names: Items::of(Vec::new(alloc)),
+        }),
+        Err(NoMemory) => {
+            drop(on_event);
+            drop(inside);
+            Err(NoMemory)
+        }
+    }
+}
+
 // The form of one copy, by its row of the event itself.
 fn form(
     alloc: Global,
@@ -84,16 +119,7 @@ fn form(
     let told = told(alloc, &copy_view, rows)?;
     let proposals = proposals(alloc, told.as_slice(), &creator(row))?;
     let sightings = sightings(alloc, told.as_slice())?;
-    let inside = inside_of(alloc, rows, &copy_view, &proposals, &sightings)?;
-    let on_event = proposals.about(alloc, &event_key(event))?;
-    Ok(VisibleEvent {
-        row: copy(row)?,
-        org_name: Text::of(String::new(alloc)),
-        attributes: inside.attributes,
-        objects: inside.objects,
-        proposals: on_event,
-        group_names: Items::of(Vec::new(alloc)),
-    })
+    form_with(alloc, rows, &copy_view, &proposals, &sightings, event, row)
 }
 
 /// What the organisation sees of an event at this instance: of the named owner's copy, or of the
