@@ -28,8 +28,14 @@ pull_scene s = record (scene_in s) { partner = s.caller.now.partner }
 abbrev pub scene_for : Site → Ask → Scene
 scene_for s ask = cond (pulls ask) (pull_scene s) (scene_in s)
 
--- the ask is none of a pull, and hands in no package
+-- the ask changes no event
+abbrev pub ChangesNone : Ask → Type 0
+ChangesNone (Ask.Change change) = ⊥
+ChangesNone ask = Unit {0}
+
+-- the ask changes no event, is none of a pull, and hands in no package
 abbrev pub IsOwn : Ask → Type 0
+IsOwn (Ask.Change change) = ⊥
 IsOwn Ask.SyncGroups = ⊥
 IsOwn Ask.SyncEvents = ⊥
 IsOwn (Ask.SyncPart event part) = ⊥

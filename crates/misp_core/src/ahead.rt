@@ -100,6 +100,7 @@ pub(crate) fn take_kept(ahead: &mut Option<Ahead>, caller: &Caller, ask: &Ask) -
         return None;
     };
     if !is_for(&kept, caller, event) {
+        drop(kept);
         return None;
     }
     let found = kept.take(*part);

@@ -29,7 +29,7 @@ use misp_edit::{
     AddFault, add_event, add_parts, delete, delete_event, delete_reference, edit_attribute,
     edit_event, edit_object, tag, untag,
 };
-use misp_elem::{Row, Submission};
+use misp_elem::{NoMemory, Row, Submission};
 use misp_ids::EventId;
 use misp_publish::publish;
 use misp_rules::{Change, Parts};
@@ -78,10 +78,17 @@ fn add(alloc: Global, site: &Site<'_>, submission: Submission, rows: &[Row]) -> 
         (knowing (scene_in site.now) rows.now) (asks.Change (AddEvent submission))) }
 {
     let who = viewer(site);
-    let name = name_text(alloc, site.admin, &who.org)?;
     let event = event_in(&submission);
-    let made = add_event(alloc, submission, &who, &name, site.moment, rows);
-    added(alloc, event, made)
+    match name_text(alloc, site.admin, &who.org) {
+        Ok(name) => {
+            let made = add_event(alloc, submission, &who, &name, site.moment, rows);
+            added(alloc, event, made)
+        }
+        Err(NoMemory) => {
+            drop(submission);
+            Err(NoPlan::NoMemory)
+        }
+    }
 }
 
 fn event_of(parts: &Parts) -> EventId
@@ -118,10 +125,12 @@ fn plan_mark(alloc: Global, site: &Site<'_>, change: Change, rows: &[Row]) -> Re
             tag: new,
         } => {
             let made = tag(alloc, &event, &place, &new, &who, now, rows);
+            drop(new);
             changed(alloc, event, made)
         }
         Change::Untag { event, place, name } => {
             let made = untag(alloc, &event, &place, &name, &who, now, rows);
+            drop(name);
             changed(alloc, event, made)
         }
         Change::DeleteEvent { event } => {
@@ -156,10 +165,12 @@ pub(crate) fn plan_change(
         }
         Change::EditEvent { event, edit } => {
             let made = edit_event(alloc, &event, &edit, &who, now, rows);
+            drop(edit);
             changed(alloc, event, made)
         }
         Change::EditAttribute { event, place, edit } => {
             let made = edit_attribute(alloc, &event, &place, &edit, &who, now, rows);
+            drop(edit);
             changed(alloc, event, made)
         }
         Change::EditObject {
@@ -168,6 +179,7 @@ pub(crate) fn plan_change(
             edit,
         } => {
             let made = edit_object(alloc, &event, &object, &edit, &who, now, rows);
+            drop(edit);
             changed(alloc, event, made)
         }
         mark => plan_mark(alloc, site, mark, rows),

@@ -1,6 +1,6 @@
 //! What a request comes to over the rows of its event.
 
-ghost use Rattle.std.specs.Prelude.{◌≡◌, List, IfOk, false, true};
+ghost use Rattle.std.specs.Prelude.{◌≡◌, List, IfOk, OnOk, false, true};
 ghost use Rattle.misp_elem.specs.declared.row.RowFields.{RowFields};
 ghost use Rattle.misp_rules.specs.View.{IsTable};
 ghost use Rattle.misp_rules.specs.Machine.{pulls, seeing};
@@ -8,7 +8,7 @@ ghost use Rattle.misp_rules.specs.declared.ask.Ask.TheVariants.{View};
 ghost use Rattle.misp_rules.specs.declared.ask.Ask.TheVariants as asks;
 ghost use Rattle.misp_core.specs.Ahead.{StaysOrIsPacked};
 ghost use Rattle.misp_core.specs.Answers.{IsBuilt, named_event};
-ghost use Rattle.misp_core.specs.Handing.{IsOwn, scene_in, scene_for, pull_scene, knowing};
+ghost use Rattle.misp_core.specs.Handing.{ChangesNone, IsOwn, scene_in, scene_for, pull_scene, knowing};
 ghost use Rattle.misp_core.specs.KeptLanding.{StaysOrLands};
 ghost use Rattle.misp_core.specs.Effects.{asked, by_keeper};
 ghost use Rattle.misp_core.specs.Sound.{IsSoundAnswer};
@@ -38,7 +38,23 @@ fn holder(event: &VisibleEvent) -> OrgId
     event.row.owner
 }
 
-// The event with the name of its holder, and with those of the groups that its labels name.
+// Gives the event the name of its holder, and those of the groups that its labels name.
+fn put_names(
+    alloc: Global,
+    admin: &Admin,
+    groups: &Groups,
+    event: &mut VisibleEvent,
+) -> Result<(), NoMemory>
+    ensures { OnOk result (event.new ≡ named_event admin.now groups.now event.old) }
+{
+    let name = name_text(alloc, admin, &holder(event))?;
+    let names = group_names(alloc, groups, event)?;
+    event.org_name = name;
+    event.group_names = Items::of(names);
+    Ok(())
+}
+
+// The event with these names.
 fn named(
     alloc: Global,
     admin: &Admin,
@@ -47,12 +63,14 @@ fn named(
 ) -> Result<VisibleEvent, NoMemory>
     ensures { IfOk result (λ named. named ≡ named_event admin.now groups.now event) }
 {
-    let name = name_text(alloc, admin, &holder(&event))?;
-    let names = group_names(alloc, groups, &event)?;
     let mut event = event;
-    event.org_name = name;
-    event.group_names = Items::of(names);
-    Ok(event)
+    match put_names(alloc, admin, groups, &mut event) {
+        Ok(()) => Ok(event),
+        Err(NoMemory) => {
+            drop(event);
+            Err(NoMemory)
+        }
+    }
 }
 
 // Changes an event, over all rows of it that are read, of which the caller sees what it knows.
@@ -66,8 +84,13 @@ fn change_known(
     ensures { Plans result (asked site.now.admin.now
         (seeing (scene_in site.now) rows.items) (asks.Change change)) }
 {
-    let rows = known_at(alloc, site, rows)?;
-    plan_change(alloc, site, change, &rows)
+    match known_at(alloc, site, rows) {
+        Ok(rows) => plan_change(alloc, site, change, &rows),
+        Err(NoMemory) => {
+            drop(change);
+            Err(NoPlan::NoMemory)
+        }
+    }
 }
 
 // Shows an event, over all rows of it here. In a table of rows the caller sees of them what it sees
@@ -107,32 +130,63 @@ fn list(alloc: Global, site: &Site<'_>) -> Result<Plan, NoPlan>
     Ok(told(Answer::Groups(Items::of(groups))))
 }
 
-// What is planned for a request that neither pulls nor hands in, over the rows that are read for it.
+// What is planned for a request that neither changes an event, nor pulls, nor hands in, over the rows
+// that are read for it.
 #[tactic(auto, unfolding(misp_rules::specs::Machine::pulls))]
-fn plan_own(alloc: Global, site: &Site<'_>, ask: Ask, rows: Vec<Row>) -> Result<Plan, NoPlan>
-    requires built { IsBuilt ask }
-    requires own { IsOwn ask }
+fn plan_own(alloc: Global, site: &Site<'_>, ask: &Ask, rows: Vec<Row>) -> Result<Plan, NoPlan>
+    requires built { IsBuilt ask.now }
+    requires own { IsOwn ask.now }
     ensures plan { IsTable rows.items → Plans result (asked site.now.admin.now
-        (seeing (scene_in site.now) rows.items) ask) }
-    ensures pulls { pulls ask ≡ false }
+        (seeing (scene_in site.now) rows.items) ask.now) }
+    ensures pulls { pulls ask.now ≡ false }
     ensures no_fault { stop_planned result ≡ by_keeper → ⊥ }
 {
     match ask {
-        Ask::View { event, owner } => view(alloc, site, &event, owner, &rows),
+        Ask::View { event, owner } => view(alloc, site, event, *owner, &rows),
         Ask::Groups => list(alloc, site),
-        Ask::Change(change) => change_known(alloc, site, change, rows),
-        Ask::Propose(draft) => plan_proposal(alloc, site, &draft, rows),
+        Ask::Propose(draft) => plan_proposal(alloc, site, draft, rows),
         Ask::Judge {
             event,
             proposal,
             accept,
-        } => plan_judgement(alloc, site, &event, &proposal, accept, rows),
+        } => plan_judgement(alloc, site, event, proposal, *accept, rows),
         Ask::Sight {
             event,
             target,
             draft,
-        } => plan_sighting(alloc, site, &event, &target, &draft, rows),
+        } => plan_sighting(alloc, site, event, target, draft, rows),
         _ => unreachable!(),
+    }
+}
+
+// What is planned for a request that changes no event, over the rows that are read for it.
+#[tactic(auto, unfolding(misp_rules::specs::Machine::pulls))]
+fn plan_unchanged(
+    alloc: Global,
+    site: &Site<'_>,
+    ask: &Ask,
+    rows: Vec<Row>,
+    kept: &mut Option<Ahead>,
+    landed: &mut Option<Landing>,
+) -> Result<Plan, NoPlan>
+    requires built { IsBuilt ask.now }
+    requires unchanged { ChangesNone ask.now }
+    ensures plan { IsTable rows.items → Plans result (asked site.now.admin.now
+        (seeing (scene_for site.now ask.now) rows.items) ask.now) }
+    ensures kept { IsTable rows.items →
+        StaysOrIsPacked (seeing (pull_scene site.now) rows.items) site.now.caller.now
+        ask.now kept.old kept.new }
+    ensures landed { StaysOrLands site.now.here.now site.now.caller.now.org rows.items
+        ask.now landed.old landed.new }
+    ensures sound { pulls ask.now ≡ true → IfOk result (λ plan. IsSoundAnswer plan.answer) }
+    ensures no_fault { stop_planned result ≡ by_keeper → ⊥ }
+{
+    match ask {
+        Ask::SyncGroups => plan_pulled_groups(alloc, site),
+        Ask::SyncEvents => plan_event_list(alloc, site, rows),
+        Ask::SyncPart { event, part } => plan_part(alloc, site, event, *part, rows, kept),
+        Ask::TakePart(part) => plan_package(alloc, site, part, rows, landed),
+        own => plan_own(alloc, site, own, rows),
     }
 }
 
@@ -160,10 +214,11 @@ pub(crate) fn plan_request(
     ensures no_fault { stop_planned result ≡ by_keeper → ⊥ }
 {
     match ask {
-        Ask::SyncGroups => plan_pulled_groups(alloc, site),
-        Ask::SyncEvents => plan_event_list(alloc, site, rows),
-        Ask::SyncPart { event, part } => plan_part(alloc, site, &event, part, rows, kept),
-        Ask::TakePart(part) => plan_package(alloc, site, &part, rows, landed),
-        own => plan_own(alloc, site, own, rows),
+        Ask::Change(change) => change_known(alloc, site, change, rows),
+        other => {
+            let plan = plan_unchanged(alloc, site, &other, rows, kept, landed);
+            drop(other);
+            plan
+        }
     }
 }

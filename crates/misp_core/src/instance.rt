@@ -184,6 +184,7 @@ impl<K: Keeper> Instance<K> {
     {
         let perm = permission_for(&ask);
         if !may(caller.role, perm) {
+            drop(ask);
             return Err(forbidden(alloc, perm));
         }
         let site = Site {

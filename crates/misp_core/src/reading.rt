@@ -51,14 +51,20 @@ pub(crate) fn plan_permitted<K: Keeper>(
         (stop_planned result ≡ by_keeper) }
 {
     if let Some(part) = take_kept(ahead, site.caller, &ask) {
+        drop(ask);
         return Ok(show_part(part));
     }
     if is_landed(site, &ask, landed) {
-        return plan_kept(alloc, site, &ask, landed);
+        let plan = plan_kept(alloc, site, &ask, landed);
+        drop(ask);
+        return plan;
     }
     let org = asker(site.caller);
     match load(keeper, alloc, &Reach::of(&org, &ask)) {
         Ok(rows) => plan_request(alloc, site, ask, rows, ahead, landed),
-        Err(fault) => Err(unread(alloc, fault)),
+        Err(fault) => {
+            drop(ask);
+            Err(unread(alloc, fault))
+        }
     }
 }

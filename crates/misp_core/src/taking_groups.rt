@@ -56,13 +56,27 @@ fn carried(mut group: Group) -> Group
     group
 }
 
+// Puts a copy of a group in its place.
+fn put_copy(latest: &mut Groups, group: &Group) -> Result<(), NoMemory>
+    ensures { OnOk result (latest.new ≡ put_group group.now latest.old) }
+{
+    let copy = group.copied()?;
+    drop(latest.put(copy)?);
+    Ok(())
+}
+
 // Adds a group to those that are taken.
 fn add(latest: &mut Groups, taken: &mut Vec<Group>, group: Group) -> Result<(), NoMemory>
     ensures latest { OnOk result (latest.new ≡ put_group group latest.old) }
     ensures taken { OnOk result (taken.new.items ≡ taken.old.items ++ group ∷ []) }
 {
-    drop(latest.put(group.copied()?)?);
-    Ok(taken.push(group)?)
+    match put_copy(latest, &group) {
+        Ok(()) => Ok(taken.push(group)?),
+        Err(NoMemory) => {
+            drop(group);
+            Err(NoMemory)
+        }
+    }
 }
 
 // Takes a group over those that were known and those that are taken, and adds it to the latter
@@ -80,6 +94,7 @@ fn take_one(
         ++ cond (takes_group all group) (record group { carried = true } ∷ []) []) }
 {
     if !is_taken(groups, latest, &group) {
+        drop(group);
         return Ok(());
     }
     add(latest, taken, carried(group))

@@ -4,8 +4,8 @@ use Rattle.misp_rules.specs.declared.change.Change.TheVariants.{AddEvent}
 use Rattle.misp_rules.specs.Machine.{event_changed}
 use Rattle.misp_core.proofs.changing.add.Goals as goal
 
-pub returns : goal.returns
+pub returns-in-Ok : goal.returns-in-Ok
 unfolding event_changed change_writes
-returns c =
-    rw (← c.viewer-who.ensures.groups, ← c.viewer-who.ensures.here, ← c.viewer-who.ensures.org, ← c.in_ok-name.ensures.name)
+returns-in-Ok c =
+    rw (← c.viewer-who.ensures.groups, ← c.viewer-who.ensures.here, ← c.viewer-who.ensures.org, ← c.in-Ok.ensures.name)
     (c.added.ensures _ _ (AddEvent c.args.submission) (sym c.event_in-event.ensures) (c.add_event-made.ensures.ok 0) c.add_event-made.ensures.are_rows (c.add_event-made.ensures.err 0))

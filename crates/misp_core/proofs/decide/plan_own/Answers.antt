@@ -8,9 +8,6 @@ returns-in-View-clause-no_fault c = asks_none c.view.result _ c.view.ensures.all
 pub returns-in-Groups-clause-no_fault : goal.returns-in-Groups-clause-no_fault
 returns-in-Groups-clause-no_fault c = asks_none c.list.result _ (c.list.ensures [])
 
-pub returns-in-Change-clause-no_fault : goal.returns-in-Change-clause-no_fault
-returns-in-Change-clause-no_fault c = asks_none c.change_known.result _ c.change_known.ensures
-
 pub returns-in-Propose-clause-no_fault : goal.returns-in-Propose-clause-no_fault
 returns-in-Propose-clause-no_fault c = asks_none c.plan_proposal.result _ c.plan_proposal.ensures
 

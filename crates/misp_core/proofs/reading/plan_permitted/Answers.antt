@@ -25,11 +25,11 @@ returns-in-Some-clause-beside g c = record {
 
 pub returns-then-is_landed-clause-planned : goal.returns-then-is_landed-clause-planned
 returns-then-is_landed-clause-planned g c =
-    landed_planned (host_at c.args.site.now) c.args.site.now.moment c.args.site.now.caller.now c.args.site.now.groups.now c.plan_kept.result _ c.args.ask c.args.landed.now
-    c.requires.permitted c.requires.beside.groups c.requires.beside.landed c.plan_kept.ensures.plans
+    landed_planned (host_at c.args.site.now) c.args.site.now.moment c.args.site.now.caller.now c.args.site.now.groups.now c.plan_kept-plan.result _ c.args.ask c.args.landed.now
+    c.requires.permitted c.requires.beside.groups c.requires.beside.landed c.plan_kept-plan.ensures.plans
 
 pub returns-then-is_landed-clause-sound : goal.returns-then-is_landed-clause-sound
-returns-then-is_landed-clause-sound g c = λ pull. never_pulls _ _ _ _ _ c.plan_kept.ensures.plans pull
+returns-then-is_landed-clause-sound g c = λ pull. never_pulls _ _ _ _ _ c.plan_kept-plan.ensures.plans pull
 
 pub returns-then-is_landed-clause-beside : goal.returns-then-is_landed-clause-beside
 returns-then-is_landed-clause-beside g c = record {
@@ -41,7 +41,7 @@ returns-then-is_landed-clause-beside g c = record {
 pub returns-then-is_landed-clause-cause : goal.returns-then-is_landed-clause-cause
 returns-then-is_landed-clause-cause g c = record {
   later = omega arith;
-  rose = λ is. absurd (c.plan_kept.ensures.no_fault is);
+  rose = λ is. absurd (c.plan_kept-plan.ensures.no_fault is);
 }
 
 -- ---- rows are read
