@@ -16,7 +16,7 @@ use Rattle.misp_script.specs.declared.step.GroupLine.{GroupLine}
 use Rattle.misp_script.specs.declared.step.SyncLine.{SyncLine}
 use Rattle.misp_script.specs.declared.step.RawLine.{RawLine}
 use Rattle.misp_script.specs.Directory.{Roster, roster_names, place_of, knows}
-use Rattle.misp_script.specs.Fields.{Reading, ◌>>=◌, field_in, next_field, kept, no_field}
+use Rattle.misp_script.specs.Fields.{Reading, ◌>>=◌, FieldData, field_in, next_field, kept, no_field}
 use Rattle.misp_script.specs.Numbers.{time_of, word_of}
 
 -- ---- steps, as contracts see them
@@ -156,64 +156,83 @@ name_of text = if is_inst_name text then Some text else None
 abbrev pub rest_of : List ℕ → Option (List ℕ) → Reading (List ℕ)
 rest_of line left = kept (length line) left
 
+-- the place of the instance that the next field names, and that field
+unfoldable pub next_instance : List Roster → List ℕ → Option (List ℕ) → Reading (ℕ × FieldData)
+next_instance rosters line left = do
+  inst ← next_field line left
+  at ← kept inst.place (place_of (roster_names rosters) inst.text)
+  Ok (at, inst)
+
+-- the text of the next field, and that field
+unfoldable pub next_visible : List ℕ → Option (List ℕ) → Reading (List ℕ × FieldData)
+next_visible line left = do
+  field ← next_field line left
+  text ← kept field.place (visible_of field.text)
+  Ok (text, field)
+
 -- ---- lines
 
 unfoldable pub request_of : List Roster → List ℕ → Option (List ℕ) → Reading RequestData
 request_of rosters line left = do
-  inst ← next_field line left
-  at ← kept inst.place (place_of (roster_names rosters) inst.text)
-  key ← next_field line inst.rest
-  key_text ← kept key.place (visible_of key.text)
-  method ← next_field line key.rest
-  method_text ← kept method.place (visible_of method.text)
-  target ← next_field line method.rest
-  target_text ← kept target.place (visible_of target.text)
+  inst ← next_instance rosters line left
+  key ← next_visible line inst.1.rest
+  method ← next_visible line key.1.rest
+  target ← next_visible line method.1.rest
   Ok (record {
-    at = at;
-    key = key_of key_text;
-    method = method_text;
-    target = target_text;
-    body = body_of target.rest;
+    at = inst.0;
+    key = key_of key.0;
+    method = method.0;
+    target = target.0;
+    body = body_of target.1.rest;
   })
 
 unfoldable pub raw_of : List Roster → List ℕ → Option (List ℕ) → Reading RawData
 raw_of rosters line left = do
-  inst ← next_field line left
-  at ← kept inst.place (place_of (roster_names rosters) inst.text)
-  digits ← next_field line inst.rest
+  inst ← next_instance rosters line left
+  digits ← next_field line inst.1.rest
   bytes ← kept digits.place (hex_bytes digits.text)
-  no_field line digits.rest >>= λ done. Ok (record { at = at; bytes = bytes })
+  no_field line digits.rest >>= λ done. Ok (record { at = inst.0; bytes = bytes })
 
 unfoldable pub group_of : List Roster → List ℕ → Bool → Option (List ℕ) → Reading GroupData
 group_of rosters line add left = do
-  inst ← next_field line left
-  at ← kept inst.place (place_of (roster_names rosters) inst.text)
-  org ← next_field line inst.rest
-  named ← kept org.place (org_of rosters at org.text)
+  inst ← next_instance rosters line left
+  org ← next_field line inst.1.rest
+  named ← kept org.place (org_of rosters inst.0 org.text)
   body ← rest_of line org.rest
-  Ok (record { at = at; org = named; add = add; body = body })
+  Ok (record { at = inst.0; org = named; add = add; body = body })
 
 unfoldable pub sync_of : List Roster → List ℕ → Way → Option (List ℕ) → Reading SyncData
 sync_of rosters line way left = do
-  inst ← next_field line left
-  at ← kept inst.place (place_of (roster_names rosters) inst.text)
-  link ← next_field line inst.rest
+  inst ← next_instance rosters line left
+  link ← next_field line inst.1.rest
   name ← kept link.place (name_of link.text)
-  no_field line link.rest >>= λ done. Ok (record { at = at; way = way; link = name })
+  no_field line link.rest >>= λ done. Ok (record { at = inst.0; way = way; link = name })
+
+abbrev pub nothing_command : List ℕ → Option (List ℕ) → Reading CommandData
+nothing_command line left = no_field line left >>= λ done. Ok Nothing
+
+abbrev pub request_command : List Roster → List ℕ → Option (List ℕ) → Reading CommandData
+request_command rosters line left =
+    request_of rosters line left >>= λ request. Ok (Request request)
+
+abbrev pub raw_command : List Roster → List ℕ → Option (List ℕ) → Reading CommandData
+raw_command rosters line left = raw_of rosters line left >>= λ raw. Ok (Raw raw)
+
+abbrev pub group_command : List Roster → List ℕ → Bool → Option (List ℕ) → Reading CommandData
+group_command rosters line add left =
+    group_of rosters line add left >>= λ group. Ok (Group group)
+
+abbrev pub sync_command : List Roster → List ℕ → Way → Option (List ℕ) → Reading CommandData
+sync_command rosters line way left = sync_of rosters line way left >>= λ sync. Ok (Sync sync)
 
 abbrev pub command_of : List Roster → List ℕ → Verb → Option (List ℕ) → Reading CommandData
-command_of rosters line Verb.Nothing left = no_field line left >>= λ done. Ok Nothing
-command_of rosters line Verb.Request left =
-    request_of rosters line left >>= λ request. Ok (Request request)
-command_of rosters line Verb.Raw left = raw_of rosters line left >>= λ raw. Ok (Raw raw)
-command_of rosters line Verb.AddGroup left =
-    group_of rosters line true left >>= λ group. Ok (Group group)
-command_of rosters line Verb.EditGroup left =
-    group_of rosters line false left >>= λ group. Ok (Group group)
-command_of rosters line Verb.Pull left =
-    sync_of rosters line Way.Pull left >>= λ sync. Ok (Sync sync)
-command_of rosters line Verb.Push left =
-    sync_of rosters line Way.Push left >>= λ sync. Ok (Sync sync)
+command_of rosters line Verb.Nothing left = nothing_command line left
+command_of rosters line Verb.Request left = request_command rosters line left
+command_of rosters line Verb.Raw left = raw_command rosters line left
+command_of rosters line Verb.AddGroup left = group_command rosters line true left
+command_of rosters line Verb.EditGroup left = group_command rosters line false left
+command_of rosters line Verb.Pull left = sync_command rosters line Way.Pull left
+command_of rosters line Verb.Push left = sync_command rosters line Way.Push left
 
 -- a time, a word, and a verb with its fields
 unfoldable pub step_of : List Roster → List ℕ → Reading StepData

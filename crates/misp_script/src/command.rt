@@ -5,7 +5,7 @@ ghost use Rattle.std.specs.List.{list_all};
 ghost use Rattle.misp_ids.specs.Uid.{read_uid};
 ghost use Rattle.misp_script.specs.Fields.{Shows, kept};
 ghost use Rattle.misp_script.specs.Seen.{field_of};
-ghost use Rattle.misp_script.specs.Step.{IsPlaced, verb_of, is_visible, visible_of, is_lower_digit, bytes_of, hex_bytes, org_of, key_of, body_of, rest_of, request_data, request_of, raw_data, raw_of, group_data, group_of, name_of, sync_data, sync_of, command_data, command_of};
+ghost use Rattle.misp_script.specs.Step.{IsPlaced, verb_of, is_visible, visible_of, is_lower_digit, bytes_of, hex_bytes, org_of, key_of, body_of, rest_of, next_instance, next_visible, nothing_command, request_command, raw_command, group_command, sync_command, command_data, command_of};
 
 use crate::directory::Directory;
 use crate::field::{BadLine, Field, kept, next_field, no_field};
@@ -142,14 +142,31 @@ fn rest<'a>(line: &[u8], before: &Field<'a>) -> Result<&'a [u8], BadLine>
     }
 }
 
-fn visible_field<'a>(field: &Field<'a>) -> Result<&'a str, BadLine>
-    ensures { Shows (λ text. text.now) result
-        (kept (field_of field.now).place (visible_of (field_of field.now).text)) }
+/// The place of the instance that the next field names, and that field.
+#[tactic(auto, unfolding(crate::specs::Step::next_instance))]
+fn next_instance<'a>(
+    line: &[u8],
+    directory: &Directory,
+    before: &Field<'a>,
+) -> Result<(usize, Field<'a>), BadLine>
+    ensures instance { Shows (λ named. (named.0, field_of named.1)) result
+        (next_instance directory.now line.now (field_of before.now).rest) }
+    ensures placed { IfOk result (λ named. named.0 < length directory.now) }
 {
-    match visible(field.text) {
-        Some(text) => Ok(text),
-        None => Err(BadLine { place: field.place }),
-    }
+    let inst = next_field(line, before)?;
+    let at = kept(inst.place, directory.place_of(inst.text))?;
+    Ok((at, inst))
+}
+
+/// The text of the next field, and that field.
+#[tactic(auto, unfolding(crate::specs::Step::next_visible))]
+fn next_visible<'a>(line: &[u8], before: &Field<'a>) -> Result<(&'a str, Field<'a>), BadLine>
+    ensures { Shows (λ shown. (shown.0.now, field_of shown.1)) result
+        (next_visible line.now (field_of before.now).rest) }
+{
+    let field = next_field(line, before)?;
+    let text = kept(field.place, visible(field.text))?;
+    Ok((text, field))
 }
 
 fn hex_field<'a>(field: &Field<'a>) -> Result<&'a [u8], BadLine>
@@ -162,45 +179,50 @@ fn hex_field<'a>(field: &Field<'a>) -> Result<&'a [u8], BadLine>
     }
 }
 
+fn nothing<'a>(line: &[u8], before: &Field<'a>) -> Result<Command<'a>, BadLine>
+    ensures command { Shows command_data result
+        (nothing_command line.now (field_of before.now).rest) }
+{
+    no_field(line, before)?;
+    Ok(Command::Nothing)
+}
+
 #[tactic(auto, unfolding(crate::specs::Step::request_of))]
 fn request<'a>(
     line: &[u8],
     directory: &Directory,
     before: &Field<'a>,
-) -> Result<RequestLine<'a>, BadLine>
-    ensures request { Shows request_data result
-        (request_of directory.now line.now (field_of before.now).rest) }
-    ensures placed { IfOk result (λ request. request.at < length directory.now) }
+) -> Result<Command<'a>, BadLine>
+    ensures command { Shows command_data result
+        (request_command directory.now line.now (field_of before.now).rest) }
+    ensures placed { IfOk result
+        (λ command. IsPlaced (length directory.now) (command_data command)) }
 {
-    let inst = next_field(line, before)?;
-    let at = kept(inst.place, directory.place_of(inst.text))?;
-    let key_field = next_field(line, &inst)?;
-    let key_text = visible_field(&key_field)?;
-    let method_field = next_field(line, &key_field)?;
-    let method = visible_field(&method_field)?;
-    let target_field = next_field(line, &method_field)?;
-    let target = visible_field(&target_field)?;
-    Ok(RequestLine {
+    let (at, inst) = next_instance(line, directory, before)?;
+    let (key_text, key_field) = next_visible(line, &inst)?;
+    let (method, method_field) = next_visible(line, &key_field)?;
+    let (target, target_field) = next_visible(line, &method_field)?;
+    Ok(Command::Request(RequestLine {
         at,
         key: key(key_text),
         method,
         target,
         body: body(&target_field),
-    })
+    }))
 }
 
 #[tactic(auto, unfolding(crate::specs::Step::raw_of))]
-fn raw<'a>(line: &[u8], directory: &Directory, before: &Field<'a>) -> Result<RawLine<'a>, BadLine>
-    ensures raw { Shows raw_data result
-        (raw_of directory.now line.now (field_of before.now).rest) }
-    ensures placed { IfOk result (λ raw. raw.at < length directory.now) }
+fn raw<'a>(line: &[u8], directory: &Directory, before: &Field<'a>) -> Result<Command<'a>, BadLine>
+    ensures command { Shows command_data result
+        (raw_command directory.now line.now (field_of before.now).rest) }
+    ensures placed { IfOk result
+        (λ command. IsPlaced (length directory.now) (command_data command)) }
 {
-    let inst = next_field(line, before)?;
-    let at = kept(inst.place, directory.place_of(inst.text))?;
+    let (at, inst) = next_instance(line, directory, before)?;
     let digits = next_field(line, &inst)?;
     let hex = hex_field(&digits)?;
     no_field(line, &digits)?;
-    Ok(RawLine { at, hex })
+    Ok(Command::Raw(RawLine { at, hex }))
 }
 
 #[tactic(auto, unfolding(crate::specs::Step::group_of))]
@@ -209,36 +231,36 @@ fn group<'a>(
     directory: &Directory,
     add: bool,
     before: &Field<'a>,
-) -> Result<GroupLine<'a>, BadLine>
-    ensures group { Shows group_data result
-        (group_of directory.now line.now add (field_of before.now).rest) }
-    ensures placed { IfOk result (λ group. group.at < length directory.now) }
+) -> Result<Command<'a>, BadLine>
+    ensures command { Shows command_data result
+        (group_command directory.now line.now add (field_of before.now).rest) }
+    ensures placed { IfOk result
+        (λ command. IsPlaced (length directory.now) (command_data command)) }
 {
-    let inst = next_field(line, before)?;
-    let at = kept(inst.place, directory.place_of(inst.text))?;
+    let (at, inst) = next_instance(line, directory, before)?;
     let org_field = next_field(line, &inst)?;
     let org = kept(org_field.place, org(directory, at, org_field.text))?;
     let body = rest(line, &org_field)?;
-    Ok(GroupLine { at, org, add, body })
+    Ok(Command::Group(GroupLine { at, org, add, body }))
 }
 
 #[tactic(auto, unfolding(crate::specs::Step::sync_of))]
-fn sync(
+fn sync<'a>(
     line: &[u8],
     directory: &Directory,
     way: Way,
-    before: &Field<'_>,
-) -> Result<SyncLine, BadLine>
-    ensures sync { Shows sync_data result
-        (sync_of directory.now line.now way (field_of before.now).rest) }
-    ensures placed { IfOk result (λ sync. sync.at < length directory.now) }
+    before: &Field<'a>,
+) -> Result<Command<'a>, BadLine>
+    ensures command { Shows command_data result
+        (sync_command directory.now line.now way (field_of before.now).rest) }
+    ensures placed { IfOk result
+        (λ command. IsPlaced (length directory.now) (command_data command)) }
 {
-    let inst = next_field(line, before)?;
-    let at = kept(inst.place, directory.place_of(inst.text))?;
+    let (at, inst) = next_instance(line, directory, before)?;
     let link_field = next_field(line, &inst)?;
     let link = kept(link_field.place, InstId::from_bytes(link_field.text))?;
     no_field(line, &link_field)?;
-    Ok(SyncLine { at, way, link })
+    Ok(Command::Sync(SyncLine { at, way, link }))
 }
 
 /// The command of a verb, whose fields are after it.
@@ -254,33 +276,12 @@ pub(crate) fn command<'a>(
         (λ command. IsPlaced (length directory.now) (command_data command)) }
 {
     match verb {
-        Verb::Nothing => {
-            no_field(line, before)?;
-            Ok(Command::Nothing)
-        }
-        Verb::Request => {
-            let request = request(line, directory, before)?;
-            Ok(Command::Request(request))
-        }
-        Verb::Raw => {
-            let raw = raw(line, directory, before)?;
-            Ok(Command::Raw(raw))
-        }
-        Verb::AddGroup => {
-            let group = group(line, directory, true, before)?;
-            Ok(Command::Group(group))
-        }
-        Verb::EditGroup => {
-            let group = group(line, directory, false, before)?;
-            Ok(Command::Group(group))
-        }
-        Verb::Pull => {
-            let sync = sync(line, directory, Way::Pull, before)?;
-            Ok(Command::Sync(sync))
-        }
-        Verb::Push => {
-            let sync = sync(line, directory, Way::Push, before)?;
-            Ok(Command::Sync(sync))
-        }
+        Verb::Nothing => nothing(line, before),
+        Verb::Request => request(line, directory, before),
+        Verb::Raw => raw(line, directory, before),
+        Verb::AddGroup => group(line, directory, true, before),
+        Verb::EditGroup => group(line, directory, false, before),
+        Verb::Pull => sync(line, directory, Way::Pull, before),
+        Verb::Push => sync(line, directory, Way::Push, before),
     }
 }
