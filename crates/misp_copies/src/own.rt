@@ -29,24 +29,14 @@ pub fn own_row<'a>(
         ≡ find (is_row_of owner.now (Element event.now place.now)) rows.now }
 {
     let key = element_key(*event, *place);
-    for row in rows {
-        if is_row_of(row, owner, &key) {
-            return Some(row);
-        }
-    }
-    None
+    rows.iter().find(|row| is_row_of(row, owner, &key))
 }
 
 /// The owner's row of the event itself, where the rows are those of one event.
 pub fn event_row<'a>(rows: &'a [Row], owner: &OrgId) -> Option<&'a Row>
     ensures { option_copied result ≡ find (is_event_row owner.now) rows.now }
 {
-    for row in rows {
-        if is_event_row(row, owner) {
-            return Some(row);
-        }
-    }
-    None
+    rows.iter().find(|row| is_event_row(row, owner))
 }
 
 /// Whether the owner has a live row of the element at this place.
