@@ -72,13 +72,15 @@ impl<A: Alter + Drop> SqliteKeeper<A> {
         } = self;
         connection
     }
+}
 
-    /// The rows of an event.
-    pub fn rows_of_event(
-        &mut self,
-        alloc: Global,
-        event: &EventId,
-    ) -> Result<Vec<RawRow>, KeeperFault>
+impl<A: Alter + Drop> Keeper for SqliteKeeper<A> {
+    ghost use Rattle.misp_outside.specs.KeeperState.{state};
+    ghost use Rattle.misp_sqlite.specs.Connected.{connection_of, faults_of};
+
+    ghost state = { λ keeper. state None (faults_of keeper) };
+
+    fn load_event(&mut self, alloc: Global, event: &EventId) -> Result<Vec<RawRow>, KeeperFault>
         ensures found { HasCleanDisk (shown_by A.Store (connection_of self.new)) →
             IfOk result (λ found. found.items
             ≡ rows_of event.now (kept_of (shown_by A.Store (connection_of self.old))).rows) }
@@ -97,9 +99,9 @@ impl<A: Alter + Drop> SqliteKeeper<A> {
         answer
     }
 
-    /// The rows of an event whose names begin with the bytes `front`. It reads no others, but
-    /// where `front` is empty or has bytes 255 alone: there it reads all rows of the event.
-    pub fn rows_with_front(
+    /// It reads no other rows, but where `front` is empty or has bytes 255 alone: there it reads
+    /// all rows of the event.
+    fn load_named(
         &mut self,
         alloc: Global,
         event: &EventId,
@@ -123,8 +125,7 @@ impl<A: Alter + Drop> SqliteKeeper<A> {
         answer
     }
 
-    /// The rows of all events.
-    pub fn rows_of_all(&mut self, alloc: Global) -> Result<Vec<RawRow>, KeeperFault>
+    fn load_all(&mut self, alloc: Global) -> Result<Vec<RawRow>, KeeperFault>
         ensures found { HasCleanDisk (shown_by A.Store (connection_of self.new)) →
             IfOk result (λ found. found.items
             ≡ (kept_of (shown_by A.Store (connection_of self.old))).rows) }
@@ -143,8 +144,7 @@ impl<A: Alter + Drop> SqliteKeeper<A> {
         answer
     }
 
-    /// The rows of the administration.
-    pub fn rows_of_admin(&mut self, alloc: Global) -> Result<Vec<AdminRow>, KeeperFault>
+    fn load_admin(&mut self, alloc: Global) -> Result<Vec<AdminRow>, KeeperFault>
         ensures found { HasCleanDisk (shown_by A.Store (connection_of self.new)) →
             IfOk result (λ found. found.items
             ≡ (kept_of (shown_by A.Store (connection_of self.old))).admin) }
@@ -163,59 +163,27 @@ impl<A: Alter + Drop> SqliteKeeper<A> {
         answer
     }
 
-    /// Puts every row of the batch in place of the one of its name, all in one transaction.
-    pub fn put_batch(&mut self, batch: &RawBatch) -> Result<(), KeeperFault>
+    /// All rows are put in one transaction.
+    fn apply(&mut self, batch: RawBatch) -> Result<(), KeeperFault>
         ensures done { HasCleanDisk (shown_by A.Store (connection_of self.new)) → OnOk result
-            (HasBatch batch.now (shown_by A.Store (connection_of self.old))
+            (HasBatch batch (shown_by A.Store (connection_of self.old))
             (shown_by A.Store (connection_of self.new))) }
         ensures same { OnErr result (ShowsSame (shown_by A.Store (connection_of self.old))
             (shown_by A.Store (connection_of self.new))) }
         ensures crash { Survives (shown_by A.Store (connection_of self.old))
             (shown_by A.Store (connection_of self.new)) (λ trees. held_in (trees 0)
-            ≡ with_batch batch.now (kept_of (shown_by A.Store (connection_of self.old)))) }
+            ≡ with_batch batch (kept_of (shown_by A.Store (connection_of self.old)))) }
         ensures left { HasCleanDisk (shown_by A.Store (connection_of self.new)) →
             IsTrue (shown_by A.Store (connection_of self.old)).is_open →
-            LeavesWhole batch.now (shown_by A.Store (connection_of self.old))
+            LeavesWhole batch (shown_by A.Store (connection_of self.old))
             (shown_by A.Store (connection_of self.new)) }
         ensures cause { HasCause (faults_of self.old) (faults_of self.new)
             (result ≡ Err KeeperFault.Failed) }
         ensures stays { StaysUnless (faults_of self.old) (faults_of self.new)
             (result ≡ Err KeeperFault.Failed) }
     {
-        let answer = put_batch(&mut self.connection, batch);
+        let answer = put_batch(&mut self.connection, &batch);
         self.faults = counted(&answer, self.faults);
         answer
-    }
-}
-
-impl<A: Alter + Drop> Keeper for SqliteKeeper<A> {
-    ghost use Rattle.misp_outside.specs.KeeperState.{state};
-    ghost use Rattle.misp_sqlite.specs.Connected.{faults_of};
-
-    ghost state = { λ keeper. state None (faults_of keeper) };
-
-    fn load_event(&mut self, alloc: Global, event: &EventId) -> Result<Vec<RawRow>, KeeperFault> {
-        self.rows_of_event(alloc, event)
-    }
-
-    fn load_named(
-        &mut self,
-        alloc: Global,
-        event: &EventId,
-        front: &[u8],
-    ) -> Result<Vec<RawRow>, KeeperFault> {
-        self.rows_with_front(alloc, event, front)
-    }
-
-    fn load_all(&mut self, alloc: Global) -> Result<Vec<RawRow>, KeeperFault> {
-        self.rows_of_all(alloc)
-    }
-
-    fn load_admin(&mut self, alloc: Global) -> Result<Vec<AdminRow>, KeeperFault> {
-        self.rows_of_admin(alloc)
-    }
-
-    fn apply(&mut self, batch: RawBatch) -> Result<(), KeeperFault> {
-        self.put_batch(&batch)
     }
 }

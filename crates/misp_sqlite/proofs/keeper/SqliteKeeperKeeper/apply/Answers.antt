@@ -1,8 +1,8 @@
 use Rattle.sqlite.specs.Held.{state}
 use Rattle.misp_sqlite.proofs.Batches.{leaves_whole}
-use Rattle.misp_sqlite.proofs.keeper.SqliteKeeper.put_batch.Goals as goal
+use Rattle.misp_sqlite.proofs.keeper.SqliteKeeperKeeper.apply.Goals as goal
 
 pub returns-clause-left : goal.returns-clause-left
 returns-clause-left g c clean is_open =
-    leaves_whole (state g.A.Store c.args.self.now.connection) (state g.A.Store c.put_batch-answer.new.connection) c.args.batch.now is_open
+    leaves_whole (state g.A.Store c.args.self.now.connection) (state g.A.Store c.put_batch-answer.new.connection) c.args.batch is_open
     (λ trees still may. g.met.A.Store.settled c.args.self.now.connection.store trees still may) clean c.put_batch-answer.ensures.crash
