@@ -1,5 +1,5 @@
 -- What a connection with the table stands as.
-use Rattle.std.specs.Prelude.{◌≡◌, ◌⊎◌, false, [], IsTrue}
+use Rattle.std.specs.Prelude.{◌≡◌, ◌⊎◌, false, [], IsTrue, OnOk, Result}
 use Rattle.sqlite.specs.Effect.{IsDatabase}
 use Rattle.sqlite.specs.State.{State, HasCleanDisk, KeepsCommit, Survives}
 use Rattle.sqlite_trees.specs.Tree.{Trees}
@@ -29,6 +29,11 @@ pub record Steps (old new : State) : Type 0 where
 -- what its table holds
 abbrev pub kept_of : State → Held
 kept_of s = held_in (s.now.trees 0)
+
+-- where the store is clean and it was in a transaction, Ok says that it still is, and what its table holds now
+abbrev pub PutsInside : {T E : Type 0} → State → State → (Held → Held) → Result T E → Type 0
+PutsInside old new put result =
+    HasCleanDisk new → IsInside old → OnOk result (IsInside new × (kept_of new ≡ put (kept_of old)))
 
 -- where it is still open, it shows what it showed
 abbrev pub ShowsSame : State → State → Type 0

@@ -19,7 +19,7 @@ use sqlite::{Alter, Connection};
 use std::alloc::Global;
 
 /// A keeper whose rows are in the table `kept_row` of a database. By the trait it reports no rows.
-/// Its own calls promise what they load while the store is clean.
+/// The clauses of its calls promise what they load and put while the store is clean.
 #[derive(Drop)]
 pub struct SqliteKeeper<A: Alter> {
     connection: Connection<A>,

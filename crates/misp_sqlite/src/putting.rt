@@ -4,7 +4,7 @@ ghost use Rattle.std.specs.Prelude.{◌≡◌, pos, [], OnErr, OnOk};
 ghost use Rattle.sqlite.specs.Held.{state};
 ghost use Rattle.sqlite.specs.State.{HasCleanDisk, Survives};
 ghost use Rattle.misp_sqlite.specs.Putting.{HasPut, admin_of, raw_of, with_admin_row, with_admin_rows, with_row, with_rows};
-ghost use Rattle.misp_sqlite.specs.Standing.{HasBatch, IsInside, ShowsSame, Steps, kept_of};
+ghost use Rattle.misp_sqlite.specs.Standing.{HasBatch, IsInside, PutsInside, ShowsSame, Steps, kept_of};
 ghost use Rattle.misp_sqlite.specs.Stored.{held_in};
 ghost use Rattle.misp_outside.specs.Held.{with_batch};
 
@@ -56,12 +56,9 @@ fn put_raw<A: Alter>(
     ensures same_reference { transaction.new.conn.ghost_name ≡ transaction.old.conn.ghost_name }
     ensures steps { Steps (state A.Store transaction.old.conn.now)
         (state A.Store transaction.new.conn.now) }
-    ensures done { HasCleanDisk (state A.Store transaction.new.conn.now) →
-        IsInside (state A.Store transaction.old.conn.now) →
-        OnOk result (IsInside (state A.Store transaction.new.conn.now)
-        × (kept_of (state A.Store transaction.new.conn.now)
-        ≡ with_row (raw_of event name.now bytes.now)
-        (kept_of (state A.Store transaction.old.conn.now)))) }
+    ensures done { PutsInside (state A.Store transaction.old.conn.now)
+        (state A.Store transaction.new.conn.now)
+        (with_row (raw_of event name.now bytes.now)) result }
 {
     let event = event.to_be_bytes();
     put(transaction, event.as_slice(), 0, name, bytes)
@@ -77,12 +74,9 @@ fn put_admin<A: Alter>(
     ensures same_reference { transaction.new.conn.ghost_name ≡ transaction.old.conn.ghost_name }
     ensures steps { Steps (state A.Store transaction.old.conn.now)
         (state A.Store transaction.new.conn.now) }
-    ensures done { HasCleanDisk (state A.Store transaction.new.conn.now) →
-        IsInside (state A.Store transaction.old.conn.now) →
-        OnOk result (IsInside (state A.Store transaction.new.conn.now)
-        × (kept_of (state A.Store transaction.new.conn.now)
-        ≡ with_admin_row (admin_of kind name.now bytes.now)
-        (kept_of (state A.Store transaction.old.conn.now)))) }
+    ensures done { PutsInside (state A.Store transaction.old.conn.now)
+        (state A.Store transaction.new.conn.now)
+        (with_admin_row (admin_of kind name.now bytes.now)) result }
 {
     put(transaction, &[], kind, name, bytes)
 }
@@ -94,11 +88,8 @@ fn put_rows<A: Alter>(
     ensures same_reference { transaction.new.conn.ghost_name ≡ transaction.old.conn.ghost_name }
     ensures steps { Steps (state A.Store transaction.old.conn.now)
         (state A.Store transaction.new.conn.now) }
-    ensures done { HasCleanDisk (state A.Store transaction.new.conn.now) →
-        IsInside (state A.Store transaction.old.conn.now) →
-        OnOk result (IsInside (state A.Store transaction.new.conn.now)
-        × (kept_of (state A.Store transaction.new.conn.now)
-        ≡ with_rows rows.now (kept_of (state A.Store transaction.old.conn.now)))) }
+    ensures done { PutsInside (state A.Store transaction.old.conn.now)
+        (state A.Store transaction.new.conn.now) (with_rows rows.now) result }
 {
     for row in rows {
         put_raw(
@@ -118,11 +109,8 @@ fn put_admins<A: Alter>(
     ensures same_reference { transaction.new.conn.ghost_name ≡ transaction.old.conn.ghost_name }
     ensures steps { Steps (state A.Store transaction.old.conn.now)
         (state A.Store transaction.new.conn.now) }
-    ensures done { HasCleanDisk (state A.Store transaction.new.conn.now) →
-        IsInside (state A.Store transaction.old.conn.now) →
-        OnOk result (IsInside (state A.Store transaction.new.conn.now)
-        × (kept_of (state A.Store transaction.new.conn.now)
-        ≡ with_admin_rows rows.now (kept_of (state A.Store transaction.old.conn.now)))) }
+    ensures done { PutsInside (state A.Store transaction.old.conn.now)
+        (state A.Store transaction.new.conn.now) (with_admin_rows rows.now) result }
 {
     for row in rows {
         put_admin(
@@ -143,11 +131,8 @@ fn put_all<A: Alter>(
     ensures same_reference { transaction.new.conn.ghost_name ≡ transaction.old.conn.ghost_name }
     ensures steps { Steps (state A.Store transaction.old.conn.now)
         (state A.Store transaction.new.conn.now) }
-    ensures done { HasCleanDisk (state A.Store transaction.new.conn.now) →
-        IsInside (state A.Store transaction.old.conn.now) →
-        OnOk result (IsInside (state A.Store transaction.new.conn.now)
-        × (kept_of (state A.Store transaction.new.conn.now)
-        ≡ with_batch batch.now (kept_of (state A.Store transaction.old.conn.now)))) }
+    ensures done { PutsInside (state A.Store transaction.old.conn.now)
+        (state A.Store transaction.new.conn.now) (with_batch batch.now) result }
 {
     put_rows(transaction, batch.rows.as_slice())?;
     put_admins(transaction, batch.admin.as_slice())
