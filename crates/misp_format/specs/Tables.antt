@@ -58,6 +58,10 @@ event_itself_at it = do
     label,
   )
 
+-- the attributes outside objects and the objects of an event, onto what was read before
+abbrev pub gathered_at : ℕ → Body → Gathered → Reading Gathered
+gathered_at word it so_far = attributes_at word None it so_far >>= objects_at word it
+
 -- what a body brings: an event, which has the place 0, and its elements in reading order. What
 -- comes without an identifier gets the one that is made of word and its place.
 unfoldable pub event_at : ℕ → Data → Reading SubmissionFields

@@ -147,7 +147,8 @@ pub(crate) fn attribute(
         value,
         tags,
     };
-    it.unless_long(size(&body))?;
+    let bytes = size(&body);
+    let body = it.short(body, bytes)?;
     Ok(Draft {
         number,
         place: place_in(object, ElemId(uuid)),

@@ -77,13 +77,15 @@ pub fn read_attribute_edit(alloc: Global, value: &Value) -> Result<AttributeEdit
     let comment = given_text(&it, "comment")?;
     let kind_value = kind_value(&it)?;
     let stamp = given_stamp(&it, "timestamp")?;
-    it.unless_long(given_size(&comment).saturating_add(pair_size(&kind_value)))?;
-    Ok(AttributeEdit::of(AttributeEditFields {
+    let bytes = given_size(&comment).saturating_add(pair_size(&kind_value));
+    let fields = AttributeEditFields {
         stamp,
         label,
         category,
         to_ids,
         comment,
         kind_value,
-    }))
+    };
+    let fields = it.short(fields, bytes)?;
+    Ok(AttributeEdit::of(fields))
 }

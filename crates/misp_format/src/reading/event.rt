@@ -6,8 +6,8 @@ ghost use Rattle.misp_elem.specs.Fields.{tags_size};
 ghost use Rattle.misp_elem.specs.Row.{IsLabelBut};
 ghost use Rattle.misp_format.specs.Members.{body_of};
 ghost use Rattle.misp_format.specs.Readers.{some_date_of};
-ghost use Rattle.misp_format.specs.Rows.{Gives, row};
-ghost use Rattle.misp_format.specs.Tables.{unwrapped, event_itself_at, event_at};
+ghost use Rattle.misp_format.specs.Rows.{Gives, Shows, row};
+ghost use Rattle.misp_format.specs.Tables.{unwrapped, event_itself_at, gathered_at, event_at};
 
 use crate::fault::FormatFault;
 use crate::reading::attribute::attributes;
@@ -66,7 +66,8 @@ fn event(it: &Members<'_>) -> Result<(EventDraft, Label), FormatFault>
     let label = label(it, 4, 0)?;
     let extends_uuid = it.optional_uuid("extends_uuid")?;
     let tags = tags(it)?;
-    it.unless_long(size(&info, tags.as_slice()))?;
+    let bytes = size(&info, tags.as_slice());
+    let tags = it.short(tags, bytes)?;
     let body = EventDraft {
         info,
         date,
@@ -76,6 +77,15 @@ fn event(it: &Members<'_>) -> Result<(EventDraft, Label), FormatFault>
         tags,
     };
     Ok((body, label))
+}
+
+// Gathers the attributes outside objects, and then the objects.
+fn gather(it: &Members<'_>, word: u128, elements: &mut Elements) -> Result<(), FormatFault>
+    ensures { Shows (λ _. elements.new) result
+        (gathered_at word (body_of it.now) elements.old) }
+{
+    attributes(it, None, word, elements)?;
+    objects(it, word, elements)
 }
 
 /// The event that a body brings. Elements without an identifier get those that are made of `word`
@@ -88,9 +98,18 @@ pub fn read_event(alloc: Global, body: &Value, word: u128) -> Result<Submission,
     let it = Members::of(alloc, &path, unwrapped("Event", body))?;
     let uuid = it.uuid("uuid", Uid::made(word, 0))?;
     let (body, label) = event(&it)?;
-    let mut elements = Elements::with_room(alloc, 1, it.count("Attribute"))?;
-    attributes(&it, None, word, &mut elements)?;
-    objects(&it, word, &mut elements)?;
+    let mut elements = match Elements::with_room(alloc, 1, it.count("Attribute")) {
+        Ok(elements) => elements,
+        Err(fault) => {
+            drop(body);
+            return Err(fault);
+        }
+    };
+    if let Err(fault) = gather(&it, word, &mut elements) {
+        drop(body);
+        drop(elements);
+        return Err(fault);
+    }
     let (parts, references) = elements.lists();
     Ok(Submission {
         event: EventId(uuid),

@@ -67,8 +67,8 @@ pub fn read_event_edit(alloc: Global, value: &Value) -> Result<EventEdit, Format
     let label = given_label(&it, 4)?;
     let extends_uuid = extends_uuid(&it)?;
     let stamp = given_stamp(&it, "timestamp")?;
-    it.unless_long(given_size(&info))?;
-    Ok(EventEdit::of(EventEditFields {
+    let bytes = given_size(&info);
+    let fields = EventEditFields {
         stamp,
         label,
         info,
@@ -76,5 +76,7 @@ pub fn read_event_edit(alloc: Global, value: &Value) -> Result<EventEdit, Format
         threat_level_id,
         analysis,
         extends_uuid,
-    }))
+    };
+    let fields = it.short(fields, bytes)?;
+    Ok(EventEdit::of(fields))
 }

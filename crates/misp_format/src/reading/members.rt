@@ -80,8 +80,8 @@ impl<'a> Members<'a> {
         })
     }
 
-    /// The texts of an element together have no more bytes than the limit.
-    pub(crate) fn unless_long(&self, bytes: usize) -> Result<(), FormatFault>
+    // The texts of an element together have no more bytes than the limit.
+    fn unless_long(&self, bytes: usize) -> Result<(), FormatFault>
         ensures { Gives result (unless_long (body_of self.now) bytes) }
     {
         if bytes > TEXT_LIMIT {
@@ -91,6 +91,20 @@ impl<'a> Members<'a> {
             });
         }
         Ok(())
+    }
+
+    /// What was read, of which the texts together have so many bytes, unless these are too many.
+    pub(crate) fn short<T: Drop>(&self, read: T, bytes: usize) -> Result<T, FormatFault>
+        ensures same { IfOk result (λ kept. kept ≡ read) }
+        ensures gives { Shows (λ _. tt) result (unless_long (body_of self.now) bytes) }
+    {
+        match self.unless_long(bytes) {
+            Ok(()) => Ok(read),
+            Err(fault) => {
+                drop(read);
+                Err(fault)
+            }
+        }
     }
 
     pub(crate) fn uuid(&self, name: &str, absent: Uid) -> Result<Uid, FormatFault>

@@ -56,7 +56,8 @@ fn object(it: &Members<'_>, uuid: ElemId, number: u32) -> Result<Draft, FormatFa
         template_version,
         deleted,
     };
-    it.unless_long(size(&body))?;
+    let bytes = size(&body);
+    let body = it.short(body, bytes)?;
     Ok(Draft {
         number,
         place: Place::Object(uuid),

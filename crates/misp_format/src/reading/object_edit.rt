@@ -24,11 +24,13 @@ pub fn read_object_edit(alloc: Global, value: &Value) -> Result<ObjectEdit, Form
     let comment = given_text(&it, "comment")?;
     let description = given_text(&it, "description")?;
     let stamp = given_stamp(&it, "timestamp")?;
-    it.unless_long(given_size(&comment).saturating_add(given_size(&description)))?;
-    Ok(ObjectEdit::of(ObjectEditFields {
+    let bytes = given_size(&comment).saturating_add(given_size(&description));
+    let fields = ObjectEditFields {
         stamp,
         label,
         comment,
         description,
-    }))
+    };
+    let fields = it.short(fields, bytes)?;
+    Ok(ObjectEdit::of(fields))
 }

@@ -119,7 +119,8 @@ fn proposal(
         comment,
         value,
     };
-    it.unless_long(size(&body))?;
+    let bytes = size(&body);
+    let body = it.short(body, bytes)?;
     Ok(ProposalDraft::of(ProposalDraftFields {
         event,
         target,

@@ -51,7 +51,8 @@ pub(crate) fn reference(
         comment,
         deleted,
     };
-    it.unless_long(size(&body))?;
+    let bytes = size(&body);
+    let body = it.short(body, bytes)?;
     Ok(ReferenceDraft {
         number,
         object,

@@ -29,7 +29,8 @@ fn sighting(
     let kind = it.number("type", 0, 2, 0)?;
     let date = given_stamp(&it, "date_sighting")?;
     let source = it.text("source")?;
-    it.unless_long(source.as_str().len())?;
+    let bytes = source.as_str().len();
+    let source = it.short(source, bytes)?;
     Ok(SightingDraft::of(SightingDraftFields {
         uuid: ElemId(uuid),
         kind,

@@ -11,7 +11,7 @@ invariant_of-result c =
     let kind : is_utf8 c.in_ok-kind.kind ≡ true = rw (← c.kind-2.view_is) c.kind-2.invariant in
     let comment : is_utf8 c.in_ok-comment.comment ≡ true = rw (← c.comment.view_is) c.comment.invariant in
     let value : is_utf8 c.in_ok-value.value ≡ true = rw (← c.value-2.view_is) c.value-2.invariant in
-    let short = within_limit it _ _ c.in_ok-unless_long.ensures c.size.ensures in (
+    let short = within_limit it _ _ c.in_ok-body.ensures.gives c.size-bytes.ensures in rw c.in_ok-body.ensures.same (
       c.place_in.ensures.fits.0,
       (
         c.in_ok-label.ensures.fits,

@@ -11,8 +11,8 @@ use Rattle.misp_format.proofs.reading.attribute_edit.read_attribute_edit.Goals a
 pub of-requires-2 : goal.of-requires-2
 of-requires-2 c =
     let it = body_of c.in_ok-it.it in
-    let small = passed_limit it _ c.in_ok-unless_long.ensures in
-    let short : given_size c.in_ok-comment.comment + pair_size c.in_ok-kind_value.kind_value ≤ text_limit = omega (arith, c.saturating_add.ensures, c.given_size.ensures, c.pair_size.ensures) in (
+    let small = passed_limit it _ c.in_ok-fields.ensures.gives in
+    let short : given_size c.in_ok-comment.comment + pair_size c.in_ok-kind_value.kind_value ≤ text_limit = omega (arith, c.saturating_add-bytes.ensures, c.given_size.ensures, c.pair_size.ensures) in rw c.in_ok-fields.ensures.same (
       c.in_ok-label.ensures.fits,
       (
         given_row_keeps (IsBetween 0 15) it (codes "category") category_of category_ok _ c.in_ok-category.ensures,

@@ -11,7 +11,7 @@ use Rattle.misp_format.proofs.reading.event_edit.read_event_edit.Goals as goal
 pub of-requires-2 : goal.of-requires-2
 of-requires-2 c =
     let it = body_of c.in_ok-it.it in
-    let short : given_size c.in_ok-info.info ≤ text_limit = rw (← c.given_size.ensures) (passed_limit it _ c.in_ok-unless_long.ensures) in (
+    let short : given_size c.in_ok-info.info ≤ text_limit = rw (← c.given_size-bytes.ensures) (passed_limit it _ c.in_ok-fields.ensures.gives) in rw c.in_ok-fields.ensures.same (
       event_label_given it _ c.in_ok-label.ensures.gives c.in_ok-label.ensures.fits,
       (
         some_text_given _ c.in_ok-info.ensures.long short,

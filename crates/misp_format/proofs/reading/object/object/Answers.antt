@@ -11,7 +11,7 @@ invariant_of-result c =
     let meta_category : is_utf8 c.in_ok-meta_category.meta_category ≡ true = rw (← c.meta_category.view_is) c.meta_category.invariant in
     let description : is_utf8 c.in_ok-description.description ≡ true = rw (← c.description.view_is) c.description.invariant in
     let comment : is_utf8 c.in_ok-comment.comment ≡ true = rw (← c.comment.view_is) c.comment.invariant in
-    let short = within_limit it _ _ c.in_ok-unless_long.ensures c.size.ensures in (
+    let short = within_limit it _ _ c.in_ok-body.ensures.gives c.size-bytes.ensures in rw c.in_ok-body.ensures.same (
       (refl, omega arith),
       (
         c.in_ok-label.ensures.fits,
