@@ -1,9 +1,10 @@
 //! Rows as their bytes.
 
+use crate::values::assert_bytes;
 use misp_elem::{Row, decode, encode};
 use misp_ids::{OrgId, Uid};
 use std::alloc::{AllocError, Global};
-use std::test::*;
+use std::process::Abort;
 
 const OWNER: OrgId = OrgId(Uid(0xa1a1_a1a1_a1a1_a1a1_a1a1_a1a1_a1a1_a1a1));
 
@@ -67,38 +68,34 @@ fn spelled(alloc: Global, short: &[u8]) -> Result<Vec<u8>, AllocError> {
     Ok(out)
 }
 
-/// Whether this row is written as these bytes.
-fn is_written(alloc: Global, row: &Row, bytes: &[u8]) -> bool {
-    match encode(alloc, row) {
-        Ok(again) => again.as_slice() == bytes,
-        Err(_) => false,
-    }
+fn assert_written(rt: &impl Abort, alloc: Global, row: &Row, bytes: &[u8]) {
+    let again = encode(alloc, row).expect(rt, "memory");
+    assert_bytes(rt, again.as_slice(), bytes);
+    drop(again);
 }
 
-/// Whether a copy of this row is written as these bytes.
-fn is_copied(alloc: Global, row: &Row, bytes: &[u8]) -> bool {
-    match row.clone() {
-        Ok(copy) => is_written(alloc, &copy, bytes),
-        Err(_) => false,
-    }
+// Asserts that a copy of this row is written as these bytes.
+fn assert_copied(rt: &impl Abort, alloc: Global, row: &Row, bytes: &[u8]) {
+    let copy = row.clone().expect(rt, "memory");
+    assert_written(rt, alloc, &copy, bytes);
+    drop(copy);
 }
 
-/// Whether these bytes are a row of this owner and stamp, and are written again.
-fn is_kept(alloc: Global, bytes: &[u8]) -> bool {
-    match decode(alloc, bytes) {
-        Ok(row) => {
-            row.owner == OWNER && row.stamp.get() == 1_700_000_000 && is_copied(alloc, &row, bytes)
-        }
-        Err(_) => false,
-    }
+// Asserts that these bytes are a row of this owner and stamp, and are written again.
+fn assert_kept(rt: &impl Abort, alloc: Global, bytes: &[u8]) {
+    let row = decode(alloc, bytes).ok().expect(rt, "a row");
+    assert!(rt; row.owner == OWNER);
+    assert!(rt; row.stamp.get() == 1_700_000_000);
+    assert_copied(rt, alloc, &row, bytes);
+    drop(row);
 }
 
 #[test]
-fn rows_are_read_and_written(rt: HostRuntime) -> Result<(), Fail> {
+fn rows_are_read_and_written(rt: HostRuntime) {
     for (short, length) in &KEPT {
-        let bytes = spelled(rt.alloc(), short)?;
+        let bytes = spelled(rt.alloc(), short).expect(&rt, "memory");
         assert_eq!(rt; bytes.len(), *length);
-        assert!(rt; is_kept(rt.alloc(), bytes.as_slice()));
+        assert_kept(&rt, rt.alloc(), bytes.as_slice());
+        drop(bytes);
     }
-    Ok(())
 }

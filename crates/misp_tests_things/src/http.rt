@@ -1,21 +1,19 @@
 //! Requests and replies as bytes.
 
+use crate::values::{add, assert_text, text};
 use misp_http::{
-    BodyKind, Read, ReadEnd, Request, read_request, reply_bytes, request_bytes, write_all,
+    BodyKind, Fault, Read, ReadEnd, Request, read_request, reply_bytes, request_bytes, write_all,
 };
 use misp_ids::NoMemory;
 use misp_outside::{MemSource, Sink, SureSink};
 use std::alloc::Global;
-use std::test::Fail;
+use std::fmt::Write;
+use std::process::Abort;
 
 const KEY: &str = "AlphaAlphaAlphaAlphaAlphaAlphaAlphaAlpha";
 
-fn memory(_error: NoMemory) -> Fail {
-    Fail::from("no memory")
-}
-
-// What a request says, in a line.
-fn request_line(alloc: Global, request: &Request) -> Result<String, Fail> {
+// Adds what a request says to the line.
+fn show(rt: &impl Abort, line: &mut String, request: &Request) {
     let method = request.method.as_str();
     let target = request.target.as_str();
     let key = match &request.key {
@@ -23,41 +21,59 @@ fn request_line(alloc: Global, request: &Request) -> Result<String, Fail> {
         None => "-",
     };
     let end = if request.close { "close" } else { "open" };
-    let body = String::from_utf8(request.body.as_slice().to_vec(alloc)?)?;
-    Ok(format!(in alloc; "{method} {target} {key} {end} {body}")?)
+    let body = text(rt, request.body.as_slice());
+    write!(line, "{method} {target} {key} {end} {body}").expect(rt, "memory");
 }
 
-// What is read of these bytes, which arrive in pieces of seven: a request, or the rule and the place
-// of a refusal, or how they end.
-fn read(alloc: Global, bytes: &[u8]) -> Result<String, Fail> {
-    let pieces = vec![in alloc; 7usize; bytes.len()]?;
-    let mut source = MemSource::new(bytes.to_vec(alloc)?, pieces, Vec::new(alloc));
+// Adds the rule and the place of a refusal.
+fn show_refused(rt: &impl Abort, alloc: Global, line: &mut String, fault: Fault) {
+    let refusal = fault.refusal(alloc).expect(rt, "memory");
+    let rule = refusal.rule();
+    let place = refusal.place.as_str();
+    write!(line, "{rule} {place}").expect(rt, "memory");
+    drop(refusal);
+}
+
+// A source of these bytes, which arrive in pieces of seven.
+fn source(rt: &impl Abort, alloc: Global, bytes: &[u8]) -> MemSource {
+    let pieces = vec![in alloc; 7usize; bytes.len()].expect(rt, "memory");
+    let bytes = bytes.to_vec(alloc).expect(rt, "memory");
+    MemSource::new(bytes, pieces, Vec::new(alloc))
+}
+
+// What is read of a source: a request, or the rule and the place of a refusal, or how it ends.
+fn read(rt: &impl Abort, alloc: Global, source: &mut MemSource) -> String {
+    let mut line = String::new(alloc);
     let mut rest = Vec::new(alloc);
-    match read_request(alloc, &mut source, &mut rest) {
-        Ok(Read::Request(request)) => request_line(alloc, &request),
-        Ok(Read::Refused(fault)) => {
-            let refusal = fault.refusal(alloc).map_err(|_| Fail::from("memory"))?;
-            let rule = refusal.rule();
-            let place = refusal.place.as_str();
-            Ok(format!(in alloc; "{rule} {place}")?)
+    match read_request(alloc, source, &mut rest) {
+        Ok(Read::Request(request)) => {
+            show(rt, &mut line, &request);
+            drop(request);
         }
-        Err(ReadEnd::Ended) => Ok(String::from_str(alloc, "ended")?),
-        Err(ReadEnd::Cut) => Ok(String::from_str(alloc, "cut")?),
-        Err(_) => Err(Fail::from("nothing is read")),
+        Ok(Read::Refused(fault)) => show_refused(rt, alloc, &mut line, fault),
+        Err(ReadEnd::Ended) => add(rt, &mut line, "ended"),
+        Err(ReadEnd::Cut) => add(rt, &mut line, "cut"),
+        Err(_) => add(rt, &mut line, "nothing is read"),
     }
+    drop(rest);
+    line
 }
 
-// What a sink has after these bytes were written.
-fn written(alloc: Global, bytes: Result<Vec<u8>, NoMemory>) -> Result<String, Fail> {
-    let bytes = bytes.map_err(memory)?;
+// Asserts what a sink has after these bytes were written.
+fn assert_written(rt: &impl Abort, alloc: Global, bytes: Result<Vec<u8>, NoMemory>, want: &str) {
+    let bytes = bytes.expect(rt, "memory");
     let mut sink = SureSink::new(alloc);
-    sink.room(bytes.len()).map_err(memory)?;
-    write_all(&mut sink, &bytes).map_err(|_| Fail::from("not written"))?;
-    Ok(String::from_utf8(sink.bytes().to_vec(alloc)?)?)
+    sink.room(bytes.len()).expect(rt, "memory");
+    write_all(&mut sink, &bytes)
+        .ok()
+        .expect(rt, "written bytes");
+    assert_text(rt, text(rt, sink.bytes()), want);
+    drop(sink);
+    drop(bytes);
 }
 
 #[test]
-fn requests_and_replies_have_their_texts(rt: HostRuntime) -> Result<(), Fail> {
+fn requests_and_replies_have_their_texts(rt: HostRuntime) {
     let alloc = rt.alloc();
     let rows = [
         (
@@ -76,15 +92,13 @@ fn requests_and_replies_have_their_texts(rt: HostRuntime) -> Result<(), Fail> {
              Content-Length: 2\r\nConnection: close\r\n\r\nab",
         ),
     ];
-    for (bytes, wanted) in rows {
-        let text = written(alloc, bytes)?;
-        assert!(rt; text.as_str() == wanted, "{text}");
+    for (bytes, want) in rows {
+        assert_written(&rt, alloc, bytes, want);
     }
-    Ok(())
 }
 
 #[test]
-fn heads_are_read_or_refused_as_the_table_says(rt: HostRuntime) -> Result<(), Fail> {
+fn heads_are_read_or_refused_as_the_table_says(rt: HostRuntime) {
     let rows = [
         ("GET / HTTP/2.0\r\n\r\n", "2 head"),
         ("GET / HTTP/1.1\r\na b: c\r\n\r\n", "2 head"),
@@ -123,8 +137,10 @@ fn heads_are_read_or_refused_as_the_table_says(rt: HostRuntime) -> Result<(), Fa
         ("", "ended"),
     ];
     for (text, want) in &rows {
-        let found = read(rt.alloc(), text.as_bytes())?;
+        let mut source = source(&rt, rt.alloc(), text.as_bytes());
+        let found = read(&rt, rt.alloc(), &mut source);
         assert!(rt; found.as_str() == *want, "{text}");
+        drop(found);
+        drop(source);
     }
-    Ok(())
 }

@@ -10,4 +10,8 @@ mod outside;
 #[cfg(test)]
 mod script;
 #[cfg(test)]
+mod sqlite;
+#[cfg(test)]
+mod values;
+#[cfg(test)]
 mod words;

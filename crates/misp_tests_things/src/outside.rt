@@ -1,6 +1,7 @@
 mod dials;
 mod doors;
 
+use crate::values::{assert_bytes, assert_text, bytes, text};
 use misp_ids::{EventId, Items, LAST_SECOND, Uid};
 use misp_outside::{
     AdminRow, Carry, Clock, Keeper, KeeperFault, MemKeeper, MemSink, MemSource, RawBatch, RawRow,
@@ -9,167 +10,226 @@ use misp_outside::{
 };
 use std::alloc::Global;
 use std::collections::BTreeSet;
+use std::fmt::Write;
 use std::io;
-use std::test::Fail;
+use std::process::Abort;
 
-fn bytes(alloc: Global, text: &str) -> Result<Items<u8>, Fail> {
-    Ok(Items::of(text.as_bytes().to_vec(alloc)?))
+fn row(rt: &impl Abort, alloc: Global, event: u128, name: &str, text: &str) -> RawRow {
+    RawRow {
+        event: EventId(Uid(event)),
+        name: Items::of(bytes(rt, alloc, name)),
+        bytes: Items::of(bytes(rt, alloc, text)),
+    }
+}
+
+fn admin_row(rt: &impl Abort, alloc: Global, name: &str, text: &str) -> AdminRow {
+    AdminRow {
+        kind: 1,
+        name: Items::of(bytes(rt, alloc, name)),
+        bytes: Items::of(bytes(rt, alloc, text)),
+    }
 }
 
 // A batch of rows, each of an event, a name and bytes, and of as many rows of the administration.
-fn batch(alloc: Global, told: &[(u128, &str, &str)]) -> Result<RawBatch, Fail> {
+pub(crate) fn batch(rt: &impl Abort, alloc: Global, told: &[(u128, &str, &str)]) -> RawBatch {
     let mut rows = Vec::new(alloc);
     let mut admin = Vec::new(alloc);
     for (event, name, text) in told {
-        rows.push(RawRow {
-            event: EventId(Uid(*event)),
-            name: bytes(alloc, name)?,
-            bytes: bytes(alloc, text)?,
-        })?;
-        admin.push(AdminRow {
-            kind: 1,
-            name: bytes(alloc, name)?,
-            bytes: bytes(alloc, text)?,
-        })?;
+        let row = row(rt, alloc, *event, name, text);
+        rows.push(row).expect(rt, "memory");
+        let row = admin_row(rt, alloc, name, text);
+        admin.push(row).expect(rt, "memory");
     }
-    Ok(RawBatch {
+    RawBatch {
         rows: Items::of(rows),
         admin: Items::of(admin),
-    })
+    }
 }
 
-// The names and bytes, in a line.
-fn shown(alloc: Global, rows: &[RawRow]) -> Result<String, Fail> {
+// Asserts how a keeper answers a batch of the rows.
+pub(crate) fn assert_put<K: Keeper>(
+    rt: &impl Abort,
+    alloc: Global,
+    keeper: &mut K,
+    told: &[(u128, &str, &str)],
+    want: Result<(), KeeperFault>,
+) {
+    assert_eq!(rt; keeper.apply(batch(rt, alloc, told)), want);
+}
+
+// Adds the event, the name and the bytes to the line.
+fn show(rt: &impl Abort, line: &mut String, row: &RawRow) {
+    let event = row.event.0.0;
+    let name = text(rt, row.name.as_slice());
+    let text = text(rt, row.bytes.as_slice());
+    write!(line, "{event} {name} {text};").expect(rt, "memory");
+}
+
+// All rows that a keeper holds, in a line.
+pub(crate) fn held<K: Keeper>(rt: &impl Abort, alloc: Global, keeper: &mut K) -> String {
+    let all = keeper.load_all(alloc).expect(rt, "rows");
     let mut line = String::new(alloc);
-    for row in rows {
-        let event = row.event.0.0;
-        let name = String::from_utf8(row.name.as_slice().to_vec(alloc)?)?;
-        let text = String::from_utf8(row.bytes.as_slice().to_vec(alloc)?)?;
-        line.push_str(format!(in alloc; "{event} {name} {text};")?.as_str())?;
+    for row in &all {
+        show(rt, &mut line, row);
     }
-    Ok(line)
+    line
 }
 
-// The names and bytes of all rows that a keeper holds.
-fn held<K: Keeper>(alloc: Global, keeper: &mut K) -> Result<String, Fail> {
-    let all = keeper.load_all(alloc).map_err(fault)?;
-    shown(alloc, &all)
+fn assert_held<K: Keeper>(rt: &impl Abort, alloc: Global, keeper: &mut K, want: &str) {
+    let line = held(rt, alloc, keeper);
+    assert_text(rt, line.as_str(), want);
+    drop(line);
 }
 
-// How many rows each load answers: those of event 1, those of them whose names begin with `a`, all,
-// and those of the administration.
-fn counted<K: Keeper>(alloc: Global, keeper: &mut K) -> Result<[usize; 4], Fail> {
+// How many rows of event 1 there are, and how many of them have names that begin with `a`.
+fn counted_of_one<K: Keeper>(rt: &impl Abort, alloc: Global, keeper: &mut K) -> [usize; 2] {
     let event = EventId(Uid(1));
-    let rows = keeper.load_event(alloc, &event).map_err(fault)?;
-    let named = keeper.load_named(alloc, &event, b"a").map_err(fault)?;
-    let all = keeper.load_all(alloc).map_err(fault)?;
-    let admin = keeper.load_admin(alloc).map_err(fault)?;
-    Ok([rows.len(), named.len(), all.len(), admin.len()])
+    let rows = keeper.load_event(alloc, &event).expect(rt, "rows").len();
+    let named = keeper.load_named(alloc, &event, b"a");
+    [rows, named.expect(rt, "rows").len()]
 }
 
-fn fault(fault: KeeperFault) -> Fail {
-    match fault {
-        KeeperFault::Failed => Fail::from("the keeper failed"),
-        KeeperFault::NoMemory => Fail::from("no memory"),
-    }
+// How many rows there are, and how many of the administration.
+fn counted<K: Keeper>(rt: &impl Abort, alloc: Global, keeper: &mut K) -> [usize; 2] {
+    let all = keeper.load_all(alloc).expect(rt, "rows").len();
+    [all, keeper.load_admin(alloc).expect(rt, "rows").len()]
 }
 
 #[test]
-fn each_load_answers_its_rows(rt: HostRuntime) -> Result<(), Fail> {
+fn each_load_answers_its_rows(rt: HostRuntime) {
     let alloc = rt.alloc();
     let mut keeper = SureKeeper::new(alloc);
     let rows = [(1, "a", "x"), (1, "b", "y"), (2, "a", "z")];
-    keeper.apply(batch(alloc, &rows)?).map_err(fault)?;
-    assert_eq!(rt; counted(alloc, &mut keeper)?, [2, 1, 3, 2]);
-    Ok(())
+    assert_put(&rt, alloc, &mut keeper, &rows, Ok(()));
+    assert_eq!(rt; counted_of_one(&rt, alloc, &mut keeper), [2, 1]);
+    assert_eq!(rt; counted(&rt, alloc, &mut keeper), [3, 2]);
+    drop(keeper);
 }
 
-#[test]
-fn a_failed_call_leaves_the_rows(rt: HostRuntime) -> Result<(), Fail> {
-    let alloc = rt.alloc();
-    let mut keeper = MemKeeper::new(alloc, vec![in alloc; 2u64, 4u64]?);
-    let one = [(1, "a", "x")];
-    let two = [(1, "a", "y"), (2, "b", "z")];
-    keeper.apply(batch(alloc, &one)?).map_err(fault)?;
-    assert_eq!(rt; keeper.apply(batch(alloc, &two)?), Err(KeeperFault::Failed));
-    assert_eq!(rt; held(alloc, &mut keeper)?.as_str(), "1 a x;");
+fn assert_load_fails<K: Keeper>(rt: &impl Abort, alloc: Global, keeper: &mut K) {
     assert!(rt; matches!(keeper.load_admin(alloc), Err(KeeperFault::Failed)));
-    keeper.apply(batch(alloc, &two)?).map_err(fault)?;
-    assert_eq!(rt; held(alloc, &mut keeper)?.as_str(), "1 a y;2 b z;");
+}
+
+#[test]
+fn a_failed_call_leaves_the_rows(rt: HostRuntime) {
+    let alloc = rt.alloc();
+    let fails = vec![in alloc; 2u64, 4u64].expect(&rt, "memory");
+    let mut keeper = MemKeeper::new(alloc, fails);
+    let two = [(1, "a", "y"), (2, "b", "z")];
+    assert_put(&rt, alloc, &mut keeper, &[(1, "a", "x")], Ok(()));
+    assert_put(&rt, alloc, &mut keeper, &two, Err(KeeperFault::Failed));
+    assert_held(&rt, alloc, &mut keeper, "1 a x;");
+    assert_load_fails(&rt, alloc, &mut keeper);
+    assert_put(&rt, alloc, &mut keeper, &two, Ok(()));
+    assert_held(&rt, alloc, &mut keeper, "1 a y;2 b z;");
     assert_eq!(rt; keeper.batches(), 2);
-    Ok(())
+    drop(keeper);
 }
 
-// Writes the bytes over the room for them.
-fn write<S: Sink>(sink: &mut S, from: &[u8]) -> Result<Result<usize, SinkFault>, Fail> {
-    if sink.room(from.len()).is_err() {
-        return Err(Fail::from("no memory"));
+// Asserts what the next reads answer.
+fn assert_reads<S: Source>(
+    rt: &impl Abort,
+    source: &mut S,
+    into: &mut [u8],
+    want: &[Result<usize, SourceFault>],
+) {
+    for want in want {
+        assert_eq!(rt; source.read(into), *want);
     }
-    Ok(sink.write(from))
+}
+
+// Asserts what the next writes of these bytes answer, over the room for them.
+fn assert_writes<S: Sink>(
+    rt: &impl Abort,
+    sink: &mut S,
+    from: &[u8],
+    want: &[Result<usize, SinkFault>],
+) {
+    for want in want {
+        sink.room(from.len()).expect(rt, "memory");
+        assert_eq!(rt; sink.write(from), *want);
+    }
+}
+
+fn assert_reads_fail(rt: &impl Abort, alloc: Global) {
+    let pieces = vec![in alloc; 3usize].expect(rt, "memory");
+    let fails = vec![in alloc; 3u64].expect(rt, "memory");
+    let mut source = MemSource::new(bytes(rt, alloc, "abcde"), pieces, fails);
+    let mut into = [0; 2];
+    let want = [Ok(2), Ok(1), Err(SourceFault::Failed), Ok(2), Ok(0)];
+    assert_reads(rt, &mut source, &mut into, &want);
+    assert_bytes(rt, into.as_slice(), b"de");
+    drop(source);
+}
+
+fn assert_writes_fail(rt: &impl Abort, alloc: Global) {
+    let fails = vec![in alloc; 2u64].expect(rt, "memory");
+    let mut sink = MemSink::new(alloc, fails);
+    let want = [Ok(2), Err(SinkFault::Failed), Ok(2)];
+    assert_writes(rt, &mut sink, b"ab", &want);
+    assert_bytes(rt, sink.bytes(), b"abab");
+    drop(sink);
 }
 
 #[test]
-fn reads_and_writes_fail_in_mid_stream(rt: HostRuntime) -> Result<(), Fail> {
-    let alloc = rt.alloc();
-    let pieces = vec![in alloc; 3usize]?;
-    let mut source = MemSource::new(b"abcde".to_vec(alloc)?, pieces, vec![in alloc; 3u64]?);
-    let mut into = [0; 2];
-    for want in [Ok(2), Ok(1), Err(SourceFault::Failed), Ok(2), Ok(0)] {
-        assert_eq!(rt; source.read(&mut into), want);
-    }
-    let mut sink = MemSink::new(alloc, vec![in alloc; 2u64]?);
-    for want in [Ok(2), Err(SinkFault::Failed), Ok(2)] {
-        assert_eq!(rt; write(&mut sink, b"ab")?, want);
-    }
-    assert_eq!(rt;
-        (into.as_slice(), sink.bytes()),
-        (b"de".as_slice(), b"abab".as_slice())
-    );
-    Ok(())
+fn reads_and_writes_fail_in_mid_stream(rt: HostRuntime) {
+    assert_reads_fail(&rt, rt.alloc());
+    assert_writes_fail(&rt, rt.alloc());
 }
 
 #[test]
-fn sources_and_sinks_that_never_fail(rt: HostRuntime) -> Result<(), Fail> {
-    let mut source = SureSource::new(b"abc".to_vec(rt.alloc())?);
-    let mut into = [0; 2];
-    for want in [Ok(2), Ok(1), Ok(0)] {
-        assert_eq!(rt; source.read(&mut into), want);
-    }
+fn sources_and_sinks_that_never_fail(rt: HostRuntime) {
+    let mut source = SureSource::new(bytes(&rt, rt.alloc(), "abc"));
+    assert_reads(&rt, &mut source, &mut [0; 2], &[Ok(2), Ok(1), Ok(0)]);
+    drop(source);
     let mut sink = SureSink::new(rt.alloc());
-    assert_eq!(rt; write(&mut sink, b"a")?, Ok(1));
-    assert_eq!(rt; sink.bytes(), b"a".as_slice());
-    Ok(())
+    assert_writes(&rt, &mut sink, b"a", &[Ok(1)]);
+    assert_bytes(&rt, sink.bytes(), b"a");
+    drop(sink);
 }
 
-#[test]
-fn the_system_and_what_is_not_there(rt: HostRuntime) -> Result<(), Fail> {
-    let alloc = rt.alloc();
-    let mut input = StandardInput::new(rt.reader());
-    assert_eq!(rt; input.read(&mut []), Ok(0));
-    let mut output = StandardOutput::new(io::writer(&rt));
-    assert_eq!(rt; output.room(1), Ok(()));
-    assert_eq!(rt; output.write(b""), Ok(0));
-    let carried = SureCarry::new()
-        .pass(alloc, b"ab")
-        .map_err(|_| Fail::from("carry"))?;
-    assert_eq!(rt; carried.as_slice(), b"ab".as_slice());
+fn assert_carried(rt: &impl Abort, alloc: Global) {
+    let carried = SureCarry::new().pass(alloc, b"ab");
+    let carried = carried.expect(rt, "what is carried");
+    assert_bytes(rt, carried.as_slice(), b"ab");
+    drop(carried);
+}
+
+fn assert_steps(rt: &impl Abort) {
     let mut clock = StepClock { time: 5, word: 1 };
     assert_eq!(rt;
         (clock.now(), clock.word(), clock.word()),
         (5, 1, (1 << 32) + 1)
     );
-    Ok(())
 }
 
 #[test]
-fn the_clock_of_the_system_goes_and_gives_no_word_twice(rt: HostRuntime) -> Result<(), Fail> {
+fn the_system_and_what_is_not_there(rt: HostRuntime) {
+    let mut input = StandardInput::new(rt.reader());
+    assert_reads(&rt, &mut input, &mut [], &[Ok(0)]);
+    drop(input);
+    let mut output = StandardOutput::new(io::writer(&rt));
+    assert_eq!(rt; output.room(1), Ok(()));
+    assert_writes(&rt, &mut output, b"", &[Ok(0)]);
+    drop(output);
+    assert_carried(&rt, rt.alloc());
+    assert_steps(&rt);
+}
+
+// Asserts that the next words of the clock differ, and that none is 0.
+fn assert_words<C: Clock>(rt: &impl Abort, alloc: Global, clock: &mut C) {
+    let mut words = BTreeSet::new(alloc);
+    for _ in 0..40 {
+        words.insert(clock.word()).expect(rt, "memory");
+    }
+    assert_eq!(rt; (words.len(), words.contains(&0)), (40, false));
+    drop(words);
+}
+
+#[test]
+fn the_clock_of_the_system_goes_and_gives_no_word_twice(rt: HostRuntime) {
     let mut clock = SystemClock::new(&rt);
     let now = clock.now();
     assert!(rt; 0 < now && now <= LAST_SECOND, "{now}");
-    let mut words = BTreeSet::new(rt.alloc());
-    for _ in 0..40 {
-        words.insert(clock.word())?;
-    }
-    assert_eq!(rt; (words.len(), words.contains(&0)), (40, false));
-    Ok(())
+    assert_words(&rt, rt.alloc(), &mut clock);
 }

@@ -1,42 +1,50 @@
 //! The words of a command line.
 
+use crate::values::{add, string};
 use misp_ids::Way;
-use misp_words::{Command, WordsFault, read_words};
+use misp_words::{Command, ServeWords, SyncWords, WordsFault, read_words};
 use std::alloc::Global;
-use std::test::Fail;
+use std::fmt::Write;
+use std::process::Abort;
+
+fn show_serve(rt: &impl Abort, line: &mut String, words: &ServeWords<'_>) {
+    let name = words.name.text();
+    let address = words.address;
+    let count = words.count;
+    write!(line, "{name} at <{address}> {count} times").expect(rt, "memory");
+}
+
+fn show_sync(rt: &impl Abort, line: &mut String, words: &SyncWords) {
+    let name = words.name.text();
+    let link = words.link.text();
+    let way = match words.way {
+        Way::Pull => "pulls",
+        Way::Push => "pushes",
+    };
+    write!(line, "{name} {way} over {link}").expect(rt, "memory");
+}
 
 // What these words ask for, as a line.
-fn shown(alloc: Global, words: &[String]) -> Result<String, Fail> {
+fn shown(rt: &impl Abort, alloc: Global, words: &[String]) -> String {
+    let mut line = String::new(alloc);
     match read_words(alloc, words) {
-        Ok(Command::Net) => Ok(String::from_str(alloc, "net")?),
-        Ok(Command::Check) => Ok(String::from_str(alloc, "check")?),
-        Ok(Command::Serve(serve)) => {
-            let name = serve.name.text();
-            let address = serve.address;
-            let count = serve.count;
-            Ok(format!(in alloc; "{name} at <{address}> {count} times")?)
-        }
-        Ok(Command::Sync(sync)) => {
-            let name = sync.name.text();
-            let link = sync.link.text();
-            let way = match sync.way {
-                Way::Pull => "pulls",
-                Way::Push => "pushes",
-            };
-            Ok(format!(in alloc; "{name} {way} over {link}")?)
-        }
-        Err(WordsFault::Usage) => Ok(String::from_str(alloc, "usage")?),
-        Err(WordsFault::OutOfMemory) => Err(Fail::from("no memory")),
+        Ok(Command::Net) => add(rt, &mut line, "net"),
+        Ok(Command::Check) => add(rt, &mut line, "check"),
+        Ok(Command::Serve(words)) => show_serve(rt, &mut line, &words),
+        Ok(Command::Sync(words)) => show_sync(rt, &mut line, &words),
+        Err(WordsFault::Usage) => add(rt, &mut line, "usage"),
+        Err(WordsFault::OutOfMemory) => add(rt, &mut line, "no memory"),
     }
+    line
 }
 
 // The words of a line, with one space between any two.
-fn words_of(alloc: Global, line: &str) -> Result<Vec<String>, Fail> {
+fn words_of(rt: &impl Abort, alloc: Global, line: &str) -> Vec<String> {
     let mut words = Vec::new(alloc);
     for word in line.split(' ') {
-        words.push(String::from_str(alloc, word)?)?;
+        words.push(string(rt, alloc, word)).expect(rt, "memory");
     }
-    Ok(words)
+    words
 }
 
 /// Words, and what they ask for.
@@ -116,15 +124,19 @@ const OTHERS: [(&str, &str); 55] = [
     ("pull a b pull", "usage"),
 ];
 
+fn assert_read(rt: &impl Abort, alloc: Global, line: &str, want: &str) {
+    let words = words_of(rt, alloc, line);
+    let is = shown(rt, alloc, words.as_slice());
+    assert!(rt; is.as_str() == want, "{line} is {is}");
+    drop(is);
+    drop(words);
+}
+
 #[test]
-fn words_are_read_as_the_tables_say(rt: HostRuntime) -> Result<(), Fail> {
-    let alloc = rt.alloc();
+fn words_are_read_as_the_tables_say(rt: HostRuntime) {
     for table in [READ.as_slice(), OTHERS.as_slice()] {
-        for (line, wanted) in table {
-            let words = words_of(alloc, line)?;
-            let is = shown(alloc, &words)?;
-            assert!(rt; is.as_str() == *wanted, "{line} is {is}");
+        for (line, want) in table {
+            assert_read(&rt, rt.alloc(), line, want);
         }
     }
-    Ok(())
 }

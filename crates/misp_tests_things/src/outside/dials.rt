@@ -1,85 +1,119 @@
 //! Asks of a dial in memory, and over sockets.
 
-use super::doors::answered;
+use super::doors::{assert_answered, listening};
+use crate::values::{add, assert_bytes, assert_text, bytes, text};
 use misp_outside::{Dial, Door, MemDial, Source, TcpDial, TcpDoor, WireFault};
 use std::alloc::Global;
+use std::fmt::Write;
 use std::net::TcpListener;
-use std::test::Fail;
+use std::process::Abort;
 
 // The bytes of a long request, which a connection takes before it is accepted.
 const LONG: usize = 40_000;
 
-// The reply to an ask, or its fault.
-fn told<L: Dial>(alloc: Global, dial: &mut L, address: &str, text: &str) -> Result<String, Fail> {
-    match dial.ask(alloc, address, text.as_bytes()) {
-        Ok(reply) => Ok(String::from_utf8(reply)?),
-        Err(WireFault::Failed) => Ok(String::from_str(alloc, "failed")?),
-        Err(WireFault::NoMemory) => Err(Fail::from("no memory")),
+// Adds the reply to an ask at an address, or its fault, to the line.
+fn tell<L: Dial>(
+    rt: &impl Abort,
+    alloc: Global,
+    dial: &mut L,
+    ask: (&str, &str),
+    line: &mut String,
+) {
+    match dial.ask(alloc, ask.0, ask.1.as_bytes()) {
+        Ok(reply) => {
+            add(rt, line, text(rt, reply.as_slice()));
+            drop(reply);
+        }
+        Err(WireFault::Failed) => add(rt, line, "failed"),
+        Err(WireFault::NoMemory) => add(rt, line, "no memory"),
     }
+    add(rt, line, ";");
 }
 
-// What was asked of a dial in memory, and what was answered.
-fn asks(alloc: Global, dial: &MemDial) -> Result<String, Fail> {
+// Asserts the replies to these asks, each at an address, in a line.
+fn assert_told<L: Dial>(
+    rt: &impl Abort,
+    alloc: Global,
+    dial: &mut L,
+    asks: &[(&str, &str)],
+    want: &str,
+) {
+    let mut line = String::new(alloc);
+    for ask in asks {
+        tell(rt, alloc, dial, *ask, &mut line);
+    }
+    assert_text(rt, line.as_str(), want);
+    drop(line);
+}
+
+// Asserts what was asked of a dial in memory, and what was answered.
+fn assert_asks(rt: &impl Abort, alloc: Global, dial: &MemDial, want: &str) {
     let mut line = String::new(alloc);
     for ask in dial.asks() {
-        let address = String::from_utf8(ask.address.as_slice().to_vec(alloc)?)?;
-        let bytes = String::from_utf8(ask.bytes.as_slice().to_vec(alloc)?)?;
+        let address = text(rt, ask.address.as_slice());
+        let bytes = text(rt, ask.bytes.as_slice());
         let reply = match &ask.reply {
-            Some(reply) => String::from_utf8(reply.as_slice().to_vec(alloc)?)?,
-            None => String::from_str(alloc, "failed")?,
+            Some(reply) => text(rt, reply.as_slice()),
+            None => "failed",
         };
-        line.push_str(format!(in alloc; "{address} {bytes} {reply};")?.as_str())?;
+        write!(line, "{address} {bytes} {reply};").expect(rt, "memory");
     }
-    Ok(line)
+    assert_text(rt, line.as_str(), want);
+    drop(line);
 }
 
-#[test]
-fn each_call_has_the_reply_of_its_number(rt: HostRuntime) -> Result<(), Fail> {
-    let alloc = rt.alloc();
+// A dial of three replies, whose second call fails.
+fn dial_of_three(rt: &impl Abort, alloc: Global) -> MemDial {
     let mut replies = Vec::new(alloc);
     for text in ["one", "two", "three"] {
-        replies.push(text.as_bytes().to_vec(alloc)?)?;
+        replies.push(bytes(rt, alloc, text)).expect(rt, "memory");
     }
-    let mut dial = MemDial::new(alloc, replies, vec![in alloc; 2u64]?);
-    let mut line = String::new(alloc);
-    for (address, text) in [("x:1", "a"), ("x:1", "b"), ("y:2", "c"), ("y:2", "d")] {
-        line.push_str(told(alloc, &mut dial, address, text)?.as_str())?;
-        line.push_str(";")?;
-    }
-    assert_eq!(rt; line.as_str(), "one;failed;three;failed;");
-    assert_eq!(rt;
-        asks(alloc, &dial)?.as_str(),
-        "x:1 a one;x:1 b failed;y:2 c three;y:2 d failed;"
-    );
-    Ok(())
+    MemDial::new(alloc, replies, vec![in alloc; 2u64].expect(rt, "memory"))
 }
 
 #[test]
-fn a_dial_asks_over_a_socket(rt: HostRuntime) -> Result<(), Fail> {
+fn each_call_has_the_reply_of_its_number(rt: HostRuntime) {
     let alloc = rt.alloc();
-    let listener = TcpListener::bind(&rt, "127.0.0.1:0")?;
-    let port = listener.local_addr()?.port();
-    let address = format!(in alloc; "127.0.0.1:{port}")?;
-    let mut dial = TcpDial::new(&rt);
-    let Ok(waiting) = dial.send(address.as_str(), b"asked") else {
-        return Err(Fail::from("nothing is sent"));
-    };
+    let mut dial = dial_of_three(&rt, alloc);
+    let asks = [("x:1", "a"), ("x:1", "b"), ("y:2", "c"), ("y:2", "d")];
+    assert_told(&rt, alloc, &mut dial, &asks, "one;failed;three;failed;");
+    assert_asks(
+        &rt,
+        alloc,
+        &dial,
+        "x:1 a one;x:1 b failed;y:2 c three;y:2 d failed;",
+    );
+    drop(dial);
+}
+
+// The address of the listener.
+fn address_of(rt: &impl Abort, alloc: Global, listener: &TcpListener) -> String {
+    let port = listener.local_addr().expect(rt, "an address").port();
+    format!(in alloc; "127.0.0.1:{port}").expect(rt, "memory")
+}
+
+// Asserts that a dial asks at this address, and is answered through the door.
+fn assert_exchanged<D: Door>(rt: &impl Abort, dial: &mut TcpDial<'_>, door: &mut D, address: &str) {
+    let waiting = dial.send(address, b"asked").expect(rt, "a connection");
+    assert_answered(rt, door, "asked", "told");
+    let reply = dial.receive(waiting).expect(rt, "a reply");
+    assert_bytes(rt, reply.as_slice(), b"told");
+    drop(reply);
+}
+
+#[test]
+fn a_dial_asks_over_a_socket(rt: HostRuntime) {
+    let alloc = rt.alloc();
+    let listener = listening(&rt).expect(&rt, "a listener");
+    let address = address_of(&rt, alloc, &listener);
     let mut door = TcpDoor::new(&rt, listener);
-    let asked = answered(alloc, &mut door, "told")?;
-    let Ok(reply) = dial.receive(waiting) else {
-        return Err(Fail::from("nothing is received"));
-    };
-    assert_eq!(rt;
-        (asked.as_str(), reply.as_slice()),
-        ("asked", b"told".as_slice())
-    );
+    let mut dial = TcpDial::new(&rt);
+    assert_exchanged(&rt, &mut dial, &mut door, address.as_str());
     drop(door);
-    assert_eq!(rt;
-        told(alloc, &mut dial, address.as_str(), "more")?.as_str(),
-        "failed"
-    );
-    assert_eq!(rt; told(alloc, &mut dial, "", "more")?.as_str(), "failed");
-    Ok(())
+    let asks = [(address.as_str(), "more"), ("", "more")];
+    assert_told(&rt, alloc, &mut dial, &asks, "failed;failed;");
+    drop(dial);
+    drop(address);
 }
 
 // How many bytes a connection gives until there are so many.
@@ -99,15 +133,19 @@ fn arrived<S: Source>(source: &mut S, whole: usize) -> usize {
 }
 
 #[test]
-fn a_long_request_arrives_whole(rt: HostRuntime) -> Result<(), Fail> {
-    let listener = TcpListener::bind(&rt, "127.0.0.1:0")?;
-    let port = listener.local_addr()?.port();
-    let address = format!(in rt.alloc(); "127.0.0.1:{port}")?;
+fn a_long_request_arrives_whole(rt: HostRuntime) {
+    let listener = listening(&rt).expect(&rt, "a listener");
+    let address = address_of(&rt, rt.alloc(), &listener);
     let mut dial = TcpDial::new(&rt);
-    let sent = dial.send(address.as_str(), &[b'a'; LONG]);
-    let Ok(Some((mut from, _to))) = TcpDoor::new(&rt, listener).next() else {
-        return Err(Fail::from("nobody comes"));
-    };
-    assert_eq!(rt; (sent.is_ok(), arrived(&mut from, LONG)), (true, LONG));
-    Ok(())
+    let sent = dial
+        .send(address.as_str(), &[b'a'; LONG])
+        .expect(&rt, "a connection");
+    let next = TcpDoor::new(&rt, listener).next().expect(&rt, "a door");
+    let (mut from, to) = next.expect(&rt, "a client");
+    assert_eq!(rt; arrived(&mut from, LONG), LONG);
+    drop(from);
+    drop(to);
+    drop(sent);
+    drop(dial);
+    drop(address);
 }

@@ -1,46 +1,61 @@
 //! Each limit of a description, at its last good and its first bad value.
 
+use super::show_fault;
+use crate::values::{add, string};
 use misp_samples::filled;
-use misp_script::{DescFault, Entry, read_description};
+use misp_script::{Entry, read_description};
 use std::alloc::Global;
+use std::fmt::Write;
+use std::process::Abort;
 use std::test::Fail;
 
 const NET: &str = "[[org]]\nname = 'A'\nuuid = 'aaaaaaaa-0000-4000-8000-000000000001'\n\
      [[instance]]\nname = 'one'\n[[instance]]\nname = 'two'\n";
 
-/// How many instances there are, and how many organisations, keys and links the first has.
-fn counted(alloc: Global, instances: &[Entry]) -> Result<String, Fail> {
-    let Some(first) = instances.first() else {
-        return Ok(String::from_str(alloc, "nothing")?);
-    };
+// Adds how many instances there are, and how many organisations, keys and links the first has.
+fn show(rt: &impl Abort, line: &mut String, instances: &[Entry]) {
+    let first = instances.first().expect(rt, "an instance");
     let count = instances.len();
     let orgs = first.admin.orgs.as_slice().len();
     let keys = first.admin.keys.as_slice().len();
     let links = first.admin.links.as_slice().len();
-    Ok(format!(in alloc; "{count} {orgs} {keys} {links}")?)
+    write!(line, "{count} {orgs} {keys} {links}").expect(rt, "memory");
 }
 
-/// What a description is read as: what it has, or its fault.
-fn shown(alloc: Global, text: &str) -> Result<String, Fail> {
+// What a description is read as: what it has, or its fault.
+fn shown(rt: &impl Abort, alloc: Global, text: &str) -> String {
+    let mut line = String::new(alloc);
     match read_description(alloc, text.as_bytes()) {
-        Ok(net) => counted(alloc, net.instances.as_slice()),
-        Err(DescFault::Bad { path, need }) => {
-            let path = path.as_str();
-            let need = need.text();
-            Ok(format!(in alloc; "{path} {need}")?)
+        Ok(description) => {
+            show(rt, &mut line, description.instances.as_slice());
+            drop(description);
         }
-        Err(DescFault::NoMemory) => Ok(String::from_str(alloc, "no memory")?),
+        Err(fault) => {
+            show_fault(rt, &mut line, &fault);
+            drop(fault);
+        }
     }
+    line
 }
 
-/// The description with so many of these tables, whose numbers stand at `$n`.
-fn with(alloc: Global, table: &str, count: u32) -> Result<String, Fail> {
-    let mut text = String::from_str(alloc, NET)?;
-    for n in 0..count {
-        let number = format!(in alloc; "{}", 100_000 + u64::from(n))?;
-        text.push_str(table.replace(alloc, "$n", number.as_str())?.as_str())?;
+// Adds the table, in which the number stands at `$n`.
+fn add_table(rt: &impl Abort, alloc: Global, text: &mut String, table: &str, number: u32) {
+    let number = format!(in alloc; "{}", 100_000 + u64::from(number)).expect(rt, "memory");
+    let table = table
+        .replace(alloc, "$n", number.as_str())
+        .expect(rt, "memory");
+    add(rt, text, table.as_str());
+    drop(table);
+    drop(number);
+}
+
+// The description with so many of these tables.
+fn with(rt: &impl Abort, alloc: Global, table: &str, count: u32) -> String {
+    let mut text = string(rt, alloc, NET);
+    for number in 0..count {
+        add_table(rt, alloc, &mut text, table, number);
     }
-    Ok(text)
+    text
 }
 
 /// Tables, how often they stand in a description, and what that is read as.
@@ -79,14 +94,21 @@ const TABLES: [(&str, &str); 4] = [
     ),
 ];
 
+// Asserts what a description with so many of these tables is read as.
+fn assert_shown(rt: &impl Abort, alloc: Global, table: &str, count: u32, want: &str) {
+    let text = with(rt, alloc, table, count);
+    let is = shown(rt, alloc, text.as_str());
+    assert!(rt; is.as_str() == want, "{count} of {table} are {is}");
+    drop(is);
+    drop(text);
+}
+
 #[test]
 fn descriptions_are_read_up_to_their_limits(rt: HostRuntime) -> Result<(), Fail> {
-    let alloc = rt.alloc();
-    for (table, count, wanted) in &LIMITS {
-        let table = filled(alloc, TABLES.as_slice(), table)?;
-        let text = with(alloc, table.as_str(), *count)?;
-        let is = shown(alloc, text.as_str())?;
-        assert!(rt; is.as_str() == *wanted, "{count} of {table} are {is}");
+    for (table, count, want) in &LIMITS {
+        let table = filled(rt.alloc(), TABLES.as_slice(), table)?;
+        assert_shown(&rt, rt.alloc(), table.as_str(), *count, want);
+        drop(table);
     }
     Ok(())
 }
