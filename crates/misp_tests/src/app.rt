@@ -8,6 +8,7 @@ use misp_app::Status;
 use misp_ids::{EventId, Items, Uid};
 use misp_outside::{AdminRow, Keeper, MemKeeper, MemSink, MemSource, RawBatch, RawRow};
 use std::alloc::Global;
+use std::process::Abort;
 use std::test::Fail;
 
 /// The text with what its names stand for.
@@ -15,24 +16,29 @@ fn named(alloc: Global, text: &str) -> Result<String, Fail> {
     misp_samples::filled(alloc, &NAMES, text)
 }
 
+// A row without bytes under the name of A.
+fn row(rt: &impl Abort, alloc: Global) -> RawRow {
+    let owner: u128 = 0xaaaa_aaaa_0000_4000_8000_0000_0000_0001;
+    let name = owner.to_be_bytes().as_slice().to_vec(alloc);
+    RawRow {
+        event: EventId(Uid(0xe100_0000_0000_4000_8000_0000_0000_0009)),
+        name: Items::of(name.expect(rt, "memory")),
+        bytes: Items::of(Vec::new(alloc)),
+    }
+}
+
 // A keeper that holds a row without bytes under the name of A and these rows of the administration,
 // and whose call of this number fails.
-fn first_keeper(alloc: Global, fails: u64, admin: Vec<AdminRow>) -> Result<MemKeeper, Fail> {
-    let mut first = MemKeeper::new(alloc, vec![in alloc; fails]?);
-    let owner: u128 = 0xaaaa_aaaa_0000_4000_8000_0000_0000_0001;
-    let row = RawRow {
-        event: EventId(Uid(0xe100_0000_0000_4000_8000_0000_0000_0009)),
-        name: Items::of(owner.to_be_bytes().as_slice().to_vec(alloc)?),
-        bytes: Items::of(Vec::new(alloc)),
-    };
+fn first_keeper(rt: &impl Abort, alloc: Global, fails: u64, admin: Vec<AdminRow>) -> MemKeeper {
+    let rows = vec![in alloc; row(rt, alloc)].expect(rt, "memory");
     let batch = RawBatch {
-        rows: Items::of(vec![in alloc; row]?),
+        rows: Items::of(rows),
         admin: Items::of(admin),
     };
-    if first.apply(batch).is_err() {
-        return Err(Fail::from("the row is not put"));
-    }
-    Ok(first)
+    let fails = vec![in alloc; fails].expect(rt, "memory");
+    let mut first = MemKeeper::new(alloc, fails);
+    first.apply(batch).expect(rt, "a batch");
+    first
 }
 
 /// How a run ended, what was written, and how many batches each keeper has applied.
@@ -44,47 +50,89 @@ struct Outcome {
 }
 
 // The bytes of a text, filled with `x` up to this length.
-fn filled(alloc: Global, text: &str, len: usize) -> Result<Vec<u8>, Fail> {
-    let mut bytes = named(alloc, text)?.into_bytes();
+fn padded(rt: &impl Abort, alloc: Global, text: &str, len: usize) -> Vec<u8> {
+    let mut bytes = text.as_bytes().to_vec(alloc).expect(rt, "memory");
     let more = len.saturating_sub(bytes.len());
     for _ in 0..more / 4096 {
-        bytes.extend_from_slice(&[b'x'; 4096])?;
+        bytes.extend_from_slice(&[b'x'; 4096]).expect(rt, "memory");
     }
     for _ in 0..more % 4096 {
-        bytes.push(b'x')?;
+        bytes.push(b'x').expect(rt, "memory");
     }
-    Ok(bytes)
+    bytes
 }
 
-// How that case ends, where its first keeper holds these rows of the administration.
-fn case_ended(alloc: Global, case: &Case<'_>, admin: Vec<AdminRow>) -> Result<Outcome, Fail> {
-    let [reads, writes, calls] = case.fails;
-    let bytes = filled(alloc, case.source, case.len)?;
-    let source = MemSource::new(bytes, vec![in alloc; 5usize]?, vec![in alloc; reads]?);
-    let sink = MemSink::new(alloc, vec![in alloc; writes]?);
-    let mut keepers = keepers(alloc, first_keeper(alloc, calls, admin)?)?;
-    let mut door = idle_door(alloc)?;
+// A source of this text in pieces of five, filled up to the length of the case.
+fn source(rt: &impl Abort, alloc: Global, text: &str, case: &Case<'_>) -> MemSource {
+    let pieces = vec![in alloc; 5usize].expect(rt, "memory");
+    let fails = vec![in alloc; case.fails[0]].expect(rt, "memory");
+    MemSource::new(padded(rt, alloc, text, case.len), pieces, fails)
+}
+
+fn sink(rt: &impl Abort, alloc: Global, case: &Case<'_>) -> MemSink {
+    MemSink::new(alloc, vec![in alloc; case.fails[1]].expect(rt, "memory"))
+}
+
+// How many batches each keeper has applied.
+fn batches(rt: &impl Abort, alloc: Global, keepers: &[MemKeeper]) -> Vec<u64> {
+    let mut batches = Vec::new(alloc);
+    for keeper in keepers {
+        batches.push(keeper.batches()).expect(rt, "memory");
+    }
+    batches
+}
+
+// How that case ends over these keepers.
+fn ended(
+    rt: &impl Abort,
+    alloc: Global,
+    text: &str,
+    case: &Case<'_>,
+    keepers: &mut Vec<MemKeeper>,
+) -> (Status, String) {
+    let mut source = source(rt, alloc, text, case);
+    let mut sink = sink(rt, alloc, case);
+    let mut door = idle_door(rt, alloc);
     let mut dial = idle_dial(alloc);
     let mut carry = carry(alloc);
-    let (status, written) = ran(
+    let ended = ran(
+        rt,
         alloc,
         case.words,
-        source,
-        sink,
-        &mut keepers,
+        &mut source,
+        keepers,
         &mut carry,
         &mut door,
         &mut dial,
-    )?;
-    let mut batches = Vec::new(alloc);
-    for keeper in &keepers {
-        batches.push(keeper.batches())?;
-    }
-    Ok(Outcome {
+        &mut sink,
+    );
+    drop(source);
+    drop(sink);
+    drop(door);
+    drop(dial);
+    drop(carry);
+    ended
+}
+
+// How that case ends, whose source is this text, where its first keeper holds these rows of the
+// administration.
+fn case_ended(
+    rt: &impl Abort,
+    alloc: Global,
+    text: &str,
+    case: &Case<'_>,
+    admin: Vec<AdminRow>,
+) -> Outcome {
+    let first = first_keeper(rt, alloc, case.fails[2], admin);
+    let mut keepers = keepers(rt, alloc, first);
+    let (status, written) = ended(rt, alloc, text, case, &mut keepers);
+    let batches = batches(rt, alloc, keepers.as_slice());
+    drop(keepers);
+    Outcome {
         status,
         written,
         batches,
-    })
+    }
 }
 
 // The first keeper has applied so many batches, and the others none.
@@ -92,36 +140,47 @@ fn applied(first: u64) -> [u64; 16] {
     [first, 0, 0, 0, 0, 0, 0, 0, 0, 0, 0, 0, 0, 0, 0, 0]
 }
 
+// Asserts that a run ended as the case says, and wrote this.
+fn assert_ended(rt: &impl Abort, ran: &Outcome, case: &Case<'_>, written: &str) {
+    let source = case.source;
+    let batches = applied(case.batches);
+    assert_eq!(rt; ran.status, case.status, "after {source}");
+    assert_eq!(rt; ran.written.as_str(), written, "after {source}");
+    assert_eq!(rt;
+        ran.batches.as_slice(),
+        batches.as_slice(),
+        "after {source}"
+    );
+}
+
 #[test]
 fn runs_end_and_write_as_the_table_says(rt: HostRuntime) -> Result<(), Fail> {
+    let alloc = rt.alloc();
     for case in &CASES {
-        let source = case.source;
-        let ran = case_ended(rt.alloc(), case, Vec::new(rt.alloc()))?;
-        let written = named(rt.alloc(), case.written)?;
-        let batches = applied(case.batches);
-        assert_eq!(rt; ran.status, case.status, "after {source}");
-        assert_eq!(rt; ran.written.as_str(), written.as_str(), "after {source}");
-        assert_eq!(rt;
-            ran.batches.as_slice(),
-            batches.as_slice(),
-            "after {source}"
-        );
+        let source = named(alloc, case.source)?;
+        let written = named(alloc, case.written)?;
+        let ran = case_ended(&rt, alloc, source.as_str(), case, Vec::new(alloc));
+        assert_ended(&rt, &ran, case, written.as_str());
+        drop(ran);
+        drop(written);
+        drop(source);
     }
     Ok(())
 }
 
 // A row of the administration that is none.
-fn none(alloc: Global) -> Result<Vec<AdminRow>, Fail> {
+fn none(rt: &impl Abort, alloc: Global) -> Vec<AdminRow> {
     let row = AdminRow {
         kind: 1,
-        name: Items::of(b"name".to_vec(alloc)?),
+        name: Items::of(b"name".to_vec(alloc).expect(rt, "memory")),
         bytes: Items::of(Vec::new(alloc)),
     };
-    Ok(vec![in alloc; row]?)
+    vec![in alloc; row].expect(rt, "memory")
 }
 
 #[test]
 fn a_row_of_the_administration_that_is_none_ends_the_run(rt: HostRuntime) -> Result<(), Fail> {
+    let alloc = rt.alloc();
     let case = Case {
         words: "net",
         source: "{net}---\n{A adds} {wave}\n",
@@ -131,9 +190,10 @@ fn a_row_of_the_administration_that_is_none_ends_the_run(rt: HostRuntime) -> Res
         written: "",
         batches: 1,
     };
-    let ran = case_ended(rt.alloc(), &case, none(rt.alloc())?)?;
-    assert_eq!(rt; ran.status, case.status);
-    assert_eq!(rt; ran.written.as_str(), case.written);
-    assert_eq!(rt; ran.batches.as_slice(), applied(case.batches).as_slice());
+    let source = named(alloc, case.source)?;
+    let ran = case_ended(&rt, alloc, source.as_str(), &case, none(&rt, alloc));
+    assert_ended(&rt, &ran, &case, case.written);
+    drop(ran);
+    drop(source);
     Ok(())
 }

@@ -3,32 +3,28 @@
 use misp_app::{KEEPERS, Status, run};
 use misp_outside::{Door, MemCarry, MemDial, MemDoor, MemKeeper, MemSink, MemSource, StepClock};
 use std::alloc::Global;
-use std::test::Fail;
+use std::process::Abort;
 
 /// As many keepers as a run asks for, of which this one is the first and the others hold nothing.
-pub(super) fn keepers(alloc: Global, first: MemKeeper) -> Result<Vec<MemKeeper>, Fail> {
+pub(super) fn keepers(rt: &impl Abort, alloc: Global, first: MemKeeper) -> Vec<MemKeeper> {
     let mut keepers = Vec::new(alloc);
-    keepers.push(first)?;
+    keepers.push(first).expect(rt, "memory");
     for _ in 1..KEEPERS {
-        keepers.push(MemKeeper::new(alloc, Vec::new(alloc)))?;
+        let keeper = MemKeeper::new(alloc, Vec::new(alloc));
+        keepers.push(keeper).expect(rt, "memory");
     }
-    Ok(keepers)
+    keepers
 }
 
-/// The same, all of which hold nothing.
-pub(super) fn empty_keepers(alloc: Global) -> Result<Vec<MemKeeper>, Fail> {
-    keepers(alloc, MemKeeper::new(alloc, Vec::new(alloc)))
+// The same, all of which hold nothing.
+fn empty_keepers(rt: &impl Abort, alloc: Global) -> Vec<MemKeeper> {
+    keepers(rt, alloc, MemKeeper::new(alloc, Vec::new(alloc)))
 }
 
-/// A source of this text, of which no call fails.
-pub(super) fn source(alloc: Global, text: &str) -> Result<MemSource, Fail> {
-    let bytes = text.as_bytes().to_vec(alloc)?;
-    Ok(MemSource::new(bytes, Vec::new(alloc), Vec::new(alloc)))
-}
-
-/// A sink of which no call fails.
-pub(super) fn sink(alloc: Global) -> MemSink {
-    MemSink::new(alloc, Vec::new(alloc))
+// A source of this text, of which no call fails.
+fn source(rt: &impl Abort, alloc: Global, text: &str) -> MemSource {
+    let bytes = text.as_bytes().to_vec(alloc).expect(rt, "memory");
+    MemSource::new(bytes, Vec::new(alloc), Vec::new(alloc))
 }
 
 /// A carry of which no call fails.
@@ -37,9 +33,8 @@ pub(super) fn carry(alloc: Global) -> MemCarry {
 }
 
 /// A door to which nobody comes.
-pub(super) fn idle_door(alloc: Global) -> Result<MemDoor, Fail> {
-    let door = MemDoor::new(alloc, Vec::new(alloc), Vec::new(alloc));
-    Ok(door.ok().ok_or("no memory")?)
+pub(super) fn idle_door(rt: &impl Abort, alloc: Global) -> MemDoor {
+    MemDoor::new(alloc, Vec::new(alloc), Vec::new(alloc)).expect(rt, "memory")
 }
 
 /// A dial that reaches nobody.
@@ -47,36 +42,71 @@ pub(super) fn idle_dial(alloc: Global) -> MemDial {
     MemDial::new(alloc, Vec::new(alloc), Vec::new(alloc))
 }
 
+// The words of a line, with one space between any two.
+fn words_of(rt: &impl Abort, alloc: Global, line: &str) -> Vec<String> {
+    let mut words = Vec::new(alloc);
+    for word in line.split(' ') {
+        let word = String::from_str(alloc, word).expect(rt, "memory");
+        words.push(word).expect(rt, "memory");
+    }
+    words
+}
+
+// What a sink has.
+fn written(rt: &impl Abort, alloc: Global, sink: &MemSink) -> String {
+    let bytes = sink.bytes().to_vec(alloc).expect(rt, "memory");
+    String::from_utf8(bytes).expect(rt, "a text")
+}
+
 /// How a run of these words ends over these, and what it writes.
 #[tactic(auto, using(misp_app::proofs::Hosted::enough_keepers))]
 pub(super) fn ran<D: Door>(
+    rt: &impl Abort,
     alloc: Global,
     line: &str,
-    mut source: MemSource,
-    mut sink: MemSink,
+    source: &mut MemSource,
     keepers: &mut Vec<MemKeeper>,
     carry: &mut MemCarry,
     door: &mut D,
     dial: &mut MemDial,
-) -> Result<(Status, String), Fail> {
-    let mut words = Vec::new(alloc);
-    for word in line.split(' ') {
-        words.push(String::from_str(alloc, word)?)?;
-    }
-    if keepers.len() < KEEPERS {
-        return Err(Fail::from("too few keepers"));
-    }
+    sink: &mut MemSink,
+) -> (Status, String) {
+    assert!(rt; keepers.len() >= KEEPERS);
+    let words = words_of(rt, alloc, line);
     let mut clock = StepClock { time: 0, word: 0 };
     let status = run(
+        alloc, &words, source, sink, keepers, carry, door, dial, &mut clock,
+    );
+    drop(words);
+    (status, written(rt, alloc, sink))
+}
+
+/// The same from a source of this text over keepers that hold nothing, of which no call fails.
+pub(super) fn ran_from<D: Door>(
+    rt: &impl Abort,
+    alloc: Global,
+    line: &str,
+    text: &str,
+    carry: &mut MemCarry,
+    door: &mut D,
+    dial: &mut MemDial,
+) -> (Status, String) {
+    let mut source = source(rt, alloc, text);
+    let mut keepers = empty_keepers(rt, alloc);
+    let mut sink = MemSink::new(alloc, Vec::new(alloc));
+    let ran = ran(
+        rt,
         alloc,
-        &words,
+        line,
         &mut source,
-        &mut sink,
-        keepers,
+        &mut keepers,
         carry,
         door,
         dial,
-        &mut clock,
+        &mut sink,
     );
-    Ok((status, String::from_utf8(sink.bytes().to_vec(alloc)?)?))
+    drop(source);
+    drop(keepers);
+    drop(sink);
+    ran
 }

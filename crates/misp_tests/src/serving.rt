@@ -2,11 +2,11 @@
 
 mod sockets;
 
-use crate::outside::{carry, empty_keepers, idle_dial, ran, sink, source};
+use crate::outside::{carry, idle_dial, ran_from};
 use misp_app::Status;
 use misp_outside::{Door, MemDoor, MemSink, MemSource};
 use std::alloc::Global;
-use std::test::Fail;
+use std::process::Abort;
 
 /// An instance of one organisation.
 const NET: &str = "[[org]]\nname = \"Alpha\"\nuuid = \"aaaaaaaa-0000-4000-8000-000000000001\"\n\
@@ -22,51 +22,61 @@ const REPLY: &str = "HTTP/1.1 404 Not Found\r\nContent-Type: application/json\r\
     Content-Length: 41\r\n\r\n{\"name\":\"NotGranted\",\"place\":\"\",\"rule\":9}";
 
 // A connection that sends a text so often.
-fn sends(alloc: Global, text: &str, often: usize) -> Result<(MemSource, MemSink), Fail> {
+fn sends(rt: &impl Abort, alloc: Global, text: &str, often: usize) -> (MemSource, MemSink) {
     let mut bytes = Vec::new(alloc);
     for _ in 0..often {
-        bytes.extend_from_slice(text.as_bytes())?;
+        bytes
+            .extend_from_slice(text.as_bytes())
+            .expect(rt, "memory");
     }
     let source = MemSource::new(bytes, Vec::new(alloc), Vec::new(alloc));
-    Ok((source, MemSink::new(alloc, Vec::new(alloc))))
+    (source, MemSink::new(alloc, Vec::new(alloc)))
 }
 
 // How a run of these words ends, and what it writes.
-fn served<D: Door>(alloc: Global, line: &str, door: &mut D) -> Result<(Status, String), Fail> {
-    let source = source(alloc, NET)?;
-    let mut keepers = empty_keepers(alloc)?;
+fn served<D: Door>(rt: &impl Abort, alloc: Global, line: &str, door: &mut D) -> (Status, String) {
     let mut carry = carry(alloc);
     let mut dial = idle_dial(alloc);
-    let sink = sink(alloc);
-    ran(
-        alloc,
-        line,
-        source,
-        sink,
-        &mut keepers,
-        &mut carry,
-        door,
-        &mut dial,
-    )
+    let served = ran_from(rt, alloc, line, NET, &mut carry, door, &mut dial);
+    drop(carry);
+    drop(dial);
+    served
+}
+
+// Asserts how a run of these words ends, and what it writes.
+fn assert_served<D: Door>(
+    rt: &impl Abort,
+    alloc: Global,
+    line: &str,
+    door: &mut D,
+    want: (Status, &str),
+) {
+    let (status, written) = served(rt, alloc, line, door);
+    assert_eq!(rt; status, want.0, "{line}");
+    assert_eq!(rt; written.as_str(), want.1, "{line}");
+    drop(written);
+}
+
+// A door through which two connections come, of which the second ends within a request.
+fn door_of_two(rt: &impl Abort, alloc: Global) -> MemDoor {
+    let cut = VIEW.get(..20).expect(rt, "a longer text");
+    let pairs = vec![in alloc; sends(rt, alloc, VIEW, 2), sends(rt, alloc, cut, 1)];
+    MemDoor::new(alloc, pairs.expect(rt, "memory"), Vec::new(alloc)).expect(rt, "memory")
 }
 
 #[test]
-fn connections_are_served_one_after_another(rt: HostRuntime) -> Result<(), Fail> {
+fn connections_are_served_one_after_another(rt: HostRuntime) {
     let alloc = rt.alloc();
-    let cut = VIEW.get(..20).ok_or("short")?;
-    let pairs = vec![in alloc; sends(alloc, VIEW, 2)?, sends(alloc, cut, 1)?]?;
-    let door = MemDoor::new(alloc, pairs, Vec::new(alloc));
-    let mut door = door.ok().ok_or("no memory")?;
-    let (status, written) = served(alloc, "serve a 127.0.0.1:0 2", &mut door)?;
-    assert_eq!(rt; status, Status::Done);
-    assert_eq!(rt; written.as_str(), "1 Ended 2\n2 Cut 0\n");
+    let mut door = door_of_two(&rt, alloc);
+    let want = (Status::Done, "1 Ended 2\n2 Cut 0\n");
+    assert_served(&rt, alloc, "serve a 127.0.0.1:0 2", &mut door, want);
     let back = door.back();
     assert_eq!(rt; back.len(), 2);
     let (first, second) = back[0].1.bytes().split_at(back[0].1.bytes().len() / 2);
     assert_eq!(rt; first, REPLY.as_bytes());
     assert_eq!(rt; second, REPLY.as_bytes());
     assert_eq!(rt; back[1].1.bytes().len(), 0);
-    Ok(())
+    drop(door);
 }
 
 /// Words, how many connections come, the calls of the door that fail, and how it ends.
@@ -78,19 +88,23 @@ const ENDS: [(&str, usize, u64, Status, &str); 5] = [
     ("serve a -x 1", 1, 0, Status::Usage, ""),
 ];
 
-#[test]
-fn serving_ends_as_the_table_says(rt: HostRuntime) -> Result<(), Fail> {
-    let alloc = rt.alloc();
-    for (line, count, fails, wanted, text) in &ENDS {
-        let mut pairs = Vec::new(alloc);
-        for _ in 0..*count {
-            pairs.push(sends(alloc, VIEW, 1)?)?;
-        }
-        let door = MemDoor::new(alloc, pairs, vec![in alloc; *fails]?);
-        let mut door = door.ok().ok_or("no memory")?;
-        let (status, written) = served(alloc, line, &mut door)?;
-        assert_eq!(rt; status, *wanted, "{line}");
-        assert_eq!(rt; written.as_str(), *text, "{line}");
+// A door through which so many connections come, and whose call of this number fails.
+fn door_of(rt: &impl Abort, alloc: Global, count: usize, fails: u64) -> MemDoor {
+    let mut pairs = Vec::new(alloc);
+    for _ in 0..count {
+        let pair = sends(rt, alloc, VIEW, 1);
+        pairs.push(pair).expect(rt, "memory");
     }
-    Ok(())
+    let fails = vec![in alloc; fails].expect(rt, "memory");
+    MemDoor::new(alloc, pairs, fails).expect(rt, "memory")
+}
+
+#[test]
+fn serving_ends_as_the_table_says(rt: HostRuntime) {
+    let alloc = rt.alloc();
+    for (line, count, fails, status, text) in &ENDS {
+        let mut door = door_of(&rt, alloc, *count, *fails);
+        assert_served(&rt, alloc, line, &mut door, (*status, text));
+        drop(door);
+    }
 }

@@ -1,9 +1,10 @@
 //! Pulls and pushes over a carry in memory that fails at one of its calls.
 
-use crate::outside::{empty_keepers, idle_dial, idle_door, ran, sink, source};
+use crate::outside::{idle_dial, idle_door, ran_from};
 use misp_app::Status;
 use misp_outside::MemCarry;
 use std::alloc::Global;
+use std::process::Abort;
 use std::test::Fail;
 
 /// What the names in the texts stand for, in the order in which they are put in.
@@ -84,29 +85,17 @@ const PUSHES: [(u64, &str, &str, &str); 8] = [
     (8, "2", "0", "0"),
 ];
 
-// What is written for a source where the carry fails at this call.
-fn written(alloc: Global, text: &str, fails: u64) -> Result<String, Fail> {
-    let text = misp_samples::filled(alloc, &NAMES, text)?;
-    let source = source(alloc, text.as_str())?;
-    let mut keepers = empty_keepers(alloc)?;
-    let mut carry = MemCarry::new(alloc, vec![in alloc; fails]?);
-    let mut door = idle_door(alloc)?;
+// How a run of this source ends where the carry fails at this call, and what it writes.
+fn stopped(rt: &impl Abort, alloc: Global, text: &str, fails: u64) -> (Status, String) {
+    let fails = vec![in alloc; fails].expect(rt, "memory");
+    let mut carry = MemCarry::new(alloc, fails);
+    let mut door = idle_door(rt, alloc);
     let mut dial = idle_dial(alloc);
-    let sink = sink(alloc);
-    let (status, written) = ran(
-        alloc,
-        "net",
-        source,
-        sink,
-        &mut keepers,
-        &mut carry,
-        &mut door,
-        &mut dial,
-    )?;
-    if status != Status::Done {
-        return Err(Fail::from("the run is not done"));
-    }
-    Ok(written)
+    let stopped = ran_from(rt, alloc, "net", text, &mut carry, &mut door, &mut dial);
+    drop(carry);
+    drop(door);
+    drop(dial);
+    stopped
 }
 
 // The line that stopped after so many packages, and the next one, which takes so much.
@@ -127,28 +116,36 @@ fn wanted<'a>(
     misp_samples::filled(alloc, &names, text)
 }
 
+// Asserts the end of what is written for this source where the carry fails at this call.
+fn assert_stopped(rt: &impl Abort, alloc: Global, text: &str, fails: u64, want: &str) {
+    let (status, written) = stopped(rt, alloc, text, fails);
+    assert_eq!(rt; status, Status::Done);
+    assert!(rt; written.as_str().ends_with(want), "call {fails}: {written}");
+    drop(written);
+}
+
 #[test]
 fn a_pull_over_a_carry_that_fails_says_what_it_took(rt: HostRuntime) -> Result<(), Fail> {
+    let alloc = rt.alloc();
+    let text = misp_samples::filled(alloc, &NAMES, PULL)?;
     for (fails, told, elements, left) in PULLS {
-        let written = written(rt.alloc(), PULL, fails)?;
-        let wanted = wanted(rt.alloc(), told, elements, left)?;
-        assert!(rt;
-            written.as_str().ends_with(wanted.as_str()),
-            "call {fails}: {written}"
-        );
+        let want = wanted(alloc, told, elements, left)?;
+        assert_stopped(&rt, alloc, text.as_str(), fails, want.as_str());
+        drop(want);
     }
+    drop(text);
     Ok(())
 }
 
 #[test]
 fn a_push_over_a_carry_that_fails_says_what_was_answered(rt: HostRuntime) -> Result<(), Fail> {
+    let alloc = rt.alloc();
+    let text = misp_samples::filled(alloc, &NAMES, PUSH)?;
     for (fails, told, elements, left) in PUSHES {
-        let written = written(rt.alloc(), PUSH, fails)?;
-        let wanted = wanted(rt.alloc(), told, elements, left)?;
-        assert!(rt;
-            written.as_str().ends_with(wanted.as_str()),
-            "call {fails}: {written}"
-        );
+        let want = wanted(alloc, told, elements, left)?;
+        assert_stopped(&rt, alloc, text.as_str(), fails, want.as_str());
+        drop(want);
     }
+    drop(text);
     Ok(())
 }

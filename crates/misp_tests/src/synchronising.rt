@@ -1,10 +1,10 @@
 //! Synchronisations over a dial in memory.
 
-use crate::outside::{carry, empty_keepers, idle_door, ran, sink, source};
+use crate::outside::{carry, idle_door, ran_from};
 use misp_app::Status;
 use misp_outside::MemDial;
 use std::alloc::Global;
-use std::test::Fail;
+use std::process::Abort;
 
 /// Instances a, b and c, of which c has no address. At b is a link to a, one to it that is off, and
 /// one to c.
@@ -105,47 +105,45 @@ const ENDS: [(&str, [&str; 2], Status, &str, usize, &str); 9] = [
 ];
 
 // A dial with these replies, but for empty ones.
-fn answering(alloc: Global, replies: &[&str]) -> Result<MemDial, Fail> {
+fn answering(rt: &impl Abort, alloc: Global, replies: &[&str]) -> MemDial {
     let mut all = Vec::new(alloc);
     for reply in replies {
         if !reply.is_empty() {
-            all.push(reply.as_bytes().to_vec(alloc)?)?;
+            let bytes = reply.as_bytes().to_vec(alloc).expect(rt, "memory");
+            all.push(bytes).expect(rt, "memory");
         }
     }
-    Ok(MemDial::new(alloc, all, Vec::new(alloc)))
+    MemDial::new(alloc, all, Vec::new(alloc))
 }
 
 // How a run of these words ends, and what it writes.
-fn synced(alloc: Global, line: &str, dial: &mut MemDial) -> Result<(Status, String), Fail> {
-    let source = source(alloc, NET)?;
-    let mut keepers = empty_keepers(alloc)?;
+fn synced(rt: &impl Abort, alloc: Global, line: &str, dial: &mut MemDial) -> (Status, String) {
     let mut carry = carry(alloc);
-    let mut door = idle_door(alloc)?;
-    let sink = sink(alloc);
-    ran(
-        alloc,
-        line,
-        source,
-        sink,
-        &mut keepers,
-        &mut carry,
-        &mut door,
-        dial,
-    )
+    let mut door = idle_door(rt, alloc);
+    let synced = ran_from(rt, alloc, line, NET, &mut carry, &mut door, dial);
+    drop(carry);
+    drop(door);
+    synced
+}
+
+// Asserts how often the peer is asked, and at which address.
+fn assert_asks(rt: &impl Abort, dial: &MemDial, line: &str, count: usize, address: &str) {
+    assert_eq!(rt; dial.asks().len(), count, "{line}");
+    for ask in dial.asks() {
+        assert_eq!(rt; ask.address.as_slice(), address.as_bytes(), "{line}");
+    }
 }
 
 #[test]
-fn synchronising_ends_as_the_table_says(rt: HostRuntime) -> Result<(), Fail> {
+fn synchronising_ends_as_the_table_says(rt: HostRuntime) {
     let alloc = rt.alloc();
     for (line, replies, wanted, text, count, address) in &ENDS {
-        let mut dial = answering(alloc, replies)?;
-        let (status, written) = synced(alloc, line, &mut dial)?;
+        let mut dial = answering(&rt, alloc, replies);
+        let (status, written) = synced(&rt, alloc, line, &mut dial);
         assert_eq!(rt; status, *wanted, "{line}");
         assert_eq!(rt; written.as_str(), *text, "{line}");
-        assert_eq!(rt; dial.asks().len(), *count, "{line}");
-        for ask in dial.asks() {
-            assert_eq!(rt; ask.address.as_slice(), address.as_bytes(), "{line}");
-        }
+        drop(written);
+        assert_asks(&rt, &dial, line, *count, address);
+        drop(dial);
     }
-    Ok(())
 }
