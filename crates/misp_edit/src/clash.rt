@@ -52,10 +52,10 @@ fn used_uuids(
 fn part_uuids(alloc: Global, parts: &[Draft], event: EventId) -> Result<Vec<(u32, u128)>, NoMemory>
     ensures { IfOk result (λ uuids. uuids.items ≡ map (part_uuid event) parts.now) }
 {
-    let mut uuids = Vec::with_capacity(alloc, parts.len())?;
-    for draft in parts {
-        uuids.push((draft.number, uuid_at(event, draft.place)))?;
-    }
+    let uuids = parts
+        .iter()
+        .map(|draft| (draft.number, uuid_at(event, draft.place)))
+        .collect(alloc)?;
     Ok(uuids)
 }
 

@@ -61,12 +61,7 @@ fn live_reference<'a>(
     ensures { option_copied result
         ≡ live_reference rows.now owner.now event.now object.now reference.now }
 {
-    for row in rows {
-        if is_live_reference(row, rows, owner, event, object, reference) {
-            return Some(row);
-        }
-    }
-    None
+    rows.iter().find(|row| is_live_reference(row, rows, owner, event, object, reference))
 }
 
 fn is_there(row: Option<&Row>) -> bool
