@@ -6,6 +6,8 @@ mod app;
 #[cfg(test)]
 mod outside;
 #[cfg(test)]
+mod records;
+#[cfg(test)]
 mod serving;
 #[cfg(test)]
 mod stopping;

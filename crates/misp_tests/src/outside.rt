@@ -1,7 +1,9 @@
 //! What is outside of a run: streams, keepers, a door and a dial in memory.
 
 use misp_app::{KEEPERS, Status, run};
-use misp_outside::{Door, MemCarry, MemDial, MemDoor, MemKeeper, MemSink, MemSource, StepClock};
+use misp_outside::{
+    Door, Keeper, MemCarry, MemDial, MemDoor, MemKeeper, MemSink, MemSource, StepClock,
+};
 use std::alloc::Global;
 use std::process::Abort;
 
@@ -16,8 +18,8 @@ pub(super) fn keepers(rt: &impl Abort, alloc: Global, first: MemKeeper) -> Vec<M
     keepers
 }
 
-// The same, all of which hold nothing.
-fn empty_keepers(rt: &impl Abort, alloc: Global) -> Vec<MemKeeper> {
+/// The same, all of which hold nothing.
+pub(super) fn empty_keepers(rt: &impl Abort, alloc: Global) -> Vec<MemKeeper> {
     keepers(rt, alloc, MemKeeper::new(alloc, Vec::new(alloc)))
 }
 
@@ -60,12 +62,12 @@ fn written(rt: &impl Abort, alloc: Global, sink: &MemSink) -> String {
 
 /// How a run of these words ends over these, and what it writes.
 #[tactic(auto, using(misp_app::proofs::Hosted::enough_keepers))]
-pub(super) fn ran<D: Door>(
+pub(super) fn ran<K: Keeper, D: Door>(
     rt: &impl Abort,
     alloc: Global,
     line: &str,
     source: &mut MemSource,
-    keepers: &mut Vec<MemKeeper>,
+    keepers: &mut Vec<K>,
     carry: &mut MemCarry,
     door: &mut D,
     dial: &mut MemDial,
@@ -81,7 +83,36 @@ pub(super) fn ran<D: Door>(
     (status, written(rt, alloc, sink))
 }
 
-/// The same from a source of this text over keepers that hold nothing, of which no call fails.
+/// The same from a source of this text, of which no call fails.
+pub(super) fn ran_over<K: Keeper, D: Door>(
+    rt: &impl Abort,
+    alloc: Global,
+    line: &str,
+    text: &str,
+    keepers: &mut Vec<K>,
+    carry: &mut MemCarry,
+    door: &mut D,
+    dial: &mut MemDial,
+) -> (Status, String) {
+    let mut source = source(rt, alloc, text);
+    let mut sink = MemSink::new(alloc, Vec::new(alloc));
+    let ran = ran(
+        rt,
+        alloc,
+        line,
+        &mut source,
+        keepers,
+        carry,
+        door,
+        dial,
+        &mut sink,
+    );
+    drop(source);
+    drop(sink);
+    ran
+}
+
+/// The same over keepers that hold nothing, of which no call fails.
 pub(super) fn ran_from<D: Door>(
     rt: &impl Abort,
     alloc: Global,
@@ -91,22 +122,8 @@ pub(super) fn ran_from<D: Door>(
     door: &mut D,
     dial: &mut MemDial,
 ) -> (Status, String) {
-    let mut source = source(rt, alloc, text);
     let mut keepers = empty_keepers(rt, alloc);
-    let mut sink = MemSink::new(alloc, Vec::new(alloc));
-    let ran = ran(
-        rt,
-        alloc,
-        line,
-        &mut source,
-        &mut keepers,
-        carry,
-        door,
-        dial,
-        &mut sink,
-    );
-    drop(source);
+    let ran = ran_over(rt, alloc, line, text, &mut keepers, carry, door, dial);
     drop(keepers);
-    drop(sink);
     ran
 }

@@ -8,9 +8,9 @@ mod http;
 #[cfg(test)]
 mod outside;
 #[cfg(test)]
-mod script;
+mod records;
 #[cfg(test)]
-mod sqlite;
+mod script;
 #[cfg(test)]
 mod values;
 #[cfg(test)]
