@@ -63,7 +63,10 @@ pub(crate) fn part<'a>(list: &'a [Row], event: &EventId) -> &'a [Row]
 fn numbers(alloc: Global, list: &[Row]) -> Result<Vec<u128>, NoMemory>
     ensures { IfOk result (λ numbers. numbers.items ≡ map event_number list.now) }
 {
-    let numbers = list.iter().map(|row| event_number(row)).collect(alloc)?;
+    let mut numbers = Vec::with_capacity(alloc, list.len())?;
+    for row in list {
+        numbers.push(event_number(row))?;
+    }
     Ok(numbers)
 }
 
