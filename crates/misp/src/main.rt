@@ -3,7 +3,7 @@
 //! the usage.
 #![tactic(auto)]
 
-ghost use Rattle.std.specs.Prelude.{◌≡◌, ◌≤◌, IfOk, map, string_bytes, vec_len};
+ghost use Rattle.std.specs.Prelude.{◌≡◌, ◌≤◌, IfOk, vec_len};
 ghost use Rattle.misp_app.specs.Limits.{least_keepers};
 ghost use Rattle.misp_app.specs.Status.{HasKeepers};
 ghost use Rattle.misp_words.specs.Words.{command_of};
@@ -16,7 +16,7 @@ use misp_outside::{
     Dial, Door, Keeper, MemDial, MemDoor, StandardInput, StandardOutput, SureCarry, SureKeeper,
     SystemClock, TcpDial, TcpDoor,
 };
-use misp_words::{Command, ServeWords, USAGE, WordsFault, read_words};
+use misp_words::{Command, ServeWords, USAGE, Words, WordsFault};
 use std::alloc::{AllocError, Global};
 use std::env;
 use std::io::{self, BufReader};
@@ -46,12 +46,12 @@ fn no_dial(alloc: Global) -> MemDial {
 // What the words ask for, over the streams of the system, keepers, a door and a dial.
 fn run_between<K: Keeper, D: Door, L: Dial>(
     rt: &HostRuntime,
-    words: &[String],
+    words: &Words<'_>,
     keepers: &mut Vec<K>,
     door: &mut D,
     dial: &mut L,
 ) -> io::Result<Status>
-    requires { HasKeepers (command_of (map string_bytes words.now)) (vec_len keepers.old) }
+    requires { HasKeepers (command_of words.now) (vec_len keepers.old) }
 {
     let alloc = rt.alloc();
     let mut source = StandardInput::new(BufReader::new(alloc, rt.reader())?);
@@ -72,12 +72,12 @@ fn run_between<K: Keeper, D: Door, L: Dial>(
 // The same over the records of an instance. Where they cannot be had, nothing is run.
 fn run_with_records<D: Door, L: Dial>(
     rt: &HostRuntime,
-    words: &[String],
+    words: &Words<'_>,
     name: &InstId,
     door: &mut D,
     dial: &mut L,
 ) -> io::Result<Status>
-    requires { HasKeepers (command_of (map string_bytes words.now)) 1 }
+    requires { HasKeepers (command_of words.now) 1 }
 {
     let keeper = match records::open(rt, name) {
         Ok(keeper) => keeper,
@@ -90,8 +90,8 @@ fn run_with_records<D: Door, L: Dial>(
 }
 
 // Serves an instance behind a socket. Where it cannot be had, nothing is run.
-fn serve_at(rt: &HostRuntime, words: &[String], serve: &ServeWords<'_>) -> io::Result<Status>
-    requires { HasKeepers (command_of (map string_bytes words.now)) 1 }
+fn serve_at(rt: &HostRuntime, words: &Words<'_>, serve: &ServeWords<'_>) -> io::Result<Status>
+    requires { HasKeepers (command_of words.now) 1 }
 {
     let mut dial = no_dial(rt.alloc());
     match TcpListener::bind(rt, serve.address) {
@@ -104,8 +104,8 @@ fn serve_at(rt: &HostRuntime, words: &[String], serve: &ServeWords<'_>) -> io::R
 }
 
 // Synchronises an instance with peers that are asked over sockets.
-fn sync_with(rt: &HostRuntime, words: &[String], name: &InstId) -> io::Result<Status>
-    requires { HasKeepers (command_of (map string_bytes words.now)) 1 }
+fn sync_with(rt: &HostRuntime, words: &Words<'_>, name: &InstId) -> io::Result<Status>
+    requires { HasKeepers (command_of words.now) 1 }
 {
     run_with_records(
         rt,
@@ -118,7 +118,7 @@ fn sync_with(rt: &HostRuntime, words: &[String], name: &InstId) -> io::Result<St
 
 // Runs what needs no file, where nobody comes or is asked.
 #[tactic(auto, using(misp_app::proofs::Hosted::enough_keepers))]
-fn run_in_memory(rt: &HostRuntime, words: &[String]) -> io::Result<Status> {
+fn run_in_memory(rt: &HostRuntime, words: &Words<'_>) -> io::Result<Status> {
     let alloc = rt.alloc();
     let mut keepers = keepers(alloc)?;
     run_between(
@@ -132,9 +132,10 @@ fn run_in_memory(rt: &HostRuntime, words: &[String]) -> io::Result<Status> {
 
 fn main(rt: HostRuntime) -> io::Result<ExitCode> {
     let alloc = rt.alloc();
-    let words: Vec<String> = env::args(&rt)?.skip(1).collect(alloc)?;
-    let status = match read_words(alloc, &words) {
-        Ok(Command::Serve(serve)) => serve_at(&rt, &words, &serve)?,
+    let given: Vec<String> = env::args(&rt)?.skip(1).collect(alloc)?;
+    let words = Words::read(alloc, &given);
+    let status = match words.command() {
+        Ok(Command::Serve(serve)) => serve_at(&rt, &words, serve)?,
         Ok(Command::Sync(sync)) => sync_with(&rt, &words, &sync.name)?,
         Err(WordsFault::OutOfMemory) => Status::OutOfMemory,
         _ => run_in_memory(&rt, &words)?,

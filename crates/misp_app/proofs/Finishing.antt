@@ -1,5 +1,5 @@
 -- Over keepers that hold nothing, where nothing fails, a run stops only where memory runs out.
-use Rattle.std.proofs.Common.{◌≡◌, ℕ, zero, suc, ◌⊎◌, List, [], ◌∷◌, ◌<◌, ◌≤◌, true, nat_lt, length, take, Option, Some, None, refl, sym, ◌∙◌, inl, inr, arith, IfSome, Ok, Err}
+use Rattle.std.proofs.Common.{◌≡◌, ℕ, zero, suc, ◌⊎◌, List, [], ◌∷◌, ◌<◌, ◌≤◌, true, nat_lt, length, take, Option, Some, None, refl, sym, ◌∙◌, subst, inl, inr, arith, IfSome, Ok, Err}
 use Rattle.std.proofs.lemmas.Bool.{cases_Bool}
 use Rattle.std.proofs.lemmas.Bool.Decides.{nat_tests}
 use Rattle.misp_script.specs.Faults.{Reading}
@@ -8,11 +8,11 @@ use Rattle.misp_effects.proofs.KeeperStates.{one_of_all}
 use Rattle.misp_store.specs.Sharing.{may_be_unsound}
 use Rattle.misp_net.specs.Prelude.{Description, KeeperState, nothing_held}
 use Rattle.misp_net.proofs.Openings.{nothing_is_sound}
-use Rattle.misp_words.specs.Words.{Net}
+use Rattle.misp_words.specs.Words.{CommandData, Net}
 use Rattle.misp_app.specs.declared.status.Status.{Status}
-use Rattle.misp_app.specs.Status.{IsStopped}
+use Rattle.misp_app.specs.Status.{IsStopped, IsSyncStopped}
 use Rattle.misp_app.specs.Limits.{source_limit}
-use Rattle.misp_app.specs.Source.{described, described_status, status_of, IsUnsound, HasFailed, HoldNothing}
+use Rattle.misp_app.specs.Source.{described, described_status, status_of, status_over, IsUnsound, HasFailed, HoldNothing}
 
 -- who holds nothing holds no row of the administration that is none
 none_unsound : (old : List KeeperState) (n : ℕ) → HoldNothing old → may_be_unsound (take n old) ≡ true → ⊥
@@ -52,11 +52,30 @@ below : (m n : ℕ) → nat_lt m n ≡ true → m < n
 below m n is = grind (arith, nat_tests)
 
 -- a source that is not too long ends as its description says
-status_short : (source : List ℕ) → length source ≤ source_limit → status_of Net source ≡ described_status (described source)
-status_short source short = elim (cases_Bool (nat_lt source_limit (length source))) [
+status_within : (command : CommandData) (source : List ℕ) → length source ≤ source_limit → status_of command source ≡ status_over command (described source)
+status_within command source short = elim (cases_Bool (nat_lt source_limit (length source))) [
   | inl more ↦ absurd (let lt : source_limit < length source = below source_limit (length source) more in omega (arith, lt, short))
   | inr less ↦ rw less refl
 ]
+
+status_short : (source : List ℕ) → length source ≤ source_limit → status_of Net source ≡ described_status (described source)
+status_short source short = status_within Net source short
+
+-- what holds of the bytes that were read holds of what the source had left
+pub of_left : (o : Option (List ℕ)) (bytes here : List ℕ) (P : List ℕ → Type 0) → IfSome o (λ left. bytes ≡ left) → here ≡ bytes → P here → IfSome o P
+of_left None bytes here P is same holds = tt
+of_left (Some left) bytes here P is same holds = subst P (same ∙ is) holds
+
+-- how a command ended over these bytes is how the words ended over the source
+pub status_read : (o : Option CommandData) (command : CommandData) (left : Option (List ℕ)) (bytes here : List ℕ) (status : Status)
+    → o ≡ Some command → IfSome left (λ l. bytes ≡ l) → here ≡ bytes → length bytes ≤ source_limit
+    → IsStopped status ⊎ (IsSyncStopped command status ⊎ (status ≡ status_over command (described here)))
+    → IfSome o (λ c. IfSome left (λ l. IsStopped status ⊎ (IsSyncStopped c status ⊎ (status ≡ status_of c l))))
+status_read o command left bytes here status read is same short how =
+    let P : CommandData → List ℕ → Type 0 = λ c l. IsStopped status ⊎ (IsSyncStopped c status ⊎ (status ≡ status_of c l)) in
+    let within : length here ≤ source_limit = rw same short in
+    let ended : P command here = rw (status_within command here within) how in
+    subst (λ o. IfSome o (λ c. IfSome left (P c))) (sym read) (of_left left bytes here (P command) is same ended)
 
 module _ (status : Status) (old new : List KeeperState) (bytes : List ℕ) (short : length bytes ≤ source_limit)
     (end : IsStopped status ⊎ (status ≡ described_status (described bytes))) (read : status ≡ Status.ReadFault → ⊥) (write : status ≡ Status.WriteFault → ⊥)

@@ -31,12 +31,10 @@ pub told_barred : {X : Type 0} (o : Option Refusal) (reply : SyncReply) (start e
 told_barred None reply start end asks faults old new held = tt
 told_barred (Some why) reply start end asks faults old new held = (held.0, held.1, ap (λ d. dialled (asks d) (faults d)) held.2)
 
--- what holds of an instance and an address holds of the instance of the name and of its address
+-- what holds of an instance and its address holds of the instance of the name and its address
 pub named : (o : Option Host) (host : Host) (given : List ℕ) (address : Host → List ℕ) (P : Host → List ℕ → Type 0)
-    → Some host ≡ o → IfSome o (λ h. given ≡ address h) → P host given → IfSome o (λ h. P h (address h))
-named o host given address P is same holds =
-    let same_here : given ≡ address host = subst (λ x. IfSome x (λ h. given ≡ address h)) (sym is) same in
-    subst (λ x. IfSome x (λ h. P h (address h))) is (subst (P host) same_here holds)
+    → Some host ≡ o → given ≡ address host → P host given → IfSome o (λ h. P h (address h))
+named o host given address P is same holds = subst (λ x. IfSome x (λ h. P h (address h))) is (subst (P host) same holds)
 
 -- ---- nothing was done
 

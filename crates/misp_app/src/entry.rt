@@ -1,7 +1,7 @@
 //! The top call.
 
-ghost use Rattle.std.specs.Prelude.{◌≡◌, ◌≢◌, ◌≤◌, ◌↔◌, ◌⊎◌, ℕ, List, None, Some, IfSome, IfOk, ◌<◌, length, map, take, vec_len, string_bytes};
-ghost use Rattle.misp_outside.specs.Causes.{Rose};
+ghost use Rattle.std.specs.Prelude.{◌≡◌, ◌≢◌, ◌≤◌, ◌↔◌, ◌⊎◌, ℕ, List, None, Some, IfSome, IfOk, ◌<◌, length, map, take, vec_len};
+ghost use Rattle.misp_outside.specs.Causes.{Rose, StaysUnless};
 ghost use Rattle.std.specs.Io.KnownBytes.{Appends};
 ghost use Rattle.misp_effects.specs.KeeperStates.{told, OneFailed};
 ghost use Rattle.misp_net.specs.Carrying.{HasCarried};
@@ -25,14 +25,14 @@ use crate::{KEEPERS, MAX_SOURCE, Status};
 use misp_net::run_net;
 use misp_outside::{Carry, Clock, Dial, Door, Keeper, Sink, Source};
 use misp_script::{DescFault, read_description, split_source};
-use misp_words::{Command, WordsFault, read_words};
+use misp_words::{Command, Words, WordsFault};
 use std::alloc::Global;
 
 /// Does all that the program does: reads the source, runs its script over the keepers and writes
 /// the lines, checks its description, or serves or synchronises an instance of it.
 pub fn run<S: Source, W: Sink, K: Keeper, C: Carry, D: Door, L: Dial, T: Clock>(
     alloc: Global,
-    words: &[String],
+    words: &Words<'_>,
     source: &mut S,
     sink: &mut W,
     keepers: &mut Vec<K>,
@@ -41,28 +41,28 @@ pub fn run<S: Source, W: Sink, K: Keeper, C: Carry, D: Door, L: Dial, T: Clock>(
     dial: &mut L,
     clock: &mut T,
 ) -> Status
-    requires { HasKeepers (command_of (map string_bytes words.now)) (vec_len keepers.old) }
+    requires { HasKeepers (command_of words.now) (vec_len keepers.old) }
 
     // What an organisation was never granted changes none of its replies.
-    ensures private { HasLines (command_of (map string_bytes words.now)) result →
+    ensures private { HasLines (command_of words.now) result →
         IfSome (S.left source.old) (λ left. HasRun IsPrivate left
         (map K.state keepers.old.items) (map K.state keepers.new.items)
         (Wrote result (W.written sink.old) (W.written sink.new))) }
 
     // Each reply is the stated function of its line, of what is held, and of what stopped the line.
-    ensures replied { HasLines (command_of (map string_bytes words.now)) result →
+    ensures replied { HasLines (command_of words.now) result →
         IfSome (S.left source.old) (λ left. HasRun AreReplied left
         (map K.state keepers.old.items) (map K.state keepers.new.items)
         (Wrote result (W.written sink.old) (W.written sink.new))) }
 
     // Each keeper holds exactly the newest versions of what its instance was given.
-    ensures newest { HasLines (command_of (map string_bytes words.now)) result →
+    ensures newest { HasLines (command_of words.now) result →
         IfSome (S.left source.old) (λ left. HasRun AreNewest left
         (map K.state keepers.old.items) (map K.state keepers.new.items)
         (Wrote result (W.written sink.old) (W.written sink.new))) }
 
     // What carries failed at least as often as the outputs tell it, and its count never falls.
-    ensures carry { HasLines (command_of (map string_bytes words.now)) result →
+    ensures carry { HasLines (command_of words.now) result →
         IfSome (S.left source.old) (λ left. HasRun
         (HasCarried (C.faults carry.old) (C.faults carry.new)) left
         (map K.state keepers.old.items) (map K.state keepers.new.items)
@@ -72,25 +72,25 @@ pub fn run<S: Source, W: Sink, K: Keeper, C: Carry, D: Door, L: Dial, T: Clock>(
     // What it answered, where it tells that, is for each pull and push the stated requests with
     // their replies, from the first on, and all of them where it is done. For any other line it is
     // nothing. Where memory runs out, the same holds of some first lines.
-    ensures passed { HasLines (command_of (map string_bytes words.now)) result →
+    ensures passed { HasLines (command_of words.now) result →
         IfSome (S.left source.old) (λ left. HasRun
         (HasPassed (C.passed carry.old) (C.passed carry.new)) left
         (map K.state keepers.old.items) (map K.state keepers.new.items)
         (Wrote result (W.written sink.old) (W.written sink.new))) }
-    ensures cut_passed { command_of (map string_bytes words.now) ≡ Some Net →
+    ensures cut_passed { command_of words.now ≡ Some Net →
         result ≡ Status.OutOfMemory → IfSome (S.left source.old) (λ left. IsCutSaying
         (HasPassedFirst (C.passed carry.old) (C.passed carry.new)) left
         (map K.state keepers.old.items) (map K.state keepers.new.items)) }
 
     // The words and the source decide how it ends, where no fault does and memory does not run out.
-    ensures usage { result ≡ Status.Usage ↔ command_of (map string_bytes words.now) ≡ None }
-    ensures status { IfSome (command_of (map string_bytes words.now)) (λ command.
+    ensures usage { result ≡ Status.Usage ↔ command_of words.now ≡ None }
+    ensures status { IfSome (command_of words.now) (λ command.
         IfSome (S.left source.old) (λ left.
         IsStopped result ⊎ IsSyncStopped command result
         ⊎ (result ≡ status_of command left))) }
 
     // Over keepers that hold nothing, where nothing fails, a run stops only where memory runs out.
-    ensures finished { command_of (map string_bytes words.now) ≡ Some Net →
+    ensures finished { command_of words.now ≡ Some Net →
         (Rose (S.faults source.old) (S.faults source.new) → ⊥) →
         (Rose (W.faults sink.old) (W.faults sink.new) → ⊥) →
         (OneFailed (map K.state keepers.old.items) (map K.state keepers.new.items) → ⊥) →
@@ -98,17 +98,19 @@ pub fn run<S: Source, W: Sink, K: Keeper, C: Carry, D: Door, L: Dial, T: Clock>(
         (λ left. (result ≡ Status.OutOfMemory) ⊎ (result ≡ status_of Net left)) }
 
     // Where memory runs out, some first lines were run, and no other did anything.
-    ensures cut { command_of (map string_bytes words.now) ≡ Some Net →
+    ensures cut { command_of words.now ≡ Some Net →
         result ≡ Status.OutOfMemory → IfSome (S.left source.old) (λ left. IsCutShort left
         (map K.state keepers.old.items) (map K.state keepers.new.items)) }
 
-    // A fault is answered only where a count rose.
+    // A fault is answered only where a count rose, and one of the source as nothing else.
     ensures read { result ≡ Status.ReadFault → Rose (S.faults source.old) (S.faults source.new) }
+    ensures stays { StaysUnless (S.faults source.old) (S.faults source.new)
+        (result ≡ Status.ReadFault) }
     ensures write { result ≡ Status.WriteFault → Rose (W.faults sink.old) (W.faults sink.new) }
     ensures too_much { result ≡ Status.TooMuch →
         IfSome (S.left source.old) (λ left. source_limit < length left) }
     ensures door { result ≡ Status.DoorFault → Rose (D.faults door.old) (D.faults door.new) }
-    ensures silent { WritesNothing (command_of (map string_bytes words.now)) result →
+    ensures silent { WritesNothing (command_of words.now) result →
         W.written sink.new ≡ W.written sink.old }
 
     // Where the instances do not open, the keeper of one failed, or holds a row of the
@@ -118,18 +120,18 @@ pub fn run<S: Source, W: Sink, K: Keeper, C: Carry, D: Door, L: Dial, T: Clock>(
     ensures bad_row { result ≡ Status.BadRow → IfSome (S.left source.old)
         (λ left. IsUnsound (described left) (map K.state keepers.old.items)) }
     ensures unopened { IsUnopened result →
-        (command_of (map string_bytes words.now) ≢ Some Check)
+        (command_of words.now ≢ Some Check)
         × (told (map K.state keepers.new.items) ≡ told (map K.state keepers.old.items)) }
-    ensures sound { HasLines (command_of (map string_bytes words.now)) result → IfSome
+    ensures sound { HasLines (command_of words.now) result → IfSome
         (S.left source.old) (λ left. IsSound (described left) (map K.state keepers.old.items)) }
 
     // A check writes that the description is one, and asks no keeper.
-    ensures checked { command_of (map string_bytes words.now) ≡ Some Check →
+    ensures checked { command_of words.now ≡ Some Check →
         result ≡ Status.Done → Appends (W.written sink.old) (W.written sink.new) ok_line }
-    ensures partly_checked { command_of (map string_bytes words.now) ≡ Some Check →
+    ensures partly_checked { command_of words.now ≡ Some Check →
         result ≡ Status.WriteFault → IfSome (S.left source.old) (λ left. IfOk (described left)
         (λ _. Wrote result (W.written sink.old) (W.written sink.new) ok_line)) }
-    ensures still_checked { command_of (map string_bytes words.now) ≡ Some Check →
+    ensures still_checked { command_of words.now ≡ Some Check →
         keepers.new.items ≡ keepers.old.items }
 
     // Of a description that is none the first fault is told.
@@ -138,7 +140,7 @@ pub fn run<S: Source, W: Sink, K: Keeper, C: Carry, D: Door, L: Dial, T: Clock>(
 
     // Connections are served one after another, each by a session on what the one before it left.
     ensures served { (asked : ServeData) (time word : ℕ) (back coming : List Connection) →
-        command_of (map string_bytes words.now) ≡ Some (Serve asked) →
+        command_of words.now ≡ Some (Serve asked) →
         IsReady time word back coming (T.time clock.old) (T.next_word clock.old)
         (D.back door.old) (D.coming door.old) → HasLinesServed result →
         IfSome (S.left source.old) (λ left. IfOk (described left) (λ net.
@@ -151,7 +153,7 @@ pub fn run<S: Source, W: Sink, K: Keeper, C: Carry, D: Door, L: Dial, T: Clock>(
     // that the description has for it. Its line says what it was told. Where memory runs out, there
     // is no line, and it was done or not begun.
     ensures synced { (asked : SyncData) →
-        command_of (map string_bytes words.now) ≡ Some (Sync asked) → HasSyncLine result →
+        command_of words.now ≡ Some (Sync asked) → HasSyncLine result →
         IfSome (S.left source.old) (λ left. IfOk (described left) (λ net.
         IfSome (host_named asked.name net) (λ host.
         HasSynced host asked (peer_address host asked.link net)
@@ -160,7 +162,7 @@ pub fn run<S: Source, W: Sink, K: Keeper, C: Carry, D: Door, L: Dial, T: Clock>(
         (dialled (L.asks dial.new) (L.faults dial.new))
         (W.written sink.old) (W.written sink.new) result))) }
     ensures cut_synced { (asked : SyncData) →
-        command_of (map string_bytes words.now) ≡ Some (Sync asked) →
+        command_of words.now ≡ Some (Sync asked) →
         result ≡ Status.OutOfMemory →
         IfSome (S.left source.old) (λ left. IfOk (described left) (λ net.
         IfSome (host_named asked.name net) (λ host.
@@ -176,17 +178,17 @@ pub fn run<S: Source, W: Sink, K: Keeper, C: Carry, D: Door, L: Dial, T: Clock>(
     ensures others { IfSome (S.left source.old) (λ left. OthersStay (described left)
         (map K.state keepers.old.items) (map K.state keepers.new.items)) }
     ensures still { IsStill result → keepers.new.items ≡ keepers.old.items }
-    ensures untouched { command_of (map string_bytes words.now) ≢ Some Net →
+    ensures untouched { command_of words.now ≢ Some Net →
         carry.new ≡ carry.old }
-    ensures undialled { (HasDial (command_of (map string_bytes words.now)) → ⊥) →
+    ensures undialled { (HasDial (command_of words.now) → ⊥) →
         dial.new ≡ dial.old }
-    ensures indoors { (HasDoor (command_of (map string_bytes words.now)) → ⊥) →
+    ensures indoors { (HasDoor (command_of words.now) → ⊥) →
         (door.new ≡ door.old) × (clock.new ≡ clock.old) }
 
     // The constants are the limits of the definitions.
     ensures limits { (MAX_SOURCE ≡ source_limit) × (KEEPERS ≡ least_keepers) }
 {
-    let command = match read_words(alloc, words) {
+    let command = match words.command() {
         Ok(command) => command,
         Err(WordsFault::Usage) => return Status::Usage,
         Err(WordsFault::OutOfMemory) => return Status::OutOfMemory,
@@ -198,8 +200,8 @@ pub fn run<S: Source, W: Sink, K: Keeper, C: Carry, D: Door, L: Dial, T: Clock>(
     match command {
         Command::Net => run_source(alloc, &bytes, sink, keepers, carry),
         Command::Check => check_source(alloc, &bytes, sink),
-        Command::Sync(words) => sync_source(alloc, &bytes, &words, sink, keepers, dial),
-        Command::Serve(words) => { serve_source(alloc, &bytes, &words, sink, keepers, door, clock) }
+        Command::Sync(words) => sync_source(alloc, &bytes, words, sink, keepers, dial),
+        Command::Serve(words) => serve_source(alloc, &bytes, words, sink, keepers, door, clock),
     }
 }
 

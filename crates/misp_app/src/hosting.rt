@@ -35,12 +35,8 @@ fn serving_status(served: Result<(), ServeFault>) -> Status
     }
 }
 
-/// The first instance of a name in a description.
-pub(crate) fn entry_named(
-    alloc: Global,
-    net: Description,
-    name: &InstId,
-) -> Result<Option<Entry>, NoMemory>
+// The first instance of a name in a description.
+fn entry_named(alloc: Global, net: Description, name: &InstId) -> Result<Option<Entry>, NoMemory>
     ensures host { IfOk result (λ entry.
         option_map described_host entry ≡ host_named name.now net) }
     ensures some { IfOk result (λ entry. IsSome entry → 0 < length net.instances) }

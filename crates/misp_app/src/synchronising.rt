@@ -1,6 +1,6 @@
 //! Synchronises an instance of the description of a source over one of its links.
 
-ghost use Rattle.std.specs.Prelude.{◌≡◌, ◌≤◌, ◌<◌, ◌⊎◌, IfOk, IfSome, length, map, take, drop, vec_len, true};
+ghost use Rattle.std.specs.Prelude.{◌≡◌, ◌≤◌, ◌<◌, ◌⊎◌, IfOk, IfSome, IsSome, option_map, length, map, take, drop, vec_len, true};
 ghost use Rattle.misp_outside.specs.Causes.{Rose};
 ghost use Rattle.misp_effects.specs.KeeperStates.{OneFailed, told};
 ghost use Rattle.misp_script.specs.Directory.{directory_of};
@@ -15,7 +15,6 @@ ghost use Rattle.misp_words.specs.Words.{sync_data};
 
 use crate::Status;
 use crate::fault::{put, tell_fault};
-use crate::hosting::entry_named;
 use misp_core::Instance;
 use misp_ids::{InstId, NoMemory, Text, Way};
 use misp_net::{close_first, open_first, put_synced_line};
@@ -62,19 +61,29 @@ fn address_over<'a>(
     }
 }
 
-// The address of the peer of the link that the words name, or nothing where it is not there.
+// The instance that the words name, where there is one, and the address of the peer of the link that
+// they name, or nothing where it has no such link.
 #[tactic(auto, using(crate::proofs::Synchronised::host_there))]
-fn peer_address(alloc: Global, net: &Description, words: &SyncWords) -> Result<Text, NoMemory>
-    ensures { IfOk result (λ address. IfSome (host_named words.now.name net.now) (λ host.
-        address ≡ peer_address host words.now.link net.now)) }
+fn entry_with_address(
+    alloc: Global,
+    net: Description,
+    words: &SyncWords,
+) -> Result<Option<(Entry, Text)>, NoMemory>
+    ensures host { IfOk result (λ found.
+        option_map (λ f. described_host f.0) found ≡ host_named words.now.name net) }
+    ensures address { IfOk result (λ found. IfSome found (λ f.
+        f.1 ≡ peer_address (described_host f.0) words.now.link net)) }
+    ensures some { IfOk result (λ found. IsSome found → 0 < length net.instances) }
 {
     let directory = net.directory(alloc)?;
     let Some(place) = directory.place_of(words.name.text().as_bytes()) else {
-        return Ok(Text::of(String::new(alloc)));
+        return Ok(None);
     };
-    let entries = net.instances.as_slice();
-    let address = address_over(net, &directory, &entries[place], &words.link);
-    Ok(Text::of(String::from_str(alloc, address)?))
+    let entry = &net.instances.as_slice()[place];
+    let address = address_over(&net, &directory, entry, &words.link);
+    let address = Text::of(String::from_str(alloc, address)?);
+    let mut entries = net.instances.into_vec();
+    Ok(Some((entries.remove(place), address)))
 }
 
 // Pulls or pushes over a link, as the words say.
@@ -205,11 +214,10 @@ fn sync_net<K: Keeper, L: Dial, W: Sink>(
     ensures places { vec_len keepers.new ≡ vec_len keepers.old }
     ensures still { IsStill result → keepers.new.items ≡ keepers.old.items }
 {
-    let Ok(address) = peer_address(alloc, &net, words) else {
-        return Status::OutOfMemory;
-    };
-    match entry_named(alloc, net, &words.name) {
-        Ok(Some(entry)) => sync_entry(alloc, entry, words, address.as_str(), sink, keepers, dial),
+    match entry_with_address(alloc, net, words) {
+        Ok(Some((entry, address))) => {
+            sync_entry(alloc, entry, words, address.as_str(), sink, keepers, dial)
+        }
         Ok(None) => Status::NoSuchInstance,
         Err(_) => Status::OutOfMemory,
     }

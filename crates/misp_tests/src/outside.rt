@@ -4,6 +4,7 @@ use misp_app::{KEEPERS, Status, run};
 use misp_outside::{
     Door, Keeper, MemCarry, MemDial, MemDoor, MemKeeper, MemSink, MemSource, StepClock,
 };
+use misp_words::Words;
 use std::alloc::Global;
 use std::process::Abort;
 
@@ -77,7 +78,15 @@ pub(super) fn ran<K: Keeper, D: Door>(
     let words = words_of(rt, alloc, line);
     let mut clock = StepClock { time: 0, word: 0 };
     let status = run(
-        alloc, &words, source, sink, keepers, carry, door, dial, &mut clock,
+        alloc,
+        &Words::read(alloc, &words),
+        source,
+        sink,
+        keepers,
+        carry,
+        door,
+        dial,
+        &mut clock,
     );
     drop(words);
     (status, written(rt, alloc, sink))

@@ -1,13 +1,14 @@
-use Rattle.std.proofs.Common.{map, take, sym, subst, arith, IfSome, IfOk}
+use Rattle.std.proofs.Common.{List, ℕ, ◌⊎◌, Some, map, take, sym, subst, arith, ap, ◌∙◌, inl, inr, IfSome, IfOk}
 use Rattle.std.proofs.lemmas.List.{length-map}
 use Rattle.misp_effects.proofs.KeeperStates.{all_kept}
-use Rattle.misp_words.specs.Words.{ServeData, SyncData, serve_data, sync_data}
+use Rattle.misp_words.specs.Words.{ServeData, SyncData, Serve, Sync, command_data, serve_data, sync_data}
 use Rattle.misp_net.specs.Prelude.{Description}
 use Rattle.misp_app.specs.Hosting.{HasServed}
-use Rattle.misp_app.specs.Source.{described, host_named}
+use Rattle.misp_app.specs.Status.{Wrote}
+use Rattle.misp_app.specs.Source.{described, host_named, HasFailed, IsTold, IsUnsound, OthersStay}
 use Rattle.misp_app.proofs.Cutting.{cut_unread, passing_unread}
 use Rattle.misp_app.proofs.Endings.{no_lines, out_of_memory}
-use Rattle.misp_app.proofs.Finishing.{finishes}
+use Rattle.misp_app.proofs.Finishing.{finishes, of_left, status_read}
 use Rattle.misp_app.proofs.Hosted.{none_read, one_keeper, served_here, unread_memory, words_read}
 use Rattle.misp_app.specs.Synchronising.{HasSynced, IsCutSync, dialled, peer_address}
 use Rattle.misp_app.proofs.Synchronised.{no_line_read, not_read, sync_read, synced_here}
@@ -85,7 +86,7 @@ returns-clause-served g c = λ asked time word back coming is ready has.
     (λ (d : ServeData) (net : Description). IfSome (host_named d.name net) (λ host.
     HasServed host time d.count word back coming (take 1 olds) (take 1 news) (g.T.Clock.next_word c.serve_source.new.clock) (g.D.Door.back c.serve_source.new.door) (g.D.Door.coming c.serve_source.new.door)
     (g.W.Sink.written c.args.sink.now) (g.W.Sink.written c.serve_source.new.sink) c.serve_source.result))
-    c.in-Ok-read_all.ensures.bytes c.deref-in-Serve.ensures.value (words_read _ asked c.in-Ok.command c.in-Serve.words is c.in-Ok.ensures.read c.in-Serve.is)
+    c.in-Ok-read_all.ensures.bytes c.deref-in-Serve.ensures.value (words_read _ asked c.in-Ok.command.now c.in-Serve.words is c.in-Ok.ensures.read c.in-Serve.is)
     (c.serve_source.ensures.served time word back coming ready has)
 
 -- ---- it was synchronised
@@ -112,7 +113,7 @@ returns-in-Sync-clause-synced g c = λ asked is has.
     HasSynced host d (peer_address host d.link net) (take 1 olds) (take 1 news)
     (dialled (g.L.Dial.asks c.args.dial.now) (g.L.Dial.faults c.args.dial.now)) (dialled (g.L.Dial.asks c.sync_source.new.dial) (g.L.Dial.faults c.sync_source.new.dial))
     (g.W.Sink.written c.args.sink.now) (g.W.Sink.written c.sync_source.new.sink) c.sync_source.result))
-    c.in-Ok-read_all.ensures.bytes c.deref-in-Sync.ensures.value (sync_read _ asked c.in-Ok.command c.in-Sync.words is c.in-Ok.ensures.read c.in-Sync.is)
+    c.in-Ok-read_all.ensures.bytes c.deref-in-Sync.ensures.value (sync_read _ asked c.in-Ok.command.now c.in-Sync.words is c.in-Ok.ensures.read c.in-Sync.is)
     (c.sync_source.ensures.synced has)
 
 pub returns-in-Sync-clause-cut_synced : goal.returns-in-Sync-clause-cut_synced
@@ -123,5 +124,46 @@ returns-in-Sync-clause-cut_synced g c = λ asked is out.
     (λ (d : SyncData) (net : Description). IfSome (host_named d.name net) (λ host.
     IsCutSync host d (peer_address host d.link net) (take 1 olds) (take 1 news)
     (dialled (g.L.Dial.asks c.args.dial.now) (g.L.Dial.faults c.args.dial.now)) (dialled (g.L.Dial.asks c.sync_source.new.dial) (g.L.Dial.faults c.sync_source.new.dial))))
-    c.in-Ok-read_all.ensures.bytes c.deref-in-Sync.ensures.value (sync_read _ asked c.in-Ok.command c.in-Sync.words is c.in-Ok.ensures.read c.in-Sync.is)
+    c.in-Ok-read_all.ensures.bytes c.deref-in-Sync.ensures.value (sync_read _ asked c.in-Ok.command.now c.in-Sync.words is c.in-Ok.ensures.read c.in-Sync.is)
     (c.sync_source.ensures.cut out)
+
+-- ---- how it ended
+
+pub returns-in-Sync-clause-status : goal.returns-in-Sync-clause-status
+returns-in-Sync-clause-status g c =
+    status_read _ (Sync (sync_data c.in-Sync.words)) (g.S.Source.left c.args.source.now) c.in-Ok-read_all.bytes.items c.deref-in-Sync.result.now c.sync_source.result
+    (c.in-Ok.ensures.read ∙ ap (λ k. Some (command_data k)) c.in-Sync.is) c.in-Ok-read_all.ensures.bytes c.deref-in-Sync.ensures.value
+    (omega (arith, c.in-Ok-read_all.ensures.bound, c.in-Ok-read_all.bytes.ok.0)) c.sync_source.ensures.status
+
+pub returns-clause-status : goal.returns-clause-status
+returns-clause-status g c =
+    status_read _ (Serve (serve_data c.in-Serve.words)) (g.S.Source.left c.args.source.now) c.in-Ok-read_all.bytes.items c.deref-in-Serve.result.now c.serve_source.result
+    (c.in-Ok.ensures.read ∙ ap (λ k. Some (command_data k)) c.in-Serve.is) c.in-Ok-read_all.ensures.bytes c.deref-in-Serve.ensures.value
+    (omega (arith, c.in-Ok-read_all.ensures.bound, c.in-Ok-read_all.bytes.ok.0)) (elim c.serve_source.ensures.status [
+      | inl stopped ↦ inl stopped
+      | inr ended ↦ inr (inr ended)
+    ])
+
+pub returns-in-Sync-clause-keeper : goal.returns-in-Sync-clause-keeper
+returns-in-Sync-clause-keeper g c = λ is.
+    of_left (g.S.Source.left c.args.source.now) c.in-Ok-read_all.bytes.items c.deref-in-Sync.result.now
+    (λ left. HasFailed (described left) (map g.K.Keeper.state c.args.keepers.now.items) (map g.K.Keeper.state c.sync_source.new.keepers.items))
+    c.in-Ok-read_all.ensures.bytes c.deref-in-Sync.ensures.value (c.sync_source.ensures.keeper is)
+
+pub returns-in-Sync-clause-bad_row : goal.returns-in-Sync-clause-bad_row
+returns-in-Sync-clause-bad_row g c = λ is.
+    of_left (g.S.Source.left c.args.source.now) c.in-Ok-read_all.bytes.items c.deref-in-Sync.result.now
+    (λ left. IsUnsound (described left) (map g.K.Keeper.state c.args.keepers.now.items))
+    c.in-Ok-read_all.ensures.bytes c.deref-in-Sync.ensures.value (c.sync_source.ensures.bad_row is)
+
+pub returns-in-Sync-clause-told : goal.returns-in-Sync-clause-told
+returns-in-Sync-clause-told g c = λ is.
+    of_left (g.S.Source.left c.args.source.now) c.in-Ok-read_all.bytes.items c.deref-in-Sync.result.now
+    (λ left. IsTold (described left) (Wrote c.sync_source.result (g.W.Sink.written c.args.sink.now) (g.W.Sink.written c.sync_source.new.sink)))
+    c.in-Ok-read_all.ensures.bytes c.deref-in-Sync.ensures.value (c.sync_source.ensures.told is)
+
+pub returns-in-Sync-clause-others : goal.returns-in-Sync-clause-others
+returns-in-Sync-clause-others g c =
+    of_left (g.S.Source.left c.args.source.now) c.in-Ok-read_all.bytes.items c.deref-in-Sync.result.now
+    (λ left. OthersStay (described left) (map g.K.Keeper.state c.args.keepers.now.items) (map g.K.Keeper.state c.sync_source.new.keepers.items))
+    c.in-Ok-read_all.ensures.bytes c.deref-in-Sync.ensures.value c.sync_source.ensures.others

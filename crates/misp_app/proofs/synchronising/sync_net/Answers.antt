@@ -8,15 +8,9 @@ use Rattle.misp_app.proofs.Hosted.{drop_more}
 use Rattle.misp_app.proofs.Synchronised.{named, not_begun}
 use Rattle.misp_app.proofs.synchronising.sync_net.Goals as goal
 
--- memory ran out for the address
-pub returns-in_default-clause-cut : goal.returns-in_default-clause-cut
-returns-in_default-clause-cut g c = λ is.
-    not_begun (sync_data c.args.words.now) _ _ (dialled (g.L.Dial.asks c.args.dial.now) (g.L.Dial.faults c.args.dial.now)) (all_kept (take 1 (map g.K.Keeper.state c.args.keepers.now.items)))
-    (host_named c.args.words.now.name c.args.net) c.args.net
-
--- or for the instance
-pub returns-clause-cut : goal.returns-clause-cut
-returns-clause-cut g c = λ is.
+-- memory ran out for the instance and its address
+pub returns-in-Err-clause-cut : goal.returns-in-Err-clause-cut
+returns-in-Err-clause-cut g c = λ is.
     not_begun (sync_data c.args.words.now) _ _ (dialled (g.L.Dial.asks c.args.dial.now) (g.L.Dial.faults c.args.dial.now)) (all_kept (take 1 (map g.K.Keeper.state c.args.keepers.now.items)))
     (host_named c.args.words.now.name c.args.net) c.args.net
 
@@ -32,9 +26,10 @@ returns-in-Ok-Some-clause-synced g c = λ has.
     let before = dialled (g.L.Dial.asks c.args.dial.now) (g.L.Dial.faults c.args.dial.now) in
     let after = dialled (g.L.Dial.asks c.sync_entry.new.dial) (g.L.Dial.faults c.sync_entry.new.dial) in
     let said : Some (described_host c.in-Ok-Some.entry) ≡ host_named c.args.words.now.name c.args.net = rw c.in-Ok-Some.field-0-is at c.in-Ok-Some.ensures.host in
+    let at_peer : c.in-Ok-Some.address ≡ peer_address (described_host c.in-Ok-Some.entry) c.args.words.now.link c.args.net = rw c.in-Ok-Some.field-0-is at c.in-Ok-Some.ensures.address in
     named (host_named c.args.words.now.name c.args.net) (described_host c.in-Ok-Some.entry) c.as_str.result.now (λ host. peer_address host c.args.words.now.link c.args.net)
     (λ host address. HasSynced host (sync_data c.args.words.now) address olds news before after (g.W.Sink.written c.args.sink.now) (g.W.Sink.written c.sync_entry.new.sink) c.sync_entry.result)
-    said (rw c.as_str.ensures c.in-Ok.ensures) (c.sync_entry.ensures.synced has)
+    said (rw c.as_str.ensures at_peer) (c.sync_entry.ensures.synced has)
 
 pub returns-in-Ok-Some-clause-cut : goal.returns-in-Ok-Some-clause-cut
 returns-in-Ok-Some-clause-cut g c = λ is.
@@ -43,6 +38,7 @@ returns-in-Ok-Some-clause-cut g c = λ is.
     let before = dialled (g.L.Dial.asks c.args.dial.now) (g.L.Dial.faults c.args.dial.now) in
     let after = dialled (g.L.Dial.asks c.sync_entry.new.dial) (g.L.Dial.faults c.sync_entry.new.dial) in
     let said : Some (described_host c.in-Ok-Some.entry) ≡ host_named c.args.words.now.name c.args.net = rw c.in-Ok-Some.field-0-is at c.in-Ok-Some.ensures.host in
+    let at_peer : c.in-Ok-Some.address ≡ peer_address (described_host c.in-Ok-Some.entry) c.args.words.now.link c.args.net = rw c.in-Ok-Some.field-0-is at c.in-Ok-Some.ensures.address in
     named (host_named c.args.words.now.name c.args.net) (described_host c.in-Ok-Some.entry) c.as_str.result.now (λ host. peer_address host c.args.words.now.link c.args.net)
     (λ host address. IsCutSync host (sync_data c.args.words.now) address olds news before after)
-    said (rw c.as_str.ensures c.in-Ok.ensures) (c.sync_entry.ensures.cut is)
+    said (rw c.as_str.ensures at_peer) (c.sync_entry.ensures.cut is)
