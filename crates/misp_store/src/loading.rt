@@ -62,7 +62,7 @@ pub fn load<K: Keeper>(keeper: &mut K, alloc: Global, reach: &Reach) -> Result<V
     ensures unasked { reach.now ≡ Reach.Nothing → keeper.new ≡ keeper.old }
 {
     let held = held_within(keeper, alloc, reach)?;
-    Ok(decode_rows(alloc, held)?)
+    Ok(decode_rows(alloc, &held)?)
 }
 
 /// The groups that the keeper holds.

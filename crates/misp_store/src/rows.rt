@@ -67,19 +67,19 @@ fn decode_row(alloc: Global, raw: &RawRow) -> Result<Row, RowFault>
 }
 
 // Adds the row that is held there.
-fn add_row(alloc: Global, rows: &mut Vec<Row>, raw: RawRow) -> Result<(), RowFault>
+fn add_row(alloc: Global, rows: &mut Vec<Row>, raw: &RawRow) -> Result<(), RowFault>
     ensures ok { OnOk result (Some rows.new.items
-        ≡ option_map (λ row. rows.old.items ++ row ∷ []) (row_in raw)) }
-    ensures bad { IfErr result (IsNoRow raw) }
+        ≡ option_map (λ row. rows.old.items ++ row ∷ []) (row_in raw.now)) }
+    ensures bad { IfErr result (IsNoRow raw.now) }
 {
-    Ok(rows.push(decode_row(alloc, &raw)?)?)
+    Ok(rows.push(decode_row(alloc, raw)?)?)
 }
 
 /// The rows that are held there, or the first that is none.
 #[tactic(auto, unfolding(crate::specs::Raw::rows_in))]
-pub(crate) fn decode_rows(alloc: Global, raws: Vec<RawRow>) -> Result<Vec<Row>, RowFault>
-    ensures ok { IfOk result (λ rows. rows_in raws.items ≡ Ok rows.items) }
-    ensures bad { IfErr result (NamesBadRow (rows_in raws.items)) }
+pub(crate) fn decode_rows(alloc: Global, raws: &[RawRow]) -> Result<Vec<Row>, RowFault>
+    ensures ok { IfOk result (λ rows. rows_in raws.now ≡ Ok rows.items) }
+    ensures bad { IfErr result (NamesBadRow (rows_in raws.now)) }
 {
     let mut rows = Vec::with_capacity(alloc, raws.len())?;
     for raw in raws {
