@@ -8,7 +8,7 @@ ghost use Rattle.misp_view.specs.Kinds.{is_inner, is_seen_reference, is_of_kind,
 use misp_copies::{CopyView, ElementSet, has_element};
 use misp_elem::{KeyForm, Place, Row};
 use misp_ids::{EventId, NoMemory, OrgId};
-use std::alloc::Global;
+use std::alloc::{AllocError, Global};
 
 /// Attributes outside objects, objects, attributes in objects, and references whose target shows.
 #[derive(Clone, Copy)]
@@ -105,15 +105,11 @@ pub(crate) fn collect<'a>(
     copy_view: &CopyView,
     seen: &ElementSet,
     rows: &'a [Row],
-) -> Result<Vec<&'a Row>, NoMemory>
+) -> Result<Vec<&'a Row>, AllocError>
     ensures { IfOk result (λ list. map (λ r. r.now) list.items
         ≡ filter (is_one kind copy_view.now seen.now) rows.now) }
 {
-    let mut list = Vec::new(alloc);
-    for row in rows {
-        if is_one(kind, copy_view, seen, row) {
-            list.push(row)?;
-        }
-    }
-    Ok(list)
+    rows.iter()
+        .filter(|row| is_one(kind, copy_view, seen, row))
+        .collect(alloc)
 }

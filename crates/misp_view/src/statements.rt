@@ -13,7 +13,7 @@ use crate::order::in_order;
 use misp_copies::{CopyView, StatementsByKey, StatementsByTarget, is_same_org};
 use misp_elem::{KeyForm, Row};
 use misp_ids::{NoMemory, OrgId};
-use std::alloc::Global;
+use std::alloc::{AllocError, Global};
 
 // Whether it is a statement that is granted.
 #[tactic(auto, unfolding(crate::specs::Statements::is_told))]
@@ -28,17 +28,13 @@ pub(crate) fn told<'a>(
     alloc: Global,
     copy_view: &CopyView,
     rows: &'a [Row],
-) -> Result<Vec<&'a Row>, NoMemory>
+) -> Result<Vec<&'a Row>, AllocError>
     ensures { IfOk result (λ list. map (λ r. r.now) list.items
         ≡ filter (is_told copy_view.now) rows.now) }
 {
-    let mut list = Vec::new(alloc);
-    for row in rows {
-        if is_told(copy_view, row) {
-            list.push(row)?;
-        }
-    }
-    Ok(list)
+    rows.iter()
+        .filter(|row| is_told(copy_view, row))
+        .collect(alloc)
 }
 
 // Whether none of these is of the same key and of a lesser owner.
