@@ -8,11 +8,11 @@ ghost use Rattle.misp_net.specs.Running.{IsRequested};
 ghost use Rattle.misp_net.specs.Text.{output_text};
 
 use crate::line::{Output, put_unanswered, show};
-use misp_api::{End, Routes, answer, refuse};
+use misp_api::{End, Routes, answer, read_bytes, refuse};
 use misp_core::Instance;
-use misp_http::{Read, ReadEnd, read_request, request_bytes};
+use misp_http::{Read, ReadEnd, request_bytes};
 use misp_ids::{NoMemory, Stamp};
-use misp_outside::{Keeper, SureSource};
+use misp_outside::Keeper;
 use misp_script::RequestLine;
 use std::alloc::Global;
 
@@ -27,9 +27,7 @@ fn request_read(alloc: Global, line: &RequestLine<'_>) -> Result<Read, ReadEnd>
     let Ok(bytes) = bytes else {
         return Err(ReadEnd::NoMemory);
     };
-    let mut source = SureSource::new(bytes);
-    let mut rest = Vec::new(alloc);
-    read_request(alloc, &mut source, &mut rest)
+    read_bytes(alloc, bytes)
 }
 
 /// Answers the request of a line, and writes the reply, or how its session ended where it has none,
