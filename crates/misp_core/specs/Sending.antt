@@ -3,9 +3,8 @@ use Rattle.std.specs.Prelude.{ℕ, suc, List, [], ◌∷◌, filter, flat_map, l
 use Rattle.misp_ids.specs.declared.label.Way.{Way}
 use Rattle.misp_lists.specs.Order.{in_order}
 use Rattle.misp_rules.specs.Machine.{event_rows}
-use Rattle.misp_rules.specs.Package.{nobody}
 use Rattle.misp_rules.specs.Packing.{is_own, packages}
-use Rattle.misp_rules.specs.Passing.{Route}
+use Rattle.misp_rules.specs.Passing.{Route, route_to}
 use Rattle.misp_rules.specs.Prelude.{event_of, stands_before}
 use Rattle.misp_rules.specs.declared.package.PackageFields.{PackageFields as Package}
 use Rattle.misp_history.specs.Merging.{arriving_rows}
@@ -35,18 +34,9 @@ all_numbered events = flat_map (λ e. numbered e.0 e.1) events
 
 -- ---- a push
 
--- the route of a push from here, for an organisation to an instance, where nobody holds yet what
--- comes
+-- the route of a push from here, for an organisation to an instance
 abbrev pub push_route : Inst → OrgId → Inst → Route
-push_route here org dest =
-    record {
-      way = Way.Push;
-      from = here;
-      «for» = org;
-      dest = dest;
-      into = dest;
-      holder = nobody;
-    }
+push_route here org dest = route_to Way.Push here org dest
 
 -- of these rows those that the organisation knows and that pass, as they arrive
 abbrev pub rows_pushed : Inst → List Group → OrgId → Inst → List Row → List Row

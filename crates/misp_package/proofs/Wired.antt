@@ -7,7 +7,7 @@ use Rattle.misp_rules.proofs.Prelude.{AllByRecursion, AreRows, EventId, IsRow, R
 use Rattle.misp_rules.specs.declared.package.PackageFields.{PackageFields as Package}
 use Rattle.misp_history.specs.Merging.{arrived}
 use Rattle.misp_history.proofs.ArrivedRows.{arrived_row}
-use Rattle.misp_package.specs.Passing.{nobody}
+use Rattle.misp_rules.specs.Package.{nobody}
 use Rattle.misp_package.specs.Packing.{AreNumberedFrom, is_whole, on_wire, rows_in}
 
 -- a row that is no tombstone is one on the wire

@@ -10,7 +10,7 @@ use Rattle.misp_rules.specs.declared.package.PackageFields.{PackageFields as Pac
 use Rattle.misp_rules.specs.Package.{BeginsWith}
 use Rattle.misp_history.specs.History.{without_local_tags}
 use Rattle.misp_copies.specs.Keys.{key_cmp}
-use Rattle.misp_package.specs.Passing.{nobody}
+use Rattle.misp_rules.specs.Package.{nobody}
 
 -- the row as it arrives at nobody
 unfoldable pub on_wire : Row → Row

@@ -7,6 +7,7 @@ use Rattle.misp_elem.specs.declared.key.KeyForm.{KeyForm as Key}
 use Rattle.misp_elem.specs.declared.key.KeyForm.TheVariants.{Element, Proposal, Reference, Sighting, Verdict}
 use Rattle.misp_elem.specs.declared.row.RowFields.{RowFields as Row}
 use Rattle.misp_elem.specs.Prelude.{EventId, Inst, OrgId, event_key, event_of, list_all, list_any, parents, same_key, same_org}
+use Rattle.misp_rules.specs.Package.{nobody}
 use Rattle.misp_rules.specs.View.{first_of_all, granted, is_least, is_row_of}
 
 -- a synchronisation that runs: its way, from where, for whom, to where, into which instance, and
@@ -18,6 +19,19 @@ pub record Route : Type 0 where
   pub dest : Inst
   pub into : Inst
   pub holder : OrgId
+
+-- the one on this way from an instance, for an organisation, to an instance, where nobody holds yet
+-- what comes
+abbrev pub route_to : Way → Inst → OrgId → Inst → Route
+route_to way here org dest =
+    record {
+      way = way;
+      from = here;
+      «for» = org;
+      dest = dest;
+      into = dest;
+      holder = nobody;
+    }
 
 -- the row is released, and its label lets it out
 unfoldable pub lets_out : List Group → Route → Row → Bool

@@ -8,23 +8,14 @@ use Rattle.misp_lists.specs.Order.{in_order}
 use Rattle.misp_elem.specs.declared.row.RowFields.{RowFields as Row}
 use Rattle.misp_elem.specs.Prelude.{EventId, Inst, event_of}
 use Rattle.misp_rules.specs.declared.package.PackageFields.{PackageFields}
-use Rattle.misp_rules.specs.Package.{nobody}
 use Rattle.misp_rules.specs.Packing.{arrived, event_rows, is_own, packages}
-use Rattle.misp_rules.specs.Passing.{Route, passes}
+use Rattle.misp_rules.specs.Passing.{Route, passes, route_to}
 use Rattle.misp_rules.specs.RowOrder.{stands_before}
 use Rattle.misp_rules.specs.Scene.{Scene}
 
--- the route of a pull by this partner for the caller, where nobody holds yet what comes
+-- the route of a pull by this partner for the caller
 abbrev pub pull_route : Scene → Inst → Route
-pull_route s partner =
-    record {
-      way = Way.Pull;
-      from = s.at;
-      «for» = s.by;
-      dest = partner;
-      into = partner;
-      holder = nobody;
-    }
+pull_route s partner = route_to Way.Pull s.at s.by partner
 
 -- the groups that carry to the partner of the caller's key; without a partner there are none
 unfoldable pub pulled_groups : Scene → List Group
