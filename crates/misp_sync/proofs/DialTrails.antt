@@ -1,41 +1,33 @@
 -- What an ask of a dial adds to the trail of a wire to its address.
-use Rattle.std.proofs.Common.{◌≡◌, ℕ, Bool, true, false, ◌&&◌, List, [], ◌∷◌, ◌++◌, append-nil, Option, None, Some, Result, Ok, Err, IfOk, MatchResult, if◌then◌else◌, refl, sym, ap, subst, ◌∙◌, inl, inr}
+use Rattle.std.proofs.Common.{◌≡◌, ℕ, List, [], ◌∷◌, ◌++◌, append-nil, Option, None, Some, Result, Ok, Err, IfOk, MatchResult, refl, sym, ap, subst, ◌∙◌, inl, inr}
 use Rattle.std.proofs.lemmas.Grind.{flat_map-append}
-use Rattle.std.proofs.lemmas.List.Folds.{list_all-append}
 use Rattle.std.proofs.lemmas.Slice.Eq.{bytes_eq-Decides}
 use Rattle.misp_outside.specs.Wires.{Asked, GrowsByOne}
 use Rattle.misp_outside.specs.declared.fault.WireFault.{WireFault}
-use Rattle.misp_sync.specs.Dialled.{all_went_to, ask_trail, asks_trail, trail_to, went_to}
+use Rattle.misp_sync.specs.Dialled.{ask_trail, ask_trail_to, asks_trail, trail_to}
 use Rattle.misp_sync.specs.Trail.{GrowsBy, IsUnanswered}
 use Rattle.misp_sync.proofs.Trails.{grows_none, grows_so}
-
-true_too : (b c : Bool) → c ≡ true → (b && (c && true)) ≡ b
-true_too false c is = refl
-true_too true c is = ap (λ d. d && true) is
-
--- the trail of all asks grows, where they are told
-grown : (told : Bool) (old new : List Asked) (ask : Asked) → new ≡ old ++ ask ∷ [] → GrowsBy (if told then Some (asks_trail old) else None) (if told then Some (asks_trail new) else None) (λ more. more ≡ ask_trail ask)
-grown false old new ask grew = tt
-grown true old new ask grew = (ask_trail ask, ap asks_trail grew ∙ flat_map-append ask_trail old (ask ∷ []) ∙ ap (λ trail. asks_trail old ++ trail) (append-nil (ask_trail ask)), refl)
 
 -- an ask of these bytes
 abbrev ask_of : List ℕ → List ℕ → Option (List ℕ) → Asked
 ask_of address bytes reply = record { address = address; bytes = bytes; reply = reply }
 
 module _ (address : List ℕ) where
-  -- one more ask that went there
-  went_on : (asks : List Asked) (ask : Asked) → ask.address ≡ address → all_went_to address (asks ++ ask ∷ []) ≡ all_went_to address asks
-  went_on asks ask here =
-      list_all-append (went_to address) asks (ask ∷ [])
-      ∙ true_too (all_went_to address asks) (went_to address ask) ((bytes_eq-Decides ask.address address).1 here)
+  -- one that went there adds its bytes
+  went_there : (ask : Asked) → ask.address ≡ address → ask_trail_to address ask ≡ ask_trail ask
+  went_there ask here = rw ((bytes_eq-Decides ask.address address).1 here) refl
 
   -- the trail grows by what the ask adds
   grows_by_ask : (old new : Option (List Asked)) (ask : Asked) → ask.address ≡ address → GrowsByOne old new ask → GrowsBy (trail_to address old) (trail_to address new) (λ more. more ≡ ask_trail ask)
   grows_by_ask None new ask here grew = tt
   grows_by_ask (Some old) None ask here grew = absurd grew
-  grows_by_ask (Some old) (Some new) ask here grew =
-      subst (λ told. GrowsBy (trail_to address (Some old)) (if told then Some (asks_trail new) else None) (λ more. more ≡ ask_trail ask))
-      (sym (ap (all_went_to address) grew ∙ went_on old ask here)) (grown (all_went_to address old) old new ask grew)
+  grows_by_ask (Some old) (Some new) ask here grew = (
+    ask_trail ask,
+    ap (asks_trail address) grew
+        ∙ flat_map-append (ask_trail_to address) old (ask ∷ [])
+        ∙ ap (λ trail. asks_trail address old ++ trail) (append-nil (ask_trail_to address ask) ∙ went_there ask here),
+    refl,
+  )
 
   -- what is told of a call of the dial is told of the wire
   pub told_by : {A : Type 0} (items : A → List ℕ) (bytes : List ℕ) (old new : Option (List Asked)) (result : Result A WireFault)

@@ -29,6 +29,7 @@ pub mod Keeping
 pub mod Left
 pub mod Lists
 pub mod ListsTold
+pub mod OneAddress
 pub mod OwnRows
 pub mod PackageSizes
 pub mod PartLoop

@@ -1,9 +1,11 @@
-//! Laws of what a synchronisation leaves.
+//! Laws of what a synchronisation asks and leaves.
 
-ghost use Rattle.std.specs.Prelude.{◌≡◌, ℕ, false};
+ghost use Rattle.std.specs.Prelude.{◌≡◌, ℕ, false, true, List, Option};
+ghost use Rattle.std.specs.List.{list_all};
 ghost use Rattle.misp_ids.specs.Same.{Inst, same_inst};
 ghost use Rattle.misp_ids.specs.declared.label.Way.TheVariants as ways;
 ghost use Rattle.misp_outside.specs.Held.{Held};
+ghost use Rattle.misp_outside.specs.Wires as wires;
 ghost use Rattle.misp_effects.specs.Batches.{AreReadable};
 ghost use Rattle.misp_effects.specs.Effect.{Outcome, left, under};
 ghost use Rattle.misp_history.specs.Acts.{Net, World};
@@ -13,9 +15,14 @@ ghost use Rattle.misp_store.specs.Batches.{spelled};
 ghost use Rattle.misp_store.specs.Seen.{seen_in};
 ghost use Rattle.misp_core.specs.Keeping.{Keeps};
 ghost use Rattle.misp_core.specs.Standing.{Host};
+ghost use Rattle.misp_sync.specs.Dialled.{asks_trail, went_to};
+ghost use Rattle.misp_sync.specs.Handing.{Handing};
 ghost use Rattle.misp_sync.specs.History.{applied, pull_act, push_act, push_route_of, route_of, seen_of};
 ghost use Rattle.misp_sync.specs.Pulled.{pulled, telling};
+ghost use Rattle.misp_sync.specs.PushTrail.{HandsIn};
 ghost use Rattle.misp_sync.specs.Pushed.{push_telling, pushed};
+ghost use Rattle.misp_sync.specs.Trail.{Asked};
+ghost use Rattle.misp_sync.specs.declared.query.Query.{Query};
 
 use misp_format::a_group_is_read_from_its_text;
 
@@ -82,3 +89,14 @@ pub fn an_instance_pushes_by_the_history()
 {
     a_group_is_read_from_its_text();
 }
+
+/// Where the trail of a wire to an address has the stated requests of a pull or a push, every ask of
+/// its dial went there.
+pub fn what_is_asked_goes_to_one_address()
+    ensures pulls { (address key : List ℕ) (peer : Option (Host × Held)) (queries : List Query)
+        (asks : List wires.Asked) → Asked key peer queries (asks_trail address asks) →
+        list_all (went_to address) asks ≡ true }
+    ensures pushes { (address key : List ℕ) (peer : Option (Host × Held)) (handed : List Handing)
+        (asks : List wires.Asked) → HandsIn key peer handed (asks_trail address asks) →
+        list_all (went_to address) asks ≡ true }
+{}

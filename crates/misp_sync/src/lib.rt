@@ -22,7 +22,10 @@ mod wire;
 
 pub use count::SyncCount;
 pub use dialling::{pull_from, push_to};
-pub use laws::{an_instance_pulls_by_the_history, an_instance_pushes_by_the_history};
+pub use laws::{
+    an_instance_pulls_by_the_history, an_instance_pushes_by_the_history,
+    what_is_asked_goes_to_one_address,
+};
 pub use over_dial::OverDial;
 pub use pulling::{pull, usable};
 pub use push_wire::PushWire;
