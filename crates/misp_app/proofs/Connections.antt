@@ -3,12 +3,14 @@ use Rattle.std.proofs.Common.{◌≡◌, ◌<◌, ◌≤◌, ◌+◌, ℕ, suc, 
 use Rattle.std.specs.Prelude.{All, IsSome, MatchOption}
 use Rattle.std.specs.Io.KnownBytes.{prepend_known, Appends}
 use Rattle.std.proofs.lemmas.List.Elements.{All-head, All-tail}
+use Rattle.misp_outside.specs.Causes.{HasCause}
 use Rattle.misp_outside.specs.Wires.{Connection, LosesFirst, GrowsByOne}
 use Rattle.misp_http.specs.Streams.{AppendsSome}
 use Rattle.misp_http.proofs.Sending.{appends_more}
 use Rattle.misp_core.specs.Prelude.{Standing}
 use Rattle.misp_api.specs.Session.{Session, is_last}
 use Rattle.misp_api.specs.Turn.{Point, IsAt, Turned}
+use Rattle.misp_api.specs.declared.sessions.End.{End}
 use Rattle.misp_api.specs.declared.sessions.SessionEnd.{SessionEnd}
 use Rattle.misp_api.specs.declared.turn.Turn.{Turn}
 use Rattle.misp_api.specs.declared.turn.Turn.TheVariants as turns
@@ -45,7 +47,8 @@ module _ (time : ℕ) where
 
   module _ (n : ℕ) (s : Server) (coming : List Connection) (old new : Standing) (words later : Option ℕ) (back0 back1 back2 : Option (List Connection)) (c0 c1 c2 : Option (List Connection)) (first last : Connection) (end : SessionEnd)
       (at : IsServer old words back0 s) (c0_is : c0 ≡ Some coming) (told : All IsTold coming) (loses : LosesFirst c0 c1 first) (c2_is : c2 ≡ c1) (same_back : back1 ≡ back0) (grows : GrowsByOne back1 back2 last)
-      (ran : (p : Point) → IsAt first.left old words first.written p → (rest : List ℕ) × Session time p end (prepend_known rest last.left) new later last.written) where
+      (ran : (p : Point) → IsAt first.left old words first.written p → (rest : List ℕ) × Session time p end (prepend_known rest last.left) new later last.written)
+      (read : HasCause first.source_faults last.source_faults (end.end ≡ End.ReadFault)) (write : HasCause first.sink_faults last.sink_faults (end.end ≡ End.WriteFault)) where
     lost : (c : Option (List Connection)) → LosesFirst (Some coming) c first → (left : List Connection) × (coming ≡ first ∷ left) × (c ≡ Some left)
     lost None bad = absurd bad
     lost (Some left) is = (left, is, refl)
@@ -69,7 +72,7 @@ module _ (time : ℕ) where
           after,
           rest.0,
           line_of (n + 1) end,
-          record { first = first; last = last; end = end; came = rest.1; back = refl; session = (bytes.0, written.0, session.0, bytes.1, written.1, subst (λ v. Session time p end (prepend_known session.0 last.left) new v last.written) word.1 session.1); line_is = refl },
+          record { first = first; last = last; end = end; came = rest.1; back = refl; session = (bytes.0, written.0, session.0, bytes.1, written.1, subst (λ v. Session time p end (prepend_known session.0 last.left) new v last.written) word.1 session.1); read = read; write = write; line_is = refl },
           record { instance_is = refl; word_is = word.1; back_is = back },
           c2_is ∙ rest.2,
           refl,

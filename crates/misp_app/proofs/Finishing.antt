@@ -1,5 +1,5 @@
--- Over keepers that hold nothing, where nothing fails, a run stops only where memory runs out.
-use Rattle.std.proofs.Common.{◌≡◌, ℕ, zero, suc, ◌⊎◌, List, [], ◌∷◌, ◌<◌, ◌≤◌, true, nat_lt, length, take, Option, Some, None, refl, sym, ◌∙◌, subst, inl, inr, arith, IfSome, Ok, Err}
+-- Over keepers that hold nothing, where nothing fails, a command stops only where memory runs out.
+use Rattle.std.proofs.Common.{◌≡◌, ℕ, zero, suc, List, [], ◌∷◌, ◌<◌, ◌≤◌, true, nat_lt, length, take, Option, Some, None, refl, sym, ◌∙◌, subst, inl, inr, arith, IfSome, Ok, Err}
 use Rattle.std.proofs.lemmas.Bool.{cases_Bool}
 use Rattle.std.proofs.lemmas.Bool.Decides.{nat_tests}
 use Rattle.misp_script.specs.Faults.{Reading}
@@ -8,11 +8,12 @@ use Rattle.misp_effects.proofs.KeeperStates.{one_of_all}
 use Rattle.misp_store.specs.Sharing.{may_be_unsound}
 use Rattle.misp_net.specs.Prelude.{Description, KeeperState, nothing_held}
 use Rattle.misp_net.proofs.Openings.{nothing_is_sound}
-use Rattle.misp_words.specs.Words.{CommandData, Net}
+use Rattle.misp_words.specs.Words.{CommandData, Net, Check, Serve, Sync}
+use Rattle.misp_app.specs.Causes.{Faults, HasCauses, IsFaultless}
 use Rattle.misp_app.specs.declared.status.Status.{Status}
-use Rattle.misp_app.specs.Status.{IsStopped, IsSyncStopped}
+use Rattle.misp_app.specs.Status.{EndsAs, Finishes}
 use Rattle.misp_app.specs.Limits.{source_limit}
-use Rattle.misp_app.specs.Source.{described, described_status, status_of, status_over, IsUnsound, HasFailed, HoldNothing}
+use Rattle.misp_app.specs.Source.{described, status_of, status_over, IsUnsound, HasFailed, HoldNothing}
 
 -- who holds nothing holds no row of the administration that is none
 none_unsound : (old : List KeeperState) (n : ℕ) → HoldNothing old → may_be_unsound (take n old) ≡ true → ⊥
@@ -32,21 +33,33 @@ failed_one : (read : Reading Description) (old new : List KeeperState) → HasFa
 failed_one (Ok net) old new failed = one_of_all old new (length net.instances) failed
 failed_one (Err fault) old new failed = absurd failed
 
--- of all that stops a run, only running out of memory is left
-stopped_by : (status : Status) → IsStopped status → (status ≡ Status.ReadFault → ⊥) → (status ≡ Status.WriteFault → ⊥) → (status ≡ Status.KeeperFault → ⊥)
-    → (status ≡ Status.BadRow → ⊥) → (status ≡ Status.DoorFault → ⊥) → status ≡ Status.OutOfMemory
-stopped_by Status.Done stopped read write keeper bad door = absurd stopped
-stopped_by Status.Stopped stopped read write keeper bad door = absurd stopped
-stopped_by Status.Usage stopped read write keeper bad door = absurd stopped
-stopped_by Status.ReadFault stopped read write keeper bad door = absurd (read refl)
-stopped_by Status.WriteFault stopped read write keeper bad door = absurd (write refl)
-stopped_by Status.BadDescription stopped read write keeper bad door = absurd stopped
-stopped_by Status.NoSuchInstance stopped read write keeper bad door = absurd stopped
-stopped_by Status.DoorFault stopped read write keeper bad door = absurd (door refl)
-stopped_by Status.OutOfMemory stopped read write keeper bad door = refl
-stopped_by Status.TooMuch stopped read write keeper bad door = absurd stopped
-stopped_by Status.KeeperFault stopped read write keeper bad door = absurd (keeper refl)
-stopped_by Status.BadRow stopped read write keeper bad door = absurd (bad refl)
+-- of all that stops a command, only running out of memory is left
+finishes : (command : CommandData) (decided status : Status) → EndsAs status command decided → (status ≡ Status.ReadFault → ⊥) → (status ≡ Status.WriteFault → ⊥) → (status ≡ Status.DoorFault → ⊥)
+    → (status ≡ Status.KeeperFault → ⊥) → (status ≡ Status.BadRow → ⊥) → Finishes command decided status
+finishes command decided Status.Done end read write door keeper bad = inr (inr end)
+finishes command decided Status.Usage end read write door keeper bad = inr (inr end)
+finishes command decided Status.BadDescription end read write door keeper bad = inr (inr end)
+finishes command decided Status.NoSuchInstance end read write door keeper bad = inr (inr end)
+finishes command decided Status.TooMuch end read write door keeper bad = inr (inr end)
+finishes command decided Status.OutOfMemory end read write door keeper bad = inl refl
+finishes command decided Status.ReadFault end read write door keeper bad = absurd (read refl)
+finishes command decided Status.WriteFault end read write door keeper bad = absurd (write refl)
+finishes command decided Status.DoorFault end read write door keeper bad = absurd (door refl)
+finishes command decided Status.KeeperFault end read write door keeper bad = absurd (keeper refl)
+finishes command decided Status.BadRow end read write door keeper bad = absurd (bad refl)
+finishes (Sync words) decided Status.Stopped end read write door keeper bad = inr (inl refl)
+finishes (Serve words) decided Status.Stopped end read write door keeper bad = inr (inr end)
+finishes Net decided Status.Stopped end read write door keeper bad = inr (inr end)
+finishes Check decided Status.Stopped end read write door keeper bad = inr (inr end)
+
+pub finished : (o : Option CommandData) (source : Option (List ℕ)) (status : Status) (old new : List KeeperState) (before after : Faults) → IsFaultless old new before after → HoldNothing old
+    → HasCauses source old new before after status → IfSome o (λ command. IfSome source (λ left. EndsAs status command (status_of command left)))
+    → IfSome o (λ command. IfSome source (λ left. Finishes command (status_of command left) status))
+finished None source status old new before after whole empty causes ends = tt
+finished (Some command) None status old new before after whole empty causes ends = tt
+finished (Some command) (Some left) status old new before after whole empty causes ends =
+    finishes command (status_of command left) status ends (λ is. whole.source (causes.read is)) (λ is. whole.sink (causes.write is)) (λ is. whole.door (causes.door is))
+    (λ is. whole.keepers (failed_one (described left) old new (causes.keeper is))) (λ is. unsound_none (described left) old empty (causes.bad_row is))
 
 below : (m n : ℕ) → nat_lt m n ≡ true → m < n
 below m n is = grind (arith, nat_tests)
@@ -58,9 +71,6 @@ status_within command source short = elim (cases_Bool (nat_lt source_limit (leng
   | inr less ↦ rw less refl
 ]
 
-status_short : (source : List ℕ) → length source ≤ source_limit → status_of Net source ≡ described_status (described source)
-status_short source short = status_within Net source short
-
 -- what holds of the bytes that were read holds of what the source had left
 pub of_left : (o : Option (List ℕ)) (bytes here : List ℕ) (P : List ℕ → Type 0) → IfSome o (λ left. bytes ≡ left) → here ≡ bytes → P here → IfSome o P
 of_left None bytes here P is same holds = tt
@@ -68,24 +78,10 @@ of_left (Some left) bytes here P is same holds = subst P (same ∙ is) holds
 
 -- how a command ended over these bytes is how the words ended over the source
 pub status_read : (o : Option CommandData) (command : CommandData) (left : Option (List ℕ)) (bytes here : List ℕ) (status : Status)
-    → o ≡ Some command → IfSome left (λ l. bytes ≡ l) → here ≡ bytes → length bytes ≤ source_limit
-    → IsStopped status ⊎ (IsSyncStopped command status ⊎ (status ≡ status_over command (described here)))
-    → IfSome o (λ c. IfSome left (λ l. IsStopped status ⊎ (IsSyncStopped c status ⊎ (status ≡ status_of c l))))
+    → o ≡ Some command → IfSome left (λ l. bytes ≡ l) → here ≡ bytes → length bytes ≤ source_limit → EndsAs status command (status_over command (described here))
+    → IfSome o (λ c. IfSome left (λ l. EndsAs status c (status_of c l)))
 status_read o command left bytes here status read is same short how =
-    let P : CommandData → List ℕ → Type 0 = λ c l. IsStopped status ⊎ (IsSyncStopped c status ⊎ (status ≡ status_of c l)) in
+    let P : CommandData → List ℕ → Type 0 = λ c l. EndsAs status c (status_of c l) in
     let within : length here ≤ source_limit = rw same short in
     let ended : P command here = rw (status_within command here within) how in
     subst (λ o. IfSome o (λ c. IfSome left (P c))) (sym read) (of_left left bytes here (P command) is same ended)
-
-module _ (status : Status) (old new : List KeeperState) (bytes : List ℕ) (short : length bytes ≤ source_limit)
-    (end : IsStopped status ⊎ (status ≡ described_status (described bytes))) (read : status ≡ Status.ReadFault → ⊥) (write : status ≡ Status.WriteFault → ⊥)
-    (keeper : status ≡ Status.KeeperFault → HasFailed (described bytes) old new) (failed : OneFailed old new → ⊥)
-    (bad : status ≡ Status.BadRow → IsUnsound (described bytes) old) (empty : HoldNothing old) (door : status ≡ Status.DoorFault → ⊥) where
-  pub finishes : (left : Option (List ℕ)) → IfSome left (λ source. bytes ≡ source) → IfSome left (λ source. (status ≡ Status.OutOfMemory) ⊎ (status ≡ status_of Net source))
-  finishes None is = tt
-  finishes (Some source) is = elim end [
-    | inl stopped ↦ inl (stopped_by status stopped read write
-        (λ of. failed (failed_one (described bytes) old new (keeper of)))
-        (λ of. unsound_none (described bytes) old empty (bad of)) door)
-    | inr decided ↦ inr (decided ∙ sym (rw (← is) (status_short bytes short)))
-  ]

@@ -40,6 +40,7 @@ module _ (time count word : ℕ) (back coming : List Connection) (now next : Opt
         host_is = refl;
         opened = kept;
         closed = refl;
+        sound = λ more. absurd (more refl);
         how_is = refl;
         served = (0, record { instance = i; word = word; back = back }, coming, [], omega arith, (refl, refl, refl), record { instance_is = refl; word_is = ready.word_is; back_is = ready.back_is }, ready.coming_is, (0, appends_none before));
       }

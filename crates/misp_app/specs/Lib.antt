@@ -1,6 +1,9 @@
+pub mod Causes
+pub mod Checking
 pub mod Ends
 pub mod Hosting
 pub mod Limits
+pub mod Net
 pub mod Serving
 pub mod Source
 pub mod Status

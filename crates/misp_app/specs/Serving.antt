@@ -1,10 +1,12 @@
 -- Connections, served one after another.
 use Rattle.std.specs.Prelude.{◌≡◌, ◌⊎◌, ◌+◌, ◌≤◌, ℕ, zero, suc, List, [], ◌∷◌, ◌++◌, codes, decimal, IsSome, Bool, true, false, Option, Some, Result, Ok, Err}
 use Rattle.std.specs.Io.KnownBytes.{prepend_known, Appends}
+use Rattle.misp_outside.specs.Causes.{HasCause}
 use Rattle.misp_outside.specs.Wires.{Connection}
 use Rattle.misp_http.specs.Streams.{AppendsSome}
 use Rattle.misp_core.specs.Prelude.{Standing}
 use Rattle.misp_api.specs.Session.{Session, end_name}
+use Rattle.misp_api.specs.declared.sessions.End.{End}
 use Rattle.misp_api.specs.declared.sessions.SessionEnd.{SessionEnd}
 use Rattle.misp_app.specs.declared.serving.ServeFault.{ServeFault}
 use Rattle.misp_app.specs.declared.serving.ServeFault.TheVariants as faults
@@ -60,6 +62,9 @@ pub record ServesOne (now n : ℕ) (s : Server) (coming : List Connection)
   pub came : coming ≡ first ∷ later
   pub back : after.back ≡ s.back ++ last ∷ []
   pub session : Connects now first last s after end
+  -- a fault of its source or its sink is told only where the count of that rose
+  pub read : HasCause first.source_faults last.source_faults (end.end ≡ End.ReadFault)
+  pub write : HasCause first.sink_faults last.sink_faults (end.end ≡ End.WriteFault)
   pub line_is : line ≡ line_of (n + 1) end
 
 -- how that went

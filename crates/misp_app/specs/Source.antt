@@ -1,13 +1,13 @@
 -- What a source describes, and the line that tells where it does not.
-use Rattle.std.specs.Prelude.{◌≡◌, ℕ, true, List, map, length, take, drop, nat_lt, codes, IfOk, Ok, Err, if◌then◌else◌, Option, Some, option_map}
+use Rattle.std.specs.Prelude.{◌≡◌, ℕ, true, List, map, length, take, drop, nat_lt, Ok, Err, if◌then◌else◌, Option, Some, option_map}
 use Rattle.std.specs.Option.{option_map_or}
 use Rattle.misp_script.specs.declared.fault.DescFault.{DescFault}
 use Rattle.misp_script.specs.Faults.{Reading}
 use Rattle.misp_script.specs.Directory.{directory_of, place_of, roster_names}
-use Rattle.misp_script.specs.Source.{description_part, script_part}
+use Rattle.misp_script.specs.Source.{description_part}
 use Rattle.misp_effects.specs.KeeperStates.{told, OneFailed}
-use Rattle.misp_store.specs.Sharing.{may_be_sound, may_be_unsound}
-use Rattle.misp_net.specs.Prelude.{AreDistinct, Description, Host, IsCut, KeeperState, Line, described_hosts, description_at, host_at, lines_of, nothing_held}
+use Rattle.misp_store.specs.Sharing.{may_be_unsound}
+use Rattle.misp_net.specs.Prelude.{Description, Host, KeeperState, described_hosts, description_at, host_at, nothing_held}
 use Rattle.misp_app.specs.declared.status.Status.{Status}
 use Rattle.misp_app.specs.declared.status.Status.TheVariants.{Done, BadDescription, NoSuchInstance, TooMuch}
 use Rattle.misp_words.specs.Words.{CommandData, Serve, Sync}
@@ -52,41 +52,6 @@ IsTold (Ok net) Writes = Unit {0}
 IsTold (Err (DescFault.Bad path need)) Writes = Writes (fault_line path need)
 IsTold (Err DescFault.NoMemory) Writes = ⊥
 
--- The script of a network was run over the keepers of its instances, and its lines were written so.
--- This is said of them.
-pub record HasWritten
-    (Says : List Host → List Line → List KeeperState → List KeeperState → List ℕ → Type 0)
-    (net : Description) (script : List ℕ) (old new : List KeeperState)
-    (Writes : List ℕ → Type 0) : Type 0 where
-  pub lines : List ℕ
-  pub distinct : AreDistinct (described_hosts net)
-  pub says : Says (described_hosts net) (lines_of (directory_of net) script)
-      (take (length net.instances) old) (take (length net.instances) new) lines
-  pub written : Writes lines
-
--- the same of a source that describes a network
-abbrev pub HasRun : (List Host → List Line → List KeeperState → List KeeperState → List ℕ → Type 0)
-    → List ℕ → List KeeperState → List KeeperState → (List ℕ → Type 0) → Type 0
-HasRun Says source old new Writes =
-    IfOk (described source) (λ net. HasWritten Says net (script_part source) old new Writes)
-
--- where the source describes a network, the run of its script was cut short, and this is said of it
-abbrev pub IsCutSaying : (List Host → List Line → List KeeperState → List KeeperState → Type 0)
-    → List ℕ → List KeeperState → List KeeperState → Type 0
-IsCutSaying Says source old new =
-    IfOk (described source) (λ net.
-    Says (described_hosts net) (lines_of (directory_of net) (script_part source))
-    (take (length net.instances) old) (take (length net.instances) new))
-
--- the keepers of the instances are as some first lines left them
-abbrev pub IsCutShort : List ℕ → List KeeperState → List KeeperState → Type 0
-IsCutShort source old new = IsCutSaying IsCut source old new
-
--- as far as the keepers of its instances tell, every row of the administration is a group
-abbrev pub IsSound : Reading Description → List KeeperState → Type 0
-IsSound (Ok net) old = may_be_sound (take (length net.instances) old) ≡ true
-IsSound (Err fault) old = Unit {0}
-
 -- the source describes a network, and as far as the keepers of its instances tell, one of them
 -- holds a row of the administration that is none
 abbrev pub IsUnsound : Reading Description → List KeeperState → Type 0
@@ -107,7 +72,3 @@ OthersStay (Err fault) old new = new ≡ old
 -- all of them tell that they hold nothing
 abbrev pub HoldNothing : List KeeperState → Type 0
 HoldNothing old = told old ≡ map (λ state. Some nothing_held) old
-
--- what is written of a description that has no fault
-abbrev pub ok_line : List ℕ
-ok_line = codes "ok\n"

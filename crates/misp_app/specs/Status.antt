@@ -1,9 +1,9 @@
 -- How a run ends.
-use Rattle.std.specs.Prelude.{◌≡◌, ℕ, ◌<◌, ◌≤◌, List, Option, Some}
+use Rattle.std.specs.Prelude.{◌≡◌, ◌⊎◌, ℕ, ◌<◌, ◌≤◌, List, Option, Some}
 use Rattle.std.specs.Io.KnownBytes.{Appends}
 use Rattle.misp_http.specs.Streams.{AppendsSome}
 use Rattle.misp_net.specs.declared.places.NetFault.{NetFault}
-use Rattle.misp_words.specs.Words.{CommandData, Net, Serve, Sync}
+use Rattle.misp_words.specs.Words.{CommandData, Serve, Sync}
 use Rattle.misp_app.specs.Limits.{least_keepers}
 use Rattle.misp_app.specs.declared.status.Status.{Status}
 use Rattle.misp_app.specs.declared.status.Status.TheVariants.{Done, Stopped, Usage, ReadFault, WriteFault, BadDescription, NoSuchInstance, DoorFault, OutOfMemory, TooMuch, KeeperFault, BadRow}
@@ -72,20 +72,27 @@ IsUnasked KeeperFault = Unit {0}
 IsUnasked BadRow = Unit {0}
 IsUnasked status = IsStill status
 
--- a fault or an invalid row stopped the run, or memory ran out
-abbrev pub IsStopped : Status → Type 0
-IsStopped ReadFault = Unit {0}
-IsStopped WriteFault = Unit {0}
-IsStopped DoorFault = Unit {0}
-IsStopped OutOfMemory = Unit {0}
-IsStopped KeeperFault = Unit {0}
-IsStopped BadRow = Unit {0}
-IsStopped status = ⊥
+-- How a command may end where the source decides so: as decided; by a fault of the source or where
+-- memory ran out, at any time; and by another fault only where it came that far.
+abbrev pub EndsAs : Status → CommandData → Status → Type 0
+EndsAs ReadFault command decided = Unit {0}
+EndsAs OutOfMemory command decided = Unit {0}
+EndsAs WriteFault command decided = (decided ≡ Done) ⊎ (decided ≡ BadDescription)
+EndsAs KeeperFault command decided = decided ≡ Done
+EndsAs BadRow command decided = decided ≡ Done
+EndsAs DoorFault (Serve words) decided = decided ≡ Done
+EndsAs Stopped (Sync words) decided = decided ≡ Done
+EndsAs status command decided = status ≡ decided
 
 -- a synchronisation was refused or stopped, and its line says by what
 abbrev pub IsSyncStopped : CommandData → Status → Type 0
 IsSyncStopped (Sync words) status = status ≡ Stopped
 IsSyncStopped command status = ⊥
+
+-- how a command ends where the source decides so, and nothing fails
+abbrev pub Finishes : CommandData → Status → Status → Type 0
+Finishes command decided status =
+    (status ≡ OutOfMemory) ⊎ IsSyncStopped command status ⊎ (status ≡ decided)
 
 -- connections are served
 abbrev pub HasDoor : Option CommandData → Type 0
@@ -103,11 +110,6 @@ abbrev pub HasKeepers : Option CommandData → ℕ → Type 0
 HasKeepers (Some (Serve words)) count = 0 < count
 HasKeepers (Some (Sync words)) count = 0 < count
 HasKeepers command count = least_keepers ≤ count
-
--- lines of a run were written
-abbrev pub HasLines : Option CommandData → Status → Type 0
-HasLines (Some Net) status = Writes status
-HasLines command status = ⊥
 
 -- the line of a fault was written, where the description has one
 abbrev pub TellsFault : Status → Type 0

@@ -1,5 +1,5 @@
 -- A synchronisation of an instance over one of its links, and the line that tells it.
-use Rattle.std.specs.Prelude.{◌≡◌, ◌⊎◌, ℕ, List, [], ◌∷◌, slice_get, Option, Some, None, IfSome}
+use Rattle.std.specs.Prelude.{◌≡◌, ◌⊎◌, ℕ, true, List, [], ◌∷◌, slice_get, Option, Some, None, IfSome}
 use Rattle.std.specs.Option.{option_map_or}
 use Rattle.misp_ids.specs.declared.label.Way.{Way}
 use Rattle.misp_orgs.specs.Admin.{link_of}
@@ -10,6 +10,7 @@ use Rattle.misp_effects.specs.KeeperStates.{AreKept}
 use Rattle.misp_effects.specs.declared.stop.Side.TheVariants.{Here}
 use Rattle.misp_effects.specs.declared.stop.Stop.TheVariants as stops
 use Rattle.misp_script.specs.Directory.{directory_of, place_of, roster_names}
+use Rattle.misp_store.specs.Sharing.{may_be_sound}
 use Rattle.misp_core.specs.Prelude.{Host, KeeperState, Standing, host_of}
 use Rattle.misp_sync.specs.Came.{IsCameOver}
 use Rattle.misp_sync.specs.Counts.{no_count}
@@ -24,7 +25,7 @@ use Rattle.misp_net.specs.SyncText.{synced_line}
 use Rattle.misp_words.specs.Words.{SyncData}
 use Rattle.misp_app.specs.Status.{Wrote}
 use Rattle.misp_app.specs.declared.status.Status.{Status}
-use Rattle.misp_app.specs.declared.status.Status.TheVariants.{Done, Stopped, WriteFault}
+use Rattle.misp_app.specs.declared.status.Status.TheVariants.{Done, Stopped, WriteFault, OutOfMemory}
 
 -- ---- where the peer is asked
 
@@ -69,7 +70,7 @@ pub record SyncsOver (words : SyncData) (address : List ℕ) (start end : Standi
   pub barred : IfSome (bar_of (link_of start.admin.links words.link)) (λ why.
       (reply ≡ SyncReply.Stopped no_count why) × (end ≡ start) × (after ≡ before))
   -- What was asked and answered are the stated requests and their replies, from the first on, and
-  -- all of them where it is done. All of them went to the address.
+  -- all of them where it is done. All of them went to the address, whatever was asked before.
   pub trail : GrowsBy (trail_to address before.asks) (trail_to address after.asks)
       (IsTrailOf words.way (link_of start.admin.links words.link) start reply)
   -- what is held after a pull, and counted, is what these replies bring
@@ -86,7 +87,7 @@ pub record SyncsOver (words : SyncData) (address : List ℕ) (start end : Standi
   pub admin : end.admin ≡ start.admin
 
 -- An instance of this host was opened over the keeper, and synchronised. Then its keeper was put
--- back.
+-- back. It is opened only where every row of the administration that the keeper tells is a group.
 pub record Synchronised (host : Host) (words : SyncData) (address : List ℕ)
     (old new : List KeeperState) (before after : Dialled) (reply : SyncReply) : Type 0 where
   pub start : Standing
@@ -94,6 +95,7 @@ pub record Synchronised (host : Host) (words : SyncData) (address : List ℕ)
   pub host_is : host_of start ≡ host
   pub opened : AreKept old (state_of start ∷ [])
   pub closed : new ≡ state_of end ∷ []
+  pub sound : may_be_sound old ≡ true
   pub syncs : SyncsOver words address start end before after reply
 
 -- ---- how it ends
@@ -130,3 +132,16 @@ abbrev pub IsCutSync : Host → SyncData → List ℕ → List KeeperState → L
 IsCutSync host words address old new before after =
     (AreKept old new × (after ≡ before))
     ⊎ ((reply : SyncReply) × Synchronised host words address old new before after reply)
+
+-- by how it ended
+abbrev pub EndsSync : Status → Host → SyncData → List ℕ → List KeeperState → List KeeperState
+    → Dialled → Dialled → Option (List ℕ) → Option (List ℕ) → Type 0
+EndsSync Done host words address old new before after written behind =
+    HasSynced host words address old new before after written behind Done
+EndsSync Stopped host words address old new before after written behind =
+    HasSynced host words address old new before after written behind Stopped
+EndsSync WriteFault host words address old new before after written behind =
+    HasSynced host words address old new before after written behind WriteFault
+EndsSync OutOfMemory host words address old new before after written behind =
+    IsCutSync host words address old new before after
+EndsSync status host words address old new before after written behind = Unit {0}

@@ -1,10 +1,12 @@
 //! Checks the description of a source.
 
-ghost use Rattle.std.specs.Prelude.{◌≡◌, ◌⊎◌, IfOk};
+ghost use Rattle.std.specs.Prelude.{◌≡◌, IfOk};
 ghost use Rattle.misp_outside.specs.Causes.{Rose};
 ghost use Rattle.std.specs.Io.KnownBytes.{Appends};
-ghost use Rattle.misp_app.specs.Source.{described, described_status, IsTold, ok_line};
-ghost use Rattle.misp_app.specs.Status.{IsStopped, IsSilent, TellsFault, Wrote};
+ghost use Rattle.misp_words.specs.Words.{Check};
+ghost use Rattle.misp_app.specs.Checking.{ok_line};
+ghost use Rattle.misp_app.specs.Source.{described, described_status, IsTold};
+ghost use Rattle.misp_app.specs.Status.{EndsAs, IsSilent, TellsFault, Wrote};
 ghost use Rattle.misp_app.specs.Ends.{IsSourceEnd};
 
 use crate::Status;
@@ -15,7 +17,7 @@ use std::alloc::Global;
 
 /// Writes whether the description of a source has a fault, and which.
 pub(crate) fn check_source<W: Sink>(alloc: Global, bytes: &[u8], sink: &mut W) -> Status
-    ensures status { IsStopped result ⊎ (result ≡ described_status (described bytes.now)) }
+    ensures status { EndsAs result Check (described_status (described bytes.now)) }
     ensures write { result ≡ Status.WriteFault → Rose (W.faults sink.old) (W.faults sink.new) }
     ensures silent { IsSilent result → W.written sink.new ≡ W.written sink.old }
     ensures ends { IsSourceEnd result }

@@ -1,6 +1,6 @@
 //! Serves an instance of the description of a source.
 
-ghost use Rattle.std.specs.Prelude.{◌≡◌, ◌<◌, ◌⊎◌, ℕ, List, Some, IsSome, option_map, IfOk, IfSome, length, map, take, drop, vec_len, true};
+ghost use Rattle.std.specs.Prelude.{◌≡◌, ◌<◌, ℕ, List, Some, IsSome, option_map, IfOk, IfSome, length, map, take, drop, vec_len, true};
 ghost use Rattle.misp_outside.specs.Causes.{Rose};
 ghost use Rattle.misp_outside.specs.Wires.{Connection};
 ghost use Rattle.misp_effects.specs.KeeperStates.{OneFailed, told};
@@ -9,7 +9,7 @@ ghost use Rattle.misp_net.specs.Hosts.{described_host};
 ghost use Rattle.misp_app.specs.Ends.{IsHostEnd, IsNetServed, IsSourceServed};
 ghost use Rattle.misp_app.specs.Hosting.{HasLinesServed, HasServed, IsReady, serving_status};
 ghost use Rattle.misp_app.specs.Source.{HasFailed, IsTold, IsUnsound, OthersStay, described, host_named, net_status, served_status};
-ghost use Rattle.misp_app.specs.Status.{IsStill, IsStopped, IsUnopened, TellsFault, WritesNothing, Wrote};
+ghost use Rattle.misp_app.specs.Status.{EndsAs, IsStill, IsUnopened, TellsFault, WritesNothing, Wrote};
 ghost use Rattle.misp_words.specs.Words.{Serve, serve_data};
 
 use crate::Status;
@@ -112,7 +112,8 @@ fn serve_net<K: Keeper, D: Door, W: Sink, T: Clock>(
         (take 1 (map K.state keepers.old.items)) (take 1 (map K.state keepers.new.items))
         (T.next_word clock.new) (D.back door.new) (D.coming door.new)
         (W.written sink.old) (W.written sink.new) result) }
-    ensures status { IsStopped result ⊎ (result ≡ net_status words.now.name net) }
+    ensures status { EndsAs result (Serve (serve_data words.now))
+        (net_status words.now.name net) }
     ensures ends { IsNetServed result }
     ensures write { result ≡ Status.WriteFault → Rose (W.faults sink.old) (W.faults sink.new) }
     ensures door { result ≡ Status.DoorFault → Rose (D.faults door.old) (D.faults door.new) }
@@ -156,8 +157,8 @@ pub(crate) fn serve_source<K: Keeper, D: Door, W: Sink, T: Clock>(
         (take 1 (map K.state keepers.old.items)) (take 1 (map K.state keepers.new.items))
         (T.next_word clock.new) (D.back door.new) (D.coming door.new)
         (W.written sink.old) (W.written sink.new) result)) }
-    ensures status { IsStopped result
-        ⊎ (result ≡ served_status words.now.name (described bytes.now)) }
+    ensures status { EndsAs result (Serve (serve_data words.now))
+        (served_status words.now.name (described bytes.now)) }
     ensures ends { IsSourceServed result }
     ensures write { result ≡ Status.WriteFault → Rose (W.faults sink.old) (W.faults sink.new) }
     ensures door { result ≡ Status.DoorFault → Rose (D.faults door.old) (D.faults door.new) }

@@ -1,6 +1,6 @@
 //! Synchronises an instance of the description of a source over one of its links.
 
-ghost use Rattle.std.specs.Prelude.{◌≡◌, ◌≤◌, ◌<◌, ◌⊎◌, IfOk, IfSome, IsSome, option_map, length, map, take, drop, vec_len, true};
+ghost use Rattle.std.specs.Prelude.{◌≡◌, ◌≤◌, ◌<◌, IfOk, IfSome, IsSome, option_map, length, map, take, drop, vec_len, true};
 ghost use Rattle.misp_outside.specs.Causes.{Rose};
 ghost use Rattle.misp_effects.specs.KeeperStates.{OneFailed, told};
 ghost use Rattle.misp_script.specs.Directory.{directory_of};
@@ -9,9 +9,9 @@ ghost use Rattle.misp_net.specs.Hosts.{described_host};
 ghost use Rattle.misp_net.specs.SyncText.{synced_line};
 ghost use Rattle.misp_app.specs.Ends.{IsNetSynced, IsSourceSynced, IsSyncEnd, IsTellEnd};
 ghost use Rattle.misp_app.specs.Source.{HasFailed, IsTold, IsUnsound, OthersStay, described, host_named, net_status, served_status};
-ghost use Rattle.misp_app.specs.Status.{IsSilent, IsStill, IsStopped, IsUnasked, IsUnopened, TellsFault, Wrote};
+ghost use Rattle.misp_app.specs.Status.{EndsAs, IsSilent, IsStill, IsUnasked, IsUnopened, TellsFault, Wrote};
 ghost use Rattle.misp_app.specs.Synchronising.{EndsBy, HasSyncLine, HasSynced, IsCutSync, SyncsOver, address_at, address_named, dialled, peer_address};
-ghost use Rattle.misp_words.specs.Words.{sync_data};
+ghost use Rattle.misp_words.specs.Words.{Sync, sync_data};
 
 use crate::Status;
 use crate::fault::{put, tell_fault};
@@ -195,8 +195,7 @@ fn sync_net<K: Keeper, L: Dial, W: Sink>(
         (take 1 (map K.state keepers.old.items)) (take 1 (map K.state keepers.new.items))
         (dialled (L.asks dial.old) (L.faults dial.old))
         (dialled (L.asks dial.new) (L.faults dial.new))) }
-    ensures status { IsStopped result ⊎ (result ≡ Status.Stopped)
-        ⊎ (result ≡ net_status words.now.name net) }
+    ensures status { EndsAs result (Sync (sync_data words.now)) (net_status words.now.name net) }
     ensures ends { IsNetSynced result }
     ensures write { result ≡ Status.WriteFault → Rose (W.faults sink.old) (W.faults sink.new) }
     ensures silent { IsSilent result → W.written sink.new ≡ W.written sink.old }
@@ -247,8 +246,8 @@ pub(crate) fn sync_source<K: Keeper, L: Dial, W: Sink>(
         (take 1 (map K.state keepers.old.items)) (take 1 (map K.state keepers.new.items))
         (dialled (L.asks dial.old) (L.faults dial.old))
         (dialled (L.asks dial.new) (L.faults dial.new)))) }
-    ensures status { IsStopped result ⊎ (result ≡ Status.Stopped)
-        ⊎ (result ≡ served_status words.now.name (described bytes.now)) }
+    ensures status { EndsAs result (Sync (sync_data words.now))
+        (served_status words.now.name (described bytes.now)) }
     ensures ends { IsSourceSynced result }
     ensures write { result ≡ Status.WriteFault → Rose (W.faults sink.old) (W.faults sink.new) }
     ensures silent { IsSilent result → W.written sink.new ≡ W.written sink.old }

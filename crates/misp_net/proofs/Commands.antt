@@ -127,7 +127,7 @@ read_allowed : (admin : Admin) (word : ℕ) (read : Read) → AllowedForm (read_
 read_allowed admin word (reads.Request request) = form_allowed admin (request_data word request)
 read_allowed admin word (reads.Refused fault) = tt
 
-read_caller : (admin : Admin) (word : ℕ) (read : Read) → AskedBy (caller_of admin read) (read_form admin word read)
+pub read_caller : (admin : Admin) (word : ℕ) (read : Read) → AskedBy (caller_of admin read) (read_form admin word read)
 read_caller admin word (reads.Request request) = form_caller admin (request_data word request)
 read_caller admin word (reads.Refused fault) = tt
 

@@ -13,11 +13,11 @@ use Rattle.misp_sync.specs.Trail.{GrowsBy}
 use Rattle.misp_net.proofs.Appending.{one_ran}
 use Rattle.misp_net.specs.Prelude.{Act, AreKept, Bad, Done, Host, IsDone, KeeperState, Line, Nothing, Output, Ran, Replied, Seen, Standing, Unanswered, host_of, hosts_of, meaning, seen_in, spelled, states_of, stop_in}
 use Rattle.misp_net.specs.Acts.{Administers, Asks, Does, Idle, IsPlaced, One, Session, Syncs, act, asks_from, outputs_done}
-use Rattle.misp_net.specs.Carrying.{carry_faults}
+use Rattle.misp_net.specs.Carrying.{Carried, carried, carry_faults}
 use Rattle.misp_net.specs.Lines.{sync_line}
 use Rattle.misp_net.specs.Meaning.{IsAsFormed}
 use Rattle.misp_net.specs.Passing.{IsPassed, IsPassedFor, Trail}
-use Rattle.misp_net.specs.Running.{Carried, CutLine, HasSession, IsAct, IsAdministered, IsRequested, RanLine, carried}
+use Rattle.misp_net.specs.Running.{CutLine, HasSession, IsAct, IsAdministered, IsRequested, RanLine}
 use Rattle.misp_net.specs.Text.{done_text, output_text}
 use Rattle.misp_net.proofs.Carrying.{replies_none, rose_none}
 use Rattle.misp_net.proofs.Growing.{grows_none}

@@ -5,9 +5,9 @@ use Rattle.misp_script.specs.declared.description.Entry.{Entry}
 use Rattle.misp_effects.proofs.KeeperStates.{all_kept}
 use Rattle.misp_effects.proofs.Courses.{run_kept}
 use Rattle.misp_net.specs.Prelude.{Act, AreAmong, AreKept, Done, HasRun, Host, IsCut, KeeperState, Line, Output, Ran, Standing, acts_of, described_host, host_of, hosts_of, outputs_of, state_of, states_of}
-use Rattle.misp_net.specs.Carrying.{HasCarried}
+use Rattle.misp_net.specs.Carrying.{Carried}
 use Rattle.misp_net.specs.Meaning.{AreAsFormed}
-use Rattle.misp_net.specs.Passing.{HasPassed, HasPassedFirst, Passes, Trail}
+use Rattle.misp_net.specs.Passing.{Passes, Trail}
 use Rattle.misp_net.proofs.Passing.{passes_kept}
 
 -- there are as many as are described
@@ -35,39 +35,31 @@ module _ {hosts described : List Host} {front after rest olds news : List Keeper
       let last : take count news ≡ after = ap (take count) over.is ∙ take_at after rest count (over.still ∙ over.long) in
       subst (λ there. Ran there acts (take count olds) (take count news) outputs) over.same (run_kept over.kept ran (rw last (all_kept after)))
 
-  pub run_in_front : {lines : List Line} {text : List ℕ} → HasRun hosts lines front after text → HasRun described lines (take count olds) (take count news) text
-  run_in_front run = record {
-    dones = run.dones;
-    done = run.done;
-    text_is = run.text_is;
-    ran = ran_in_front (acts_of run.dones) (outputs_of run.dones) run.ran;
-    formed = subst (λ there. AreAsFormed there (acts_of run.dones) (outputs_of run.dones)) over.same run.formed;
-    among = subst (λ there. AreAmong (length there) (acts_of run.dones)) over.same run.among;
-  }
-
-  -- with what carries
-  pub carried_in_front : {first last : ℕ} {lines : List Line} {text : List ℕ} → HasCarried first last hosts lines front after text → HasCarried first last described lines (take count olds) (take count news) text
-  unfolding run_in_front
-  carried_in_front carried = record { run = run_in_front carried.run; rose = carried.rose }
-
-  -- and with what passed
+  -- and so is what passed
   passes_in_front : (dones : List Done) (first last : Option Trail) → Passes hosts dones front after first last → Passes described dones (take count olds) (take count news) first last
   passes_in_front dones first last passes =
       let end : take count news ≡ after = ap (take count) over.is ∙ take_at after rest count (over.still ∙ over.long) in
       subst (λ there. Passes there dones (take count olds) (take count news) first last) over.same
       (subst (λ now. Passes hosts dones (take count olds) now first last) (sym end) (passes_kept hosts (take count olds) front over.kept dones after first last passes))
 
-  pub passed_in_front : {first last : Option Trail} {lines : List Line} {text : List ℕ} → HasPassed first last hosts lines front after text → HasPassed first last described lines (take count olds) (take count news) text
-  passed_in_front {first} {last} passed = record {
-    dones = passed.dones;
-    done = passed.done;
-    text_is = passed.text_is;
-    passed = passes_in_front passed.dones first last passed.passed;
+  pub run_in_front : {first last : Carried} {lines : List Line} {text : List ℕ} → HasRun hosts lines front after first last text → HasRun described lines (take count olds) (take count news) first last text
+  run_in_front {first} {last} run = record {
+    dones = run.dones;
+    done = run.done;
+    text_is = run.text_is;
+    ran = ran_in_front (acts_of run.dones) (outputs_of run.dones) run.ran;
+    formed = subst (λ there. AreAsFormed there (acts_of run.dones) (outputs_of run.dones)) over.same run.formed;
+    among = subst (λ there. AreAmong (length there) (acts_of run.dones)) over.same run.among;
+    carried = run.carried;
+    passed = passes_in_front run.dones first.passed last.passed run.passed;
   }
 
-  -- and so is one that was cut short
-  pub cut_in_front : {lines : List Line} → IsCut hosts lines front after → IsCut described lines (take count olds) (take count news)
-  cut_in_front cut = record { count = cut.count; dones = cut.dones; done = cut.done; ran = ran_in_front (acts_of cut.dones) (outputs_of cut.dones) cut.ran }
-
-  pub passing_in_front : {first last : Option Trail} {lines : List Line} → HasPassedFirst first last hosts lines front after → HasPassedFirst first last described lines (take count olds) (take count news)
-  passing_in_front {first} {last} cut = record { count = cut.count; dones = cut.dones; done = cut.done; passed = passes_in_front cut.dones first last cut.passed }
+  -- also of one that was cut short
+  pub cut_in_front : {first last : Option Trail} {lines : List Line} → IsCut hosts lines front after first last → IsCut described lines (take count olds) (take count news) first last
+  cut_in_front {first} {last} cut = record {
+    count = cut.count;
+    dones = cut.dones;
+    done = cut.done;
+    ran = ran_in_front (acts_of cut.dones) (outputs_of cut.dones) cut.ran;
+    passed = passes_in_front cut.dones first last cut.passed;
+  }

@@ -10,7 +10,7 @@ use Rattle.misp_store.proofs.GroupRows.{AreReadBack}
 use Rattle.misp_net.specs.Prelude.{Act, AreAmong, AreDistinct, Host, KeeperState, Outcome, Output, Ran, Seen, Tables, Tell, World, held_at, meaning, nothing_held, seen_in, spelled, start, stop_in, told_output}
 use Rattle.misp_net.specs.Meaning.{meanings_of}
 use Rattle.misp_net.specs.Run.{tables_after}
-use Rattle.misp_net.specs.History.{world_after, world_left, told_outputs, empty_tables, IsHistory, AreTold, AreHeld}
+use Rattle.misp_net.specs.History.{world_after, world_left, told_outputs, empty_tables, IsHistory}
 use Rattle.misp_net.proofs.Commands.{output_told, act_left}
 use Rattle.misp_net.proofs.SyncLaw.{AreSyncLaws}
 
@@ -51,26 +51,22 @@ module _ (back : AreReadBack) (law : AreSyncLaws) (hosts : List Host) (distinct 
 
   module _ (acts : List Act) (old new : List KeeperState) (outputs : List Output) (among : AreAmong (length hosts) acts) (ran : Ran hosts acts old new outputs)
       (empty : Tell old (empty_tables hosts)) where
-    done : AreDone Seen Output seen_in spelled stop_in (meanings_of hosts acts) (empty_tables hosts) outputs new
-    done = ran.done (empty_tables hosts) empty
+    pub course : AreDone Seen Output seen_in spelled stop_in (meanings_of hosts acts) (empty_tables hosts) outputs new
+    course = ran.done (empty_tables hosts) empty
 
-    each : length done.outcomes ≡ length acts
-    each = done.each ∙ length-map acts (λ act. (meaning hosts act).means)
+    pub each : length course.outcomes ≡ length acts
+    each = course.each ∙ length-map acts (λ act. (meaning hosts act).means)
 
-    history : (outputs_of seen_in spelled (meanings_of hosts acts) done.outcomes (empty_tables hosts) ≡ told_outputs 0 hosts start acts done.outcomes)
-        × IsHistory hosts (0 + length acts) (world_left 0 hosts start acts done.outcomes) (tables_left seen_in spelled (meanings_of hosts acts) done.outcomes (empty_tables hosts))
-    history = all_told 0 start acts done.outcomes (empty_tables hosts) each among (at_start hosts) done.fits
+    history : (outputs_of seen_in spelled (meanings_of hosts acts) course.outcomes (empty_tables hosts) ≡ told_outputs 0 hosts start acts course.outcomes)
+        × IsHistory hosts (0 + length acts) (world_left 0 hosts start acts course.outcomes) (tables_left seen_in spelled (meanings_of hosts acts) course.outcomes (empty_tables hosts))
+    history = all_told 0 start acts course.outcomes (empty_tables hosts) each among (at_start hosts) course.fits
 
-    pub are_told : AreTold hosts acts outputs
-    are_told = record { outcomes = done.outcomes; each = each; agree = done.agree; outputs_are = done.outputs_are ∙ history.0 }
+    -- what was put out is what the history says
+    pub replied : outputs ≡ told_outputs 0 hosts start acts course.outcomes
+    replied = course.outputs_are ∙ history.0
 
-    pub are_held : AreHeld hosts acts outputs new
-    unfolding are_told done
-    are_held =
+    -- and what is held
+    pub newest_held : IsHistory hosts (length acts) (world_left 0 hosts start acts course.outcomes) (tables_left seen_in spelled (meanings_of hosts acts) course.outcomes (empty_tables hosts))
+    newest_held =
         let same : 0 + length acts ≡ length acts = omega arith in
-        record {
-          told = are_told;
-          tables = tables_left seen_in spelled (meanings_of hosts acts) done.outcomes (empty_tables hosts);
-          tables_are = done.tables_are;
-          history = subst (λ k. IsHistory hosts k (world_left 0 hosts start acts done.outcomes) (tables_left seen_in spelled (meanings_of hosts acts) done.outcomes (empty_tables hosts))) same history.1;
-        }
+        subst (λ k. IsHistory hosts k (world_left 0 hosts start acts course.outcomes) (tables_left seen_in spelled (meanings_of hosts acts) course.outcomes (empty_tables hosts))) same history.1

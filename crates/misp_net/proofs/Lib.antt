@@ -1,3 +1,4 @@
+pub mod Alike
 pub mod Apart
 pub mod Appending
 pub mod Asking
@@ -26,6 +27,7 @@ pub mod QueryRoutes
 pub mod QueryTexts
 pub mod RequestBytes
 pub mod RequestForms
+pub mod Scripts
 pub mod Steps
 pub mod SyncLaw
 pub mod Syncs
@@ -33,4 +35,5 @@ pub mod SyncsIdle
 pub mod SyncsTold
 pub mod Telling
 pub mod Turns
+pub mod Unique
 pub mod Ways

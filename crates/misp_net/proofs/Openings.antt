@@ -1,12 +1,16 @@
 -- Keepers while instances are opened over them.
-use Rattle.std.proofs.Common.{◌≡◌, List, [], ◌∷◌, ◌++◌, true, map, refl, sym, ◌∙◌, ap, subst, append_assoc, Result, Ok, Err, IfErr}
+use Rattle.std.proofs.Common.{◌≡◌, List, [], ◌∷◌, ◌++◌, true, map, refl, sym, ◌∙◌, ap, subst, append_assoc, Option, Result, Ok, Err, IfErr}
+use Rattle.std.specs.Prelude.{IsErrAnd}
 use Rattle.std.proofs.lemmas.List.{map_push}
-use Rattle.misp_effects.specs.KeeperStates.{told}
+use Rattle.misp_effects.specs.KeeperStates.{OneFailed, told}
 use Rattle.misp_effects.proofs.KeeperStates.{kept_told}
 use Rattle.misp_history.proofs.Prelude.{and_from, list_all-append}
-use Rattle.misp_store.specs.Sharing.{is_sound, may_be_sound}
+use Rattle.misp_store.specs.Sharing.{is_sound, may_be_sound, may_be_unsound}
 use Rattle.misp_core.specs.Prelude.{KeeperState, Standing, groups_in, list_all, option_map_or}
-use Rattle.misp_net.specs.Prelude.{AreKept, nothing_held, state_of, states_of}
+use Rattle.misp_net.specs.Opening.{IsStoppedBy}
+use Rattle.misp_net.specs.Passing.{Trail}
+use Rattle.misp_net.specs.Prelude.{AreKept, Host, IsCut, Line, nothing_held, state_of, states_of}
+use Rattle.misp_net.specs.declared.places.NetFault.{NetFault}
 
 -- ---- what the keepers tell
 
@@ -44,3 +48,25 @@ put_back state k rest all i keepers now split first held faults =
 pub if_err : {A E : Type 0} {P : E → Type 0} (result : Result A E) → ((fault : E) → P fault) → IfErr result P
 if_err (Ok x) holds = tt
 if_err (Err fault) holds = holds fault
+
+-- ---- why a script was not run to its end
+
+module _ (hosts : List Host) (lines : List Line) (old new : List KeeperState) (before after : Option Trail) (cut : IsCut hosts lines old new before after) where
+  -- for want of memory
+  pub memory_stopped : {A : Type 0} (result : Result A NetFault) → IsErrAnd result (λ fault. fault ≡ NetFault.NoMemory) → IfErr result (IsStoppedBy hosts lines old new before after)
+  memory_stopped (Ok x) is = tt
+  memory_stopped (Err fault) is = subst (IsStoppedBy hosts lines old new before after) (sym is) cut
+
+  by_fault : {B : Type 0} (opened : Result B NetFault) (fault : NetFault) → opened ≡ Err fault → (opened ≡ Err NetFault.KeeperFault → OneFailed old new)
+      → (opened ≡ Err NetFault.BadRow → may_be_unsound old ≡ true) → IsStoppedBy hosts lines old new before after fault
+  by_fault opened NetFault.KeeperFault is keeper bad = keeper is
+  by_fault opened NetFault.BadRow is keeper bad = bad is
+  by_fault opened NetFault.NoMemory is keeper bad = cut
+
+  -- or by the fault for which the instances did not open
+  pub opening_stopped : {A B : Type 0} (result : Result A NetFault) (opened : Result B NetFault) (fault : NetFault) → opened ≡ Err fault → IsErrAnd result (λ f. f ≡ fault)
+      → (opened ≡ Err NetFault.KeeperFault → OneFailed old new) → (opened ≡ Err NetFault.BadRow → may_be_unsound old ≡ true)
+      → IfErr result (IsStoppedBy hosts lines old new before after)
+  opening_stopped (Ok x) opened fault is same keeper bad = tt
+  opening_stopped (Err f) opened fault is same keeper bad =
+      subst (IsStoppedBy hosts lines old new before after) (sym same) (by_fault opened fault is keeper bad)

@@ -1,5 +1,5 @@
 -- What passed for lines, one after another.
-use Rattle.std.proofs.Common.{◌≡◌, ℕ, zero, suc, ◌+◌, List, [], ◌∷◌, ◌++◌, length, Bool, true, false, eqb, Option, Some, None, Ok, Err, inl, inr, refl, sym, ◌∙◌, ap, subst, arith, IfSome}
+use Rattle.std.proofs.Common.{◌≡◌, ℕ, zero, suc, List, [], ◌∷◌, ◌++◌, Bool, true, false, eqb, Option, Some, None, Ok, Err, inl, inr, refl, sym, ◌∙◌, ap, subst, arith, IfSome}
 use Rattle.std.proofs.lemmas.Bool.{cases_Bool}
 use Rattle.misp_ids.specs.Refusal.{bare}
 use Rattle.misp_ids.specs.declared.label.Way.{Way}
@@ -20,16 +20,13 @@ use Rattle.misp_sync.specs.PushTrail.{IsPushTrail, push_handings}
 use Rattle.misp_sync.specs.Pushed.{groups_carried, packages_sent}
 use Rattle.misp_sync.specs.Trail.{GrowsBy, IfOn, IsPullTrail}
 use Rattle.misp_sync.specs.declared.reply.SyncReply.{SyncReply}
-use Rattle.misp_net.specs.Acts.{Administers, Asks, Deed, Does, Idle, One, Session, Syncs}
+use Rattle.misp_net.specs.Acts.{Administers, Asks, Deed, Idle, One, Session, Syncs}
 use Rattle.misp_net.specs.Asking.{asked_at, asked_over, names_of}
 use Rattle.misp_net.specs.Links.{link_at, peer_place, place_named, place_of_peer}
-use Rattle.misp_net.specs.Passing.{HasPassed, HasPassedFirst, IsPassed, IsPassedFor, IsSyncPassed, Passes, Trail, UnlessHere, stands_at, told_at}
-use Rattle.misp_net.specs.Prelude.{AreDone, AreKept, Bad, Done, Host, IsDone, KeeperState, Line, Nothing, Output, SyncData, Replied, Synced, Unanswered}
-use Rattle.misp_net.specs.Running.{CutLine}
-use Rattle.misp_net.specs.Text.{line_of}
+use Rattle.misp_net.specs.Passing.{IsPassed, IsPassedFor, IsSyncPassed, Passes, Trail, UnlessHere, stands_at, told_at}
+use Rattle.misp_net.specs.Prelude.{AreKept, Bad, Done, Host, IsDone, KeeperState, Nothing, Output, SyncData, Replied, Synced, Unanswered}
 use Rattle.misp_net.specs.Ways.{IsTrailOn}
 use Rattle.misp_net.proofs.Asking.{asked_none, bar_from, place_same}
-use Rattle.misp_net.proofs.Courses.{all_lines, done_push, first_lines, next_lines, text_more}
 use Rattle.misp_net.proofs.Growing.{grows_as}
 
 -- ---- a synchronisation with nobody
@@ -160,9 +157,6 @@ module _ (hosts : List Host) (old new : List KeeperState) (kept : AreKept old ne
 
 -- ---- one line more
 
-pub none_passed : (hosts : List Host) (old : List KeeperState) (told : Option Trail) → HasPassed told told hosts [] old old []
-none_passed hosts old told = record { dones = []; done = tt; text_is = refl; passed = (all_kept old, refl) }
-
 -- after these it passes for one more
 pub passes_more : (hosts : List Host) (dones : List Done) (d : Done) (old mid new : List KeeperState) (first next last : Option Trail) → Passes hosts dones old mid first next → IsDone hosts d mid new
     → GrowsBy next last (IsPassedFor hosts mid d) → Passes hosts (dones ++ d ∷ []) old new first last
@@ -171,51 +165,9 @@ passes_more hosts [] d old mid new first next last (kept, same) is grows =
 passes_more hosts (e ∷ dones) d old mid new first next last (left, between, was, grew, rest) is grows =
     (left, between, was, grew, passes_more hosts dones d left mid new between next last rest is grows)
 
-pub passed_more : (hosts : List Host) (lines : List Line) (line : Line) (old mid new : List KeeperState) (before after : List ℕ) (d : Done) (first next last : Option Trail)
-    → HasPassed first next hosts lines old mid before → Does line d → IsDone hosts d mid new → after ≡ before ++ line_of (1 + length lines) d
-    → GrowsBy next last (IsPassedFor hosts mid d) → HasPassed first last hosts (lines ++ line ∷ []) old new after
-passed_more hosts lines line old mid new before after d first next last so_far does is text grows = record {
-  dones = so_far.dones ++ d ∷ [];
-  done = done_push lines line so_far.dones d so_far.done does;
-  text_is = text_more lines so_far.dones d before after so_far.done so_far.text_is text;
-  passed = passes_more hosts so_far.dones d old mid new first next last so_far.passed is grows;
-}
-
--- ---- cut short
-
 -- what follows does nothing
-passes_still : (hosts : List Host) (dones : List Done) (old mid new : List KeeperState) (first next last : Option Trail) → Passes hosts dones old mid first next → AreKept mid new → last ≡ next
+pub passes_still : (hosts : List Host) (dones : List Done) (old mid new : List KeeperState) (first next last : Option Trail) → Passes hosts dones old mid first next → AreKept mid new → last ≡ next
     → Passes hosts dones old new first last
 passes_still hosts [] old mid new first next last (stay, was) kept same = (kept_then old mid new stay kept, same ∙ was)
 passes_still hosts (d ∷ dones) old mid new first next last (left, between, is, grows, rest) kept same =
     (left, between, is, grows, passes_still hosts dones left mid new between next last rest kept same)
-
--- no line was run
-pub none_passing : (hosts : List Host) (lines : List Line) (old new : List KeeperState) (told : Option Trail) → AreKept old new → HasPassedFirst told told hosts lines old new
-none_passing hosts lines old new told kept = record { count = 0; dones = []; done = tt; passed = (kept, refl) }
-
--- these were, and perhaps the next, which is not written
-pub some_passing : (hosts : List Host) (before more lines : List Line) (line : Line) (old mid new : List KeeperState) (text : List ℕ) (first next last : Option Trail)
-    → HasPassed first next hosts before old mid text → before ++ line ∷ more ≡ lines → CutLine hosts line mid new next last → HasPassedFirst first last hosts lines old new
-some_passing hosts before more lines line old mid new text first next last so_far all (inl (kept, same)) = record {
-  count = length before;
-  dones = so_far.dones;
-  done = subst (λ front. AreDone front so_far.dones) (sym (first_lines before more lines line all)) so_far.done;
-  passed = passes_still hosts so_far.dones old mid new first next last so_far.passed kept same;
-}
-some_passing hosts before more lines line old mid new text first next last so_far all (inr (d, does, is, grows)) = record {
-  count = length before + 1;
-  dones = so_far.dones ++ d ∷ [];
-  done = subst (λ front. AreDone front (so_far.dones ++ d ∷ [])) (sym (next_lines before more lines line all)) (done_push before line so_far.dones d so_far.done does);
-  passed = passes_more hosts so_far.dones d old mid new first next last so_far.passed is grows;
-}
-
--- all were
-pub all_passing : (hosts : List Host) (lines : List Line) (old new : List KeeperState) (text : List ℕ) (first last : Option Trail) → HasPassed first last hosts lines old new text
-    → HasPassedFirst first last hosts lines old new
-all_passing hosts lines old new text first last so_far = record {
-  count = length lines;
-  dones = so_far.dones;
-  done = subst (λ front. AreDone front so_far.dones) (sym (all_lines lines)) so_far.done;
-  passed = so_far.passed;
-}

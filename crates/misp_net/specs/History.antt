@@ -2,18 +2,16 @@
 use Rattle.std.specs.Prelude.{◌≡◌, ℕ, suc, ◌<◌, Bool, true, false, ltb, List, [], ◌∷◌, map, length, Option, Some, None, Ok}
 use Rattle.misp_ids.specs.Same.{same_org}
 use Rattle.misp_outside.specs.Held.{nothing_held}
-use Rattle.misp_effects.specs.Effect.{stop_of}
 use Rattle.misp_effects.specs.KeeperStates.{Tables, held_at}
 use Rattle.misp_effects.specs.Run.{effect_of}
 use Rattle.misp_history.specs.Outcomes.{step_partly}
-use Rattle.misp_erasure.specs.Kept.{start}
-use Rattle.misp_core.specs.Prelude.{Host, KeeperState, Keeps, OrgId, Outcome, Seen, Tell, World, list_all, same_inst, tables}
+use Rattle.misp_core.specs.Prelude.{Host, Keeps, OrgId, Outcome, Seen, World, list_all, same_inst, tables}
 use Rattle.misp_sync.specs.History.{applied}
 use Rattle.misp_net.specs.declared.line.Output.{Output}
 use Rattle.misp_net.specs.Hosts.{host_at}
 use Rattle.misp_net.specs.Acts.{Act}
 use Rattle.misp_net.specs.Links.{links_of}
-use Rattle.misp_net.specs.Meaning.{meaning, stop_in}
+use Rattle.misp_net.specs.Meaning.{meaning}
 use Rattle.misp_history.specs.Acts as model
 
 -- ---- acts of the history
@@ -76,22 +74,6 @@ pub record IsHistory (hosts : List Host) (n : ℕ) (w : World) (tables : Tables)
   pub each : (place : ℕ) → place < length hosts
       → Keeps (host_at place hosts).name w (held_at place tables)
   pub earlier : list_all (λ v. ltb v.act n) w.log ≡ true
-
--- Under outcomes that the outputs tell, the outputs are those of the history.
-pub record AreTold (hosts : List Host) (acts : List Act) (outputs : List Output) : Type 0 where
-  pub outcomes : List Outcome
-  pub each : length outcomes ≡ length acts
-  pub agree : map stop_of outcomes ≡ map stop_in outputs
-  pub outputs_are : outputs ≡ told_outputs 0 hosts start acts outcomes
-
--- The outputs are those of the history, and under the same outcomes each keeper holds the tables
--- and the groups of its instance after these acts, and nothing else.
-pub record AreHeld (hosts : List Host) (acts : List Act)
-    (outputs : List Output) (new : List KeeperState) : Type 0 where
-  pub told : AreTold hosts acts outputs
-  pub tables : Tables
-  pub tables_are : Tell new tables
-  pub history : IsHistory hosts (length acts) (world_left 0 hosts start acts told.outcomes) tables
 
 -- ---- whose an act is
 

@@ -1,17 +1,15 @@
 -- What passed between the instances for the lines of a script, as bytes in their order.
-use Rattle.std.specs.Prelude.{◌≡◌, ℕ, ◌==◌, Bool, true, false, List, [], ◌∷◌, Option, option_map, take}
+use Rattle.std.specs.Prelude.{◌≡◌, ℕ, ◌==◌, Bool, true, false, List, [], ◌∷◌, Option, option_map}
 use Rattle.misp_script.specs.Step.{SyncData}
 use Rattle.misp_effects.specs.KeeperStates.{AreKept, state_at}
 use Rattle.misp_core.specs.Prelude.{Held, Host, KeeperState, Standing}
 use Rattle.misp_core.specs.Standing.{standing}
 use Rattle.misp_sync.specs.Trail.{GrowsBy}
 use Rattle.misp_sync.specs.declared.reply.SyncReply.{SyncReply}
-use Rattle.misp_net.specs.Acts.{AreDone, Deed, Done, Syncs}
+use Rattle.misp_net.specs.Acts.{Deed, Done, Syncs}
 use Rattle.misp_net.specs.Hosts.{host_at}
-use Rattle.misp_net.specs.Lines.{Line}
 use Rattle.misp_net.specs.Links.{link_at, place_of_peer}
 use Rattle.misp_net.specs.Run.{IsDone}
-use Rattle.misp_net.specs.Text.{text_from}
 use Rattle.misp_net.specs.Ways.{IsTrailOn}
 use Rattle.misp_net.specs.declared.line.Output.{Output}
 use Rattle.misp_net.specs.declared.line.Output.TheVariants.{Synced}
@@ -63,20 +61,3 @@ Passes hosts (d ∷ dones) old new before after =
     (left : List KeeperState) × (between : Option Trail) × IsDone hosts d old left
     × GrowsBy before between (IsPassedFor hosts old d)
     × Passes hosts dones left new between after
-
--- The lines ran so, and wrote this text.
-pub record HasPassed (before after : Option Trail) (hosts : List Host) (lines : List Line)
-    (old new : List KeeperState) (text : List ℕ) : Type 0 where
-  pub dones : List Done
-  pub done : AreDone lines dones
-  pub text_is : text ≡ text_from 1 dones
-  pub passed : Passes hosts dones old new before after
-
--- The run was cut short: some first lines did this, and the keepers and what passed are as they
--- left them.
-pub record HasPassedFirst (before after : Option Trail) (hosts : List Host) (lines : List Line)
-    (old new : List KeeperState) : Type 0 where
-  pub count : ℕ
-  pub dones : List Done
-  pub done : AreDone (take count lines) dones
-  pub passed : Passes hosts dones old new before after

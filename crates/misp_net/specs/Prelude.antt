@@ -18,8 +18,8 @@ pub use Rattle.misp_net.specs.Acts.{Act, AreAmong, AreDone, Done, acts_of, outpu
 pub use Rattle.misp_net.specs.Lines.{Line, lines_of}
 pub use Rattle.misp_net.specs.Links.{links_of}
 pub use Rattle.misp_net.specs.Meaning.{meaning, stop_in}
-pub use Rattle.misp_net.specs.Promise.{IsCut}
-pub use Rattle.misp_net.specs.Run.{HasRun, IsDone, Ran}
+pub use Rattle.misp_net.specs.Promise.{HasRun, IsCut}
+pub use Rattle.misp_net.specs.Run.{IsDone, Ran}
 pub use Rattle.misp_net.specs.Running.{hosts_of, state_of, states_of}
 pub use Rattle.misp_net.specs.declared.line.Output.{Output}
 pub use Rattle.misp_net.specs.declared.line.Output.TheVariants.{Bad, Nothing, Replied, Synced, Unanswered}

@@ -1,13 +1,11 @@
 -- The run of a script, given what stopped each of its acts: what is put out, and what is held in
 -- the end. The words of misp_effects, of the meanings of the acts.
-use Rattle.std.specs.Prelude.{◌≡◌, ℕ, List, length}
+use Rattle.std.specs.Prelude.{List, length}
 use Rattle.misp_effects.specs.KeeperStates.{Tables}
 use Rattle.misp_core.specs.Prelude.{Host, KeeperState, Outcome, Seen, seen_in, spelled}
 use Rattle.misp_net.specs.declared.line.Output.{Output}
-use Rattle.misp_net.specs.Acts.{Act, AreAmong, AreDone, Done, acts_done, acts_of, outputs_done, outputs_of}
-use Rattle.misp_net.specs.Lines.{Line}
+use Rattle.misp_net.specs.Acts.{Act, AreAmong, Done, acts_done, outputs_done}
 use Rattle.misp_net.specs.Meaning.{meaning, meanings_of, stop_in, AreAsFormed}
-use Rattle.misp_net.specs.Text.{text_from}
 use Rattle.misp_effects.specs.Run as runs
 use Rattle.misp_effects.specs.Course as courses
 
@@ -35,13 +33,3 @@ pub record IsDone (hosts : List Host) (d : Done) (old new : List KeeperState) : 
   pub ran : Ran hosts (acts_done d) old new (outputs_done d)
   pub formed : AreAsFormed hosts (acts_done d) (outputs_done d)
   pub among : AreAmong (length hosts) (acts_done d)
-
--- The lines ran so, each over one of the instances, and wrote this text.
-pub record HasRun (hosts : List Host) (lines : List Line)
-    (old new : List KeeperState) (text : List ℕ) : Type 0 where
-  pub dones : List Done
-  pub done : AreDone lines dones
-  pub text_is : text ≡ text_from 1 dones
-  pub ran : Ran hosts (acts_of dones) old new (outputs_of dones)
-  pub formed : AreAsFormed hosts (acts_of dones) (outputs_of dones)
-  pub among : AreAmong (length hosts) (acts_of dones)

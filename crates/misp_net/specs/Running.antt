@@ -25,7 +25,7 @@ use Rattle.misp_effects.specs.declared.stop.Stop.TheVariants as stops
 use Rattle.misp_sync.specs.Trail.{GrowsBy}
 use Rattle.misp_sync.specs.declared.reply.SyncReply.{SyncReply}
 use Rattle.misp_net.specs.Acts.{Act, Does, Done, outputs_done}
-use Rattle.misp_net.specs.Carrying.{carry_faults}
+use Rattle.misp_net.specs.Carrying.{Carried, carry_faults}
 use Rattle.misp_net.specs.Hosts.{host_at}
 use Rattle.misp_net.specs.Lines.{Line}
 use Rattle.misp_net.specs.Links.{place_of_peer}
@@ -109,14 +109,6 @@ pub record IsSynced (hosts : List Host) (line : SyncData) (reply : SyncReply)
       (pulls.stop_in reply ≡ Some (stops.Keeper There))
 
 -- ---- lines
-
--- what carries: how often it has failed, and the byte strings that it answered, where it tells them
-pub record Carried : Type 0 where
-  pub faults : ℕ
-  pub passed : Option Trail
-
-abbrev pub carried : ℕ → Option Trail → Carried
-carried faults passed = record { faults = faults; passed = passed }
 
 -- A line was run over the instances, and wrote this behind what was there. The count of the faults
 -- of what carries rose by at least as many as its outputs tell, and what is stated passed.

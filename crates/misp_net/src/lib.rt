@@ -1,6 +1,7 @@
 //! Runs a script of requests over the instances of a description.
 #![tactic(auto)]
 
+mod laws;
 mod lending;
 mod line;
 mod net;
@@ -11,6 +12,7 @@ mod sessions;
 mod synced;
 mod syncing;
 
+pub use laws::a_script_has_one_list_of_acts;
 pub use lending::sync_between;
 pub use line::Output;
 pub use net::run_net;

@@ -1,24 +1,24 @@
 //! The run of a script.
 
-ghost use Rattle.std.specs.Prelude.{◌≡◌, ◌<◌, ◌≤◌, ◌++◌, true, Ok, Err, IfOk, IfErr, OnOk, OnErr, length, map, take, drop, vec_len, vec_capacity};
+ghost use Rattle.std.specs.Prelude.{◌≡◌, ◌<◌, ◌≤◌, ◌++◌, true, Ok, IfOk, IfErr, OnOk, OnErr, length, map, take, drop, vec_len, vec_capacity};
 ghost use Rattle.misp_outside.specs.Causes.{RoseBy};
 ghost use Rattle.misp_script.specs.Directory.{directory_of, roster_names};
 ghost use Rattle.misp_script.specs.Step.{IsPlaced, command_data, step_data, step_of};
 ghost use Rattle.misp_script.specs.Step as commands;
-ghost use Rattle.misp_effects.specs.KeeperStates.{told, OneFailed};
+ghost use Rattle.misp_effects.specs.KeeperStates.{told};
 ghost use Rattle.misp_net.specs.Hosts.{described_hosts};
 ghost use Rattle.misp_net.specs.Acts.{Does, Done, outputs_done};
 ghost use Rattle.misp_net.specs.Asking.{names_of};
-ghost use Rattle.misp_net.specs.Carrying.{carry_faults, HasCarried};
-ghost use Rattle.misp_net.specs.Passing.{HasPassed, HasPassedFirst, IsPassedFor};
-ghost use Rattle.misp_net.specs.Running.{carried, hosts_of, states_of, CutLine, IsAdministered, RanLine};
+ghost use Rattle.misp_net.specs.Carrying.{carried, carry_faults};
+ghost use Rattle.misp_net.specs.Passing.{IsPassedFor};
+ghost use Rattle.misp_net.specs.Running.{hosts_of, states_of, CutLine, IsAdministered, RanLine};
 ghost use Rattle.misp_net.specs.Lines.{lines_of};
-ghost use Rattle.misp_store.specs.Sharing.{may_be_sound, may_be_unsound};
+ghost use Rattle.misp_store.specs.Sharing.{may_be_sound};
 ghost use Rattle.misp_sync.specs.Trail.{GrowsBy};
-ghost use Rattle.misp_net.specs.Opening.{IsUnopened};
+ghost use Rattle.misp_net.specs.Opening.{IsStoppedBy, IsUnopened};
 ghost use Rattle.misp_net.specs.Run.{IsDone};
 ghost use Rattle.misp_net.specs.Text.{output_text, line_of};
-ghost use Rattle.misp_net.specs.Promise.{IsPrivate, AreReplied, AreNewest, IsCut};
+ghost use Rattle.misp_net.specs.Promise.{HasRun, IsCut, IsNetRun};
 
 use crate::line::{Output, put_bad, put_front, put_nothing, show};
 use crate::places::{NetFault, close_all, open_all};
@@ -197,20 +197,14 @@ fn run_lines<K: Keeper, C: Carry>(
     requires { roster_names directory.now ≡ names_of (hosts_of instances.old.items) }
     ensures places { vec_len instances.new ≡ vec_len instances.old }
     ensures ran { IfOk result (λ lines.
-        HasCarried (C.faults carry.old) (C.faults carry.new)
-        (hosts_of instances.old.items) (lines_of directory.now script.now)
-        (states_of instances.old.items) (states_of instances.new.items) lines.items) }
-    ensures passed { IfOk result (λ lines.
-        HasPassed (C.passed carry.old) (C.passed carry.new)
-        (hosts_of instances.old.items) (lines_of directory.now script.now)
-        (states_of instances.old.items) (states_of instances.new.items) lines.items) }
+        HasRun (hosts_of instances.old.items) (lines_of directory.now script.now)
+        (states_of instances.old.items) (states_of instances.new.items)
+        (carried (C.faults carry.old) (C.passed carry.old))
+        (carried (C.faults carry.new) (C.passed carry.new)) lines.items) }
     ensures cut { OnErr result
         (IsCut (hosts_of instances.old.items) (lines_of directory.now script.now)
-        (states_of instances.old.items) (states_of instances.new.items)) }
-    ensures cut_passed { OnErr result
-        (HasPassedFirst (C.passed carry.old) (C.passed carry.new)
-        (hosts_of instances.old.items) (lines_of directory.now script.now)
-        (states_of instances.old.items) (states_of instances.new.items)) }
+        (states_of instances.old.items) (states_of instances.new.items)
+        (C.passed carry.old) (C.passed carry.new)) }
     ensures later { C.faults carry.old ≤ C.faults carry.new }
 {
     let mut lines = Vec::new(alloc);
@@ -238,66 +232,35 @@ pub fn run_net<K: Keeper, C: Carry>(
 ) -> Result<Vec<u8>, NetFault>
     requires { length net.instances ≤ vec_len keepers.old }
 
-    // What an organisation was never granted changes none of its replies.
-    ensures private { IfOk result (λ lines.
-        IsPrivate (described_hosts net) (lines_of (directory_of net) script.now)
+    // THE headline. Each reply is the stated function of its line and of what is held, each keeper
+    // holds the newest versions, and what an organisation was never granted changes none of its
+    // replies: all of one run, whose text this is.
+    ensures ran { IfOk result (λ lines.
+        IsNetRun (described_hosts net) (lines_of (directory_of net) script.now)
         (take (length net.instances) (map K.state keepers.old.items))
-        (take (length net.instances) (map K.state keepers.new.items)) lines.items) }
+        (take (length net.instances) (map K.state keepers.new.items))
+        (carried (C.faults carry.old) (C.passed carry.old))
+        (carried (C.faults carry.new) (C.passed carry.new)) lines.items) }
 
-    // Each reply is the stated function of its line, of what is held, and of what stopped the line.
-    ensures replied { IfOk result (λ lines.
-        AreReplied (described_hosts net) (lines_of (directory_of net) script.now)
-        (take (length net.instances) (map K.state keepers.old.items))
-        (take (length net.instances) (map K.state keepers.new.items)) lines.items) }
-
-    // Each keeper holds exactly the newest versions of what its instance was given.
-    ensures newest { IfOk result (λ lines.
-        AreNewest (described_hosts net) (lines_of (directory_of net) script.now)
-        (take (length net.instances) (map K.state keepers.old.items))
-        (take (length net.instances) (map K.state keepers.new.items)) lines.items) }
-
-    // Lines are run only where every row of the administration that is told is a group; else it is
-    // told which fault was met, and no keeper holds anything else than before.
+    // Lines are run only where every row of the administration that is told is a group.
     ensures sound { OnOk result (may_be_sound
         (take (length net.instances) (map K.state keepers.old.items)) ≡ true) }
-    ensures bad_row { result ≡ Err NetFault.BadRow → may_be_unsound
-        (take (length net.instances) (map K.state keepers.old.items)) ≡ true }
-    ensures keeper { result ≡ Err NetFault.KeeperFault → OneFailed
+
+    // Else a keeper failed or holds a row that is none, or memory ran out: then some first lines
+    // were run, and no other did anything. Where the instances do not open, no keeper holds
+    // anything else than before.
+    ensures stopped { IfErr result (IsStoppedBy
+        (described_hosts net) (lines_of (directory_of net) script.now)
         (take (length net.instances) (map K.state keepers.old.items))
-        (take (length net.instances) (map K.state keepers.new.items)) }
+        (take (length net.instances) (map K.state keepers.new.items))
+        (C.passed carry.old) (C.passed carry.new)) }
     ensures kept { IfErr result (λ fault. IsUnopened fault →
         told (map K.state keepers.new.items)
         ≡ told (map K.state keepers.old.items)) }
 
-    // Where memory runs out, some first lines were run, and no other did anything.
-    ensures cut { result ≡ Err NetFault.NoMemory →
-        IsCut (described_hosts net) (lines_of (directory_of net) script.now)
-        (take (length net.instances) (map K.state keepers.old.items))
-        (take (length net.instances) (map K.state keepers.new.items)) }
-
-    // What carries failed at least as often as outputs tell it.
-    ensures carried { IfOk result (λ lines.
-        HasCarried (C.faults carry.old) (C.faults carry.new)
-        (described_hosts net) (lines_of (directory_of net) script.now)
-        (take (length net.instances) (map K.state keepers.old.items))
-        (take (length net.instances) (map K.state keepers.new.items)) lines.items) }
+    // However it ends, the faults of what carries are not fewer, each keeper is back in its place,
+    // and those after the instances are as they were.
     ensures later { C.faults carry.old ≤ C.faults carry.new }
-
-    // What it answered, where it tells that, is for each synchronisation the stated requests with
-    // their replies, from the first on, and all of them where it is done. For any other line it is
-    // nothing. Where memory runs out, the same holds of some first lines.
-    ensures passed { IfOk result (λ lines.
-        HasPassed (C.passed carry.old) (C.passed carry.new)
-        (described_hosts net) (lines_of (directory_of net) script.now)
-        (take (length net.instances) (map K.state keepers.old.items))
-        (take (length net.instances) (map K.state keepers.new.items)) lines.items) }
-    ensures cut_passed { result ≡ Err NetFault.NoMemory →
-        HasPassedFirst (C.passed carry.old) (C.passed carry.new)
-        (described_hosts net) (lines_of (directory_of net) script.now)
-        (take (length net.instances) (map K.state keepers.old.items))
-        (take (length net.instances) (map K.state keepers.new.items)) }
-
-    // Each keeper is back in its place, and the others are as they were.
     ensures places { vec_len keepers.new ≡ vec_len keepers.old }
     ensures others { drop (length net.instances) (map K.state keepers.new.items)
         ≡ drop (length net.instances) (map K.state keepers.old.items) }

@@ -17,7 +17,8 @@ ghost use Rattle.misp_net.specs.Asking.{asked_over, names_of};
 ghost use Rattle.misp_net.specs.Lines.{sync_line};
 ghost use Rattle.misp_net.specs.Links.{place_of_peer};
 ghost use Rattle.misp_net.specs.Passing.{IsSyncPassed};
-ghost use Rattle.misp_net.specs.Running.{carried, hosts_of, states_of, CutLine, IsAct, IsSynced, RanLine};
+ghost use Rattle.misp_net.specs.Carrying.{carried};
+ghost use Rattle.misp_net.specs.Running.{hosts_of, states_of, CutLine, IsAct, IsSynced, RanLine};
 ghost use Rattle.misp_net.specs.declared.line.Output.TheVariants.{Synced};
 
 use crate::lending::sync_between;

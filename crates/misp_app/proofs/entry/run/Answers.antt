@@ -1,169 +1,44 @@
-use Rattle.std.proofs.Common.{List, ℕ, ◌⊎◌, Some, map, take, sym, subst, arith, ap, ◌∙◌, inl, inr, IfSome, IfOk}
-use Rattle.std.proofs.lemmas.List.{length-map}
-use Rattle.misp_effects.proofs.KeeperStates.{all_kept}
-use Rattle.misp_words.specs.Words.{ServeData, SyncData, Serve, Sync, command_data, serve_data, sync_data}
-use Rattle.misp_net.specs.Prelude.{Description}
-use Rattle.misp_app.specs.Hosting.{HasServed}
-use Rattle.misp_app.specs.Status.{Wrote}
-use Rattle.misp_app.specs.Source.{described, host_named, HasFailed, IsTold, IsUnsound, OthersStay}
-use Rattle.misp_app.proofs.Cutting.{cut_unread, passing_unread}
-use Rattle.misp_app.proofs.Endings.{no_lines, out_of_memory}
-use Rattle.misp_app.proofs.Finishing.{finishes, of_left, status_read}
-use Rattle.misp_app.proofs.Hosted.{none_read, one_keeper, served_here, unread_memory, words_read}
-use Rattle.misp_app.specs.Synchronising.{HasSynced, IsCutSync, dialled, peer_address}
-use Rattle.misp_app.proofs.Synchronised.{no_line_read, not_read, sync_read, synced_here}
+use Rattle.std.proofs.Common.{map, take, arith}
+use Rattle.misp_app.proofs.Endings.{check_ended, sync_ended}
+use Rattle.misp_app.proofs.Finishing.{finished}
+use Rattle.misp_app.specs.Synchronising.{dialled}
 use Rattle.misp_app.proofs.entry.run.Goals as goal
 
-pub returns-in-Net-clause-finished : goal.returns-in-Net-clause-finished
-returns-in-Net-clause-finished g c = λ net reads writes fails empty.
-    finishes c.run_source.result (map g.K.Keeper.state c.args.keepers.now.items) (map g.K.Keeper.state c.run_source.new.keepers.items) c.in-Ok-read_all.bytes.items
-    (omega (arith, c.in-Ok-read_all.ensures.bound, c.in-Ok-read_all.bytes.ok.0))
-    (rw c.deref.ensures.value at c.run_source.ensures.status)
-    (λ is. rw is at c.run_source.ensures.ends) (λ is. writes (c.run_source.ensures.write is))
-    (rw c.deref.ensures.value at c.run_source.ensures.keeper) fails
-    (rw c.deref.ensures.value at c.run_source.ensures.bad_row) empty
-    (λ is. rw is at c.run_source.ensures.ends)
-    (g.S.Source.left c.args.source.now) c.in-Ok-read_all.ensures.bytes
+pub returns-clause-synced : goal.returns-clause-synced
+returns-clause-synced g c = λ asked is.
+    sync_ended asked (take 1 (map g.K.Keeper.state c.args.keepers.now.items)) (take 1 (map g.K.Keeper.state c.run_command.new.keepers.items))
+    (dialled (g.L.Dial.asks c.args.dial.now) (g.L.Dial.faults c.args.dial.now)) (dialled (g.L.Dial.asks c.run_command.new.dial) (g.L.Dial.faults c.run_command.new.dial))
+    (g.W.Sink.written c.args.sink.now) (g.W.Sink.written c.run_command.new.sink) c.run_command.result (g.S.Source.left c.args.source.now)
+    (c.run_command.ensures.synced asked is) (c.run_command.ensures.cut_synced asked is)
 
--- ---- memory ran out
+pub returns-clause-checked : goal.returns-clause-checked
+returns-clause-checked g c = λ is. check_ended c.run_command.result _ _ _ (c.run_command.ensures.checked is) (c.run_command.ensures.partly_checked is)
 
-pub returns-in-Err-OutOfMemory-clause-private : goal.returns-in-Err-OutOfMemory-clause-private
-returns-in-Err-OutOfMemory-clause-private g c = λ has. no_lines _ has
+pub returns-clause-causes : goal.returns-clause-causes
+returns-clause-causes g c = record {
+  read = c.run_command.ensures.read;
+  write = c.run_command.ensures.write;
+  door = c.run_command.ensures.door;
+  too_much = c.run_command.ensures.too_much;
+  keeper = c.run_command.ensures.keeper;
+  bad_row = c.run_command.ensures.bad_row;
+  stays = c.run_command.ensures.stays;
+  carry = c.run_command.ensures.later;
+  dial = c.run_command.ensures.dialling;
+}
 
-pub returns-in-Err-OutOfMemory-clause-replied : goal.returns-in-Err-OutOfMemory-clause-replied
-returns-in-Err-OutOfMemory-clause-replied g c = λ has. no_lines _ has
+pub returns-clause-finished : goal.returns-clause-finished
+returns-clause-finished g c = λ whole empty.
+    finished _ _ c.run_command.result _ _ _ _ whole empty (returns-clause-causes g c) c.run_command.ensures.status
 
-pub returns-in-Err-OutOfMemory-clause-newest : goal.returns-in-Err-OutOfMemory-clause-newest
-returns-in-Err-OutOfMemory-clause-newest g c = λ has. no_lines _ has
-
-pub returns-in-Err-OutOfMemory-clause-carry : goal.returns-in-Err-OutOfMemory-clause-carry
-returns-in-Err-OutOfMemory-clause-carry g c = λ has. no_lines _ has
-
-pub returns-in-Err-OutOfMemory-clause-passed : goal.returns-in-Err-OutOfMemory-clause-passed
-returns-in-Err-OutOfMemory-clause-passed g c = λ has. no_lines _ has
-
-pub returns-in-Err-OutOfMemory-clause-sound : goal.returns-in-Err-OutOfMemory-clause-sound
-returns-in-Err-OutOfMemory-clause-sound g c = λ has. no_lines _ has
-
-pub returns-in-Err-OutOfMemory-clause-status : goal.returns-in-Err-OutOfMemory-clause-status
-returns-in-Err-OutOfMemory-clause-status g c = out_of_memory _ _
-
-pub returns-in-Err-OutOfMemory-clause-cut : goal.returns-in-Err-OutOfMemory-clause-cut
-returns-in-Err-OutOfMemory-clause-cut g c = λ net is. cut_unread (g.S.Source.left c.args.source.now) (map g.K.Keeper.state c.args.keepers.now.items)
-
-pub returns-in-Err-clause-cut : goal.returns-in-Err-clause-cut
-returns-in-Err-clause-cut g c = λ net is. cut_unread (g.S.Source.left c.args.source.now) (map g.K.Keeper.state c.args.keepers.now.items)
-
-pub returns-in-Err-OutOfMemory-clause-cut_passed : goal.returns-in-Err-OutOfMemory-clause-cut_passed
-returns-in-Err-OutOfMemory-clause-cut_passed g c = λ net is. passing_unread (g.C.Carry.passed c.args.carry.now) (g.S.Source.left c.args.source.now) (map g.K.Keeper.state c.args.keepers.now.items)
-
-pub returns-in-Err-clause-cut_passed : goal.returns-in-Err-clause-cut_passed
-returns-in-Err-clause-cut_passed g c = λ net is. passing_unread (g.C.Carry.passed c.args.carry.now) (g.S.Source.left c.args.source.now) (map g.K.Keeper.state c.args.keepers.now.items)
-
-pub returns-in-Err-OutOfMemory-clause-served : goal.returns-in-Err-OutOfMemory-clause-served
-returns-in-Err-OutOfMemory-clause-served g c = λ asked time word back coming is ready has.
-    let olds = map g.K.Keeper.state c.args.keepers.now.items in
-    none_read time asked.count word back coming _ _ _ _ (g.W.Sink.written c.args.sink.now) ready (g.S.Source.left c.args.source.now) asked.name (take 1 olds) olds
-    (omega (arith, one_keeper _ asked _ is c.requires, length-map c.args.keepers.now.items g.K.Keeper.state, c.args.keepers.now.ok.0)) (all_kept (take 1 olds))
-
-pub returns-in-Err-clause-served : goal.returns-in-Err-clause-served
-returns-in-Err-clause-served g c = λ asked time word back coming is ready has.
-    let olds = map g.K.Keeper.state c.args.keepers.now.items in
-    subst (λ status. IfSome (g.S.Source.left c.args.source.now) (λ left. IfOk (described left) (λ (net : Description). IfSome (host_named asked.name net) (λ host.
-    HasServed host time asked.count word back coming (take 1 olds) (take 1 olds) (g.T.Clock.next_word c.args.clock.now) (g.D.Door.back c.args.door.now) (g.D.Door.coming c.args.door.now)
-    (g.W.Sink.written c.args.sink.now) (g.W.Sink.written c.args.sink.now) status))))
-    (sym (unread_memory c.in-Err.status c.in-Err.ensures.others has))
-    (none_read time asked.count word back coming _ _ _ _ (g.W.Sink.written c.args.sink.now) ready (g.S.Source.left c.args.source.now) asked.name (take 1 olds) olds
-    (omega (arith, one_keeper _ asked _ is c.requires, length-map c.args.keepers.now.items g.K.Keeper.state, c.args.keepers.now.ok.0)) (all_kept (take 1 olds)))
-
--- ---- connections were served
-
-pub returns-clause-served : goal.returns-clause-served
-returns-clause-served g c = λ asked time word back coming is ready has.
-    let olds = map g.K.Keeper.state c.args.keepers.now.items in
-    let news = map g.K.Keeper.state c.serve_source.new.keepers.items in
-    served_here (g.S.Source.left c.args.source.now) c.in-Ok-read_all.bytes.items c.deref-in-Serve.result.now asked (serve_data c.in-Serve.words)
-    (λ (d : ServeData) (net : Description). IfSome (host_named d.name net) (λ host.
-    HasServed host time d.count word back coming (take 1 olds) (take 1 news) (g.T.Clock.next_word c.serve_source.new.clock) (g.D.Door.back c.serve_source.new.door) (g.D.Door.coming c.serve_source.new.door)
-    (g.W.Sink.written c.args.sink.now) (g.W.Sink.written c.serve_source.new.sink) c.serve_source.result))
-    c.in-Ok-read_all.ensures.bytes c.deref-in-Serve.ensures.value (words_read _ asked c.in-Ok.command.now c.in-Serve.words is c.in-Ok.ensures.read c.in-Serve.is)
-    (c.serve_source.ensures.served time word back coming ready has)
-
--- ---- it was synchronised
-
-pub returns-in-Err-clause-synced : goal.returns-in-Err-clause-synced
-returns-in-Err-clause-synced g c = λ asked is has. absurd (no_line_read c.in-Err.status c.in-Err.ensures.others has)
-
-pub returns-in-Err-OutOfMemory-clause-cut_synced : goal.returns-in-Err-OutOfMemory-clause-cut_synced
-returns-in-Err-OutOfMemory-clause-cut_synced g c = λ asked is out.
-    not_read asked _ _ (dialled (g.L.Dial.asks c.args.dial.now) (g.L.Dial.faults c.args.dial.now)) (all_kept (take 1 (map g.K.Keeper.state c.args.keepers.now.items)))
-    (g.S.Source.left c.args.source.now)
-
-pub returns-in-Err-clause-cut_synced : goal.returns-in-Err-clause-cut_synced
-returns-in-Err-clause-cut_synced g c = λ asked is out.
-    not_read asked _ _ (dialled (g.L.Dial.asks c.args.dial.now) (g.L.Dial.faults c.args.dial.now)) (all_kept (take 1 (map g.K.Keeper.state c.args.keepers.now.items)))
-    (g.S.Source.left c.args.source.now)
-
-pub returns-in-Sync-clause-synced : goal.returns-in-Sync-clause-synced
-returns-in-Sync-clause-synced g c = λ asked is has.
-    let olds = map g.K.Keeper.state c.args.keepers.now.items in
-    let news = map g.K.Keeper.state c.sync_source.new.keepers.items in
-    synced_here (g.S.Source.left c.args.source.now) c.in-Ok-read_all.bytes.items c.deref-in-Sync.result.now asked (sync_data c.in-Sync.words)
-    (λ (d : SyncData) (net : Description). IfSome (host_named d.name net) (λ host.
-    HasSynced host d (peer_address host d.link net) (take 1 olds) (take 1 news)
-    (dialled (g.L.Dial.asks c.args.dial.now) (g.L.Dial.faults c.args.dial.now)) (dialled (g.L.Dial.asks c.sync_source.new.dial) (g.L.Dial.faults c.sync_source.new.dial))
-    (g.W.Sink.written c.args.sink.now) (g.W.Sink.written c.sync_source.new.sink) c.sync_source.result))
-    c.in-Ok-read_all.ensures.bytes c.deref-in-Sync.ensures.value (sync_read _ asked c.in-Ok.command.now c.in-Sync.words is c.in-Ok.ensures.read c.in-Sync.is)
-    (c.sync_source.ensures.synced has)
-
-pub returns-in-Sync-clause-cut_synced : goal.returns-in-Sync-clause-cut_synced
-returns-in-Sync-clause-cut_synced g c = λ asked is out.
-    let olds = map g.K.Keeper.state c.args.keepers.now.items in
-    let news = map g.K.Keeper.state c.sync_source.new.keepers.items in
-    synced_here (g.S.Source.left c.args.source.now) c.in-Ok-read_all.bytes.items c.deref-in-Sync.result.now asked (sync_data c.in-Sync.words)
-    (λ (d : SyncData) (net : Description). IfSome (host_named d.name net) (λ host.
-    IsCutSync host d (peer_address host d.link net) (take 1 olds) (take 1 news)
-    (dialled (g.L.Dial.asks c.args.dial.now) (g.L.Dial.faults c.args.dial.now)) (dialled (g.L.Dial.asks c.sync_source.new.dial) (g.L.Dial.faults c.sync_source.new.dial))))
-    c.in-Ok-read_all.ensures.bytes c.deref-in-Sync.ensures.value (sync_read _ asked c.in-Ok.command.now c.in-Sync.words is c.in-Ok.ensures.read c.in-Sync.is)
-    (c.sync_source.ensures.cut out)
-
--- ---- how it ended
-
-pub returns-in-Sync-clause-status : goal.returns-in-Sync-clause-status
-returns-in-Sync-clause-status g c =
-    status_read _ (Sync (sync_data c.in-Sync.words)) (g.S.Source.left c.args.source.now) c.in-Ok-read_all.bytes.items c.deref-in-Sync.result.now c.sync_source.result
-    (c.in-Ok.ensures.read ∙ ap (λ k. Some (command_data k)) c.in-Sync.is) c.in-Ok-read_all.ensures.bytes c.deref-in-Sync.ensures.value
-    (omega (arith, c.in-Ok-read_all.ensures.bound, c.in-Ok-read_all.bytes.ok.0)) c.sync_source.ensures.status
-
-pub returns-clause-status : goal.returns-clause-status
-returns-clause-status g c =
-    status_read _ (Serve (serve_data c.in-Serve.words)) (g.S.Source.left c.args.source.now) c.in-Ok-read_all.bytes.items c.deref-in-Serve.result.now c.serve_source.result
-    (c.in-Ok.ensures.read ∙ ap (λ k. Some (command_data k)) c.in-Serve.is) c.in-Ok-read_all.ensures.bytes c.deref-in-Serve.ensures.value
-    (omega (arith, c.in-Ok-read_all.ensures.bound, c.in-Ok-read_all.bytes.ok.0)) (elim c.serve_source.ensures.status [
-      | inl stopped ↦ inl stopped
-      | inr ended ↦ inr (inr ended)
-    ])
-
-pub returns-in-Sync-clause-keeper : goal.returns-in-Sync-clause-keeper
-returns-in-Sync-clause-keeper g c = λ is.
-    of_left (g.S.Source.left c.args.source.now) c.in-Ok-read_all.bytes.items c.deref-in-Sync.result.now
-    (λ left. HasFailed (described left) (map g.K.Keeper.state c.args.keepers.now.items) (map g.K.Keeper.state c.sync_source.new.keepers.items))
-    c.in-Ok-read_all.ensures.bytes c.deref-in-Sync.ensures.value (c.sync_source.ensures.keeper is)
-
-pub returns-in-Sync-clause-bad_row : goal.returns-in-Sync-clause-bad_row
-returns-in-Sync-clause-bad_row g c = λ is.
-    of_left (g.S.Source.left c.args.source.now) c.in-Ok-read_all.bytes.items c.deref-in-Sync.result.now
-    (λ left. IsUnsound (described left) (map g.K.Keeper.state c.args.keepers.now.items))
-    c.in-Ok-read_all.ensures.bytes c.deref-in-Sync.ensures.value (c.sync_source.ensures.bad_row is)
-
-pub returns-in-Sync-clause-told : goal.returns-in-Sync-clause-told
-returns-in-Sync-clause-told g c = λ is.
-    of_left (g.S.Source.left c.args.source.now) c.in-Ok-read_all.bytes.items c.deref-in-Sync.result.now
-    (λ left. IsTold (described left) (Wrote c.sync_source.result (g.W.Sink.written c.args.sink.now) (g.W.Sink.written c.sync_source.new.sink)))
-    c.in-Ok-read_all.ensures.bytes c.deref-in-Sync.ensures.value (c.sync_source.ensures.told is)
-
-pub returns-in-Sync-clause-others : goal.returns-in-Sync-clause-others
-returns-in-Sync-clause-others g c =
-    of_left (g.S.Source.left c.args.source.now) c.in-Ok-read_all.bytes.items c.deref-in-Sync.result.now
-    (λ left. OthersStay (described left) (map g.K.Keeper.state c.args.keepers.now.items) (map g.K.Keeper.state c.sync_source.new.keepers.items))
-    c.in-Ok-read_all.ensures.bytes c.deref-in-Sync.ensures.value c.sync_source.ensures.others
+pub returns-clause-alone : goal.returns-clause-alone
+returns-clause-alone g c = record {
+  places = omega (arith, c.run_command.ensures.places, c.run_command.new.keepers.ok.0, c.args.keepers.now.ok.0);
+  others = c.run_command.ensures.others;
+  still = c.run_command.ensures.still;
+  checked = c.run_command.ensures.still_checked;
+  untouched = c.run_command.ensures.untouched;
+  undialled = c.run_command.ensures.undialled;
+  unasked = c.run_command.ensures.unasked;
+  indoors = c.run_command.ensures.indoors;
+}

@@ -4,6 +4,7 @@ use Rattle.misp_net.specs.Hosts.{described_host}
 use Rattle.misp_words.specs.Words.{sync_data}
 use Rattle.misp_app.specs.Source.{host_named}
 use Rattle.misp_app.specs.Synchronising.{HasSynced, IsCutSync, dialled, peer_address}
+use Rattle.misp_app.proofs.Endings.{named_done, sync_ends}
 use Rattle.misp_app.proofs.Hosted.{drop_more}
 use Rattle.misp_app.proofs.Synchronised.{named, not_begun}
 use Rattle.misp_app.proofs.synchronising.sync_net.Goals as goal
@@ -42,3 +43,8 @@ returns-in-Ok-Some-clause-cut g c = λ is.
     named (host_named c.args.words.now.name c.args.net) (described_host c.in-Ok-Some.entry) c.as_str.result.now (λ host. peer_address host c.args.words.now.link c.args.net)
     (λ host address. IsCutSync host (sync_data c.args.words.now) address olds news before after)
     said (rw c.as_str.ensures at_peer) (c.sync_entry.ensures.cut is)
+
+pub returns-in-Ok-Some-clause-status : goal.returns-in-Ok-Some-clause-status
+returns-in-Ok-Some-clause-status g c =
+    let said : Some (described_host c.in-Ok-Some.entry) ≡ host_named c.args.words.now.name c.args.net = rw c.in-Ok-Some.field-0-is at c.in-Ok-Some.ensures.host in
+    sync_ends (sync_data c.args.words.now) _ c.sync_entry.result c.sync_entry.ensures.ends (named_done c.args.words.now.name c.args.net (described_host c.in-Ok-Some.entry) said)

@@ -1,7 +1,7 @@
 use Rattle.std.proofs.Common.{subst, arith}
 use Rattle.misp_script.specs.Step.{IsPlaced, command_data}
 use Rattle.misp_net.specs.Prelude.{hosts_of, states_of, step_of}
-use Rattle.misp_net.specs.Running.{carried}
+use Rattle.misp_net.specs.Carrying.{carried}
 use Rattle.misp_net.proofs.Asking.{names_long}
 use Rattle.misp_net.proofs.Doing.{always_err, bad_ran, cut_first, on_ok}
 use Rattle.misp_net.proofs.net.run_line.Goals as goal

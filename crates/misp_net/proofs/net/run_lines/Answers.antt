@@ -1,10 +1,9 @@
 use Rattle.std.proofs.Common.{◌≡◌, [], ◌∷◌, ◌++◌, map, refl, sym, ◌∙◌, ap, arith, append_assoc, append-nil, length-append, subst}
-use Rattle.misp_net.specs.Carrying.{HasCarried}
-use Rattle.misp_net.specs.Passing.{HasPassed}
-use Rattle.misp_net.specs.Prelude.{Line, hosts_of, lines_of, states_of, step_of}
-use Rattle.misp_net.proofs.Courses.{carried_more, none_carried, none_left, some_ran}
+use Rattle.misp_net.specs.Carrying.{carried}
+use Rattle.misp_net.specs.Prelude.{HasRun, Line, hosts_of, lines_of, states_of, step_of}
+use Rattle.misp_net.proofs.Courses.{none_left}
 use Rattle.misp_net.proofs.Doing.{always_err}
-use Rattle.misp_net.proofs.Passing.{none_passed, passed_more, some_passing}
+use Rattle.misp_net.proofs.Scripts.{none_run, one_more, some_ran}
 use Rattle.misp_net.proofs.Steps.{hosts_long}
 use Rattle.misp_net.proofs.net.run_lines.Goals as goal
 
@@ -14,8 +13,8 @@ loop-rest-init g c = record {
     [],
     refl,
     refl,
-    rw c.new-lines.ensures.items (none_carried (hosts_of c.args.instances.now.items) (states_of c.args.instances.now.items) (g.C.Carry.faults c.args.carry.now)),
-    rw c.new-lines.ensures.items (none_passed (hosts_of c.args.instances.now.items) (states_of c.args.instances.now.items) (g.C.Carry.passed c.args.carry.now)),
+    rw c.new-lines.ensures.items
+        (none_run (hosts_of c.args.instances.now.items) (states_of c.args.instances.now.items) (carried (g.C.Carry.faults c.args.carry.now) (g.C.Carry.passed c.args.carry.now))),
   );
   hosts = refl;
   places = refl;
@@ -38,8 +37,7 @@ loop-rest-preserved g c =
         append_assoc so_far.0 (line ∷ []) (lines_of c.args.directory.now c.split_line.result.1.now)
             ∙ ap (λ lines. so_far.0 ++ map (step_of c.args.directory.now) lines) (sym c.split_line.ensures.lines) ∙ so_far.1,
         omega (arith, so_far.2, length-append so_far.0 (line ∷ [])),
-        carried_more _ _ line _ _ _ _ _ d _ _ _ so_far.3 does (rw c.loop-rest.invariant.hosts at is) (rw so_far.2 at text) rose,
-        passed_more _ _ line _ _ _ _ _ d _ _ _ so_far.4 does (rw c.loop-rest.invariant.hosts at is) (rw so_far.2 at text) (rw c.loop-rest.invariant.hosts at passed),
+        one_more _ _ line _ _ _ _ _ d _ _ _ so_far.3 does (rw c.loop-rest.invariant.hosts at is) (rw so_far.2 at text) rose (rw c.loop-rest.invariant.hosts at passed),
       );
       hosts = c.put_line.ensures.hosts ∙ c.loop-rest.invariant.hosts;
       places = omega (arith, hosts_long _ _ c.put_line.ensures.hosts, c.loop-rest.invariant.places, c.put_line.new.instances.ok.0, c.loop-rest.instances.ok.0);
@@ -56,15 +54,7 @@ pub returns-in_err-put_line-clause-cut : goal.returns-in_err-put_line-clause-cut
 returns-in_err-put_line-clause-cut g c =
     let so_far = c.loop-rest.invariant.run in
     always_err c.from_residual.result
-    (some_ran _ so_far.0 _ (lines_of c.args.directory.now c.args.script.now) (step_of c.args.directory.now c.split_line.result.0.now) _ _ _ _ _ _ so_far.3.run
-    (ap (λ lines. so_far.0 ++ map (step_of c.args.directory.now) lines) (sym c.split_line.ensures.lines) ∙ so_far.1)
-    (rw c.loop-rest.invariant.hosts at c.in_err-put_line.ensures.cut))
-
-pub returns-in_err-put_line-clause-cut_passed : goal.returns-in_err-put_line-clause-cut_passed
-returns-in_err-put_line-clause-cut_passed g c =
-    let so_far = c.loop-rest.invariant.run in
-    always_err c.from_residual.result
-    (some_passing _ so_far.0 _ (lines_of c.args.directory.now c.args.script.now) (step_of c.args.directory.now c.split_line.result.0.now) _ _ _ _ _ _ _ so_far.4
+    (some_ran _ so_far.0 _ (lines_of c.args.directory.now c.args.script.now) (step_of c.args.directory.now c.split_line.result.0.now) _ _ _ _ _ _ _ so_far.3
     (ap (λ lines. so_far.0 ++ map (step_of c.args.directory.now) lines) (sym c.split_line.ensures.lines) ∙ so_far.1)
     (rw c.loop-rest.invariant.hosts at c.in_err-put_line.ensures.cut))
 
@@ -73,14 +63,6 @@ pub returns-clause-ran : goal.returns-clause-ran
 returns-clause-ran g c =
     let so_far = c.loop-rest.invariant.run in
     let left : lines_of c.args.directory.now c.loop-rest.rest.now ≡ [] = ap (lines_of c.args.directory.now) (none_left c.loop-rest.rest.now c.loop-rest-test.ensures) in
-    subst (λ lines. HasCarried (g.C.Carry.faults c.args.carry.now) (g.C.Carry.faults c.loop-rest.carry) (hosts_of c.args.instances.now.items) lines
-    (states_of c.args.instances.now.items) (states_of c.loop-rest.instances.items) c.loop-rest.lines.items)
+    subst (λ lines. HasRun (hosts_of c.args.instances.now.items) lines (states_of c.args.instances.now.items) (states_of c.loop-rest.instances.items)
+    (carried (g.C.Carry.faults c.args.carry.now) (g.C.Carry.passed c.args.carry.now)) (carried (g.C.Carry.faults c.loop-rest.carry) (g.C.Carry.passed c.loop-rest.carry)) c.loop-rest.lines.items)
     (sym (append-nil so_far.0) ∙ ap (λ more. so_far.0 ++ more) (sym left) ∙ so_far.1) so_far.3
-
-pub returns-clause-passed : goal.returns-clause-passed
-returns-clause-passed g c =
-    let so_far = c.loop-rest.invariant.run in
-    let left : lines_of c.args.directory.now c.loop-rest.rest.now ≡ [] = ap (lines_of c.args.directory.now) (none_left c.loop-rest.rest.now c.loop-rest-test.ensures) in
-    subst (λ lines. HasPassed (g.C.Carry.passed c.args.carry.now) (g.C.Carry.passed c.loop-rest.carry) (hosts_of c.args.instances.now.items) lines
-    (states_of c.args.instances.now.items) (states_of c.loop-rest.instances.items) c.loop-rest.lines.items)
-    (sym (append-nil so_far.0) ∙ ap (λ more. so_far.0 ++ more) (sym left) ∙ so_far.1) so_far.4

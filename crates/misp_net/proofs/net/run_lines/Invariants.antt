@@ -1,15 +1,14 @@
 use Rattle.std.proofs.Common.{◌≡◌, ◌+◌, ◌≤◌, List, ◌++◌, length, vec_len}
-use Rattle.misp_net.specs.Carrying.{HasCarried}
-use Rattle.misp_net.specs.Passing.{HasPassed}
-use Rattle.misp_net.specs.Prelude.{Line, hosts_of, lines_of, states_of}
+use Rattle.misp_net.specs.Carrying.{carried}
+use Rattle.misp_net.specs.Prelude.{HasRun, Line, hosts_of, lines_of, states_of}
 use Rattle.misp_net.proofs.net.run_lines.Given as goal
 
 -- some lines have run, and those of what is left follow; the numbers go up with the lines that are left behind
 abbrev pub invariant-loop-rest : goal.invariant-loop-rest
 invariant-loop-rest g l = record {
   run : (done : List Line) × (done ++ lines_of l.fn.directory l.rest ≡ lines_of l.fn.directory l.fn.script) × (l.number ≡ 1 + length done)
-      × HasCarried (g.C.Carry.faults l.fn.carry) (g.C.Carry.faults l.carry) (hosts_of l.fn.instances.items) done (states_of l.fn.instances.items) (states_of l.instances.items) l.lines.items
-      × HasPassed (g.C.Carry.passed l.fn.carry) (g.C.Carry.passed l.carry) (hosts_of l.fn.instances.items) done (states_of l.fn.instances.items) (states_of l.instances.items) l.lines.items;
+      × HasRun (hosts_of l.fn.instances.items) done (states_of l.fn.instances.items) (states_of l.instances.items) (carried (g.C.Carry.faults l.fn.carry) (g.C.Carry.passed l.fn.carry))
+      (carried (g.C.Carry.faults l.carry) (g.C.Carry.passed l.carry)) l.lines.items;
   hosts : hosts_of l.instances.items ≡ hosts_of l.fn.instances.items;
   places : vec_len l.instances ≡ vec_len l.fn.instances;
   number : l.number + length l.rest ≤ 1 + length l.fn.script;

@@ -1,16 +1,17 @@
-use Rattle.std.proofs.Common.{◌≡◌, ℕ, List, ◌++◌, length, map, take, drop, vec_len, sym, ◌∙◌, ap, subst, arith, length-append}
+use Rattle.std.proofs.Common.{◌≡◌, ℕ, List, ◌++◌, length, map, take, drop, true, vec_len, Err, refl, sym, ◌∙◌, ap, subst, arith, length-append}
 use Rattle.std.proofs.lemmas.List.{length-map}
 use Rattle.misp_script.specs.Directory.{roster_names}
+use Rattle.misp_effects.specs.KeeperStates.{OneFailed}
+use Rattle.misp_store.specs.Sharing.{may_be_unsound}
 use Rattle.misp_effects.proofs.KeeperStates.{all_kept, kept_told, kept_take}
 use Rattle.misp_net.specs.Prelude.{AreKept, Description, KeeperState, Standing, described_host, described_hosts, hosts_of, state_of, states_of}
-use Rattle.misp_net.proofs.Openings.{if_err}
+use Rattle.misp_net.proofs.Openings.{if_err, memory_stopped, opening_stopped}
 use Rattle.misp_net.specs.Asking.{names_of}
 use Rattle.misp_net.proofs.Asking.{names_described}
-use Rattle.misp_net.proofs.Courses.{none_ran}
-use Rattle.misp_net.proofs.Passing.{none_passing}
-use Rattle.misp_net.proofs.Privacy.{is_private, are_replied, are_newest}
+use Rattle.misp_net.proofs.Scripts.{none_ran}
+use Rattle.misp_net.proofs.Privacy.{is_net_run}
 use Rattle.misp_net.proofs.SyncLaw.{both_laws}
-use Rattle.misp_net.proofs.Fronts.{AreInFront, opened_long, carried_in_front, passed_in_front, passing_in_front, run_in_front, cut_in_front, others_kept}
+use Rattle.misp_net.proofs.Fronts.{AreInFront, opened_long, run_in_front, cut_in_front, others_kept}
 use Rattle.misp_net.proofs.net.run_net.Goals as goal
 
 -- the instances are before the other keepers, before and after
@@ -26,8 +27,8 @@ in_front net opened ran rest olds news count long hosts kept left many is = reco
   is = is;
 }
 
-pub returns-clause-private : goal.returns-clause-private
-returns-clause-private g c =
+pub returns-clause-ran : goal.returns-clause-ran
+returns-clause-ran g c =
     let pulls = c.an_instance_pulls_by_the_history.ensures in
     let pushes = c.an_instance_pushes_by_the_history.ensures in
     let front = in_front c.args.net c.in_ok-instances.instances.items c.run_lines-lines.new.instances.items (map g.K.Keeper.state c.open_all.new.keepers.items)
@@ -35,56 +36,10 @@ returns-clause-private g c =
     (c.into_vec.result.ok.0 ∙ ap length c.into_vec.ensures) (c.in_ok-instances.ensures.hosts ∙ ap (map described_host) c.into_vec.ensures)
     c.in_ok-instances.ensures.opened c.in_ok-instances.ensures.rest
     (omega (arith, c.run_lines-lines.ensures.places, c.run_lines-lines.new.instances.ok.0, c.in_ok-instances.instances.ok.0)) c.close_all.ensures in
-    is_private c.a_group_is_read_from_its_text.ensures
+    is_net_run c.a_group_is_read_from_its_text.ensures
     (both_laws (record { told = pulls.told; left = pulls.left; elsewhere = pulls.elsewhere; groups = pulls.groups })
-    (record { told = pushes.told; left = pushes.left; elsewhere = pushes.elsewhere; groups = pushes.groups })) _ _ _ _ _
-    (run_in_front front (rw (← c.in_ok-directory.ensures) c.in_ok-lines.ensures.ran.run))
-
-pub returns-clause-replied : goal.returns-clause-replied
-returns-clause-replied g c =
-    let pulls = c.an_instance_pulls_by_the_history.ensures in
-    let pushes = c.an_instance_pushes_by_the_history.ensures in
-    let front = in_front c.args.net c.in_ok-instances.instances.items c.run_lines-lines.new.instances.items (map g.K.Keeper.state c.open_all.new.keepers.items)
-    (map g.K.Keeper.state c.args.keepers.now.items) (map g.K.Keeper.state c.close_all.new.keepers.items) (vec_len c.into_vec.result)
-    (c.into_vec.result.ok.0 ∙ ap length c.into_vec.ensures) (c.in_ok-instances.ensures.hosts ∙ ap (map described_host) c.into_vec.ensures)
-    c.in_ok-instances.ensures.opened c.in_ok-instances.ensures.rest
-    (omega (arith, c.run_lines-lines.ensures.places, c.run_lines-lines.new.instances.ok.0, c.in_ok-instances.instances.ok.0)) c.close_all.ensures in
-    are_replied c.a_group_is_read_from_its_text.ensures
-    (both_laws (record { told = pulls.told; left = pulls.left; elsewhere = pulls.elsewhere; groups = pulls.groups })
-    (record { told = pushes.told; left = pushes.left; elsewhere = pushes.elsewhere; groups = pushes.groups })) _ _ _ _ _
-    (run_in_front front (rw (← c.in_ok-directory.ensures) c.in_ok-lines.ensures.ran.run))
-
-pub returns-clause-newest : goal.returns-clause-newest
-returns-clause-newest g c =
-    let pulls = c.an_instance_pulls_by_the_history.ensures in
-    let pushes = c.an_instance_pushes_by_the_history.ensures in
-    let front = in_front c.args.net c.in_ok-instances.instances.items c.run_lines-lines.new.instances.items (map g.K.Keeper.state c.open_all.new.keepers.items)
-    (map g.K.Keeper.state c.args.keepers.now.items) (map g.K.Keeper.state c.close_all.new.keepers.items) (vec_len c.into_vec.result)
-    (c.into_vec.result.ok.0 ∙ ap length c.into_vec.ensures) (c.in_ok-instances.ensures.hosts ∙ ap (map described_host) c.into_vec.ensures)
-    c.in_ok-instances.ensures.opened c.in_ok-instances.ensures.rest
-    (omega (arith, c.run_lines-lines.ensures.places, c.run_lines-lines.new.instances.ok.0, c.in_ok-instances.instances.ok.0)) c.close_all.ensures in
-    are_newest c.a_group_is_read_from_its_text.ensures
-    (both_laws (record { told = pulls.told; left = pulls.left; elsewhere = pulls.elsewhere; groups = pulls.groups })
-    (record { told = pushes.told; left = pushes.left; elsewhere = pushes.elsewhere; groups = pushes.groups })) _ _ _ _ _
-    (run_in_front front (rw (← c.in_ok-directory.ensures) c.in_ok-lines.ensures.ran.run))
-
-pub returns-clause-carried : goal.returns-clause-carried
-returns-clause-carried g c =
-    let front = in_front c.args.net c.in_ok-instances.instances.items c.run_lines-lines.new.instances.items (map g.K.Keeper.state c.open_all.new.keepers.items)
-    (map g.K.Keeper.state c.args.keepers.now.items) (map g.K.Keeper.state c.close_all.new.keepers.items) (vec_len c.into_vec.result)
-    (c.into_vec.result.ok.0 ∙ ap length c.into_vec.ensures) (c.in_ok-instances.ensures.hosts ∙ ap (map described_host) c.into_vec.ensures)
-    c.in_ok-instances.ensures.opened c.in_ok-instances.ensures.rest
-    (omega (arith, c.run_lines-lines.ensures.places, c.run_lines-lines.new.instances.ok.0, c.in_ok-instances.instances.ok.0)) c.close_all.ensures in
-    carried_in_front front (rw (← c.in_ok-directory.ensures) c.in_ok-lines.ensures.ran)
-
-pub returns-clause-passed : goal.returns-clause-passed
-returns-clause-passed g c =
-    let front = in_front c.args.net c.in_ok-instances.instances.items c.run_lines-lines.new.instances.items (map g.K.Keeper.state c.open_all.new.keepers.items)
-    (map g.K.Keeper.state c.args.keepers.now.items) (map g.K.Keeper.state c.close_all.new.keepers.items) (vec_len c.into_vec.result)
-    (c.into_vec.result.ok.0 ∙ ap length c.into_vec.ensures) (c.in_ok-instances.ensures.hosts ∙ ap (map described_host) c.into_vec.ensures)
-    c.in_ok-instances.ensures.opened c.in_ok-instances.ensures.rest
-    (omega (arith, c.run_lines-lines.ensures.places, c.run_lines-lines.new.instances.ok.0, c.in_ok-instances.instances.ok.0)) c.close_all.ensures in
-    passed_in_front front (rw (← c.in_ok-directory.ensures) c.in_ok-lines.ensures.passed)
+    (record { told = pushes.told; left = pushes.left; elsewhere = pushes.elsewhere; groups = pushes.groups })) _ _ _ _ _ _ _
+    (run_in_front front (rw (← c.in_ok-directory.ensures) c.in_ok-lines.ensures.ran))
 
 pub returns-clause-others : goal.returns-clause-others
 returns-clause-others g c =
@@ -104,23 +59,14 @@ returns-in_err-lines-clause-others g c =
     (omega (arith, c.run_lines-lines.ensures.places, c.run_lines-lines.new.instances.ok.0, c.in_ok-instances.instances.ok.0)) c.close_all.ensures in
     others_kept front
 
-pub returns-in_err-lines-clause-cut : goal.returns-in_err-lines-clause-cut
-returns-in_err-lines-clause-cut g c =
+pub returns-in_err-lines-clause-stopped : goal.returns-in_err-lines-clause-stopped
+returns-in_err-lines-clause-stopped g c =
     let front = in_front c.args.net c.in_ok-instances.instances.items c.run_lines-lines.new.instances.items (map g.K.Keeper.state c.open_all.new.keepers.items)
     (map g.K.Keeper.state c.args.keepers.now.items) (map g.K.Keeper.state c.close_all.new.keepers.items) (vec_len c.into_vec.result)
     (c.into_vec.result.ok.0 ∙ ap length c.into_vec.ensures) (c.in_ok-instances.ensures.hosts ∙ ap (map described_host) c.into_vec.ensures)
     c.in_ok-instances.ensures.opened c.in_ok-instances.ensures.rest
     (omega (arith, c.run_lines-lines.ensures.places, c.run_lines-lines.new.instances.ok.0, c.in_ok-instances.instances.ok.0)) c.close_all.ensures in
-    λ is. cut_in_front front (rw (← c.in_ok-directory.ensures) c.in_err-lines.ensures.cut)
-
-pub returns-in_err-lines-clause-cut_passed : goal.returns-in_err-lines-clause-cut_passed
-returns-in_err-lines-clause-cut_passed g c =
-    let front = in_front c.args.net c.in_ok-instances.instances.items c.run_lines-lines.new.instances.items (map g.K.Keeper.state c.open_all.new.keepers.items)
-    (map g.K.Keeper.state c.args.keepers.now.items) (map g.K.Keeper.state c.close_all.new.keepers.items) (vec_len c.into_vec.result)
-    (c.into_vec.result.ok.0 ∙ ap length c.into_vec.ensures) (c.in_ok-instances.ensures.hosts ∙ ap (map described_host) c.into_vec.ensures)
-    c.in_ok-instances.ensures.opened c.in_ok-instances.ensures.rest
-    (omega (arith, c.run_lines-lines.ensures.places, c.run_lines-lines.new.instances.ok.0, c.in_ok-instances.instances.ok.0)) c.close_all.ensures in
-    λ is. passing_in_front front (rw (← c.in_ok-directory.ensures) c.in_err-lines.ensures.cut_passed)
+    memory_stopped _ _ _ _ _ _ (cut_in_front front (rw (← c.in_ok-directory.ensures) c.in_err-lines.ensures.cut)) c.from_residual-in_err-lines.result c.from_residual-in_err-lines.ensures.1
 
 -- ---- the directory has the names of the instances, and there are as many keepers as before
 
@@ -176,20 +122,18 @@ returns-in_err-instances-clause-kept g c =
     let same = kept_told _ _ c.in_err-instances.ensures.back in
     if_err c.from_residual-in_err-instances.result (λ fault unopened. same)
 
-pub returns-in_err-directory-clause-cut : goal.returns-in_err-directory-clause-cut
-returns-in_err-directory-clause-cut g c = λ is. none_ran _ _ _ _ (all_kept _)
+pub returns-in_err-directory-clause-stopped : goal.returns-in_err-directory-clause-stopped
+returns-in_err-directory-clause-stopped g c = memory_stopped _ _ _ _ _ _ (none_ran _ _ _ _ _ (all_kept _)) c.from_residual.result c.from_residual.ensures.1
 
-pub returns-in_err-routes-clause-cut : goal.returns-in_err-routes-clause-cut
-returns-in_err-routes-clause-cut g c = λ is. none_ran _ _ _ _ (all_kept _)
+pub returns-in_err-routes-clause-stopped : goal.returns-in_err-routes-clause-stopped
+returns-in_err-routes-clause-stopped g c = memory_stopped _ _ _ _ _ _ (none_ran _ _ _ _ _ (all_kept _)) c.from_residual-in_err-routes.result c.from_residual-in_err-routes.ensures.1
 
-pub returns-in_err-instances-clause-cut : goal.returns-in_err-instances-clause-cut
-returns-in_err-instances-clause-cut g c = λ is. none_ran _ _ _ _ (kept_take (length c.args.net.instances) _ _ c.in_err-instances.ensures.back)
-
-pub returns-in_err-directory-clause-cut_passed : goal.returns-in_err-directory-clause-cut_passed
-returns-in_err-directory-clause-cut_passed g c = λ is. none_passing _ _ _ _ _ (all_kept _)
-
-pub returns-in_err-routes-clause-cut_passed : goal.returns-in_err-routes-clause-cut_passed
-returns-in_err-routes-clause-cut_passed g c = λ is. none_passing _ _ _ _ _ (all_kept _)
-
-pub returns-in_err-instances-clause-cut_passed : goal.returns-in_err-instances-clause-cut_passed
-returns-in_err-instances-clause-cut_passed g c = λ is. none_passing _ _ _ _ _ (kept_take (length c.args.net.instances) _ _ c.in_err-instances.ensures.back)
+pub returns-in_err-instances-clause-stopped : goal.returns-in_err-instances-clause-stopped
+returns-in_err-instances-clause-stopped g c =
+    let long : vec_len c.into_vec.result ≡ length c.args.net.instances = c.into_vec.result.ok.0 ∙ ap length c.into_vec.ensures in
+    let olds = map g.K.Keeper.state c.args.keepers.now.items in
+    let news = map g.K.Keeper.state c.open_all.new.keepers.items in
+    opening_stopped _ _ _ _ _ _ (none_ran _ _ _ _ _ (kept_take (length c.args.net.instances) _ _ c.in_err-instances.ensures.back))
+    c.from_residual-in_err-instances.result (Err c.in_err-instances.field-0.0) c.in_err-instances.field-0.0 refl c.from_residual-in_err-instances.ensures.1
+    (λ is. subst (λ n. OneFailed (take n olds) (take n news)) long (c.in_err-instances.ensures.keeper is))
+    (λ is. subst (λ n. may_be_unsound (take n olds) ≡ true) long (c.in_err-instances.ensures.bad_row is))

@@ -7,7 +7,7 @@ use Rattle.misp_script.specs.declared.step.GroupLine.{GroupLine}
 use Rattle.misp_script.specs.Step.{IsPlaced, request_data, raw_data, group_data, command_data, step_data}
 use Rattle.misp_effects.proofs.KeeperStates.{kept_set}
 use Rattle.misp_net.specs.Prelude.{hosts_of, state_of, states_of}
-use Rattle.misp_net.specs.Running.{carried}
+use Rattle.misp_net.specs.Carrying.{carried}
 use Rattle.misp_net.proofs.Doing.{always_err, both_ways, cut_first, cut_hosts, group_ran, nothing_ran, on_err, on_ok, request_ran, session_cut, session_hosts, session_ran}
 use Rattle.misp_net.proofs.Steps.{hosts_kept}
 use Rattle.misp_net.proofs.net.run_step.Goals as goal

@@ -1,6 +1,6 @@
 use Rattle.misp_script.specs.Step.{sync_data}
 use Rattle.misp_net.specs.Prelude.{Synced, hosts_of, states_of}
-use Rattle.misp_net.specs.Running.{carried}
+use Rattle.misp_net.specs.Carrying.{carried}
 use Rattle.misp_net.proofs.Asking.{carry_told, inside_hosts}
 use Rattle.misp_net.proofs.Doing.{always_err, on_ok, sync_cut, sync_ran}
 use Rattle.misp_net.proofs.syncing.put_sync.Goals as goal

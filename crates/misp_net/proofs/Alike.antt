@@ -1,0 +1,168 @@
+-- Requests of an organisation that are one act of the history, and are refused by form alike, are replied the same.
+use Rattle.std.proofs.Common.{◌≡◌, ℕ, zero, suc, ◌<◌, Bool, true, false, List, [], ◌∷◌, length, Option, Some, None, Result, Ok, Err, refl, sym, ◌∙◌, ap, subst, arith, if◌then◌else◌, option_map}
+use Rattle.misp_ids.proofs.Same.{same_inst-refl}
+use Rattle.misp_ids.specs.Names.{is_api_key}
+use Rattle.misp_ids.specs.Same.{same_inst, same_org}
+use Rattle.misp_http.specs.declared.request.Read.{Read}
+use Rattle.misp_http.specs.declared.request.Read.TheVariants as reads
+use Rattle.misp_orgs.specs.Admin.{who_of}
+use Rattle.misp_effects.specs.Run.{effect_of}
+use Rattle.misp_rules.specs.declared.ask.Ask.{Ask}
+use Rattle.misp_rules.specs.Machine.{seeing}
+use Rattle.misp_rules.specs.Prelude.{Key, Scene}
+use Rattle.misp_erasure.specs.Erasure.{erased_act, erased_command, erased_request}
+use Rattle.misp_core.specs.Answers.{scene_at}
+use Rattle.misp_core.specs.Effects.{asked, asked_over, refused}
+use Rattle.misp_core.specs.Keeping.{caller_at}
+use Rattle.misp_core.specs.Prelude.{Row}
+use Rattle.misp_store.specs.Prelude.{reach_of}
+use Rattle.misp_api.specs.Answering.{caller_in, replied}
+use Rattle.misp_api.specs.Commands.{command_effect}
+use Rattle.misp_api.specs.Prelude.{Caller, Commanded, Group, Reading}
+use Rattle.misp_api.specs.Sending.{read_form}
+use Rattle.misp_api.specs.declared.command.Command.{Command}
+use Rattle.misp_api.proofs.Forms.{AskedBy}
+use Rattle.misp_net.specs.Acts.{Administers, Asks, Deed, Idle, Syncs}
+use Rattle.misp_net.specs.History.{act_in, is_asker, is_of, seen_by}
+use Rattle.misp_net.specs.Hosts.{nobody}
+use Rattle.misp_net.specs.Meaning.{asking, caller_of, command_at, deed_meaning, turned_away}
+use Rattle.misp_net.specs.Prelude.{Act, AreDistinct, Effect, Host, OrgId, Replied, Reply, Seen, Went, World, host_at, meaning, told_output}
+use Rattle.misp_net.proofs.Commands.{read_caller}
+use Rattle.misp_history.specs.Acts as model
+
+-- who asks is the organisation
+abbrev IsBy : OrgId → Option Caller → Type 0
+IsBy o caller = is_asker o (option_map (λ (c : Caller). c.org) caller) ≡ true
+
+-- ---- what an organisation asks itself is left as it is
+
+module _ (o : OrgId) (keep : Key → Bool) (n : ℕ) (w : World) where
+  own_request : (s : Scene) (c : model.Caller) (ask : Ask) → same_org c.org o ≡ true → erased_request o keep s c ask ≡ model.Asks c ask
+  unfolding erased_request
+  own_request s c ask own = rw own refl
+
+  left_command : (host : Host) (time : ℕ) (c : Caller) (command : Command) → same_org c.org o ≡ true
+      → erased_command o keep n w (record { at = host.name; now = time; command = command_at host c command }) ≡ command_at host c command
+  unfolding erased_command
+  left_command host time c (Command.Asks ask) own = own_request _ (caller_at host.admin c) ask own
+  left_command host time c (Command.TakesGroups groups) own = refl
+
+  left_asking : (host : Host) (time : ℕ) (form : Reading Commanded) (caller : Option Caller) → AskedBy caller form → IsBy o caller
+      → erased_command o keep n w (record { at = host.name; now = time; command = asking form host caller }) ≡ asking form host caller
+  unfolding erased_command
+  left_asking host time (Ok it) caller by own = left_command host time it.0 it.1 (subst (IsBy o) by own)
+  left_asking host time (Err refusal) None by own = refl
+  left_asking host time (Err refusal) (Some c) by own = rw own refl
+
+  left_deed : (hosts : List Host) (time word : ℕ) (deed : Deed) → is_asker o (deed_meaning hosts time word deed).asker ≡ true
+      → erased_act o keep n w (deed_meaning hosts time word deed).act ≡ (deed_meaning hosts time word deed).act
+  unfolding erased_act
+  left_deed hosts time word (Idle output) own = absurd cc
+  left_deed hosts time word (Administers line) own = absurd cc
+  left_deed hosts time word (Syncs line) own = absurd cc
+  left_deed hosts time word (Asks at read) own =
+      let host : Host = host_at at hosts in
+      ap (λ (command : model.Command). record { at = host.name; now = time; command = command })
+      (left_asking host time (read_form host.admin word read) (caller_of host.admin read) (read_caller host.admin word read) own)
+
+  pub own_left : (hosts : List Host) (act : Act) → is_of o hosts act ≡ true → erased_act o keep n w (act_in hosts act) ≡ act_in hosts act
+  own_left hosts act own = left_deed hosts act.time act.word act.deed own
+
+-- ---- what is replied
+
+-- it depends on the organisation and the partner of the caller, and not on its role
+asked_alike : (host : Host) (now : ℕ) (c d : Caller) (ask : Ask) (groups : List Group) (read : Result (List Row) (List ℕ)) → c.org ≡ d.org → c.partner ≡ d.partner
+    → asked_over host now (c, ask) groups read ≡ asked_over host now (d, ask) groups read
+asked_alike host now c d ask groups (Ok rows) org partner =
+    λ i. asked host.admin (seeing (scene_at host now (record { org = org i; role = c.role; partner = partner i }) groups) rows) ask
+asked_alike host now c d ask groups (Err name) org partner = refl
+
+ask_alike : (host : Host) (now : ℕ) (c d : Caller) (x y : Ask) (here : Seen) → c.org ≡ d.org → c.partner ≡ d.partner → x ≡ y
+    → command_effect host now c (Command.Asks x) here ≡ command_effect host now d (Command.Asks y) here
+ask_alike host now c d x y here org partner same =
+    asked_alike host now c d x here.groups (here.rows (reach_of c.org x)) org partner
+    ∙ (λ i. asked_over host now (d, same i) here.groups (here.rows (reach_of (org i) (same i))))
+
+command_alike : (host : Host) (now : ℕ) (c d : Caller) (x y : Command) (here : Seen) → command_at host c x ≡ command_at host d y → command_effect host now c x here ≡ command_effect host now d y here
+command_alike host now c d (Command.Asks x) (Command.Asks y) here same =
+    let who : caller_at host.admin c ≡ caller_at host.admin d = cc in
+    let what : x ≡ y = cc in
+    ask_alike host now c d x y here (ap (λ (a : model.Caller). a.org) who) (ap (λ (a : model.Caller). a.partner) who) what
+command_alike host now c d (Command.Asks x) (Command.TakesGroups y) here same = absurd cc
+command_alike host now c d (Command.TakesGroups x) (Command.Asks y) here same = absurd cc
+command_alike host now c d (Command.TakesGroups x) (Command.TakesGroups y) here same =
+    let what : x ≡ y = cc in
+    ap (λ groups. command_effect host now c (Command.TakesGroups groups) here) what
+
+replied_alike : (host : Host) (now : ℕ) (f g : Reading Commanded) (c d : Option Caller) (here : Seen) → turned_away f ≡ turned_away g → asking f host c ≡ asking g host d
+    → replied host now f here ≡ replied host now g here
+replied_alike host now (Ok x) (Ok y) c d here formed same = command_alike host now x.0 y.0 x.1 y.1 here same
+replied_alike host now (Ok x) (Err s) c d here formed same = absurd cc
+replied_alike host now (Err r) (Ok y) c d here formed same = absurd cc
+replied_alike host now (Err r) (Err s) c d here formed same =
+    let one : r ≡ s = cc in
+    ap refused one
+
+-- ---- where it is asked
+
+none_when : (is : Bool) (text : List ℕ) → (if is then who_of nobody.admin text else None) ≡ None
+none_when true text = refl
+none_when false text = refl
+
+none_in : (key : Option (List ℕ)) → caller_in nobody.admin key ≡ None
+none_in None = refl
+none_in (Some text) = none_when (is_api_key text) text
+
+-- at no instance nobody asks
+none_asks : (o : OrgId) (read : Read) → IsBy o (caller_of nobody.admin read) → ⊥
+none_asks o (reads.Refused fault) own = cc
+none_asks o (reads.Request request) own = let no_ : IsBy o None = subst (IsBy o) (none_in request.key) own in cc
+
+-- so it is asked at one of the instances
+placed : (o : OrgId) (hosts : List Host) (at : ℕ) (read : Read) → IsBy o (caller_of (host_at at hosts).admin read) → at < length hosts
+placed o [] zero read own = absurd (none_asks o read own)
+placed o [] (suc at) read own = absurd (none_asks o read own)
+placed o (host ∷ hosts) zero read own = omega arith
+placed o (host ∷ hosts) (suc at) read own = let more = placed o hosts at read own in omega (arith, more)
+
+module _ (o : OrgId) (hosts : List Host) (distinct : AreDistinct hosts) (w : World) where
+  -- at one instance
+  one_place : (time now word next at : ℕ) (read that : Read) → time ≡ now
+      → turned_away (read_form (host_at at hosts).admin word read) ≡ turned_away (read_form (host_at at hosts).admin next that)
+      → asking (read_form (host_at at hosts).admin word read) (host_at at hosts) (caller_of (host_at at hosts).admin read)
+      ≡ asking (read_form (host_at at hosts).admin next that) (host_at at hosts) (caller_of (host_at at hosts).admin that)
+      → (effect_of Went (deed_meaning hosts time word (Asks at read)).means (seen_by hosts w)).reply
+      ≡ (effect_of Went (deed_meaning hosts now next (Asks at that)).means (seen_by hosts w)).reply
+  one_place time now word next at read that same formed asks_same =
+      let host : Host = host_at at hosts in
+      ap (λ t. Replied (replied host t (read_form host.admin word read) (seen_by hosts w at)).reply) same
+      ∙ ap (λ (e : Effect Reply). Replied e.reply)
+      (replied_alike host now (read_form host.admin word read) (read_form host.admin next that) (caller_of host.admin read) (caller_of host.admin that) (seen_by hosts w at) formed asks_same)
+
+  deeds_alike : (time now word next : ℕ) (deed other : Deed) → is_asker o (deed_meaning hosts time word deed).asker ≡ true → is_asker o (deed_meaning hosts now next other).asker ≡ true
+      → (deed_meaning hosts time word deed).act ≡ (deed_meaning hosts now next other).act → (deed_meaning hosts time word deed).formed ≡ (deed_meaning hosts now next other).formed
+      → (effect_of Went (deed_meaning hosts time word deed).means (seen_by hosts w)).reply ≡ (effect_of Went (deed_meaning hosts now next other).means (seen_by hosts w)).reply
+  deeds_alike time now word next (Idle output) other own its same formed = absurd cc
+  deeds_alike time now word next (Administers line) other own its same formed = absurd cc
+  deeds_alike time now word next (Syncs line) other own its same formed = absurd cc
+  deeds_alike time now word next (Asks at read) (Idle output) own its same formed = absurd cc
+  deeds_alike time now word next (Asks at read) (Administers line) own its same formed = absurd cc
+  deeds_alike time now word next (Asks at read) (Syncs line) own its same formed = absurd cc
+  deeds_alike time now word next (Asks at read) (Asks place that) own its same formed =
+      let names : (host_at at hosts).name ≡ (host_at place hosts).name = ap (λ (a : model.Act). a.at) same in
+      let times : time ≡ now = ap (λ (a : model.Act). a.now) same in
+      let commands = ap (λ (a : model.Act). a.command) same in
+      let first : same_inst (host_at at hosts).name (host_at place hosts).name ≡ true =
+      ap (λ name. same_inst (host_at at hosts).name name) (sym names) ∙ same_inst-refl (host_at at hosts).name in
+      let places : at ≡ place = distinct at place (placed o hosts at read own) (placed o hosts place that its) first in
+      subst (λ p.
+      turned_away (read_form (host_at at hosts).admin word read) ≡ turned_away (read_form (host_at p hosts).admin next that)
+      → asking (read_form (host_at at hosts).admin word read) (host_at at hosts) (caller_of (host_at at hosts).admin read)
+      ≡ asking (read_form (host_at p hosts).admin next that) (host_at p hosts) (caller_of (host_at p hosts).admin that)
+      → (effect_of Went (deed_meaning hosts time word (Asks at read)).means (seen_by hosts w)).reply
+      ≡ (effect_of Went (deed_meaning hosts now next (Asks p that)).means (seen_by hosts w)).reply)
+      places (one_place time now word next at read that times) formed commands
+
+  pub acts_alike : (act other : Act) → is_of o hosts act ≡ true → is_of o hosts other ≡ true → act_in hosts act ≡ act_in hosts other
+      → (meaning hosts act).formed ≡ (meaning hosts other).formed → told_output Went hosts w act ≡ told_output Went hosts w other
+  acts_alike act other own its same formed = deeds_alike act.time other.time act.word other.word act.deed other.deed own its same formed
