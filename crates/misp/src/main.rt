@@ -130,19 +130,35 @@ fn run_in_memory(rt: &HostRuntime, words: &Words<'_>) -> io::Result<Status> {
     )
 }
 
-fn main(rt: HostRuntime) -> io::Result<ExitCode> {
+// Does what the words of the program ask for.
+fn run_words(rt: &HostRuntime) -> io::Result<Status> {
     let alloc = rt.alloc();
-    let given: Vec<String> = env::args(&rt)?.skip(1).collect(alloc)?;
+    let given: Vec<String> = env::args(rt)?.skip(1).collect(alloc)?;
     let words = Words::read(alloc, &given);
-    let status = match words.command() {
-        Ok(Command::Serve(serve)) => serve_at(&rt, &words, serve)?,
-        Ok(Command::Sync(sync)) => sync_with(&rt, &words, &sync.name)?,
-        Err(WordsFault::OutOfMemory) => Status::OutOfMemory,
-        _ => run_in_memory(&rt, &words)?,
+    match words.command() {
+        Ok(Command::Serve(serve)) => serve_at(rt, &words, serve),
+        Ok(Command::Sync(sync)) => sync_with(rt, &words, &sync.name),
+        Err(WordsFault::OutOfMemory) => Ok(Status::OutOfMemory),
+        _ => run_in_memory(rt, &words),
+    }
+}
+
+// How it ends where nothing could be run: for want of memory, or of words that are text.
+fn status_before(error: &io::Error) -> Status {
+    match error.kind() {
+        io::ErrorKind::OutOfMemory => Status::OutOfMemory,
+        _ => Status::Usage,
+    }
+}
+
+fn main(rt: HostRuntime) -> ExitCode {
+    let status = match run_words(&rt) {
+        Ok(status) => status,
+        Err(error) => status_before(&error),
     };
     if status == Status::Usage {
         // Where standard error takes nothing, the exit status says it alone.
         let _ = eprint!(rt; "{USAGE}");
     }
-    Ok(ExitCode::from(status.code()))
+    ExitCode::from(status.code())
 }
