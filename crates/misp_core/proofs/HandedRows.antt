@@ -12,6 +12,7 @@ use Rattle.misp_history.proofs.AsNew.{own_known}
 use Rattle.misp_history.proofs.Prelude.{AllByRecursion, EventId, Group, Inst, IsDistinct, IsTable, Key, OrgId, Row, Scene, Version, all-filter, and_from, and_parts, any_agree, any_cut, any_map, counted, counts, counts_row}
 use Rattle.misp_history.proofs.Prelude.{event_key, event_of, event_rows, false_from_ne_true, filter-map, filter_agree, handed, handed_in, has_copy, has_event, has_event_row, has_gone, has_home, is_made_at, is_newer_row, is_row_of}
 use Rattle.misp_history.proofs.Prelude.{is_statement, is_tombstone, is_welcome, is_welcome_row, in_one_cell, known, label_is_known, label_now, list_all, list_any, row_of_name, rows_taken, same_event, same_key, same_key-sound, same_org, same_org-refl, same_org-sound}
+use Rattle.misp_history.specs.History.{fresh_row}
 use Rattle.misp_core.specs.Answers.{handed_row}
 
 -- ---- of versions and of rows
@@ -48,7 +49,7 @@ module _ (n : ℕ) (i : Inst) (w : OrgId) (rows : List Row) (groups : List Group
   newer_is row = refl
 
   as_handed : (xs : List Row) → map handed_row (map comes xs) ≡ map (handed w) xs
-  unfolding handed handed_in
+  unfolding handed handed_in fresh_row
   as_handed xs = map-map handed_row comes xs
 
   as_rows : (coming : List Row) → map handed_row (filter is_new (filter (counts rows groups (map comes coming)) (map comes coming))) ≡ rows_taken i rows groups (map (handed w) coming)

@@ -10,6 +10,7 @@ use Rattle.misp_rules.specs.Package.{IsPackage}
 use Rattle.misp_rules.specs.declared.ask.Ask.{Ask}
 use Rattle.misp_rules.specs.declared.change.Change.TheVariants.{AddEvent}
 use Rattle.misp_history.specs.History.{fresh_row}
+use Rattle.misp_history.specs.Merging.{handed}
 use Rattle.misp_copies.specs.Scenes.{scene_of}
 use Rattle.misp_view.specs.Naming.{group_names}
 use Rattle.misp_edit.specs.Refusals.{refusal_of}
@@ -108,16 +109,7 @@ reply_in admin s ask = reply_of admin s ask (answer s ask)
 
 -- a version that was handed in, as a row
 abbrev pub handed_row : Version → Row
-handed_row v =
-    record {
-      owner = v.owner;
-      key = v.key;
-      stamp = v.stamp;
-      label = v.label;
-      held = false;
-      carried = true;
-      content = v.content;
-    }
+handed_row v = handed v.owner (fresh_row v)
 
 -- what an ask brings, as rows: of a package what is newer, as it is handed in, and of any other ask
 -- all of it, as it was written

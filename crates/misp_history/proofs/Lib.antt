@@ -7,6 +7,7 @@ pub mod ByPackages
 pub mod Changing
 pub mod Copies
 pub mod Elsewhere
+pub mod FirstPackages
 pub mod GroupsAgain
 pub mod Growing
 pub mod HandedIn

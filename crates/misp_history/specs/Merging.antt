@@ -1,7 +1,7 @@
 -- What a synchronisation does to tables, told by rows alone: which rows pass, and which are taken.
 use Rattle.std.specs.Prelude.{true, false, List, filter, map, Bool, not, ◌&&◌, ◌||◌, leb, ◌≡◌, [], ◌∷◌, ◌++◌, ℕ, suc, zero, Contains}
-use Rattle.misp_groups.specs.Audience.{label_is_known}
-use Rattle.misp_rules.specs.Prelude.{Group, Inst, IsTable, OrgId, Row, event_key, event_of, has_copy, has_gone, has_home, is_made_at, is_row_of, is_statement, is_tombstone, known, list_any, same_key, same_org}
+use Rattle.misp_rules.specs.Arrival.{may_come}
+use Rattle.misp_rules.specs.Prelude.{Group, Inst, IsTable, OrgId, Row, event_key, event_of, has_copy, is_row_of, is_statement, is_tombstone, known, list_any, same_key, same_org}
 use Rattle.misp_rules.specs.Machine.{put_all}
 use Rattle.misp_history.specs.Passing.{Route, passes}
 unfoldable pub use Rattle.misp_rules.specs.Packing.{arrived, cut, is_own, others_with, packages}
@@ -22,12 +22,9 @@ passing_rows rows groups route =
 unfoldable pub arriving_rows : List Row → List Group → Route → List Row
 arriving_rows rows groups route = map (arrived route) (passing_rows rows groups route)
 
--- what an arriving row has to meet whatever else arrives; rows are the receiver's, i its name
+-- the arriving row may come; rows are the receiver's, i its name
 unfoldable pub is_welcome_row : Inst → List Row → List Group → Row → Bool
-is_welcome_row i rows groups row =
-    not (has_gone rows row.owner (event_of row.key))
-    && (not (has_home rows row.owner (event_of row.key)) || is_statement row.key)
-    && not (is_made_at i row.key) && label_is_known groups row.label
+is_welcome_row i rows groups row = may_come i rows groups row.owner row.key row.label
 
 -- the owner has a copy of the row's event, or an event row of it comes that is welcome
 unfoldable pub has_event_row : Inst → List Row → List Group → List Row → Row → Bool

@@ -14,6 +14,6 @@ pub use laws::{
 pub use synchronising::{
     a_package_is_handed_in, a_part_is_the_one_asked_for, a_pull_is_answered_by_packages,
     a_second_synchronisation, a_synchronisation_by_packages, one_synchronisation,
-    packages_are_merged_one_by_one, what_passes_is_granted,
+    packages_are_merged_one_by_one, the_first_packages_bring_so_many, what_passes_is_granted,
 };
 pub use table::tables_have_one_row_for_each_key;

@@ -1,6 +1,6 @@
 //! What a synchronisation does to the tables.
 
-ghost use Rattle.std.specs.Prelude.{◌≡◌, ℕ, Bool, true, false, List, [], ◌++◌, None, Some, cond, filter, length, map, take};
+ghost use Rattle.std.specs.Prelude.{◌≡◌, ◌+◌, ℕ, min, Bool, true, false, List, [], ◌∷◌, ◌++◌, None, Some, cond, filter, length, map, take};
 ghost use Rattle.std.specs.List.{list_all, slice_get, AllByRecursion, Contains};
 ghost use Rattle.misp_ids.specs.Uid.{IsUid};
 ghost use Rattle.misp_ids.specs.declared.uid.OrgId.{OrgId};
@@ -24,7 +24,7 @@ ghost use Rattle.misp_rules.specs.Scene.{NotGranted, Scene};
 ghost use Rattle.misp_groups.specs.Changes.{count_taken};
 ghost use Rattle.misp_history.specs.Answered.{PullsBy, packages_answered, to_nobody};
 ghost use Rattle.misp_history.specs.Outcomes.{arriving, synced_partly, takes};
-ghost use Rattle.misp_history.specs.Merging.{IsPackageOf, arrives, arriving_rows, brought, count_bringing, fresh, handed, is_taken, merged, merged_by, packages, passing_rows, rows_taken};
+ghost use Rattle.misp_history.specs.Merging.{IsPackageOf, arrives, arriving_rows, bringing, brought, count_bringing, fresh, handed, is_taken, more_where, merged, merged_by, packages, passing_rows, rows_taken};
 
 /// A synchronisation merges what passes of the sender's rows into the rows of its receiver, and
 /// changes no row of another instance.
@@ -81,6 +81,19 @@ pub fn a_second_synchronisation()
     ensures counted { (n : ℕ) (w : World) (r : Route) → same_inst r.into r.from ≡ false →
         count_taken ((synced n w r).groups r.into)
         (filter (λ g. carries g r.«for» r.dest) ((synced n w r).groups r.from)) ≡ 0 }
+{}
+
+/// The packages up to the n-th that brings a row are the first ones, and so many of them bring one,
+/// or all that do. A package brings one where it has a row that passes the test, of a name that none
+/// before it has brought.
+pub fn the_first_packages_bring_so_many()
+    ensures first { (n : ℕ) (test : Row → Bool) (so : List Row) (ps : List (List Row)) →
+        (k : ℕ) × (bringing n test so ps ≡ take k ps) }
+    ensures count { (n : ℕ) (test : Row → Bool) (so : List Row) (ps : List (List Row)) →
+        count_bringing test so (bringing n test so ps) ≡ min n (count_bringing test so ps) }
+    ensures last { (test : Row → Bool) (so : List Row) (ps : List (List Row)) (p : List Row) →
+        count_bringing test so (ps ++ p ∷ [])
+        ≡ count_bringing test so ps + more_where (fresh test (so ++ brought test so ps) p) 0 }
 {}
 
 /// Packages that are merged one after another put what is taken of all that comes, each row with the

@@ -1,5 +1,6 @@
 -- Which arrivals count. rows are those of the receiving instance before the act.
 use Rattle.std.specs.Prelude.{Bool, false, not, ◌&&◌, ◌||◌, List, filter, ℕ, []}
+use Rattle.misp_ids.specs.declared.label.Label.{Label}
 use Rattle.misp_groups.specs.declared.group.GroupFields.{GroupFields as Group}
 use Rattle.misp_groups.specs.Audience.{label_is_known}
 use Rattle.misp_elem.specs.declared.key.KeyForm.{KeyForm as Key}
@@ -18,12 +19,18 @@ is_made_at i (Proposal e n) = same_inst n.at i
 is_made_at i (Verdict e n j v) = same_inst j i
 is_made_at i (Sighting e t j v u) = same_inst j i
 
--- what an arrival has to meet whatever else arrives
+-- what of this key and label arrives for an owner at an instance has to meet whatever else arrives:
+-- the owner has not deleted the event, nor is it the owner's own but for statements; the statement
+-- was not made there; and the label is known
+abbrev pub may_come : Inst → List Row → List Group → OrgId → Key → Label → Bool
+may_come i rows groups owner key label =
+    not (has_gone rows owner (event_of key))
+    && (not (has_home rows owner (event_of key)) || is_statement key)
+    && not (is_made_at i key) && label_is_known groups label
+
+-- the arrival meets that
 unfoldable pub is_welcome : List Row → List Group → Version → Bool
-is_welcome rows groups v =
-    not (has_gone rows v.owner (event_of v.key))
-    && (not (has_home rows v.owner (event_of v.key)) || is_statement v.key)
-    && not (is_made_at v.at v.key) && label_is_known groups (label_now v)
+is_welcome rows groups v = may_come v.at rows groups v.owner v.key (label_now v)
 
 -- the holder has a version of the event, or one comes that counts
 unfoldable pub has_event : List Row → List Group → List Version → Version → Bool
