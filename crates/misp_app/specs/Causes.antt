@@ -23,8 +23,8 @@ faults source sink door carry dial =
     record { source = source; sink = sink; door = door; carry = carry; dial = dial }
 
 -- A fault is told only where its count rose, a source that is too long only where it is, and a bad
--- row only where a keeper may hold one, as far as source and keepers tell. No fault of the source is
--- told as anything else, and the other counts do not fall.
+-- row only where a keeper may hold one, as far as source and keepers tell. No fault of the source
+-- is told as anything else, and the counts of what carries and of the dial do not fall.
 pub record HasCauses (source : Option (List ℕ)) (old new : List KeeperState)
     (before after : Faults) (status : Status) : Type 0 where
   pub read : status ≡ ReadFault → Rose before.source after.source
@@ -48,13 +48,13 @@ pub record IsFaultless (old new : List KeeperState) (before after : Faults) : Ty
 -- was.
 pub record LeavesAlone {K C D L T : Type 0} (state : K → KeeperState)
     (command : Option CommandData) (source : Option (List ℕ)) (old new : List K)
-    (carry carried : C) (door doored : D) (dial dialled : L) (clock clocked : T)
+    (carry carry_left : C) (door door_left : D) (dial dial_left : L) (clock clock_left : T)
     (status : Status) : Type 0 where
   pub places : length new ≡ length old
   pub others : IfSome source (λ left. OthersStay (described left) (map state old) (map state new))
   pub still : IsStill status → new ≡ old
   pub checked : command ≡ Some Check → new ≡ old
-  pub untouched : command ≢ Some Net → carried ≡ carry
-  pub undialled : (HasDial command → ⊥) → dialled ≡ dial
-  pub unasked : IsUnasked status → dialled ≡ dial
-  pub indoors : (HasDoor command → ⊥) → (doored ≡ door) × (clocked ≡ clock)
+  pub untouched : command ≢ Some Net → carry_left ≡ carry
+  pub undialled : (HasDial command → ⊥) → dial_left ≡ dial
+  pub unasked : IsUnasked status → dial_left ≡ dial
+  pub indoors : (HasDoor command → ⊥) → (door_left ≡ door) × (clock_left ≡ clock)

@@ -1,5 +1,5 @@
--- The keys that stay when the rest is erased: what the organisation was ever granted, with what that
--- does not make sense without.
+-- The keys that stay when the rest is erased: what the organisation was ever granted, and what
+-- that needs to make sense.
 use Rattle.std.specs.Prelude.{Bool, List, [], ◌∷◌, ◌++◌, map, filter, ℕ, suc, true, false, cond, Option}
 use Rattle.misp_rules.specs.Prelude.{Element, Key, OrgId, Proposal, Reference, Reply, Scene, Sighting, Verdict, is_accepted, judged_place, list_any, parents, same_key, same_org}
 use Rattle.misp_rules.specs.declared.ask.Ask.{Ask}

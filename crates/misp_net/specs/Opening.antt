@@ -1,4 +1,5 @@
--- What keeps the instances of a description from opening over keepers, or stops the run of a script.
+-- What keeps the instances of a description from opening over keepers, or stops the run of a
+-- script.
 use Rattle.std.specs.Prelude.{◌≡◌, List, true, Option}
 use Rattle.misp_effects.specs.KeeperStates.{OneFailed}
 use Rattle.misp_store.specs.Sharing.{may_be_unsound}

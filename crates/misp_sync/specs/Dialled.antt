@@ -12,8 +12,9 @@ abbrev pub went_to : List ℕ → Asked → Bool
 went_to address ask = bytes_eq ask.address address
 
 -- What an ask adds to the trail of a wire to this address. One that went elsewhere adds two byte
--- strings without a byte. No request is one, and of two neighbours one stands for a request: so where
--- the trail has the stated requests, every ask went there (`what_is_asked_goes_to_one_address`).
+-- strings without a byte. No request is one, and of two neighbours one stands for a request: so
+-- where the trail has the stated requests, every ask went there
+-- (`what_is_asked_goes_to_one_address`).
 abbrev pub ask_trail_to : List ℕ → Asked → List (List ℕ)
 ask_trail_to address ask =
     if went_to address ask then ask_trail ask else ([] ∷ [] ∷ [])
