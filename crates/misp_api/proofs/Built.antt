@@ -10,8 +10,8 @@ use Rattle.misp_format.specs.Edits.{event_edit_at, attribute_edit_at, object_edi
 use Rattle.misp_format.specs.Statements.{proposal_at, judgement_at, sighting_at}
 use Rattle.misp_elem.specs.declared.key.Place.{Place}
 use Rattle.misp_format.specs.declared.reading.parts.PartForm.{PartForm}
-use Rattle.misp_rules.specs.Parts.{IsParts}
-use Rattle.misp_rules.specs.declared.change.Change.{Change}
+use Rattle.misp_model.specs.Parts.{IsParts}
+use Rattle.misp_model.specs.declared.change.Change.{Change}
 use Rattle.misp_core.specs.Answers.{IsAdded, IsBuilt}
 use Rattle.misp_core.specs.Prelude.{Ask, EventId, Group, View}
 use Rattle.misp_api.specs.GroupList.{groups_in}

@@ -6,8 +6,8 @@ use Rattle.misp_lists.proofs.Prelude.{list_all}
 use Rattle.misp_lists.proofs.Readings.{ok_keeps}
 use Rattle.misp_elem.specs.Reading.{answer}
 use Rattle.misp_elem.specs.declared.fault.DecodeFault.TheVariants.{BadRow}
-use Rattle.misp_rules.specs.Package.{IsPackage}
-use Rattle.misp_rules.specs.declared.package.PackageFields.{PackageFields}
+use Rattle.misp_model.specs.Package.{IsPackage}
+use Rattle.misp_model.specs.declared.package.PackageFields.{PackageFields}
 use Rattle.misp_package.specs.PackageReading.{package_of_bytes}
 use Rattle.misp_package.proofs.SpelledPackages.{package_of_bytes_takes}
 use Rattle.misp_core.specs.Answers.{IsBuilt}

@@ -1,10 +1,10 @@
 -- The reply to a request refuses by the first rule that refuses it.
 use Rattle.std.proofs.Common.{◌≡◌, ℕ, Bool, true, false, List, [], ◌∷◌, refl, ap, sym, subst, ◌∙◌, map, option_map, Option, Some, None, Result, Ok, Err, ◌==◌, not, is_some, bytes_eq, if◌then◌else◌, IfSome}
 use Rattle.misp_effects.specs.Effect.{under, stop_of}
-use Rattle.misp_rules.proofs.Prelude.{IfSome_then, Rule, VisibleEvent, answer, first_rule, ok_answer, shown}
-use Rattle.misp_rules.specs.Machine.{event_changed}
-use Rattle.misp_rules.specs.Pulling.{pulled_part}
-use Rattle.misp_rules.specs.declared.package.PackageFields.{PackageFields}
+use Rattle.misp_model.proofs.Prelude.{IfSome_then, Rule, VisibleEvent, answer, first_rule, ok_answer, shown}
+use Rattle.misp_model.specs.Machine.{event_changed}
+use Rattle.misp_model.specs.Pulling.{pulled_part}
+use Rattle.misp_model.specs.declared.package.PackageFields.{PackageFields}
 use Rattle.misp_edit.specs.Refusals.{named}
 use Rattle.misp_core.specs.Prelude.{Admin, Ask, Asked, Caller, Did, Effect, EventId, FormatFault, Group, Held, Host, IsBuilt, OrgId, Row, RuleName, Scene, Seen, Standing, View, ask_rules, asked_over, host_of}
 use Rattle.misp_core.specs.Prelude.{option_map_or, reach_of, refused, reply_in, rule_number, scene_at, seeing, seen_in, stop_in}
@@ -20,8 +20,8 @@ use Rattle.misp_api.proofs.Built.{command_is}
 use Rattle.misp_api.specs.Answering.{by_body, by_key, by_route}
 use Rattle.misp_api.specs.Order.{Ground, first_ground, rule_of, IsInOrder, command_grounds, ground_of, row_grounds, grounds, route_asked, is_refused_by, asked_grounds, order}
 use Rattle.misp_effects.specs.Effect as effects
-use Rattle.misp_rules.specs.Scene as asking
-use Rattle.misp_rules.specs.Answers as model
+use Rattle.misp_model.specs.Scene as asking
+use Rattle.misp_model.specs.Answers as model
 
 -- ---- what is asked
 

@@ -1,8 +1,8 @@
 -- What a pull asks changes nothing that is held, and its reply is sound.
 use Rattle.std.proofs.Common.{◌≡◌, ◌<◌, ℕ, Bool, true, false, List, [], map, length, refl, sym, ap, ◌∙◌, subst, inl, inr, cond, Option, Some, None, Result, Ok, Err, IfSome, IfOk}
-use Rattle.misp_rules.specs.Machine.{pulls}
-use Rattle.misp_rules.specs.Answers.{brings, is_accepted}
-use Rattle.misp_rules.specs.Scene.{Scene}
+use Rattle.misp_model.specs.Machine.{pulls}
+use Rattle.misp_model.specs.Answers.{brings, is_accepted}
+use Rattle.misp_model.specs.Scene.{Scene}
 use Rattle.misp_effects.specs.Batches.{put_batches}
 use Rattle.misp_effects.specs.Effect.{Outcome, Stopped, Went, left, under}
 use Rattle.misp_core.specs.Answers.{writes_in}

@@ -17,7 +17,7 @@ use Rattle.misp_api.specs.Order.{IsInOrder, order}
 use Rattle.misp_api.specs.Refusing.{TurnsAway}
 use Rattle.misp_core.specs.Text.{has_octets, reply_text}
 use Rattle.misp_core.specs.declared.reply.Answer.{Answer}
-use Rattle.misp_rules.specs.declared.package.PackageFields.{PackageFields}
+use Rattle.misp_model.specs.declared.package.PackageFields.{PackageFields}
 use Rattle.misp_api.specs.Answering.{IsReplied}
 use Rattle.misp_api.proofs.Turning.{lost_there, turned_there, turned_by_step}
 use Rattle.misp_api.proofs.Replying.{by_step}

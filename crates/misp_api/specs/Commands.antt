@@ -2,8 +2,8 @@
 use Rattle.std.specs.Prelude.{◌≡◌, ℕ, Bool, false, if◌then◌else◌}
 use Rattle.misp_orgs.specs.Roles.{permits}
 use Rattle.misp_orgs.specs.declared.role.Perm.{Perm}
-use Rattle.misp_rules.specs.Machine.{pulls}
-use Rattle.misp_rules.specs.Permission.{permission_of, no_permission}
+use Rattle.misp_model.specs.Machine.{pulls}
+use Rattle.misp_model.specs.Permission.{permission_of, no_permission}
 use Rattle.misp_core.specs.HandedGroups.{groups_put}
 use Rattle.misp_core.specs.Prelude.{Caller, Effect, Host, IsBuilt, Refusal, Seen, asked_where, refused}
 use Rattle.misp_core.specs.Taking.{groups_taken}

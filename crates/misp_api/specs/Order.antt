@@ -1,6 +1,6 @@
 -- The one order of refusals: each rule in its place, with whether it refuses the request.
 use Rattle.std.specs.Prelude.{◌≡◌, ℕ, ◌==◌, Bool, true, false, not, bytes_eq, is_some, List, [], ◌∷◌, map, find, Option, None, Some, Result, Ok, Err, option_map}
-use Rattle.misp_rules.specs.Scene.{Rule}
+use Rattle.misp_model.specs.Scene.{Rule}
 use Rattle.misp_edit.specs.Refusals.{named}
 use Rattle.misp_core.specs.Prelude.{Asked, Group, Held, Host, Row, RuleName, Seen, ask_rules, option_map_or, reach_of, rule_number, scene_at, seeing, seen_in, stop_in}
 use Rattle.misp_api.specs.Commands.{Commanded, is_allowed}

@@ -1,5 +1,5 @@
 -- The definitions and types that many files name, passed on from one place. Declares nothing.
-pub use Rattle.misp_rules.specs.Prelude.{Submission}
+pub use Rattle.misp_model.specs.Prelude.{Submission}
 pub use Rattle.misp_store.specs.Prelude.{Stop}
 pub use Rattle.misp_core.specs.Effects.{by_keeper}
 pub use Rattle.misp_core.specs.Prelude.{Admin, Ask, Asked, Caller, Effect, FormatFault, Group, Held, Host, IsRefused, OrgId, RuleName, Standing, forbidden, is_permitted, refused_by, seen_in, stop_in}

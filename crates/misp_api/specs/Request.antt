@@ -11,8 +11,8 @@ use Rattle.misp_format.specs.Statements.{proposal_at, judgement_at, sighting_at}
 use Rattle.misp_format.specs.Tables.{parts_at, tag_body_at}
 use Rattle.misp_format.specs.declared.reading.parts.PartForm.{PartForm}
 use Rattle.misp_package.specs.PackageReading.{package_of_bytes}
-use Rattle.misp_rules.specs.declared.change.Change.{Change}
-use Rattle.misp_rules.specs.declared.package.PackageFields.{PackageFields}
+use Rattle.misp_model.specs.declared.change.Change.{Change}
+use Rattle.misp_model.specs.declared.package.PackageFields.{PackageFields}
 use Rattle.misp_core.specs.Prelude.{Ask, EventId, FormatFault, Group, Refusal, RuleName, View, bare}
 use Rattle.misp_api.specs.GroupList.{groups_in}
 use Rattle.misp_api.specs.declared.command.Command.{Command}

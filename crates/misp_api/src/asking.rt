@@ -4,8 +4,8 @@ ghost use Rattle.std.specs.Prelude.{◌≡◌, true, IfOk};
 ghost use Rattle.misp_elem.specs.declared.key.Place.TheVariants as places;
 ghost use Rattle.misp_format.specs.Rows as rows;
 ghost use Rattle.misp_format.specs.Tables.{is_form_for};
-ghost use Rattle.misp_rules.specs.declared.ask.Ask.TheVariants as asks;
-ghost use Rattle.misp_rules.specs.declared.change.Change.TheVariants as changes;
+ghost use Rattle.misp_model.specs.declared.ask.Ask.TheVariants as asks;
+ghost use Rattle.misp_model.specs.declared.change.Change.TheVariants as changes;
 ghost use Rattle.misp_api.specs.Commands.{AsksBuilt};
 ghost use Rattle.misp_api.specs.GroupList.{groups_in};
 ghost use Rattle.misp_api.specs.Request.{Gives, ask_command, groups_command, path_ask, body_command, event_in, event_edit_in, attribute_edit_in, object_edit_in, parts_in, tag_in, untag_in, proposal_in, judgement_in, sighting_in, package_in, command_of};
@@ -22,7 +22,7 @@ use misp_format::{
 };
 use misp_ids::{ElemId, EventId, Items, Text};
 use misp_package::read_package;
-use misp_rules::{Ask, AttributePlace, Change, ElementPlace, NewTag, Parts, TaggedPlace};
+use misp_model::{Ask, AttributePlace, Change, ElementPlace, NewTag, Parts, TaggedPlace};
 use std::alloc::Global;
 
 // The addition of the event that a body is.

@@ -2,7 +2,7 @@
 
 use misp_groups::Group;
 use misp_ids::Items;
-use misp_rules::Ask;
+use misp_model::Ask;
 
 /// What a request is, whoever it comes from.
 #[derive(Drop)]

@@ -10,7 +10,7 @@ use crate::path_kind::PathKind;
 use crate::path_part::part_of;
 use misp_elem::Place;
 use misp_ids::{ElemId, EventId, OrgId};
-use misp_rules::{AttributePlace, TaggedPlace};
+use misp_model::{AttributePlace, TaggedPlace};
 
 /// What a request asks for, by its method and path.
 #[derive(Clone, Copy)]

@@ -1,12 +1,12 @@
 -- The rules that bar a change of an event, by what the caller has.
 use Rattle.std.proofs.Common.{◌≡◌, List, [], ◌∷◌, ◌++◌, Bool, true, false, refl, ap, sym, ◌∙◌, ◌&&◌, ◌||◌, not, Option, Some, None, is_some}
-use Rattle.misp_rules.proofs.Prelude.{Content, ElemId, EventId, Label, OrgId, Row, Rule, Scene, any_implies, bars, event_key, false≢true, first_rule, granted_somewhere, has_copy, has_home, holds_copy, is_row_of, is_tombstone, sees}
-use Rattle.misp_rules.specs.Scene.{holds_home}
+use Rattle.misp_model.proofs.Prelude.{Content, ElemId, EventId, Label, OrgId, Row, Rule, Scene, any_implies, bars, event_key, false≢true, first_rule, granted_somewhere, has_copy, has_home, holds_copy, is_row_of, is_tombstone, sees}
+use Rattle.misp_model.specs.Scene.{holds_home}
 use Rattle.misp_copies.specs.Barring.{rule_of, Names, NamesUuid, Refuses, barring, or_else}
 use Rattle.misp_copies.specs.Renewing.{IsFull}
 use Rattle.misp_copies.specs.declared.change_fault.ChangeFault.{ChangeFault}
 use Rattle.misp_copies.specs.declared.change_fault.ChangeFault.TheVariants.{ElementExists, GroupNotUsable, NoMemory}
-use Rattle.misp_rules.specs.Scene as rule
+use Rattle.misp_model.specs.Scene as rule
 
 -- ---- the first of rules
 

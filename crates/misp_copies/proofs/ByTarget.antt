@@ -4,7 +4,7 @@ use Rattle.std.specs.List.Sorted.{IsNonDecreasingBy, IsPartitionPoint, IsPartiti
 use Rattle.std.specs.Ordering.{ordering_index}
 use Rattle.std.proofs.lemmas.Cmp.{nat_list_cmp_total}
 use Rattle.std.proofs.lemmas.List.Sorted.{searchable_from_sorted, IsNonDecreasingBy-take, IsNonDecreasingBy-drop}
-use Rattle.misp_rules.proofs.Prelude.{Key, Row, filter-map, ordering_reverse, same_key, same_key-sound, spell}
+use Rattle.misp_model.proofs.Prelude.{Key, Row, filter-map, ordering_reverse, same_key, same_key-sound, spell}
 use Rattle.misp_copies.specs.Keys.{key_cmp, target_of, is_about}
 use Rattle.misp_copies.specs.StatementsByTarget.{AreByTarget, IsByTarget}
 use Rattle.misp_copies.proofs.Cuts.{rises_below, rises_upto, cut_level, stable_test}

@@ -1,7 +1,7 @@
 -- Of the rows of one event those of an event itself are those of this event.
 use Rattle.std.proofs.Common.{◌≡◌, List, [], ◌∷◌, Bool, true, false, refl, ap, sym, cond, ◌&&◌, ◌||◌, not, Some, find}
-use Rattle.misp_rules.proofs.Prelude.{Element, EventId, Group, Key, OrgId, Place, Row, Version, and_parts, event_key, event_of, has_copy, has_gone, has_home, is_made_at, is_row_of, is_statement}
-use Rattle.misp_rules.proofs.Prelude.{is_tombstone, is_welcome, label_is_known, label_now, list_all, list_any, same_event, same_key, same_org, same_place}
+use Rattle.misp_model.proofs.Prelude.{Element, EventId, Group, Key, OrgId, Place, Row, Version, and_parts, event_key, event_of, has_copy, has_gone, has_home, is_made_at, is_row_of, is_statement}
+use Rattle.misp_model.proofs.Prelude.{is_tombstone, is_welcome, label_is_known, label_now, list_all, list_any, same_event, same_key, same_org, same_place}
 use Rattle.misp_copies.specs.Copies.{AreOf, copy_state, is_event_key, is_event_row, state_by, state_of, takes}
 
 and_end : (b : Bool) → b ≡ true → (b && true) ≡ true

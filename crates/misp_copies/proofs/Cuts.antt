@@ -6,7 +6,7 @@ use Rattle.std.specs.Ordering.{ordering_index}
 use Rattle.std.proofs.lemmas.List.{take_rest}
 use Rattle.std.proofs.lemmas.List.Sorted.{IsPartitionedBy-ltb, IsPartitionedBy-leb}
 use Rattle.std.proofs.lemmas.List.Elements.{filter_agree}
-use Rattle.misp_rules.proofs.Prelude.{filter-map, nat_tests}
+use Rattle.misp_model.proofs.Prelude.{filter-map, nat_tests}
 
 module _ {X : Type 0} where
   -- what passes is in front

@@ -3,8 +3,8 @@ use Rattle.std.proofs.Common.{◌≡◌, ℕ, true, false, refl, ap, ◌∙◌, 
 use Rattle.std.specs.BTreeSet.{IsEmpty}
 use Rattle.std.specs.BTreeMap.{is_at}
 use Rattle.misp_elem.specs.Key.{place_kind}
-use Rattle.misp_rules.proofs.Prelude.{Attribute, Event, EventId, Object, ObjectAttribute, OrgId, Place, contains, list_any, nat_tests, same_elem, same_event}
-use Rattle.misp_rules.proofs.Prelude.{same_org, same_place}
+use Rattle.misp_model.proofs.Prelude.{Attribute, Event, EventId, Object, ObjectAttribute, OrgId, Place, contains, list_any, nat_tests, same_elem, same_event}
+use Rattle.misp_model.proofs.Prelude.{same_org, same_place}
 use Rattle.misp_copies.specs.ElementSet.{Numbers, first_of, second_of, numbers_cmp, has_element}
 use Rattle.misp_copies.proofs.Pairs.{with_test}
 

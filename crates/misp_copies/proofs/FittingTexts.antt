@@ -4,7 +4,7 @@ use Rattle.std.proofs.lemmas.List.Sums.{sum_by-cons}
 use Rattle.misp_elem.specs.Prelude.{AreTags, AreTagsAfter, IsAttributeBody, IsBetween, IsTagName, IsText, IsValue, is_after, is_kept, is_text, is_utf8, text_limit, text_size}
 use Rattle.misp_elem.specs.declared.content.AttributeBody.{AttributeBody}
 use Rattle.misp_elem.specs.Fields.{tags_size}
-use Rattle.misp_rules.proofs.Prelude.{Content, Tag, and_from, and_parts, false≢true, is_too_long, nat_tests}
+use Rattle.misp_model.proofs.Prelude.{Content, Tag, and_from, and_parts, false≢true, is_too_long, nat_tests}
 
 -- a text fits where it has the room
 room_for : (most room n : ℕ) (least utf8 : Bool) → (least && nat_le n most && utf8) ≡ true → n ≤ room → (least && nat_le n room && utf8) ≡ true

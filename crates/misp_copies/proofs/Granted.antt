@@ -1,9 +1,9 @@
 -- What the sets say is granted is granted.
 use Rattle.std.proofs.Common.{◌≡◌, ℕ, Bool, true, false, refl, ap, ◌∙◌, arith, List, [], ◌∷◌, ◌&&◌, ◌||◌, not, filter, BTreeSet}
 use Rattle.misp_lists.proofs.Lists.{any_by}
-use Rattle.misp_rules.proofs.Prelude.{Element, Event, EventId, Group, Inst, Key, OrgId, Place, Proposal, Reference, Row, Sighting, Verdict, above, all_same, and_parts, element_granted, event_of}
-use Rattle.misp_rules.proofs.Prelude.{false≢true, filter_agree, granted, granted_by, granted_somewhere, has_open, is_known, is_row_of, is_statement, known, list_all, list_any, parents, row_is_open, same_key, same_key-sound, same_org}
-use Rattle.misp_rules.proofs.Prelude.{same_org-refl, up_to}
+use Rattle.misp_model.proofs.Prelude.{Element, Event, EventId, Group, Inst, Key, OrgId, Place, Proposal, Reference, Row, Sighting, Verdict, above, all_same, and_parts, element_granted, event_of}
+use Rattle.misp_model.proofs.Prelude.{false≢true, filter_agree, granted, granted_by, granted_somewhere, has_open, is_known, is_row_of, is_statement, known, list_all, list_any, parents, row_is_open, same_key, same_key-sound, same_org}
+use Rattle.misp_model.proofs.Prelude.{same_org-refl, up_to}
 use Rattle.misp_copies.specs.declared.grants.Grants.{Grants}
 use Rattle.misp_copies.specs.Kinds.{is_upper, is_link}
 use Rattle.misp_copies.specs.Table.{IsCopies}

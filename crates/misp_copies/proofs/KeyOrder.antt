@@ -4,8 +4,8 @@ use Rattle.std.specs.Cmp.{IsTotalOrder, IsStrictWeakOrder}
 use Rattle.std.proofs.lemmas.Cmp.{nat_cmp_total, nat_list_cmp_total, on_total, then_total}
 use Rattle.std.proofs.lemmas.List.Sorted.{ranks_by}
 use Rattle.misp_elem.specs.Key.{IsKey}
-use Rattle.misp_rules.proofs.Prelude.{Key, Row, bytes_eq-Decides, is_eq-slice_cmp, less_is, ordering_reverse, same_key, same_key-refl, same_key-sound, slice_cmp, spell, spells}
-use Rattle.misp_rules.proofs.NameOrder.{keys_in_bytes}
+use Rattle.misp_model.proofs.Prelude.{Key, Row, bytes_eq-Decides, is_eq-slice_cmp, less_is, ordering_reverse, same_key, same_key-refl, same_key-sound, slice_cmp, spell, spells}
+use Rattle.misp_model.proofs.NameOrder.{keys_in_bytes}
 use Rattle.misp_copies.specs.Keys.{key_cmp, target_of}
 use Rattle.misp_copies.specs.StatementsByKey.{statement_cmp}
 use Rattle.misp_elem.specs.Spelling as spelling

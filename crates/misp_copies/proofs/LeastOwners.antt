@@ -7,7 +7,7 @@ use Rattle.std.proofs.lemmas.List.{get_or_default}
 use Rattle.std.proofs.lemmas.List.Sorted.{sorted_far, searchable_from_sorted}
 use Rattle.std.proofs.lemmas.List.Folds.{list_any_at}
 use Rattle.misp_lists.proofs.Lists.{any_none}
-use Rattle.misp_rules.proofs.Prelude.{Row, any_map, false≢true, list_any, nat_tests, ordering_reverse, ordering_then, same_key, same_key-refl, same_key-sound, spell}
+use Rattle.misp_model.proofs.Prelude.{Row, any_map, false≢true, list_any, nat_tests, ordering_reverse, ordering_then, same_key, same_key-refl, same_key-sound, spell}
 use Rattle.misp_copies.specs.Keys.{key_cmp}
 use Rattle.misp_copies.specs.StatementsByKey.{statement_cmp, AreByKey, is_lesser}
 use Rattle.misp_copies.proofs.Cuts.{rises_below}

@@ -2,7 +2,7 @@
 use Rattle.std.proofs.Common.{◌≡◌, ℕ, Bool, true, false, refl, ap, ◌∙◌, eqb, arith, cond, ◌&&◌, ◌||◌, is_eq, BTreeSet}
 use Rattle.std.specs.BTreeSet.{IsEmpty}
 use Rattle.std.specs.BTreeMap.{is_at}
-use Rattle.misp_rules.proofs.Prelude.{EventId, OrgId, contains, list_any, nat_tests, same_event, same_org}
+use Rattle.misp_model.proofs.Prelude.{EventId, OrgId, contains, list_any, nat_tests, same_event, same_org}
 use Rattle.misp_copies.specs.Table.{pair_cmp, has_pair}
 
 -- two pairs are equal where both parts are

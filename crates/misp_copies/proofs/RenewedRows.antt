@@ -1,7 +1,7 @@
 -- What a change makes of a row is a row.
 use Rattle.std.proofs.Common.{◌≡◌, ◌≢◌, ℕ, ◌+◌, Bool, true, false, refl, ap, ◌∙◌, arith, eqb, ◌&&◌, ◌||◌, not, max, ◌==◌}
 use Rattle.std.proofs.lemmas.Bool.{eqb-false}
-use Rattle.misp_rules.proofs.Prelude.{Content, Element, IsContent, IsRow, IsStamp, Key, Place, Proposal, Reference, Row, Sighting, Verdict, content_kind, fits, is_gone, is_statement, label_kind, last_stamp, may_remove}
+use Rattle.misp_model.proofs.Prelude.{Content, Element, IsContent, IsRow, IsStamp, Key, Place, Proposal, Reference, Row, Sighting, Verdict, content_kind, fits, is_gone, is_statement, label_kind, last_stamp, may_remove}
 use Rattle.misp_copies.specs.Renewing.{renewed}
 
 pub later_stamp : (now old : ℕ) → IsStamp now → IsStamp old → eqb old last_stamp ≡ false → IsStamp (max now (old + 1))

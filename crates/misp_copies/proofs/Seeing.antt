@@ -1,7 +1,7 @@
 -- Who sees an event: a row of the event itself is granted as an element is.
 use Rattle.std.proofs.Common.{◌≡◌, List, refl, ◌&&◌, true}
 use Rattle.misp_lists.proofs.Lists.{and_where}
-use Rattle.misp_rules.proofs.Prelude.{Element, EventId, Group, Inst, Key, OrgId, Reference, Row, element_granted, event_key, false≢true, granted, granted_by, list_any, same_key}
+use Rattle.misp_model.proofs.Prelude.{Element, EventId, Group, Inst, Key, OrgId, Reference, Row, element_granted, event_key, false≢true, granted, granted_by, list_any, same_key}
 
 itself_granted : (rows : List Row) (groups : List Group) (i : Inst) (o : OrgId) (e : EventId) (row : Row) → same_key row.key (event_key e) ≡ true →
     granted rows groups i o row ≡ element_granted rows groups i o row

@@ -2,7 +2,7 @@
 use Rattle.std.proofs.Common.{◌≡◌, ℕ, Bool, true, false, refl, ap, sym, arith, eqb, ◌+◌, max, ◌==◌, if◌then◌else◌, is_some, Option, Some, None}
 use Rattle.misp_ids.specs.declared.stamp.TheConstants.{LAST_SECOND}
 use Rattle.misp_ids.specs.Stamp.{next_stamp as next_of}
-use Rattle.misp_rules.proofs.Prelude.{false≢true, last_stamp, nat_tests}
+use Rattle.misp_model.proofs.Prelude.{false≢true, last_stamp, nat_tests}
 
 abbrev some_of : ℕ → Option ℕ → ℕ
 some_of n None = n

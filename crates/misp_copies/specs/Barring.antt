@@ -1,9 +1,9 @@
 -- Who may not change an event, and the fault that says so.
 use Rattle.std.specs.Prelude.{◌≡◌, Bool, cond, List, Option, Some, None, Result, Ok, Err}
-use Rattle.misp_rules.specs.Prelude.{ElemId, Label, Rule, first_rule}
+use Rattle.misp_model.specs.Prelude.{ElemId, Label, Rule, first_rule}
 use Rattle.misp_copies.specs.declared.change_fault.ChangeFault.{ChangeFault}
 use Rattle.misp_copies.specs.declared.change_fault.ChangeFault.TheVariants.{NotGranted, NotOwner, LockedCopy, EventGone, ElementExists, GroupNotUsable, OlderTime, TimeLimit, ProposalExists, ProposalClosed, ElementFull, NoMemory}
-use Rattle.misp_rules.specs.Scene as rule
+use Rattle.misp_model.specs.Scene as rule
 
 -- ---- faults
 

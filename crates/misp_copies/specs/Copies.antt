@@ -1,7 +1,7 @@
 -- The state of a copy, read off its event's row, and what it takes.
 use Rattle.std.specs.Prelude.{◌≡◌, Bool, true, false, not, cond, ◌&&◌, List}
-use Rattle.misp_rules.specs.Prelude.{Element, EventId, Inst, Key, OrgId, Place, Row, event_of, has_copy, has_gone, has_home, is_made_at, is_statement, is_tombstone, list_all, list_any, same_event}
-use Rattle.misp_rules.specs.Prelude.{same_org}
+use Rattle.misp_model.specs.Prelude.{Element, EventId, Inst, Key, OrgId, Place, Row, event_of, has_copy, has_gone, has_home, is_made_at, is_statement, is_tombstone, list_all, list_any, same_event}
+use Rattle.misp_model.specs.Prelude.{same_org}
 use Rattle.misp_copies.specs.declared.states.CopyState.{CopyState}
 
 -- the rows are those of the event

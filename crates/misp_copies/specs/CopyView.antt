@@ -1,7 +1,7 @@
 -- What an organisation sees of one owner's copy of an event, by sets that are found once for all
 -- rows.
 use Rattle.std.specs.Prelude.{◌≡◌, Bool, false, not, ◌&&◌, List}
-use Rattle.misp_rules.specs.Prelude.{BTreeSet, EventId, Group, Inst, OrgId, Row, event_of, is_deleted, list_all, parents, same_org}
+use Rattle.misp_model.specs.Prelude.{BTreeSet, EventId, Group, Inst, OrgId, Row, event_of, is_deleted, list_all, parents, same_org}
 use Rattle.misp_copies.specs.declared.copy_view.CopyView.{CopyView}
 use Rattle.misp_copies.specs.Table.{has_pair, IsTombstones}
 use Rattle.misp_copies.specs.ElementSet.{Numbers, key_is}

@@ -1,7 +1,7 @@
 -- Sets of elements, each with the owner of a copy that it is in.
 use Rattle.std.specs.Prelude.{ℕ, Bool, false, not, cond}
 use Rattle.misp_elem.specs.Key.{place_kind}
-use Rattle.misp_rules.specs.Prelude.{Attribute, BTreeSet, Element, Event, EventId, Key, Object, ObjectAttribute, Ordering, OrgId, Place, contains, nat_cmp, ordering_then}
+use Rattle.misp_model.specs.Prelude.{Attribute, BTreeSet, Element, Event, EventId, Key, Object, ObjectAttribute, Ordering, OrgId, Place, contains, nat_cmp, ordering_then}
 
 -- an owner, an event and a place, as numbers
 abbrev pub Numbers : Type 0

@@ -1,6 +1,6 @@
 -- What is granted, by sets that are found once for all rows.
 use Rattle.std.specs.Prelude.{◌≡◌, ℕ, Bool, true, ◌&&◌, ◌||◌, List}
-use Rattle.misp_rules.specs.Prelude.{BTreeSet, Element, EventId, Group, Inst, Key, OrgId, Place, Proposal, Reference, Row, Sighting, Verdict, event_of, is_row_of, is_statement, list_all, list_any, parents, row_is_open, same_key, same_org}
+use Rattle.misp_model.specs.Prelude.{BTreeSet, Element, EventId, Group, Inst, Key, OrgId, Place, Proposal, Reference, Row, Sighting, Verdict, event_of, is_row_of, is_statement, list_all, list_any, parents, row_is_open, same_key, same_org}
 use Rattle.misp_copies.specs.declared.grants.Grants.{Grants}
 use Rattle.misp_copies.specs.Kinds.{is_upper, is_link}
 use Rattle.misp_copies.specs.Table.{has_pair, IsCopies}

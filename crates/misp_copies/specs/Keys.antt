@@ -1,6 +1,6 @@
 -- Keys: their order, and what they are about.
 use Rattle.std.specs.Prelude.{Bool}
-use Rattle.misp_rules.specs.Prelude.{Element, Key, Ordering, Proposal, Reference, Sighting, Verdict, nat_cmp, same_key, slice_cmp, spell}
+use Rattle.misp_model.specs.Prelude.{Element, Key, Ordering, Proposal, Reference, Sighting, Verdict, nat_cmp, same_key, slice_cmp, spell}
 
 -- how one key stands to another: by the numbers that spell them
 abbrev pub key_cmp : Key → Key → Ordering

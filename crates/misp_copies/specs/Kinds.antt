@@ -1,6 +1,6 @@
 -- Kinds of keys.
 use Rattle.std.specs.Prelude.{Bool, true, false}
-use Rattle.misp_rules.specs.Prelude.{Element, Event, Key, Object}
+use Rattle.misp_model.specs.Prelude.{Element, Event, Key, Object}
 
 -- the key is that of an event or of an object
 unfoldable pub is_upper : Key → Bool

@@ -1,6 +1,6 @@
 -- What an owner has at a key.
 use Rattle.std.specs.Prelude.{Bool, not, ◌&&◌, List}
-use Rattle.misp_rules.specs.Prelude.{Key, OrgId, Row, is_deleted, is_live, is_row_of, list_any}
+use Rattle.misp_model.specs.Prelude.{Key, OrgId, Row, is_deleted, is_live, is_row_of, list_any}
 
 -- the owner has a deleted row of the key
 abbrev pub has_deleted : List Row → OrgId → Key → Bool

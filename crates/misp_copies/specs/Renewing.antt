@@ -1,6 +1,6 @@
 -- What a change makes of a row.
 use Rattle.std.specs.Prelude.{◌≡◌, true, false, not, ◌||◌, max, ◌+◌}
-use Rattle.misp_rules.specs.Prelude.{Content, Label, Row, Stamp, is_gone, is_statement, is_too_long}
+use Rattle.misp_model.specs.Prelude.{Content, Label, Row, Stamp, is_gone, is_statement, is_too_long}
 use Rattle.misp_copies.specs.declared.change_fault.ChangeFault.{ChangeFault}
 use Rattle.misp_copies.specs.declared.change_fault.ChangeFault.TheVariants.{ElementFull, NoMemory}
 

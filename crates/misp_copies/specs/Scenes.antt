@@ -1,6 +1,6 @@
 -- The surroundings of a request.
 use Rattle.std.specs.Prelude.{ℕ, List, None}
-use Rattle.misp_rules.specs.Prelude.{Group, Inst, OrgId, Row, Scene, Stamp}
+use Rattle.misp_model.specs.Prelude.{Group, Inst, OrgId, Row, Scene, Stamp}
 use Rattle.misp_copies.specs.declared.viewer.Viewer.{Viewer}
 
 -- the surroundings of a request, without a partner

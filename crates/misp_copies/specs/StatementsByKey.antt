@@ -1,7 +1,7 @@
 -- Rows by their keys, and those of one key by their owners.
 use Rattle.std.specs.Prelude.{Bool, ltb, ◌&&◌, List, IsSortedBy}
 use Rattle.std.specs.Ordering.{is_lt}
-use Rattle.misp_rules.specs.Prelude.{Bor, Ordering, Row, nat_cmp, ordering_then, same_key}
+use Rattle.misp_model.specs.Prelude.{Bor, Ordering, Row, nat_cmp, ordering_then, same_key}
 use Rattle.misp_copies.specs.Keys.{key_cmp}
 
 -- how one row stands to another: by their keys, and of one key by their owners

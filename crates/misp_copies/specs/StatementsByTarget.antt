@@ -1,7 +1,7 @@
 -- Rows by what they are about.
 use Rattle.std.specs.Prelude.{◌≡◌, List, filter, IsSortedBy}
 use Rattle.std.specs.Ordering.{is_lt}
-use Rattle.misp_rules.specs.Prelude.{Bor, Key, Row}
+use Rattle.misp_model.specs.Prelude.{Bor, Key, Row}
 use Rattle.misp_copies.specs.Keys.{key_cmp, target_of, is_about}
 
 -- what they are about does not fall

@@ -1,6 +1,6 @@
 -- Sets of owners and events.
 use Rattle.std.specs.Prelude.{◌≡◌, ℕ, Bool, List}
-use Rattle.misp_rules.specs.Prelude.{BTreeSet, EventId, Ordering, OrgId, Row, contains, has_copy, has_gone, nat_cmp, ordering_then}
+use Rattle.misp_model.specs.Prelude.{BTreeSet, EventId, Ordering, OrgId, Row, contains, has_copy, has_gone, nat_cmp, ordering_then}
 
 -- the order of pairs: by the first, and of equals by the second
 abbrev pub pair_cmp : ℕ × ℕ → ℕ × ℕ → Ordering

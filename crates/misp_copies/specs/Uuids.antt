@@ -1,6 +1,6 @@
 -- The uuids that an owner's copy has.
 use Rattle.std.specs.Prelude.{ℕ, Bool, false, eqb, ◌&&◌, ◌||◌, List, Option, Some, None}
-use Rattle.misp_rules.specs.Prelude.{EventId, OrgId, Row, event_of, list_any, same_event, same_org, takes_uuid}
+use Rattle.misp_model.specs.Prelude.{EventId, OrgId, Row, event_of, list_any, same_event, same_org, takes_uuid}
 
 -- the number is there, and is this one
 abbrev pub is_at : Option ℕ → ℕ → Bool

@@ -3,7 +3,7 @@
 ghost use Rattle.std.specs.Prelude.{◌≡◌};
 ghost use Rattle.std.specs.List.{list_all};
 ghost use Rattle.misp_elem.specs.Parents.{parents};
-ghost use Rattle.misp_rules.specs.View.{has_open};
+ghost use Rattle.misp_model.specs.View.{has_open};
 ghost use Rattle.misp_copies.specs.OwnRows.{is_kept};
 
 use crate::copies::{has_deleted, has_open};

@@ -3,7 +3,7 @@
 ghost use Rattle.std.specs.Prelude.{◌≡◌, true, is_some, IfErr, Option};
 ghost use Rattle.misp_ids.specs.declared.label.Label as label_of;
 ghost use Rattle.misp_ids.specs.declared.uid.ElemId.{ElemId};
-ghost use Rattle.misp_rules.specs.View.{has_copy, has_home, granted_somewhere};
+ghost use Rattle.misp_model.specs.View.{has_copy, has_home, granted_somewhere};
 ghost use Rattle.misp_elem.specs.Parents.{event_key};
 ghost use Rattle.misp_copies.specs.Barring.{outcome, rule_of, barring, lacking, Names, NamesUuid};
 

@@ -29,7 +29,7 @@ pub struct CopyView<'a> {
 }
 
 // What is deleted in each copy.
-#[tactic(auto, unfolding(misp_rules::specs::View::is_row_of), using(crate::proofs::ElementSets::none_has, crate::proofs::RowLists::rows_more, crate::proofs::RowLists::rows_all))]
+#[tactic(auto, unfolding(misp_model::specs::View::is_row_of), using(crate::proofs::ElementSets::none_has, crate::proofs::RowLists::rows_more, crate::proofs::RowLists::rows_all))]
 fn deletions(alloc: Global, rows: &[Row]) -> Result<ElementSet, NoMemory>
     ensures found { IfOk result (λ elements. IsElementSet elements view.is_deleted rows.now) }
     ensures rows { OnOk result (AreRows rows.now) }

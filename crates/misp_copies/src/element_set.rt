@@ -10,7 +10,7 @@ ghost use Rattle.misp_elem.specs.declared.key.KeyForm.TheVariants.{Element};
 ghost use Rattle.misp_ids.specs.Same.{same_event, same_org};
 ghost use Rattle.misp_elem.specs.SameKey.{same_key, same_place};
 ghost use Rattle.misp_elem.specs.Parents.{parents};
-ghost use Rattle.misp_rules.specs.View.{is_row_of};
+ghost use Rattle.misp_model.specs.View.{is_row_of};
 ghost use Rattle.misp_copies.specs.ElementSet.{first_of, second_of, has_element, has_key, key_is};
 
 use misp_elem::{Key, KeyForm, Place, Row, parents};
@@ -99,7 +99,7 @@ pub fn add(
 }
 
 /// The same, for the row's own owner.
-#[tactic(auto, unfolding(misp_rules::specs::View::is_row_of))]
+#[tactic(auto, unfolding(misp_model::specs::View::is_row_of))]
 pub fn add_own(elements: &mut ElementSet, row: &Row, wanted: bool) -> Result<(), NoMemory>
     ensures { OnOk result ((w : Owner) (e : Event) (p : SomePlace) → has_element elements.new w e p
         ≡ (has_element elements.old w e p || is_row_of w (Element e p) row.now && wanted)) }

@@ -1,7 +1,7 @@
 //! What is granted, and what is live.
 
 ghost use Rattle.std.specs.Prelude.{◌≡◌};
-ghost use Rattle.misp_rules.specs.View.{element_granted, granted_somewhere, granted, is_live};
+ghost use Rattle.misp_model.specs.View.{element_granted, granted_somewhere, granted, is_live};
 
 use crate::above::{is_kept_above, is_open_above};
 use crate::copies::{has_copy, has_gone};
@@ -13,7 +13,7 @@ use misp_groups::Groups;
 use misp_ids::{InstId, OrgId};
 
 // Whether a row is granted as that of an element or a reference is.
-#[tactic(auto, unfolding(misp_rules::specs::View::element_granted))]
+#[tactic(auto, unfolding(misp_model::specs::View::element_granted))]
 fn element_granted(rows: &[Row], who: &Viewer, row: &Row) -> bool
     ensures { result
         ≡ element_granted rows.now who.now.groups.now who.now.here who.now.org row.now }
@@ -24,7 +24,7 @@ fn element_granted(rows: &[Row], who: &Viewer, row: &Row) -> bool
 }
 
 // Whether the element of this key is granted in some copy.
-#[tactic(auto, unfolding(misp_rules::specs::View::granted_somewhere))]
+#[tactic(auto, unfolding(misp_model::specs::View::granted_somewhere))]
 fn granted_somewhere(rows: &[Row], who: &Viewer, key: &Key) -> bool
     ensures { result
         ≡ granted_somewhere rows.now who.now.groups.now who.now.here who.now.org key.now }
@@ -33,7 +33,7 @@ fn granted_somewhere(rows: &[Row], who: &Viewer, key: &Key) -> bool
 }
 
 /// Whether a row is granted, where the others of its event are these.
-#[tactic(auto, unfolding(misp_rules::specs::View::granted, misp_rules::specs::View::granted_by))]
+#[tactic(auto, unfolding(misp_model::specs::View::granted, misp_model::specs::View::granted_by))]
 pub fn is_granted(rows: &[Row], who: &Viewer, row: &Row) -> bool
     ensures { result ≡ granted rows.now who.now.groups.now who.now.here who.now.org row.now }
 {
@@ -65,7 +65,7 @@ pub fn row_granted(rows: &[Row], groups: &Groups, here: &InstId, org: &OrgId, ro
 
 /// Whether a row is live, where the others of its event are these: neither it nor what stands above
 /// it is deleted. It looks through all of them.
-#[tactic(auto, unfolding(misp_rules::specs::View::is_live, crate::specs::OwnRows::is_kept))]
+#[tactic(auto, unfolding(misp_model::specs::View::is_live, crate::specs::OwnRows::is_kept))]
 pub fn live(rows: &[Row], row: &Row) -> bool
     ensures { result ≡ is_live rows.now row.now }
 {

@@ -3,7 +3,7 @@
 ghost use Rattle.std.specs.Prelude.{◌≡◌, ◌&&◌, ◌||◌, IfOk};
 ghost use Rattle.std.specs.List.{list_any};
 ghost use Rattle.misp_elem.specs.KeyFacts as history;
-ghost use Rattle.misp_rules.specs.View.{row_is_open};
+ghost use Rattle.misp_model.specs.View.{row_is_open};
 ghost use Rattle.misp_copies.specs.Kinds as kinds;
 ghost use Rattle.misp_copies.specs.Grants.{IsOpenings, IsGranted, IsGrants, element_in, granted_in};
 

@@ -2,7 +2,7 @@
 
 ghost use Rattle.std.specs.Prelude.{◌≡◌, ◌||◌, IfOk};
 ghost use Rattle.misp_ids.specs.Same.{same_org};
-ghost use Rattle.misp_rules.specs.View.{known};
+ghost use Rattle.misp_model.specs.View.{known};
 ghost use Rattle.misp_copies.specs.Grants.{granted_in};
 
 use crate::grants::Grants;

@@ -5,8 +5,8 @@ ghost use Rattle.misp_elem.specs.declared.row.RowFields.{RowFields as Row};
 ghost use Rattle.misp_groups.specs.declared.group.GroupFields.{GroupFields as Group};
 ghost use Rattle.misp_elem.specs.Parents.{event_of};
 ghost use Rattle.misp_groups.specs.Audience.{label_is_known};
-ghost use Rattle.misp_rules.specs.Version.{Version, label_now};
-ghost use Rattle.misp_rules.specs.Arrival.{is_welcome};
+ghost use Rattle.misp_model.specs.Version.{Version, label_now};
+ghost use Rattle.misp_model.specs.Arrival.{is_welcome};
 ghost use Rattle.misp_copies.specs.Copies.{copy_state, takes};
 
 /// An arrival is welcome where the state of its owner's copy takes it and its label is known.

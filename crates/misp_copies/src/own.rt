@@ -6,7 +6,7 @@ ghost use Rattle.std.specs.Option.{option_copied};
 ghost use Rattle.misp_elem.specs.declared.key.KeyForm.TheVariants.{Element};
 ghost use Rattle.misp_elem.specs.Parents.{event_key};
 ghost use Rattle.misp_elem.specs.SameKey.{same_key};
-ghost use Rattle.misp_rules.specs.View.{is_row_of, granted, granted_somewhere};
+ghost use Rattle.misp_model.specs.View.{is_row_of, granted, granted_somewhere};
 ghost use Rattle.misp_copies.specs.Copies.{is_event_row};
 ghost use Rattle.misp_copies.specs.OwnRows.{has_live};
 

@@ -6,7 +6,7 @@ ghost use Rattle.misp_elem.specs.Contents.{text_size};
 ghost use Rattle.misp_elem.specs.Row.{IsRow, AreRows};
 ghost use Rattle.misp_elem.specs.KeyFacts.{is_statement};
 ghost use Rattle.misp_elem.specs.RowFacts.{is_gone};
-ghost use Rattle.misp_rules.specs.Scene.{is_too_long};
+ghost use Rattle.misp_model.specs.Scene.{is_too_long};
 ghost use Rattle.misp_ids.specs.Moments.{last_stamp};
 ghost use Rattle.misp_copies.specs.Renewing.{renewed, IsFull};
 
@@ -59,7 +59,7 @@ fn size(content: &Content) -> usize
 }
 
 /// Whether the element is longer than one may be.
-#[tactic(auto, unfolding(misp_rules::specs::Scene::is_too_long))]
+#[tactic(auto, unfolding(misp_model::specs::Scene::is_too_long))]
 pub fn is_too_long(content: &Content) -> bool
     ensures { result ≡ is_too_long content.now }
 {

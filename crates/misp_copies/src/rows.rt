@@ -6,7 +6,7 @@ ghost use Rattle.misp_elem.specs.SameKey.{same_key};
 ghost use Rattle.misp_ids.specs.Same.{same_org};
 ghost use Rattle.misp_copies.specs.Kinds.{is_upper, is_link};
 ghost use Rattle.misp_groups.specs.Audience.{SaysOfGroup};
-ghost use Rattle.misp_rules.specs.View.{is_row_of, row_is_open, is_before};
+ghost use Rattle.misp_model.specs.View.{is_row_of, row_is_open, is_before};
 
 use crate::keys::are_same;
 use crate::viewer::Viewer;
@@ -31,7 +31,7 @@ fn group_allows(label: &Label, who: &Viewer) -> bool
 
 /// Whether it is open to the organisation. The group of its label is looked up where it is not the
 /// organisation's own.
-#[tactic(auto, unfolding(misp_rules::specs::View::row_is_open, misp_groups::specs::Audience::is_open, misp_ids::specs::Same::same_org))]
+#[tactic(auto, unfolding(misp_model::specs::View::row_is_open, misp_groups::specs::Audience::is_open, misp_ids::specs::Same::same_org))]
 pub fn is_open(row: &Row, who: &Viewer) -> bool
     ensures { result ≡ row_is_open who.now.groups.now who.now.here who.now.org row.now }
 {
@@ -83,7 +83,7 @@ pub fn is_of(org: &OrgId, row: &Row) -> bool
 }
 
 /// Whether it is the owner's row of the event itself.
-#[tactic(auto, unfolding(misp_rules::specs::View::is_row_of))]
+#[tactic(auto, unfolding(misp_model::specs::View::is_row_of))]
 pub fn is_row_of_event(row: &Row, owner: &OrgId, event: &EventId) -> bool
     ensures { result ≡ is_row_of owner.now (event_key event.now) row.now }
 {
@@ -91,7 +91,7 @@ pub fn is_row_of_event(row: &Row, owner: &OrgId, event: &EventId) -> bool
 }
 
 /// Whether it is the owner's row of this key.
-#[tactic(auto, unfolding(misp_rules::specs::View::is_row_of))]
+#[tactic(auto, unfolding(misp_model::specs::View::is_row_of))]
 pub fn is_row_of(row: &Row, owner: &OrgId, key: &Key) -> bool
     ensures { result ≡ is_row_of owner.now key.now row.now }
 {
@@ -121,7 +121,7 @@ pub fn is_link(row: &Row) -> bool
 }
 
 /// Whether the first goes before the second, where the rows of copies are chosen from.
-#[tactic(auto, unfolding(misp_rules::specs::View::is_before))]
+#[tactic(auto, unfolding(misp_model::specs::View::is_before))]
 pub fn is_before(a: &Row, b: &Row) -> bool
     ensures { result ≡ is_before a.now b.now }
 {

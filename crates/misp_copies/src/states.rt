@@ -5,7 +5,7 @@ ghost use Rattle.std.specs.List.{list_any};
 ghost use Rattle.misp_elem.specs.RowFacts.{is_tombstone};
 ghost use Rattle.misp_ids.specs.declared.uid.EventId.{EventId};
 ghost use Rattle.misp_ids.specs.Same.{same_inst};
-ghost use Rattle.misp_rules.specs.Arrival.{is_made_at};
+ghost use Rattle.misp_model.specs.Arrival.{is_made_at};
 ghost use Rattle.misp_copies.specs.Copies.{AreOf, is_event_key, is_event_row, copy_state, state_by, state_of, takes};
 
 use misp_elem::{Key, KeyForm, Place, Row};
@@ -115,7 +115,7 @@ fn is_same_inst(a: &InstId, b: &InstId) -> bool
 }
 
 /// Whether it is the key of a statement that was made at the instance.
-#[tactic(auto, unfolding(misp_rules::specs::Arrival::is_made_at))]
+#[tactic(auto, unfolding(misp_model::specs::Arrival::is_made_at))]
 pub fn is_made_at(key: &Key, here: &InstId) -> bool
     ensures { result ≡ is_made_at here.now key.now }
 {

@@ -5,7 +5,7 @@ ghost use Rattle.misp_ids.specs.declared.uid.OrgId.{OrgId as Owner};
 ghost use Rattle.misp_ids.specs.declared.uid.EventId.{EventId as Event};
 ghost use Rattle.misp_elem.specs.Parents.{event_key};
 ghost use Rattle.misp_ids.specs.Same.{same_event, same_org};
-ghost use Rattle.misp_rules.specs.View.{is_row_of};
+ghost use Rattle.misp_model.specs.View.{is_row_of};
 ghost use Rattle.misp_copies.specs.Table.{has_pair, IsCopies, IsTombstones};
 
 use misp_elem::{KeyForm, Place, Row};
@@ -27,7 +27,7 @@ fn put(pairs: &mut Pairs, event: EventId, owner: OrgId) -> Result<(), NoMemory>
 }
 
 // Adds those of a row of the event itself, where it is wanted.
-#[tactic(auto, unfolding(misp_rules::specs::View::is_row_of, misp_elem::specs::SameKey::same_key, misp_elem::specs::SameKey::same_place, misp_elem::specs::Parents::event_key))]
+#[tactic(auto, unfolding(misp_model::specs::View::is_row_of, misp_elem::specs::SameKey::same_key, misp_elem::specs::SameKey::same_place, misp_elem::specs::Parents::event_key))]
 fn add(pairs: &mut Pairs, row: &Row, wanted: bool) -> Result<(), NoMemory>
     ensures { OnOk result ((e : Event) (w : Owner) →
         has_pair pairs.new e w
@@ -49,7 +49,7 @@ fn add(pairs: &mut Pairs, row: &Row, wanted: bool) -> Result<(), NoMemory>
 }
 
 /// Those of whom there is a copy that is not gone.
-#[tactic(auto, unfolding(misp_rules::specs::View::has_copy), using(crate::proofs::Pairs::empty_has))]
+#[tactic(auto, unfolding(misp_model::specs::View::has_copy), using(crate::proofs::Pairs::empty_has))]
 pub(crate) fn copies(alloc: Global, rows: &[Row]) -> Result<Pairs, NoMemory>
     ensures { IfOk result (λ pairs. IsCopies pairs rows.now) }
 {
@@ -61,7 +61,7 @@ pub(crate) fn copies(alloc: Global, rows: &[Row]) -> Result<Pairs, NoMemory>
 }
 
 /// Those whose copy is gone.
-#[tactic(auto, unfolding(misp_rules::specs::View::has_gone), using(crate::proofs::Pairs::empty_has))]
+#[tactic(auto, unfolding(misp_model::specs::View::has_gone), using(crate::proofs::Pairs::empty_has))]
 pub(crate) fn tombstones(alloc: Global, rows: &[Row]) -> Result<Pairs, NoMemory>
     ensures { IfOk result (λ pairs. IsTombstones pairs rows.now) }
 {

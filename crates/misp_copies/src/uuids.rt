@@ -2,14 +2,14 @@
 
 ghost use Rattle.std.specs.Prelude.{◌≡◌, ℕ};
 ghost use Rattle.std.specs.List.{list_any};
-ghost use Rattle.misp_rules.specs.Adding.{takes_uuid};
+ghost use Rattle.misp_model.specs.Adding.{takes_uuid};
 ghost use Rattle.misp_copies.specs.Uuids.{is_at, has_uuid, is_used};
 
 use misp_elem::{KeyForm, Row, uuid_at};
 use misp_ids::{EventId, OrgId};
 
 // The uuid of an element or a reference.
-#[tactic(auto, unfolding(misp_rules::specs::Adding::takes_uuid))]
+#[tactic(auto, unfolding(misp_model::specs::Adding::takes_uuid))]
 fn uuid_in(form: KeyForm) -> Option<u128>
     ensures { (u : ℕ) → is_at result u ≡ takes_uuid u form }
 {

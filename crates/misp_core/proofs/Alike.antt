@@ -2,13 +2,13 @@
 use Rattle.std.proofs.Common.{◌≡◌, ℕ, List, [], ◌∷◌, false, Option, refl, ap, sym, ◌∙◌, map, cond, arith}
 use Rattle.misp_outside.specs.Held.{rows_named}
 use Rattle.misp_effects.specs.Effect.{effect}
-use Rattle.misp_rules.proofs.Prelude.{event_rows, length-map, map-map, ok_answer, uid}
-use Rattle.misp_rules.specs.Answers.{concerning}
-use Rattle.misp_rules.specs.Pulling.{pulled_groups}
-use Rattle.misp_rules.specs.Machine.{event_asked, event_changed, hands_in, pulls}
-use Rattle.misp_rules.specs.Numbers.{scene_as, version_as, versions_as, reply_as}
-use Rattle.misp_rules.proofs.OneEventChanges.{ask_of_event}
-use Rattle.misp_rules.proofs.Numbers.{accepted_alike, accepted_as}
+use Rattle.misp_model.proofs.Prelude.{event_rows, length-map, map-map, ok_answer, uid}
+use Rattle.misp_model.specs.Answers.{concerning}
+use Rattle.misp_model.specs.Pulling.{pulled_groups}
+use Rattle.misp_model.specs.Machine.{event_asked, event_changed, hands_in, pulls}
+use Rattle.misp_model.specs.Numbers.{scene_as, version_as, versions_as, reply_as}
+use Rattle.misp_model.proofs.OneEventChanges.{ask_of_event}
+use Rattle.misp_model.proofs.Numbers.{accepted_alike, accepted_as}
 use Rattle.misp_history.proofs.Prelude.{AddEvent, AreRows, Ask, EventId, Inst, OrgId, Row, Scene, Version, View, answer, ask_rules, brings, fresh_row, is_accepted, same_event}
 use Rattle.misp_history.proofs.NumberedWrites.{answer_alike, answer_as, fresh_alike, fresh_as}
 use Rattle.misp_edit.proofs.RuleLemmas.{refusal_alike, refusal_as}
@@ -21,7 +21,7 @@ use Rattle.misp_core.specs.Prelude.{Admin, Answer, IsBuilt, Reply, reach_of, rep
 use Rattle.misp_core.specs.Answers.{reply_of, rows_brought, event_saved, greatest, saved}
 use Rattle.misp_core.specs.Effects.{asked, row_batches}
 use Rattle.misp_core.proofs.HandedAsks.{handed_alike, handed_of_event}
-use Rattle.misp_rules.specs.Answers as model
+use Rattle.misp_model.specs.Answers as model
 
 -- ---- rows of a name
 

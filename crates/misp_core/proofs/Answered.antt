@@ -1,6 +1,6 @@
 -- What is planned for a request over a keeper that may not tell what it holds.
 use Rattle.std.proofs.Common.{◌≡◌, ℕ, List, Bool, true, false, cond, if◌then◌else◌, refl, ap, sym, subst, inl, inr, ◌∙◌, Option, Some, None, Result, Ok, Err, IfSome}
-use Rattle.misp_rules.proofs.Prelude.{IfSome_then, IsTable}
+use Rattle.misp_model.proofs.Prelude.{IfSome_then, IsTable}
 use Rattle.misp_store.specs.Loading.{NamesFault}
 use Rattle.misp_store.specs.Sharing.{HoldsGroups, or_none}
 use Rattle.misp_store.specs.declared.fault.LoadFault.{LoadFault}
@@ -12,7 +12,7 @@ use Rattle.misp_core.specs.Planning.{IsBarred, stop_planned}
 use Rattle.misp_core.specs.Handing.{IsUnread, TellsFault}
 use Rattle.misp_core.specs.declared.planning.NoPlan.{NoPlan}
 use Rattle.misp_core.proofs.Alike.{partner_asked}
-use Rattle.misp_rules.specs.Machine.{pulls}
+use Rattle.misp_model.specs.Machine.{pulls}
 use Rattle.misp_core.proofs.Carried.{asks_none, is_planned}
 
 module _ (host : Host) (now : ℕ) (it : Asked) where

@@ -3,11 +3,11 @@ use Rattle.std.proofs.Common.{◌≡◌, List, Bool, true, false, ◌&&◌, Cont
 use Rattle.misp_lists.proofs.Distinct.{distinct_map}
 use Rattle.misp_lists.proofs.Elements.{map_from, of_part}
 use Rattle.misp_lists.proofs.Lists.{all-map, all_of_kept}
-use Rattle.misp_rules.specs.Machine.{event_number, event_rows}
-use Rattle.misp_rules.specs.Package.{nobody}
-use Rattle.misp_rules.specs.Packing.{arrived}
-use Rattle.misp_rules.specs.Passing.{Route, passes}
-use Rattle.misp_rules.proofs.Prelude.{EventId, IsDistinct, IsTable, Row, event_of, in_one_cell, is_known, known, list_all, part_is_table, same_event, same_org, same_org-refl}
+use Rattle.misp_model.specs.Machine.{event_number, event_rows}
+use Rattle.misp_model.specs.Package.{nobody}
+use Rattle.misp_model.specs.Packing.{arrived}
+use Rattle.misp_model.specs.Passing.{Route, passes}
+use Rattle.misp_model.proofs.Prelude.{EventId, IsDistinct, IsTable, Row, event_of, in_one_cell, is_known, known, list_all, part_is_table, same_event, same_org, same_org-refl}
 use Rattle.misp_history.specs.Merging.{arriving_rows, passing_rows}
 use Rattle.misp_package.proofs.KeyOrders.{one_key}
 use Rattle.misp_package.proofs.Once.{keys_once}

@@ -3,16 +3,16 @@ use Rattle.std.proofs.Common.{◌≡◌, ℕ, List, [], ◌∷◌, Bool, true, f
 use Rattle.misp_ids.specs.Uid.{text_of}
 use Rattle.misp_ids.specs.declared.uid.ElemId.{ElemId}
 use Rattle.misp_effects.specs.Effect.{effect}
-use Rattle.misp_rules.proofs.Prelude.{AreRows, Label, NotGranted, Other, Rule, Seen, Version, VisibleEvent, brings, change_writes, first_rule, is_accepted, length-map, map-map, ok_answer, shown}
-use Rattle.misp_rules.specs.Prelude.{judge_writes, propose_writes, sight_writes}
-use Rattle.misp_rules.specs.declared.change.Change.TheVariants.{AddEvent}
-use Rattle.misp_rules.specs.Answers.{Packed, concerns, concerning}
-use Rattle.misp_rules.specs.Pulling.{pulled_events, pulled_groups, pulled_part}
-use Rattle.misp_rules.specs.declared.package.PackageFields.{PackageFields as Package}
-use Rattle.misp_rules.proofs.Steps.{accepted_where, refused_where, answer_where, refusal_where}
-use Rattle.misp_rules.specs.declared.change.Change.{Change}
-use Rattle.misp_rules.specs.Machine.{event_changed}
-use Rattle.misp_rules.specs.Scene.{NotOwner, LockedCopy, EventGone, ElementExists, GroupNotUsable, OlderTime, TimeLimit, ProposalExists, ProposalClosed, ElementFull}
+use Rattle.misp_model.proofs.Prelude.{AreRows, Label, NotGranted, Other, Rule, Seen, Version, VisibleEvent, brings, change_writes, first_rule, is_accepted, length-map, map-map, ok_answer, shown}
+use Rattle.misp_model.specs.Prelude.{judge_writes, propose_writes, sight_writes}
+use Rattle.misp_model.specs.declared.change.Change.TheVariants.{AddEvent}
+use Rattle.misp_model.specs.Answers.{Packed, concerns, concerning}
+use Rattle.misp_model.specs.Pulling.{pulled_events, pulled_groups, pulled_part}
+use Rattle.misp_model.specs.declared.package.PackageFields.{PackageFields as Package}
+use Rattle.misp_model.proofs.Steps.{accepted_where, refused_where, answer_where, refusal_where}
+use Rattle.misp_model.specs.declared.change.Change.{Change}
+use Rattle.misp_model.specs.Machine.{event_changed}
+use Rattle.misp_model.specs.Scene.{NotOwner, LockedCopy, EventGone, ElementExists, GroupNotUsable, OlderTime, TimeLimit, ProposalExists, ProposalClosed, ElementFull}
 use Rattle.misp_copies.specs.Barring.{rule_of}
 use Rattle.misp_copies.specs.declared.change_fault.ChangeFault.{ChangeFault}
 use Rattle.misp_edit.specs.Refusals.{named, place_of, refusal_of, label_place, uuid_place, rule_named}

@@ -1,12 +1,12 @@
 -- A request that hands in a package: what it comes to, told by rows.
 use Rattle.std.proofs.Common.{◌≡◌, List, [], ◌∷◌, true, refl, sym, ap, ◌∙◌, length, map}
 use Rattle.misp_effects.specs.Effect.{effect}
-use Rattle.misp_rules.proofs.Prelude.{AreRows, IsUid, and_parts, length-map, list_all}
-use Rattle.misp_rules.specs.Answers.{answer, ask_rules, brings, is_accepted, newer, ok_answer, taken_rows}
-use Rattle.misp_rules.specs.Machine.{event_rows}
-use Rattle.misp_rules.specs.Package.{IsPackage, is_packed}
-use Rattle.misp_rules.specs.Scene.{first_rule}
-use Rattle.misp_rules.specs.declared.package.PackageFields.{PackageFields as Package}
+use Rattle.misp_model.proofs.Prelude.{AreRows, IsUid, and_parts, length-map, list_all}
+use Rattle.misp_model.specs.Answers.{answer, ask_rules, brings, is_accepted, newer, ok_answer, taken_rows}
+use Rattle.misp_model.specs.Machine.{event_rows}
+use Rattle.misp_model.specs.Package.{IsPackage, is_packed}
+use Rattle.misp_model.specs.Scene.{first_rule}
+use Rattle.misp_model.specs.declared.package.PackageFields.{PackageFields as Package}
 use Rattle.misp_history.specs.Merging.{counts_row, handed, is_newer_row, rows_taken}
 use Rattle.misp_package.proofs.Handed.{handed_is_row}
 use Rattle.misp_store.proofs.HeldRows.{rows_filtered}

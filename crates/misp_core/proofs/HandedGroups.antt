@@ -7,7 +7,7 @@ use Rattle.misp_groups.proofs.Sorted.{sorted_put, all_put}
 use Rattle.misp_effects.specs.Prelude.{AdminRow, put_group, put_groups}
 use Rattle.misp_orgs.specs.Roles.{permits}
 use Rattle.misp_orgs.specs.declared.role.Perm.{Perm}
-use Rattle.misp_rules.specs.Permission.{no_permission}
+use Rattle.misp_model.specs.Permission.{no_permission}
 use Rattle.misp_history.specs.Acts.{Net}
 use Rattle.misp_history.proofs.Steps.{with_groups_here, with_groups_elsewhere}
 use Rattle.misp_store.specs.Sharing.{group_row}

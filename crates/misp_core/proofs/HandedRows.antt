@@ -3,10 +3,10 @@ use Rattle.std.proofs.Common.{◌≡◌, ℕ, List, [], ◌∷◌, Bool, true, f
 use Rattle.std.specs.List.Sorted.{IsStrictlySortedBy}
 use Rattle.misp_lists.proofs.Prelude.{bytes_eq-Decides, is_eq-slice_cmp}
 use Rattle.misp_elem.specs.Spelling.{key}
-use Rattle.misp_rules.specs.Answers.{newer, taken_rows}
-use Rattle.misp_rules.specs.Package.{IsPackage, is_packed}
-use Rattle.misp_rules.specs.declared.package.PackageFields.{PackageFields as Package}
-use Rattle.misp_rules.proofs.Prelude.{map-map, slice_cmp}
+use Rattle.misp_model.specs.Answers.{newer, taken_rows}
+use Rattle.misp_model.specs.Package.{IsPackage, is_packed}
+use Rattle.misp_model.specs.declared.package.PackageFields.{PackageFields as Package}
+use Rattle.misp_model.proofs.Prelude.{map-map, slice_cmp}
 use Rattle.misp_history.proofs.Adding.{down_none}
 use Rattle.misp_history.proofs.AsNew.{own_known}
 use Rattle.misp_history.proofs.Prelude.{AllByRecursion, EventId, Group, Inst, IsDistinct, IsTable, Key, OrgId, Row, Scene, Version, all-filter, and_from, and_parts, any_agree, any_cut, any_map, counted, counts, counts_row}

@@ -3,12 +3,12 @@ use Rattle.std.proofs.Common.{◌≡◌, ℕ, List, [], ◌∷◌, ◌++◌, Boo
 use Rattle.std.proofs.lemmas.Bool.{cases_Bool}
 use Rattle.misp_outside.specs.Held.{rows_of, rows_named, put_rows, put_admins, with_batch}
 use Rattle.misp_groups.specs.Groups.{by_name}
-use Rattle.misp_rules.proofs.Prelude.{AreRows, brings, event_rows, is_accepted, put_all, uid}
-use Rattle.misp_rules.specs.Machine.{hands_in}
-use Rattle.misp_rules.proofs.Owners.{brings_here}
-use Rattle.misp_rules.specs.Answers.{taken_rows}
-use Rattle.misp_rules.specs.Package.{IsPackage}
-use Rattle.misp_rules.specs.declared.package.PackageFields.{PackageFields as Package}
+use Rattle.misp_model.proofs.Prelude.{AreRows, brings, event_rows, is_accepted, put_all, uid}
+use Rattle.misp_model.specs.Machine.{hands_in}
+use Rattle.misp_model.proofs.Owners.{brings_here}
+use Rattle.misp_model.specs.Answers.{taken_rows}
+use Rattle.misp_model.specs.Package.{IsPackage}
+use Rattle.misp_model.specs.declared.package.PackageFields.{PackageFields as Package}
 use Rattle.misp_history.specs.Acts.{Net, scene, known_at}
 use Rattle.misp_history.proofs.Steps.{step_accepted, step_refused}
 use Rattle.misp_history.proofs.Elsewhere.{tables_elsewhere}

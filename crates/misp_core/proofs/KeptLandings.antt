@@ -2,9 +2,9 @@
 use Rattle.std.proofs.Common.{◌≡◌, ℕ, inl, inr, List, true, ◌&&◌, not, leb, refl, ap, sym, subst, ◌∙◌, option_map, Option, Some, None, Result, Ok, Err, IfOk, IfSome, IsSomeAnd}
 use Rattle.misp_effects.specs.Prelude.{with_batch}
 use Rattle.misp_orgs.specs.Keys.{CallerFields as Caller}
-use Rattle.misp_rules.proofs.Prelude.{AreRows, event_key, has_copy, has_gone, has_home, is_row_of, is_tombstone, put_all}
-use Rattle.misp_rules.specs.Machine.{pulls}
-use Rattle.misp_rules.specs.declared.package.PackageFields.{PackageFields as Package}
+use Rattle.misp_model.proofs.Prelude.{AreRows, event_key, has_copy, has_gone, has_home, is_row_of, is_tombstone, put_all}
+use Rattle.misp_model.specs.Machine.{pulls}
+use Rattle.misp_model.specs.declared.package.PackageFields.{PackageFields as Package}
 use Rattle.misp_copies.specs.Copies.{copy_state, state_by}
 use Rattle.misp_package.specs.Landing.{IsLanding}
 use Rattle.misp_package.specs.declared.landing.Landing.{Landing}

@@ -3,9 +3,9 @@ use Rattle.std.proofs.Common.{◌≡◌, inl, inr, ℕ, List, true, ap, sym, sub
 use Rattle.std.specs.List.{slice_get}
 use Rattle.std.proofs.lemmas.Option.{slice_get-map, unwrap_or-slice_get}
 use Rattle.misp_orgs.specs.Keys.{CallerFields as Caller}
-use Rattle.misp_rules.proofs.Prelude.{IfSome_then, IsTable}
-use Rattle.misp_rules.specs.Pulling.{pulled_part, pulled_rows}
-use Rattle.misp_rules.specs.declared.package.PackageFields.{PackageFields as Package}
+use Rattle.misp_model.proofs.Prelude.{IfSome_then, IsTable}
+use Rattle.misp_model.specs.Pulling.{pulled_part, pulled_rows}
+use Rattle.misp_model.specs.declared.package.PackageFields.{PackageFields as Package}
 use Rattle.misp_store.specs.Sharing.{HoldsGroups, or_none}
 use Rattle.misp_store.specs.declared.reach.Reach.{Reach}
 use Rattle.misp_core.specs.Ahead.{AnswersAhead, IsKeptFor, IsLeftOf, IsPackedFor, StaysOrIsPacked, kept_part, part_told}

@@ -2,7 +2,7 @@
 use Rattle.std.proofs.Common.{◌≡◌, ℕ, zero, suc, ◌+◌, ◌<◌, ◌≤◌, List, [], ◌∷◌, ◌++◌, Option, Some, None, IfSome, Less, append-nil, ◌∙◌, arith, get_or, length, nat_cmp, option_to_list, subst, sym}
 use Rattle.misp_ids.specs.Uid.{IsUid}
 use Rattle.misp_lists.proofs.All.{all_at, all_implied, all_last}
-use Rattle.misp_rules.proofs.Prelude.{EventId}
+use Rattle.misp_model.proofs.Prelude.{EventId}
 use Rattle.misp_store.specs.Prelude.{AllByRecursion}
 use Rattle.misp_core.specs.Prelude.{IsStrictlySortedBy}
 use Rattle.misp_core.specs.Pulling.{IsCountOf, event_at}

@@ -9,8 +9,8 @@ use Rattle.misp_lists.proofs.All.{all_of}
 use Rattle.misp_lists.proofs.Elements.{first_or, here, kept_has, map_has, of_part, there}
 use Rattle.misp_lists.proofs.Orders.{same}
 use Rattle.misp_copies.proofs.Cuts.{cut_is, stable_parts}
-use Rattle.misp_rules.proofs.Prelude.{EventId, Row, event_of, event_rows, nat_tests, same_event, same_event-refl}
-use Rattle.misp_rules.specs.Machine.{event_number}
+use Rattle.misp_model.proofs.Prelude.{EventId, Row, event_of, event_rows, nat_tests, same_event, same_event-refl}
+use Rattle.misp_model.specs.Machine.{event_number}
 use Rattle.misp_core.specs.Pulling.{IsByEvent, Rises}
 
 -- ---- lists of numbers

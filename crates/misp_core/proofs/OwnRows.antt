@@ -5,8 +5,8 @@ use Rattle.misp_lists.proofs.Lists.{any_cut, filter_twice}
 use Rattle.misp_outside.specs.declared.row.RawRow.{RawRow}
 use Rattle.misp_outside.specs.Held.{rows_named, rows_of}
 use Rattle.misp_elem.specs.Prelude.{key, row_of}
-use Rattle.misp_rules.proofs.Prelude.{EventId, Inst, Key, OrgId, Row, and_parts, bytes_eq-Decides, event_key, has_copy, has_gone, has_home, is_row_of, is_tombstone, list_any, name_bytes, row_of_name, uid}
-use Rattle.misp_rules.proofs.Spelled.{begins_with_itself}
+use Rattle.misp_model.proofs.Prelude.{EventId, Inst, Key, OrgId, Row, and_parts, bytes_eq-Decides, event_key, has_copy, has_gone, has_home, is_row_of, is_tombstone, list_any, name_bytes, row_of_name, uid}
+use Rattle.misp_model.proofs.Spelled.{begins_with_itself}
 use Rattle.misp_copies.specs.Copies.{copy_state, state_by}
 use Rattle.misp_package.specs.Landing.{IsLanding}
 use Rattle.misp_package.specs.declared.landing.Landing.{Landing}

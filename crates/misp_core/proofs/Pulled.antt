@@ -4,12 +4,12 @@ use Rattle.std.specs.List.{cons_option, dedup, slice_get}
 use Rattle.std.proofs.lemmas.List.{length-map, take_more}
 use Rattle.std.proofs.lemmas.List.Elements.{filter_map-append}
 use Rattle.misp_lists.specs.Order.{in_order}
-use Rattle.misp_rules.specs.Machine.{event_number, event_rows, seeing}
-use Rattle.misp_rules.specs.Package.{nobody}
-use Rattle.misp_rules.specs.Packing.{packages}
-use Rattle.misp_rules.specs.Pulling.{arriving_by, pull_route, pulled_events, pulled_part, pulled_rows}
-use Rattle.misp_rules.specs.declared.package.PackageFields.{PackageFields as Package}
-use Rattle.misp_rules.proofs.Prelude.{EventId, Inst, IsDistinct, IsTable, Row, Scene, event_of, list_all, same_event, same_org}
+use Rattle.misp_model.specs.Machine.{event_number, event_rows, seeing}
+use Rattle.misp_model.specs.Package.{nobody}
+use Rattle.misp_model.specs.Packing.{packages}
+use Rattle.misp_model.specs.Pulling.{arriving_by, pull_route, pulled_events, pulled_part, pulled_rows}
+use Rattle.misp_model.specs.declared.package.PackageFields.{PackageFields as Package}
+use Rattle.misp_model.proofs.Prelude.{EventId, Inst, IsDistinct, IsTable, Row, Scene, event_of, list_all, same_event, same_org}
 use Rattle.misp_history.specs.Merging.{arriving_rows, passing_rows}
 use Rattle.misp_history.proofs.Moving.{arriving_here}
 use Rattle.misp_package.specs.Packing.{AreNumbered, AreNumberedFrom}

@@ -12,11 +12,11 @@ use Rattle.misp_lists.proofs.Lists.{map_twice}
 use Rattle.misp_lists.proofs.Ordering.{from_in_order, in_order_has, in_order_map, in_order_same}
 use Rattle.misp_lists.proofs.Orders.{itself, less_is}
 use Rattle.misp_lists.proofs.Sorting.{ascend_in_order}
-use Rattle.misp_rules.specs.Machine.{event_number}
-use Rattle.misp_rules.specs.Package.{nobody}
-use Rattle.misp_rules.specs.Packing.{cut, is_own, onto, others_with, packages}
-use Rattle.misp_rules.proofs.Prelude.{EventId, IsDistinct, IsTable, Row, and_from, and_parts, event_key, event_of, event_rows, in_one_cell, list_all, nat_tests, one_cell, same_event, same_event-sound}
-use Rattle.misp_rules.proofs.Prelude.{same_key-sound, same_org, same_org-sound, spell, stands_before}
+use Rattle.misp_model.specs.Machine.{event_number}
+use Rattle.misp_model.specs.Package.{nobody}
+use Rattle.misp_model.specs.Packing.{cut, is_own, onto, others_with, packages}
+use Rattle.misp_model.proofs.Prelude.{EventId, IsDistinct, IsTable, Row, and_from, and_parts, event_key, event_of, event_rows, in_one_cell, list_all, nat_tests, one_cell, same_event, same_event-sound}
+use Rattle.misp_model.proofs.Prelude.{same_key-sound, same_org, same_org-sound, spell, stands_before}
 use Rattle.misp_history.proofs.Tables.{in_order_rows}
 use Rattle.misp_core.specs.Answers.{event_parts}
 use Rattle.misp_core.specs.Pulling.{event_at, parts_where}

@@ -7,9 +7,9 @@ use Rattle.misp_lists.proofs.Ordering.{any_put}
 use Rattle.misp_outside.specs.Held.{comes_before, put_raw, put_rows, rows_of, same_raw}
 use Rattle.misp_outside.specs.declared.row.RawRow.{RawRow}
 use Rattle.misp_elem.specs.Prelude.{row_of}
-use Rattle.misp_rules.proofs.NameOrder.{same_in_bytes}
-use Rattle.misp_rules.proofs.Prelude.{AreRows, EventId, IsRow, Row, and_parts, bytes_eq-Decides, event_of, list_any, name_bytes, put_all, put_row, same_event, same_event-sound, same_key, same_org, stands_before}
-use Rattle.misp_rules.specs.Machine.{event_number}
+use Rattle.misp_model.proofs.NameOrder.{same_in_bytes}
+use Rattle.misp_model.proofs.Prelude.{AreRows, EventId, IsRow, Row, and_parts, bytes_eq-Decides, event_of, list_any, name_bytes, put_all, put_row, same_event, same_event-sound, same_key, same_org, stands_before}
+use Rattle.misp_model.specs.Machine.{event_number}
 use Rattle.misp_store.specs.Raw.{onto, raw_row, row_in, row_read, rows_in, stands_under}
 use Rattle.misp_store.proofs.HeldRows.{rows_again, rows_filtered}
 use Rattle.misp_store.proofs.TableRows.{onto_parts}

@@ -8,12 +8,12 @@ use Rattle.std.proofs.lemmas.List.Folds.{flat_map-map}
 use Rattle.misp_lists.specs.Order.{in_order}
 use Rattle.misp_lists.proofs.Elements.{first_or, here, there}
 use Rattle.misp_lists.proofs.Lists.{map_twice}
-use Rattle.misp_rules.specs.Machine.{event_number}
-use Rattle.misp_rules.specs.Package.{nobody}
-use Rattle.misp_rules.specs.Packing.{is_own, packages}
-use Rattle.misp_rules.specs.Passing.{Route}
-use Rattle.misp_rules.specs.declared.package.PackageFields.{PackageFields as Package}
-use Rattle.misp_rules.proofs.Prelude.{EventId, IsTable, Row, event_of, event_rows, stands_before}
+use Rattle.misp_model.specs.Machine.{event_number}
+use Rattle.misp_model.specs.Package.{nobody}
+use Rattle.misp_model.specs.Packing.{is_own, packages}
+use Rattle.misp_model.specs.Passing.{Route}
+use Rattle.misp_model.specs.declared.package.PackageFields.{PackageFields as Package}
+use Rattle.misp_model.proofs.Prelude.{EventId, IsTable, Row, event_of, event_rows, stands_before}
 use Rattle.misp_history.specs.Merging.{arriving_rows}
 use Rattle.misp_history.proofs.Moving.{arriving_here}
 use Rattle.misp_package.specs.Packing.{AreNumbered, AreNumberedFrom}

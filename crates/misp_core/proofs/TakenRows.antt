@@ -3,7 +3,7 @@ use Rattle.std.proofs.Common.{◌≡◌, ◌<◌, List, [], ◌∷◌, length, r
 use Rattle.misp_effects.specs.Batches.{batch}
 use Rattle.misp_effects.specs.Prelude.{put_admins, put_groups, with_batch}
 use Rattle.misp_outside.specs.Held.{put_rows}
-use Rattle.misp_rules.specs.declared.package.PackageFields.{PackageFields as Package}
+use Rattle.misp_model.specs.declared.package.PackageFields.{PackageFields as Package}
 use Rattle.misp_package.specs.Landing.{IsLanding}
 use Rattle.misp_package.specs.declared.landing.Landing.{Landing}
 use Rattle.misp_store.specs.Prelude.{Batch}

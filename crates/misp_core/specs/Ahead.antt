@@ -2,10 +2,10 @@
 use Rattle.std.specs.Prelude.{◌≡◌, ◌⊎◌, ℕ, List, [], Option, None, Some, IfSome, get_or}
 use Rattle.misp_effects.specs.Effect.{effect}
 use Rattle.misp_orgs.specs.Keys.{CallerFields as Caller}
-use Rattle.misp_rules.specs.Prelude.{EventId, Group, Scene}
-use Rattle.misp_rules.specs.Pulling.{pulled_part}
-use Rattle.misp_rules.specs.declared.ask.Ask.{Ask}
-use Rattle.misp_rules.specs.declared.package.PackageFields.{PackageFields as Package}
+use Rattle.misp_model.specs.Prelude.{EventId, Group, Scene}
+use Rattle.misp_model.specs.Pulling.{pulled_part}
+use Rattle.misp_model.specs.declared.ask.Ask.{Ask}
+use Rattle.misp_model.specs.declared.package.PackageFields.{PackageFields as Package}
 use Rattle.misp_package.specs.declared.landing.Landing.{Landing}
 use Rattle.misp_store.specs.Prelude.{Effect, Held}
 use Rattle.misp_store.specs.Seen.{seen_in}

@@ -4,11 +4,11 @@ use Rattle.hex.specs.Hex.{encode_lower}
 use Rattle.misp_ids.specs.Refusal.{bare}
 use Rattle.misp_orgs.specs.Keys.{CallerFields as Caller}
 use Rattle.misp_orgs.specs.Org.{name_of}
-use Rattle.misp_rules.specs.Prelude.{EventId, Group, OrgId, Row, Scene, Submission, Version, VisibleEvent, answer, brings, date_of, is_accepted}
-use Rattle.misp_rules.specs.Answers.{newer}
-use Rattle.misp_rules.specs.Package.{IsPackage}
-use Rattle.misp_rules.specs.declared.ask.Ask.{Ask}
-use Rattle.misp_rules.specs.declared.change.Change.TheVariants.{AddEvent}
+use Rattle.misp_model.specs.Prelude.{EventId, Group, OrgId, Row, Scene, Submission, Version, VisibleEvent, answer, brings, date_of, is_accepted}
+use Rattle.misp_model.specs.Answers.{newer}
+use Rattle.misp_model.specs.Package.{IsPackage}
+use Rattle.misp_model.specs.declared.ask.Ask.{Ask}
+use Rattle.misp_model.specs.declared.change.Change.TheVariants.{AddEvent}
 use Rattle.misp_history.specs.History.{fresh_row}
 use Rattle.misp_history.specs.Merging.{handed}
 use Rattle.misp_copies.specs.Scenes.{scene_of}
@@ -20,7 +20,7 @@ use Rattle.misp_core.specs.Standing.{Host}
 use Rattle.misp_core.specs.declared.reply.Answer.{Answer}
 use Rattle.misp_core.specs.declared.reply.EventParts.{EventParts}
 use Rattle.misp_core.specs.declared.reply.Reply.{Reply}
-use Rattle.misp_rules.specs.Answers as model
+use Rattle.misp_model.specs.Answers as model
 
 -- ---- asks
 

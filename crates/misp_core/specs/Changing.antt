@@ -1,7 +1,7 @@
 -- The refusal of a change by a fault.
 use Rattle.std.specs.Prelude.{◌≡◌, Option}
-use Rattle.misp_rules.specs.Prelude.{Label, Rule}
-use Rattle.misp_rules.specs.declared.change.Change.{Change}
+use Rattle.misp_model.specs.Prelude.{Label, Rule}
+use Rattle.misp_model.specs.declared.change.Change.{Change}
 use Rattle.misp_edit.specs.Refusals.{label_place, place_of}
 use Rattle.misp_core.specs.Prelude.{Ask, Scene}
 

@@ -3,10 +3,10 @@ use Rattle.std.specs.Prelude.{ℕ, ◌==◌, List, [], ◌∷◌, Option, None, 
 use Rattle.misp_ids.specs.Refusal.{rule_number, bare}
 use Rattle.misp_effects.specs.Batches.{batch}
 use Rattle.misp_effects.specs.Effect.{effect, Telling, nothing_of, Does}
-use Rattle.misp_rules.specs.declared.ask.Ask.{Ask}
-use Rattle.misp_rules.specs.Scene.{Scene}
-use Rattle.misp_rules.specs.Machine.{seeing}
-use Rattle.misp_rules.specs.Permission.{is_permitted, forbidden}
+use Rattle.misp_model.specs.declared.ask.Ask.{Ask}
+use Rattle.misp_model.specs.Scene.{Scene}
+use Rattle.misp_model.specs.Machine.{seeing}
+use Rattle.misp_model.specs.Permission.{is_permitted, forbidden}
 use Rattle.misp_store.specs.Prelude.{Admin, Batch, Effect, Group, Held, Here, KeeperFault, Refusal, Row, RuleName, Stop, reach_of, spelled}
 use Rattle.misp_store.specs.Seen.{Seen}
 use Rattle.misp_core.specs.Answers.{Asked, scene_at, reply_in, writes_in, bad_row}

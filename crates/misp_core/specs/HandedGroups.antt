@@ -4,7 +4,7 @@ use Rattle.misp_groups.specs.Prelude.{Stamp}
 use Rattle.misp_orgs.specs.Keys.{CallerFields as Caller}
 use Rattle.misp_orgs.specs.Roles.{permits}
 use Rattle.misp_orgs.specs.declared.role.Perm.{Perm}
-use Rattle.misp_rules.specs.Permission.{no_permission}
+use Rattle.misp_model.specs.Permission.{no_permission}
 use Rattle.misp_effects.specs.Batches.{batch}
 use Rattle.misp_effects.specs.Effect.{effect}
 use Rattle.misp_store.specs.Prelude.{Batch, Effect, Group}

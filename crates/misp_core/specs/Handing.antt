@@ -1,7 +1,7 @@
 -- What the code of an instance hands on: scenes, and rows that are not read.
 use Rattle.std.specs.Prelude.{◌≡◌, Err, List, cond}
-use Rattle.misp_rules.specs.Machine.{pulls}
-use Rattle.misp_rules.specs.declared.ask.Ask.{Ask}
+use Rattle.misp_model.specs.Machine.{pulls}
+use Rattle.misp_model.specs.declared.ask.Ask.{Ask}
 use Rattle.misp_store.specs.declared.fault.LoadFault.{LoadFault}
 use Rattle.misp_core.specs.Prelude.{Effect, Host, Plans, Reply, Row, Scene, refused}
 use Rattle.misp_core.specs.declared.planning.NoPlan.{NoPlan}

@@ -4,9 +4,9 @@ use Rattle.std.specs.List.{list_all}
 use Rattle.misp_elem.specs.Parents.{event_of}
 use Rattle.misp_elem.specs.Row.{AreRows}
 use Rattle.misp_ids.specs.Same.{same_event}
-use Rattle.misp_rules.specs.Machine.{put_all, seeing}
-use Rattle.misp_rules.specs.Prelude.{EventId, Inst, OrgId, Row, Scene}
-use Rattle.misp_rules.specs.declared.ask.Ask.{Ask}
+use Rattle.misp_model.specs.Machine.{put_all, seeing}
+use Rattle.misp_model.specs.Prelude.{EventId, Inst, OrgId, Row, Scene}
+use Rattle.misp_model.specs.declared.ask.Ask.{Ask}
 use Rattle.misp_package.specs.Landing.{IsLanding}
 use Rattle.misp_package.specs.declared.landing.Landing.{Landing}
 use Rattle.misp_store.specs.Prelude.{Admin, Held}

@@ -8,12 +8,12 @@ pub use Rattle.misp_effects.specs.Effect.{Outcome, Went, left}
 pub use Rattle.misp_effects.specs.Prelude.{KeeperState, Tell}
 unfoldable pub use Rattle.misp_format.specs.Prelude.{IsStrictlySortedBy}
 pub use Rattle.misp_format.specs.declared.fault.FormatFault.{FormatFault}
-pub use Rattle.misp_rules.specs.Machine.{seeing}
-pub use Rattle.misp_rules.specs.Permission.{forbidden, is_permitted}
-unfoldable pub use Rattle.misp_rules.specs.Prelude.{ask_rules, same_inst}
-pub use Rattle.misp_rules.specs.Prelude.{EventId, Inst, OrgId, Scene, Stamp, list_all}
-pub use Rattle.misp_rules.specs.declared.ask.Ask.{Ask}
-pub use Rattle.misp_rules.specs.declared.ask.Ask.TheVariants.{View}
+pub use Rattle.misp_model.specs.Machine.{seeing}
+pub use Rattle.misp_model.specs.Permission.{forbidden, is_permitted}
+unfoldable pub use Rattle.misp_model.specs.Prelude.{ask_rules, same_inst}
+pub use Rattle.misp_model.specs.Prelude.{EventId, Inst, OrgId, Scene, Stamp, list_all}
+pub use Rattle.misp_model.specs.declared.ask.Ask.{Ask}
+pub use Rattle.misp_model.specs.declared.ask.Ask.TheVariants.{View}
 unfoldable pub use Rattle.misp_history.specs.Acts.{step}
 pub use Rattle.misp_history.specs.Acts.{World}
 unfoldable pub use Rattle.misp_history.specs.History.{fresh_row, tables}

@@ -2,8 +2,8 @@
 use Rattle.std.specs.Prelude.{◌≡◌, ◌-◌, ◌^◌, ℕ, zero, suc, List, Option, None, Some, Bool}
 use Rattle.std.specs.List.Sorted.{IsNonDecreasingBy}
 use Rattle.misp_elem.specs.Fields.{IsBetween}
-use Rattle.misp_rules.specs.Machine.{event_number, event_rows}
-use Rattle.misp_rules.specs.Prelude.{EventId, Group, Inst, OrgId, Row}
+use Rattle.misp_model.specs.Machine.{event_number, event_rows}
+use Rattle.misp_model.specs.Prelude.{EventId, Group, Inst, OrgId, Row}
 use Rattle.misp_groups.specs.Audience.{carries}
 use Rattle.misp_core.specs.declared.reply.EventParts.{EventParts}
 

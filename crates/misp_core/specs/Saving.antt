@@ -1,8 +1,8 @@
 -- Requests that write rows of an event, and what the refusal of one names.
 use Rattle.std.specs.Prelude.{◌≡◌, ℕ, List, [], IfSome}
 use Rattle.misp_ids.specs.Uid.{text_of}
-use Rattle.misp_rules.specs.Prelude.{EventId, Scene}
-use Rattle.misp_rules.specs.Machine.{event_changed}
+use Rattle.misp_model.specs.Prelude.{EventId, Scene}
+use Rattle.misp_model.specs.Machine.{event_changed}
 use Rattle.misp_copies.specs.Barring.{rule_of}
 use Rattle.misp_copies.specs.declared.change_fault.ChangeFault.{ChangeFault}
 use Rattle.misp_copies.specs.declared.change_fault.ChangeFault.TheVariants.{ElementExists, GroupNotUsable}

@@ -2,11 +2,11 @@
 use Rattle.std.specs.Prelude.{ℕ, suc, List, [], ◌∷◌, filter, flat_map, length, map}
 use Rattle.misp_ids.specs.declared.label.Way.{Way}
 use Rattle.misp_lists.specs.Order.{in_order}
-use Rattle.misp_rules.specs.Machine.{event_rows}
-use Rattle.misp_rules.specs.Packing.{is_own, packages}
-use Rattle.misp_rules.specs.Passing.{Route, route_to}
-use Rattle.misp_rules.specs.Prelude.{event_of, stands_before}
-use Rattle.misp_rules.specs.declared.package.PackageFields.{PackageFields as Package}
+use Rattle.misp_model.specs.Machine.{event_rows}
+use Rattle.misp_model.specs.Packing.{is_own, packages}
+use Rattle.misp_model.specs.Passing.{Route, route_to}
+use Rattle.misp_model.specs.Prelude.{event_of, stands_before}
+use Rattle.misp_model.specs.declared.package.PackageFields.{PackageFields as Package}
 use Rattle.misp_history.specs.Merging.{arriving_rows}
 use Rattle.misp_core.specs.Prelude.{EventId, Group, Inst, OrgId, Row}
 

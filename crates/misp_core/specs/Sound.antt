@@ -7,7 +7,7 @@ use Rattle.misp_ids.specs.Uid.{IsUid}
 use Rattle.misp_lists.specs.Prelude.{Ordering, nat_cmp}
 use Rattle.misp_elem.specs.Fields.{IsBetween}
 use Rattle.misp_groups.specs.Group.{IsGroup}
-use Rattle.misp_rules.specs.Package.{IsPackage}
+use Rattle.misp_model.specs.Package.{IsPackage}
 use Rattle.misp_core.specs.declared.reply.Answer.{Answer}
 use Rattle.misp_core.specs.declared.reply.EventParts.{EventParts}
 use Rattle.misp_core.specs.declared.reply.Reply.{Reply}

@@ -4,7 +4,7 @@ use Rattle.std.specs.Option.{option_or}
 use Rattle.misp_outside.specs.Held.{with_batch}
 use Rattle.misp_groups.specs.Changes.{take_group, takes_group}
 use Rattle.misp_groups.specs.Prelude.{GroupId, IsStrictlySortedBy, by_name, known_group}
-use Rattle.misp_rules.specs.declared.package.PackageFields.{PackageFields as Package}
+use Rattle.misp_model.specs.declared.package.PackageFields.{PackageFields as Package}
 use Rattle.misp_history.specs.Merging.{handed, rows_taken}
 use Rattle.misp_effects.specs.Batches.{batch}
 use Rattle.misp_store.specs.declared.reach.Reach.{Reach}

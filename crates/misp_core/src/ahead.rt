@@ -5,7 +5,7 @@ ghost use Rattle.misp_core.specs.Ahead.{IsKeptFor, IsLeftOf, kept_part};
 
 use misp_ids::{EventId, InstId, NoMemory};
 use misp_orgs::Caller;
-use misp_rules::{Ask, Package};
+use misp_model::{Ask, Package};
 use std::alloc::Global;
 use std::mem;
 

@@ -3,7 +3,7 @@
 ghost use Rattle.std.specs.Prelude.{◌≡◌, Err};
 ghost use Rattle.misp_effects.specs.Effect.{Effect};
 ghost use Rattle.misp_core.specs.Answers.{bad_row};
-ghost use Rattle.misp_rules.specs.Permission.{no_permission};
+ghost use Rattle.misp_model.specs.Permission.{no_permission};
 ghost use Rattle.misp_core.specs.Effects.{refused};
 ghost use Rattle.misp_core.specs.Planning.{Plans, IsPlanned};
 ghost use Rattle.misp_core.specs.Handing.{IsUnread, TellsFault};
@@ -13,7 +13,7 @@ use crate::planning::NoPlan;
 use misp_elem::NoMemory;
 use misp_ids::{Refusal, RuleName, Text};
 use misp_orgs::Perm;
-use misp_rules::no_permission;
+use misp_model::no_permission;
 use misp_store::LoadFault;
 use std::alloc::Global;
 

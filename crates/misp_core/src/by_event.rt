@@ -7,7 +7,7 @@ ghost use Rattle.misp_lists.specs.Prelude.{nat_cmp};
 ghost use Rattle.misp_elem.specs.Parents.{event_of};
 ghost use Rattle.misp_ids.specs.Same.{same_event};
 ghost use Rattle.misp_ids.specs.Uid.{IsUid};
-ghost use Rattle.misp_rules.specs.Machine.{event_number, event_rows};
+ghost use Rattle.misp_model.specs.Machine.{event_number, event_rows};
 ghost use Rattle.misp_core.specs.Pulling.{IsByEvent, Rises, event_at};
 
 use misp_elem::{NoMemory, Row};
@@ -15,7 +15,7 @@ use misp_ids::{EventId, Uid};
 use std::alloc::Global;
 
 // The number of a row's event.
-#[tactic(auto, unfolding(misp_rules::specs::Machine::event_number))]
+#[tactic(auto, unfolding(misp_model::specs::Machine::event_number))]
 fn event_number(row: &Row) -> u128
     ensures { result ≡ event_number row.now }
 {

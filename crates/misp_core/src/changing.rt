@@ -5,12 +5,12 @@ ghost use Rattle.misp_dates.specs.Dates.{date_of};
 ghost use Rattle.misp_ids.specs.declared.label.Label as labels;
 ghost use Rattle.misp_elem.specs.Row.{AreRows};
 ghost use Rattle.misp_orgs.specs.Admin.{AdminFields};
-ghost use Rattle.misp_rules.specs.Scene.{Scene};
-ghost use Rattle.misp_rules.specs.Changing.{change_rules};
-ghost use Rattle.misp_rules.specs.Machine.{event_changed};
-ghost use Rattle.misp_rules.specs.declared.ask.Ask.TheVariants as asks;
-ghost use Rattle.misp_rules.specs.declared.change.Change.{Change as SomeChange};
-ghost use Rattle.misp_rules.specs.declared.change.Change.TheVariants.{AddEvent};
+ghost use Rattle.misp_model.specs.Scene.{Scene};
+ghost use Rattle.misp_model.specs.Changing.{change_rules};
+ghost use Rattle.misp_model.specs.Machine.{event_changed};
+ghost use Rattle.misp_model.specs.declared.ask.Ask.TheVariants as asks;
+ghost use Rattle.misp_model.specs.declared.change.Change.{Change as SomeChange};
+ghost use Rattle.misp_model.specs.declared.change.Change.TheVariants.{AddEvent};
 ghost use Rattle.misp_copies.specs.Barring.{Refuses, Names};
 ghost use Rattle.misp_edit.specs.Changing.{Changes};
 ghost use Rattle.misp_edit.specs.Refusals as adding;
@@ -32,7 +32,7 @@ use misp_edit::{
 use misp_elem::{NoMemory, Row, Submission};
 use misp_ids::EventId;
 use misp_publish::publish;
-use misp_rules::{Change, Parts};
+use misp_model::{Change, Parts};
 use std::alloc::Global;
 
 // What is planned for a change of this event whose rows are made, or which a fault refuses.

@@ -2,10 +2,10 @@
 
 ghost use Rattle.std.specs.Prelude.{◌≡◌, List, IfOk, OnOk, false, true};
 ghost use Rattle.misp_elem.specs.declared.row.RowFields.{RowFields};
-ghost use Rattle.misp_rules.specs.View.{IsTable};
-ghost use Rattle.misp_rules.specs.Machine.{pulls, seeing};
-ghost use Rattle.misp_rules.specs.declared.ask.Ask.TheVariants.{View};
-ghost use Rattle.misp_rules.specs.declared.ask.Ask.TheVariants as asks;
+ghost use Rattle.misp_model.specs.View.{IsTable};
+ghost use Rattle.misp_model.specs.Machine.{pulls, seeing};
+ghost use Rattle.misp_model.specs.declared.ask.Ask.TheVariants.{View};
+ghost use Rattle.misp_model.specs.declared.ask.Ask.TheVariants as asks;
 ghost use Rattle.misp_core.specs.Ahead.{StaysOrIsPacked};
 ghost use Rattle.misp_core.specs.Answers.{IsBuilt, named_event};
 ghost use Rattle.misp_core.specs.Handing.{ChangesNone, IsOwn, scene_in, scene_for, pull_scene, knowing};
@@ -28,7 +28,7 @@ use misp_groups::Groups;
 use misp_ids::{EventId, Items, OrgId, Refusal, RuleName};
 use misp_orgs::Admin;
 use misp_package::Landing;
-use misp_rules::{Ask, Change};
+use misp_model::{Ask, Change};
 use misp_view::{concerning, group_names, shown};
 use std::alloc::Global;
 
@@ -132,7 +132,7 @@ fn list(alloc: Global, site: &Site<'_>) -> Result<Plan, NoPlan>
 
 // What is planned for a request that neither changes an event, nor pulls, nor hands in, over the rows
 // that are read for it.
-#[tactic(auto, unfolding(misp_rules::specs::Machine::pulls))]
+#[tactic(auto, unfolding(misp_model::specs::Machine::pulls))]
 fn plan_own(alloc: Global, site: &Site<'_>, ask: &Ask, rows: Vec<Row>) -> Result<Plan, NoPlan>
     requires built { IsBuilt ask.now }
     requires own { IsOwn ask.now }
@@ -160,7 +160,7 @@ fn plan_own(alloc: Global, site: &Site<'_>, ask: &Ask, rows: Vec<Row>) -> Result
 }
 
 // What is planned for a request that changes no event, over the rows that are read for it.
-#[tactic(auto, unfolding(misp_rules::specs::Machine::pulls))]
+#[tactic(auto, unfolding(misp_model::specs::Machine::pulls))]
 fn plan_unchanged(
     alloc: Global,
     site: &Site<'_>,
@@ -193,7 +193,7 @@ fn plan_unchanged(
 /// What is planned for a request, over the rows that are read for it. Of a pull the packages that
 /// are not asked for yet are kept, and of a package that is handed in what its caller has of the
 /// event.
-#[tactic(auto, unfolding(misp_rules::specs::Machine::pulls))]
+#[tactic(auto, unfolding(misp_model::specs::Machine::pulls))]
 pub(crate) fn plan_request(
     alloc: Global,
     site: &Site<'_>,

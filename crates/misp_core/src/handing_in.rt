@@ -5,9 +5,9 @@ ghost use Rattle.misp_elem.specs.declared.row.RowFields.{RowFields};
 ghost use Rattle.misp_ids.specs.Uid.{IsUid};
 ghost use Rattle.misp_ids.specs.declared.uid.OrgId.{OrgId as Owner};
 ghost use Rattle.misp_package.specs.Landing.{IsLanding};
-ghost use Rattle.misp_rules.specs.Machine.{seeing};
-ghost use Rattle.misp_rules.specs.Package.{IsPackage};
-ghost use Rattle.misp_rules.specs.declared.ask.Ask.TheVariants.{TakePart};
+ghost use Rattle.misp_model.specs.Machine.{seeing};
+ghost use Rattle.misp_model.specs.Package.{IsPackage};
+ghost use Rattle.misp_model.specs.declared.ask.Ask.TheVariants.{TakePart};
 ghost use Rattle.misp_core.specs.declared.reply.Answer.TheVariants as answers;
 ghost use Rattle.misp_core.specs.Effects.{asked, by_keeper, row_batches};
 ghost use Rattle.misp_core.specs.HandedGroups.{group_batches, groups_handed};
@@ -27,7 +27,7 @@ use misp_elem::{NoMemory, Row};
 use misp_groups::{Group, Groups};
 use misp_orgs::{Caller, Perm, may};
 use misp_package::Landing;
-use misp_rules::{Ask, Package};
+use misp_model::{Ask, Package};
 use std::alloc::Global;
 
 // The rows of the package that its caller takes, where this is what it has of the event.

@@ -22,7 +22,7 @@ use misp_ids::{EventId, InstId, NoMemory, OrgId};
 use misp_orgs::Caller;
 use misp_outside::{Keeper, KeeperFault};
 use misp_package::Landing;
-use misp_rules::Package;
+use misp_model::Package;
 use std::alloc::Global;
 
 // Shows what holds of all that is read: they are rows.

@@ -6,12 +6,12 @@ ghost use Rattle.misp_elem.specs.declared.row.RowFields.{RowFields};
 ghost use Rattle.misp_elem.specs.Parents.{event_of};
 ghost use Rattle.misp_ids.specs.Same.{same_event};
 ghost use Rattle.misp_groups.specs.Group.{IsGroup};
-ghost use Rattle.misp_rules.specs.declared.ask.Ask.TheVariants as asks;
-ghost use Rattle.misp_rules.specs.Machine.{seeing};
-ghost use Rattle.misp_rules.specs.Package.{IsPackage};
-ghost use Rattle.misp_rules.specs.Packing.{packages};
-ghost use Rattle.misp_rules.specs.Pulling.{pull_route, pulled_events, pulled_groups, pulled_part, pulled_rows};
-ghost use Rattle.misp_rules.specs.View.{IsTable};
+ghost use Rattle.misp_model.specs.declared.ask.Ask.TheVariants as asks;
+ghost use Rattle.misp_model.specs.Machine.{seeing};
+ghost use Rattle.misp_model.specs.Package.{IsPackage};
+ghost use Rattle.misp_model.specs.Packing.{packages};
+ghost use Rattle.misp_model.specs.Pulling.{pull_route, pulled_events, pulled_groups, pulled_part, pulled_rows};
+ghost use Rattle.misp_model.specs.View.{IsTable};
 ghost use Rattle.misp_package.specs.Packing.{AreNumbered};
 ghost use Rattle.misp_package.specs.Passing.{route_of};
 ghost use Rattle.misp_core.specs.Ahead.{StaysOrIsPacked, kept_part};
@@ -32,7 +32,7 @@ use misp_elem::{NoMemory, Row};
 use misp_groups::{Group, Groups, carries};
 use misp_ids::{EventId, InstId, Items, OrgId, Refusal, RuleName, Way};
 use misp_package::{Via, count_outgoing, outgoing};
-use misp_rules::Package;
+use misp_model::Package;
 use std::alloc::Global;
 
 // The same group once more.
@@ -65,7 +65,7 @@ pub(crate) fn carrying(
 }
 
 // The groups that a pull brings.
-#[tactic(auto, unfolding(misp_rules::specs::Pulling::pulled_groups))]
+#[tactic(auto, unfolding(misp_model::specs::Pulling::pulled_groups))]
 fn pulled_groups(alloc: Global, site: &Site<'_>) -> Result<Vec<Group>, NoMemory>
     ensures all { IfOk result (λ groups. groups.items ≡ pulled_groups (pull_scene site.now)) }
     ensures fits { IfOk result (λ groups. AllByRecursion IsGroup groups.items) }

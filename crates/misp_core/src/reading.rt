@@ -2,8 +2,8 @@
 
 ghost use Rattle.std.specs.Prelude.{◌≡◌, true, IfOk, IfSome};
 ghost use Rattle.misp_outside.specs.Causes.{HasCause, StaysUnless};
-ghost use Rattle.misp_rules.specs.Machine.{pulls};
-ghost use Rattle.misp_rules.specs.Permission.{is_permitted};
+ghost use Rattle.misp_model.specs.Machine.{pulls};
+ghost use Rattle.misp_model.specs.Permission.{is_permitted};
 ghost use Rattle.misp_store.specs.Seen.{seen_in};
 ghost use Rattle.misp_core.specs.Ahead.{IsBeside};
 ghost use Rattle.misp_core.specs.Answers.{IsBuilt};
@@ -21,7 +21,7 @@ use crate::pulling::show_part;
 use crate::site::{Site, asker};
 use misp_outside::Keeper;
 use misp_package::Landing;
-use misp_rules::Ask;
+use misp_model::Ask;
 use misp_store::{Reach, load};
 use std::alloc::Global;
 

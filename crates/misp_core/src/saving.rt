@@ -3,9 +3,9 @@
 ghost use Rattle.std.specs.Prelude.{◌≡◌, Err, IfErr, IfOk, length, map};
 ghost use Rattle.misp_elem.specs.Row.{AreRows};
 ghost use Rattle.misp_orgs.specs.Admin.{AdminFields};
-ghost use Rattle.misp_rules.specs.declared.ask.Ask.{Ask};
-ghost use Rattle.misp_rules.specs.Answers.{ask_rules};
-ghost use Rattle.misp_rules.specs.Scene.{Scene};
+ghost use Rattle.misp_model.specs.declared.ask.Ask.{Ask};
+ghost use Rattle.misp_model.specs.Answers.{ask_rules};
+ghost use Rattle.misp_model.specs.Scene.{Scene};
 ghost use Rattle.misp_copies.specs.Barring.{Refuses};
 ghost use Rattle.misp_statements.specs.Saving.{Saves};
 ghost use Rattle.misp_core.specs.declared.reply.Answer.TheVariants as answers;

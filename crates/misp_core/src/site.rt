@@ -1,7 +1,7 @@
 //! Where and when a request is answered.
 
 ghost use Rattle.std.specs.Prelude.{◌≡◌, IfOk};
-ghost use Rattle.misp_rules.specs.View.{known};
+ghost use Rattle.misp_model.specs.View.{known};
 
 use misp_copies::{Viewer, known};
 use misp_elem::{NoMemory, Row};

@@ -2,8 +2,8 @@
 //! event.
 
 ghost use Rattle.std.specs.Prelude.{◌≡◌};
-ghost use Rattle.misp_rules.specs.declared.ask.Ask.TheVariants.{Judge, Propose, Sight};
-ghost use Rattle.misp_rules.specs.Machine.{seeing};
+ghost use Rattle.misp_model.specs.declared.ask.Ask.TheVariants.{Judge, Propose, Sight};
+ghost use Rattle.misp_model.specs.Machine.{seeing};
 ghost use Rattle.misp_core.specs.Effects.{asked};
 ghost use Rattle.misp_core.specs.Handing.{scene_in, knowing};
 ghost use Rattle.misp_core.specs.Planning.{Plans};
@@ -14,7 +14,7 @@ use crate::saving::saved_or_refused;
 use crate::site::{Site, known_at, viewer};
 use misp_elem::Row;
 use misp_ids::EventId;
-use misp_rules::{AttributePlace, NamedProposal, ProposalDraft, SightingDraft};
+use misp_model::{AttributePlace, NamedProposal, ProposalDraft, SightingDraft};
 use misp_statements::{judge, propose, sight};
 use std::alloc::Global;
 

@@ -3,7 +3,7 @@
 ghost use Rattle.std.specs.Prelude.{◌≡◌, Err, [], length, List, IfErr, IfOk, IfSome, OnErr, OnOk, option_map};
 ghost use Rattle.misp_ids.specs.declared.uid.EventId.{EventId as Event};
 ghost use Rattle.misp_ids.specs.declared.uid.OrgId.{OrgId as Owner};
-ghost use Rattle.misp_rules.specs.Machine.{put_all};
+ghost use Rattle.misp_model.specs.Machine.{put_all};
 ghost use Rattle.misp_elem.specs.declared.row.RowFields.{RowFields};
 ghost use Rattle.misp_groups.specs.declared.group.GroupFields.{GroupFields};
 ghost use Rattle.misp_outside.specs.Causes.{HasCause, StaysUnless};
@@ -26,7 +26,7 @@ use misp_groups::Groups;
 use misp_ids::{EventId, InstId, Items, NoMemory, OrgId};
 use misp_outside::{Keeper, KeeperFault};
 use misp_package::Landing;
-use misp_rules::Package;
+use misp_model::Package;
 use misp_store::{LoadFault, Reach, load};
 use std::alloc::Global;
 

@@ -4,11 +4,11 @@ use Rattle.misp_elem.specs.Prelude.{IsLabelBut, IsText, barred_labels, text_limi
 use Rattle.misp_elem.specs.declared.content.EventBody.{EventBody}
 use Rattle.misp_elem.specs.Contents.{IsEventBody}
 use Rattle.misp_elem.specs.Fields.{IsBetween, IsDate, IsOptionalUid, tags_size}
-use Rattle.misp_rules.proofs.Prelude.{Content, Element, IsContent, IsRow, IsStamp, Key, Place, Row, content_kind, false≢true, fits}
-use Rattle.misp_rules.proofs.Prelude.{given, is_gone, is_statement, is_too_long, label_kind, last_stamp, may_remove}
-use Rattle.misp_rules.specs.declared.edit.EventEditFields.{EventEditFields as EventEdit}
-use Rattle.misp_rules.specs.Edits.{at_event, edited_event}
-use Rattle.misp_rules.specs.Edit.{IsEventEdit}
+use Rattle.misp_model.proofs.Prelude.{Content, Element, IsContent, IsRow, IsStamp, Key, Place, Row, content_kind, false≢true, fits}
+use Rattle.misp_model.proofs.Prelude.{given, is_gone, is_statement, is_too_long, label_kind, last_stamp, may_remove}
+use Rattle.misp_model.specs.declared.edit.EventEditFields.{EventEditFields as EventEdit}
+use Rattle.misp_model.specs.Edits.{at_event, edited_event}
+use Rattle.misp_model.specs.Edit.{IsEventEdit}
 use Rattle.misp_elem.specs.RowFacts.{is_tombstone}
 use Rattle.misp_copies.specs.Copies.{is_event_key}
 use Rattle.misp_copies.specs.Renewing.{renewed}

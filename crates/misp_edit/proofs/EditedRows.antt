@@ -4,12 +4,12 @@ use Rattle.misp_elem.specs.Prelude.{IsAttributeBody, IsBetween, IsLabel, IsLabel
 use Rattle.misp_elem.specs.declared.content.AttributeBody.{AttributeBody}
 use Rattle.misp_elem.specs.declared.content.ObjectBody.{ObjectBody}
 use Rattle.misp_elem.specs.Contents.{IsObjectBody}
-use Rattle.misp_rules.proofs.Prelude.{Content, Element, IsContent, IsRow, IsStamp, Key, Label, Place, Proposal, Reference, Row, Sighting, Verdict, at_attribute, content_kind, edited, fits}
-use Rattle.misp_rules.proofs.Prelude.{given, is_gone, is_statement, is_too_long, label_kind, last_stamp, may_remove}
-use Rattle.misp_rules.specs.declared.edit.AttributeEditFields.{AttributeEditFields as AttributeEdit}
-use Rattle.misp_rules.specs.declared.edit.ObjectEditFields.{ObjectEditFields as ObjectEdit}
-use Rattle.misp_rules.specs.Edits.{at_object, edited_object}
-use Rattle.misp_rules.specs.Edit.{IsGiven, IsKindValue, IsAttributeEdit, IsObjectEdit}
+use Rattle.misp_model.proofs.Prelude.{Content, Element, IsContent, IsRow, IsStamp, Key, Label, Place, Proposal, Reference, Row, Sighting, Verdict, at_attribute, content_kind, edited, fits}
+use Rattle.misp_model.proofs.Prelude.{given, is_gone, is_statement, is_too_long, label_kind, last_stamp, may_remove}
+use Rattle.misp_model.specs.declared.edit.AttributeEditFields.{AttributeEditFields as AttributeEdit}
+use Rattle.misp_model.specs.declared.edit.ObjectEditFields.{ObjectEditFields as ObjectEdit}
+use Rattle.misp_model.specs.Edits.{at_object, edited_object}
+use Rattle.misp_model.specs.Edit.{IsGiven, IsKindValue, IsAttributeEdit, IsObjectEdit}
 use Rattle.misp_copies.specs.Renewing.{renewed}
 use Rattle.misp_copies.proofs.FittingTexts.{attribute_fits, fit_text}
 use Rattle.misp_copies.proofs.RenewedRows.{later_stamp}

@@ -1,10 +1,10 @@
 -- The rules that look at the label, the stamp and the row of a change.
 use Rattle.std.proofs.Common.{◌≡◌, List, [], ◌∷◌, Bool, not, true, false, refl, ap, sym, eqb, Option, Some, None, is_some, option_to_list, find}
-use Rattle.misp_rules.specs.Prelude.{Scene, Stamp, first_rule, is_newer_than, is_usable, row_passes}
+use Rattle.misp_model.specs.Prelude.{Scene, Stamp, first_rule, is_newer_than, is_usable, row_passes}
 use Rattle.misp_history.proofs.Prelude.{Group, Inst, Label, OrgId, Row, false≢true, last_stamp}
 use Rattle.misp_edit.specs.Labels.{is_unusable}
 use Rattle.misp_edit.specs.Changing.{unusable_given, late_rules}
-use Rattle.misp_rules.specs.Scene as rule
+use Rattle.misp_model.specs.Scene as rule
 
 -- a label may be used where it is usable
 pub usable_is : (s : Scene) (l : Label) → is_unusable s.groups s.at s.by l ≡ not (is_usable s l)

@@ -1,9 +1,9 @@
 -- Changes that only the event and the limit of stamps refuse.
 use Rattle.std.proofs.Common.{◌≡◌, ℕ, List, [], ◌∷◌, ◌++◌, Bool, true, false, refl, ap, sym, ◌∙◌, map, cond, eqb, ◌&&◌, Option, Some, None, is_some, option_to_list, find}
-use Rattle.misp_rules.specs.Prelude.{ElemId, as_deleted, at_tags, first_rule, granted_somewhere, has_home, has_tag, is_newer_than, is_too_long, own_live, own_reference, row_passes, untagged}
+use Rattle.misp_model.specs.Prelude.{ElemId, as_deleted, at_tags, first_rule, granted_somewhere, has_home, has_tag, is_newer_than, is_too_long, own_live, own_reference, row_passes, untagged}
 use Rattle.misp_history.proofs.Prelude.{Change, Content, Element, EventId, Group, Inst, Key, OrgId, Place, Row, Rule, Scene, and_parts, bars, change_rules, change_writes, changed, changed_row, event_key}
 use Rattle.misp_history.proofs.Prelude.{false≢true, find_passes, has_copy, is_row_of, last_stamp, own_row, same_org-sound}
-use Rattle.misp_rules.specs.declared.change.Change.TheVariants as changes
+use Rattle.misp_model.specs.declared.change.Change.TheVariants as changes
 use Rattle.misp_copies.specs.OwnRows.{has_live}
 use Rattle.misp_copies.proofs.Barred.{first_of, bars_are}
 use Rattle.misp_copies.specs.Barring.{Names, Refuses, barring, or_else}
@@ -14,7 +14,7 @@ use Rattle.misp_edit.specs.Changing.{late_rules, ruling, unusable_given}
 use Rattle.misp_edit.specs.Limits.{with_tag, is_live_reference, live_reference}
 use Rattle.misp_edit.proofs.OneRow.{WritesOne, own_owner, own_stamp}
 use Rattle.misp_edit.proofs.RowEdits.{own_row_test}
-use Rattle.misp_rules.specs.Scene as rule
+use Rattle.misp_model.specs.Scene as rule
 
 -- ---- faults
 

@@ -1,9 +1,9 @@
 -- Objects of the caller's copy, and what belongs to them.
 use Rattle.std.proofs.Common.{◌≡◌, ◌∙◌, Bool, true, false, not, ◌&&◌, ◌||◌, List, [], ◌∷◌, Option, Some, None, is_some, ap, sym, refl}
-use Rattle.misp_rules.proofs.Prelude.{AreRows, Element, ElemId, EventId, OrgId, Place, ReferenceDraft, Row, Scene, Submission, and_parts, event_of, has_gone, has_target, is_deleted, is_live, is_row_of, list_all, list_any, same_key-sound}
-use Rattle.misp_rules.proofs.Prelude.{same_org-sound, target_of}
-use Rattle.misp_rules.specs.Adding.{brings_object, fits_parts, object_is_there, part_fits, reference_fits}
-use Rattle.misp_rules.specs.Scene.{own_live}
+use Rattle.misp_model.proofs.Prelude.{AreRows, Element, ElemId, EventId, OrgId, Place, ReferenceDraft, Row, Scene, Submission, and_parts, event_of, has_gone, has_target, is_deleted, is_live, is_row_of, list_all, list_any, same_key-sound}
+use Rattle.misp_model.proofs.Prelude.{same_org-sound, target_of}
+use Rattle.misp_model.specs.Adding.{brings_object, fits_parts, object_is_there, part_fits, reference_fits}
+use Rattle.misp_model.specs.Scene.{own_live}
 use Rattle.misp_copies.specs.OwnRows.{has_live}
 use Rattle.misp_edit.specs.Objects.{is_object_row, has_object_row, is_live_object, is_brought, part_belongs, reference_belongs, all_belong}
 use Rattle.misp_edit.specs.Targets.{is_under}

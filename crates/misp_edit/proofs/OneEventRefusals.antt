@@ -1,12 +1,12 @@
 -- A change is refused, answered, written and named the same from the event's own rows as from all.
 use Rattle.std.proofs.Common.{◌≡◌, List, [], ◌++◌, ◌||◌, ap, sym, ◌∙◌, refl, map, eqb, option_map, filter, find}
-use Rattle.misp_rules.proofs.Prelude.{Row, Rule, Scene, Submission, cut_scene, event_rows, in_order, list_any, of_event, seeing, uuid_at}
-use Rattle.misp_rules.specs.declared.change.Change.{Change}
-use Rattle.misp_rules.specs.declared.change.Change.TheVariants.{AddEvent, AddParts}
-use Rattle.misp_rules.specs.Machine.{event_changed, event_asked}
-use Rattle.misp_rules.proofs.Local.{is_taken_here}
-use Rattle.misp_rules.proofs.OneEvent.{has_target_same, seeing_here}
-use Rattle.misp_rules.proofs.OneEventChanges.{ask_of_event}
+use Rattle.misp_model.proofs.Prelude.{Row, Rule, Scene, Submission, cut_scene, event_rows, in_order, list_any, of_event, seeing, uuid_at}
+use Rattle.misp_model.specs.declared.change.Change.{Change}
+use Rattle.misp_model.specs.declared.change.Change.TheVariants.{AddEvent, AddParts}
+use Rattle.misp_model.specs.Machine.{event_changed, event_asked}
+use Rattle.misp_model.proofs.Local.{is_taken_here}
+use Rattle.misp_model.proofs.OneEvent.{has_target_same, seeing_here}
+use Rattle.misp_model.proofs.OneEventChanges.{ask_of_event}
 use Rattle.misp_history.proofs.Prelude.{Ask}
 use Rattle.misp_edit.specs.Adding.{numbered_uuids, is_read_before, read_uuids, with_those_before, is_clash, first_clash, labels_of, first_unusable}
 use Rattle.misp_edit.specs.Refusals.{named, added_place, refusal_of}

@@ -1,6 +1,6 @@
 -- A change that writes a row of the caller's anew, by what the caller has.
 use Rattle.std.proofs.Common.{◌≡◌, List, [], ◌∷◌, Bool, true, false, refl, ap, sym, ◌∙◌, map, eqb, not, ◌||◌, max, ◌+◌, Option, Some, None, is_some, option_to_list, find}
-use Rattle.misp_rules.specs.Prelude.{Stamp, first_rule, is_too_long, row_passes}
+use Rattle.misp_model.specs.Prelude.{Stamp, first_rule, is_too_long, row_passes}
 use Rattle.misp_history.proofs.Prelude.{Change, Content, Group, Inst, Key, Label, OrgId, Row, Rule, Scene, and_parts, change_rules, change_writes, changed, false≢true, find_passes, fresh_row}
 use Rattle.misp_history.proofs.Prelude.{is_gone, is_published, is_row_of, is_statement, last_stamp, next_stamp, same_key-sound, same_org-sound, written}
 use Rattle.misp_copies.proofs.Barred.{refuses_first}
@@ -10,7 +10,7 @@ use Rattle.misp_copies.specs.declared.change_fault.ChangeFault.TheVariants.{Elem
 use Rattle.misp_copies.specs.Renewing.{IsFull, renewed}
 use Rattle.misp_edit.specs.Changing.{Changes, late_rules}
 use Rattle.misp_edit.proofs.LateRules.{not_last}
-use Rattle.misp_rules.specs.Scene as rule
+use Rattle.misp_model.specs.Scene as rule
 
 -- a change of the caller's row, as a row
 changed_is : (s : Scene) (row : Row) (l : Label) (c : Content) → row.owner ≡ s.by → fresh_row (changed s row l c) ≡ renewed s.now row l c

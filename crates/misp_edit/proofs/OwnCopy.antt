@@ -3,16 +3,16 @@ use Rattle.std.proofs.Common.{◌≡◌, ℕ, List, [], ◌∷◌, ◌++◌, Boo
 use Rattle.std.proofs.Common.{filter_map, find}
 use Rattle.std.specs.List.{starts_with}
 use Rattle.misp_elem.specs.Spelling.{key}
-use Rattle.misp_rules.proofs.Prelude.{Content, ElementExists, ElemId, EventExists, EventGone, EventId, Group, GroupNotUsable, Inst, Key, Label, OrgId, Place, Reference, ReferenceDraft, Row, Rule, Saved, Scene, Submission, all_same}
-use Rattle.misp_rules.proofs.Prelude.{and_from, and_parts, answer, any_cut, ask_rules, brings, change_rules, change_writes, event_is_closed, event_kept, event_key, event_of, event_written, filter_within, find_within}
-use Rattle.misp_rules.proofs.Prelude.{granted, has_copy, has_gone, has_target, holds_copy, in_order, is_accepted, is_deleted, is_known, is_live, is_place_of, is_row_of, is_taken, is_target_key, is_tombstone, known, list_any, name_bytes}
-use Rattle.misp_rules.proofs.Prelude.{nat_tests, new_event, of_event, ok_answer, or_left, parents, part_version, parts_written, place_in, reference_key, reference_version, same_event, same_key-keeps, same_org, same_org-refl}
-use Rattle.misp_rules.proofs.Prelude.{same_org-sound, seeing, takes_uuid, target_in_copy, target_of, uid, uuid_at, written}
-use Rattle.misp_rules.proofs.Spelled.{begins_with_itself}
-use Rattle.misp_rules.specs.Scene.{holds_tombstone}
-use Rattle.misp_rules.specs.Machine.{is_of_copy}
-use Rattle.misp_rules.proofs.ShownHere.{key_here}
-use Rattle.misp_rules.proofs.OneEvent.{IsSame, from_rules, accepted_from}
+use Rattle.misp_model.proofs.Prelude.{Content, ElementExists, ElemId, EventExists, EventGone, EventId, Group, GroupNotUsable, Inst, Key, Label, OrgId, Place, Reference, ReferenceDraft, Row, Rule, Saved, Scene, Submission, all_same}
+use Rattle.misp_model.proofs.Prelude.{and_from, and_parts, answer, any_cut, ask_rules, brings, change_rules, change_writes, event_is_closed, event_kept, event_key, event_of, event_written, filter_within, find_within}
+use Rattle.misp_model.proofs.Prelude.{granted, has_copy, has_gone, has_target, holds_copy, in_order, is_accepted, is_deleted, is_known, is_live, is_place_of, is_row_of, is_taken, is_target_key, is_tombstone, known, list_any, name_bytes}
+use Rattle.misp_model.proofs.Prelude.{nat_tests, new_event, of_event, ok_answer, or_left, parents, part_version, parts_written, place_in, reference_key, reference_version, same_event, same_key-keeps, same_org, same_org-refl}
+use Rattle.misp_model.proofs.Prelude.{same_org-sound, seeing, takes_uuid, target_in_copy, target_of, uid, uuid_at, written}
+use Rattle.misp_model.proofs.Spelled.{begins_with_itself}
+use Rattle.misp_model.specs.Scene.{holds_tombstone}
+use Rattle.misp_model.specs.Machine.{is_of_copy}
+use Rattle.misp_model.proofs.ShownHere.{key_here}
+use Rattle.misp_model.proofs.OneEvent.{IsSame, from_rules, accepted_from}
 use Rattle.misp_history.proofs.Prelude.{AddEvent, Ask}
 use Rattle.misp_edit.specs.Adding.{numbered_uuids, is_read_before, read_uuids, with_those_before, is_clash, first_clash, labels_of, first_unusable}
 use Rattle.misp_edit.specs.Refusals.{named, added_place, refusal_of}

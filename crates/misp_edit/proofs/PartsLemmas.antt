@@ -1,10 +1,10 @@
 -- Which rule refuses to add parts.
 use Rattle.std.proofs.Common.{◌≡◌, ◌∙◌, ℕ, Bool, true, false, [], Option, Some, None, option_map, is_some, ap, sym, refl, BTreeMap}
 use Rattle.misp_ids.specs.declared.refusal.Refusal.{Refusal}
-use Rattle.misp_rules.specs.Prelude.{EventId, Rule, Scene, Submission, change_rules, event_key, first_rule, fits_parts, granted_somewhere, has_copy, has_home, bars, Place}
-use Rattle.misp_rules.specs.declared.ask.Ask.{Ask}
-use Rattle.misp_rules.specs.declared.change.Change.TheVariants.{AddParts}
-use Rattle.misp_rules.proofs.Prelude.{false≢true}
+use Rattle.misp_model.specs.Prelude.{EventId, Rule, Scene, Submission, change_rules, event_key, first_rule, fits_parts, granted_somewhere, has_copy, has_home, bars, Place}
+use Rattle.misp_model.specs.declared.ask.Ask.{Ask}
+use Rattle.misp_model.specs.declared.change.Change.TheVariants.{AddParts}
+use Rattle.misp_model.proofs.Prelude.{false≢true}
 use Rattle.misp_copies.specs.Barring.{barring, or_else}
 use Rattle.misp_copies.proofs.Barred.{first_of, bars_are}
 use Rattle.misp_edit.specs.declared.fault.AddFault.{AddFault}

@@ -1,6 +1,6 @@
 -- A row that is deleted is a row.
 use Rattle.std.proofs.Common.{◌≡◌, ℕ, Bool, false, refl, eqb}
-use Rattle.misp_rules.proofs.Prelude.{Content, IsContent, IsRow, IsStamp, Row, as_deleted, content_kind, last_stamp, may_remove}
+use Rattle.misp_model.proofs.Prelude.{Content, IsContent, IsRow, IsStamp, Row, as_deleted, content_kind, last_stamp, may_remove}
 use Rattle.misp_copies.specs.Renewing.{renewed}
 use Rattle.misp_copies.proofs.RenewedRows.{renewed_row}
 

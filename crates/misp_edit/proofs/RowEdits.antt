@@ -1,14 +1,14 @@
 -- An edit of the caller's row at a place, by what the caller has.
 use Rattle.std.proofs.Common.{◌≡◌, List, [], ◌∷◌, ◌++◌, Bool, true, false, refl, ap, sym, ◌∙◌, arith, cond, eqb, map, Option, Some, None, is_some, option_to_list, find}
 use Rattle.misp_elem.specs.Row.{barred_labels}
-use Rattle.misp_rules.specs.Prelude.{ElemId, Stamp, Tag, as_deleted, at_attribute, at_event, at_object, at_tags, change_rules, change_writes, changed_row, edit_rules, edited, edited_event, edited_object, event_key, first_rule}
-use Rattle.misp_rules.specs.Prelude.{granted_somewhere, has_home, is_newer_than, is_too_long, own_live, row_passes, tagged, wants_unusable}
-use Rattle.misp_rules.specs.Edits.{given}
-use Rattle.misp_rules.specs.Place.{IsAttributePlace}
-use Rattle.misp_rules.specs.declared.change.Change.TheVariants as changes
-use Rattle.misp_rules.specs.declared.edit.AttributeEditFields.{AttributeEditFields as AttributeEdit}
-use Rattle.misp_rules.specs.declared.edit.EventEditFields.{EventEditFields as EventEdit}
-use Rattle.misp_rules.specs.declared.edit.ObjectEditFields.{ObjectEditFields as ObjectEdit}
+use Rattle.misp_model.specs.Prelude.{ElemId, Stamp, Tag, as_deleted, at_attribute, at_event, at_object, at_tags, change_rules, change_writes, changed_row, edit_rules, edited, edited_event, edited_object, event_key, first_rule}
+use Rattle.misp_model.specs.Prelude.{granted_somewhere, has_home, is_newer_than, is_too_long, own_live, row_passes, tagged, wants_unusable}
+use Rattle.misp_model.specs.Edits.{given}
+use Rattle.misp_model.specs.Place.{IsAttributePlace}
+use Rattle.misp_model.specs.declared.change.Change.TheVariants as changes
+use Rattle.misp_model.specs.declared.edit.AttributeEditFields.{AttributeEditFields as AttributeEdit}
+use Rattle.misp_model.specs.declared.edit.EventEditFields.{EventEditFields as EventEdit}
+use Rattle.misp_model.specs.declared.edit.ObjectEditFields.{ObjectEditFields as ObjectEdit}
 use Rattle.misp_history.proofs.Prelude.{Change, Content, Element, EventId, Key, Label, Place, Row, Rule, Scene, bars, changed, false≢true, has_copy, is_at_limit, is_row_of, last_stamp, own_row, own_row_is}
 use Rattle.misp_copies.specs.OwnRows.{has_live}
 use Rattle.misp_copies.specs.Barring.{Names, barring, lacking, or_else, rule_of}
@@ -19,7 +19,7 @@ use Rattle.misp_edit.specs.Labels.{is_unusable}
 use Rattle.misp_edit.specs.Changing.{late_rules, ruling, unusable_given}
 use Rattle.misp_edit.proofs.LateRules.{usable_is}
 use Rattle.misp_edit.proofs.OneRow.{WritesOne, own_owner, own_stamp, too_long}
-use Rattle.misp_rules.specs.Scene as rule
+use Rattle.misp_model.specs.Scene as rule
 
 -- ---- the rules of an edit
 

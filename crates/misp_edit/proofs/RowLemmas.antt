@@ -1,9 +1,9 @@
 -- The rows of what adding an event or parts writes.
 use Rattle.std.proofs.Common.{◌≡◌, ℕ, List, [], ◌∷◌, ◌++◌, map, Option, Some, None, option_map, option_to_list, refl, sym, ◌∙◌, append_assoc, filter_map}
-use Rattle.misp_rules.proofs.Prelude.{Content, Draft, Element, ElemId, EventId, Group, Inst, Label, OrgId, Place, Reference, ReferenceDraft, Row, Scene, Submission, cons_option, event_key, event_written, is_gone, is_published}
-use Rattle.misp_rules.proofs.Prelude.{is_statement, map-append, new_event, part_version, parts_written, reference_key, reference_version, target_of, written}
+use Rattle.misp_model.proofs.Prelude.{Content, Draft, Element, ElemId, EventId, Group, Inst, Label, OrgId, Place, Reference, ReferenceDraft, Row, Scene, Submission, cons_option, event_key, event_written, is_gone, is_published}
+use Rattle.misp_model.proofs.Prelude.{is_statement, map-append, new_event, part_version, parts_written, reference_key, reference_version, target_of, written}
 use Rattle.misp_lists.proofs.Lists.{map_twice}
-use Rattle.misp_rules.specs.Prelude.{EventDraft, Stamp}
+use Rattle.misp_model.specs.Prelude.{EventDraft, Stamp}
 use Rattle.misp_history.specs.History.{fresh_row}
 use Rattle.misp_copies.specs.Scenes.{scene_of}
 use Rattle.misp_edit.specs.Rows.{new_row, part_row, reference_row, row_with_target, event_row, body_of, added_rows, parts_rows}

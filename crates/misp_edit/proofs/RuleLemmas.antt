@@ -4,10 +4,10 @@ use Rattle.misp_ids.specs.Uid.{text_of}
 use Rattle.misp_lists.proofs.Lists.{any_found, any_map, find_by}
 use Rattle.misp_ids.specs.declared.refusal.Refusal.{Refusal}
 use Rattle.misp_groups.specs.Prelude.{RuleName, bare}
-use Rattle.misp_rules.specs.Prelude.{ElementExists, ElemId, GroupId, GroupNotUsable, Inst, Label, Place, Rule, Scene, Submission, change_rules, clashes, first_rule, has_copy, has_gone, has_unusable, holds_copy}
-use Rattle.misp_rules.specs.Prelude.{holds_tombstone, in_order, is_taken, is_usable, list_any, scene_as, target_in_copy}
-use Rattle.misp_rules.specs.Adding.{target_of, has_target, are_distinct}
-use Rattle.misp_rules.proofs.Numbers.{usable_alike}
+use Rattle.misp_model.specs.Prelude.{ElementExists, ElemId, GroupId, GroupNotUsable, Inst, Label, Place, Rule, Scene, Submission, change_rules, clashes, first_rule, has_copy, has_gone, has_unusable, holds_copy}
+use Rattle.misp_model.specs.Prelude.{holds_tombstone, in_order, is_taken, is_usable, list_any, scene_as, target_in_copy}
+use Rattle.misp_model.specs.Adding.{target_of, has_target, are_distinct}
+use Rattle.misp_model.proofs.Numbers.{usable_alike}
 use Rattle.misp_history.proofs.Prelude.{AddEvent, AddParts, Ask}
 use Rattle.misp_edit.specs.declared.fault.AddFault.{AddFault}
 use Rattle.misp_edit.specs.declared.fault.AddFault.TheVariants.{Refused, NoMemory}

@@ -4,7 +4,7 @@ use Rattle.std.proofs.lemmas.List.Sums.{sum_by-cons}
 use Rattle.misp_elem.specs.Prelude.{text_size}
 use Rattle.misp_elem.specs.Fields.{tags_size}
 use Rattle.misp_elem.proofs.Sizes.{size_within}
-use Rattle.misp_rules.proofs.Prelude.{Content, IsContent, IsRow, Row, Tag, as_deleted, at_tags, is_too_long, may_remove, nat_tests, untagged}
+use Rattle.misp_model.proofs.Prelude.{Content, IsContent, IsRow, Row, Tag, as_deleted, at_tags, is_too_long, may_remove, nat_tests, untagged}
 
 not_longer : (n : ℕ) → n ≤ 16384 → ltb 16384 n ≡ false
 not_longer n h = grind (arith, nat_tests)

@@ -2,7 +2,7 @@
 use Rattle.std.proofs.Common.{◌≡◌, ℕ, suc, ◌+◌, Bool, true, false, not, refl, ap, sym, arith, List, [], ◌∷◌, length, cond, nat_lt, ltb-false, Some, None, is_some, unwrap_or}
 use Rattle.std.proofs.lemmas.List.Sums.{prefix_len-le-length}
 use Rattle.std.specs.List.{insert, position, position_or_len}
-use Rattle.misp_rules.proofs.Prelude.{false≢true, put}
+use Rattle.misp_model.proofs.Prelude.{false≢true, put}
 
 one_more : (n : ℕ) → 1 + n ≡ suc n
 one_more n = omega arith

@@ -4,8 +4,8 @@ use Rattle.misp_lists.proofs.Prelude.{sum_by-cons}
 use Rattle.misp_lists.proofs.Orders.{bytes_on}
 use Rattle.misp_elem.specs.Fields.{is_text, is_after, IsTagName, IsTag, AreTags, AreTagsAfter, tags_size, text_limit}
 use Rattle.misp_elem.specs.Contents.{text_size}
-use Rattle.misp_rules.proofs.Prelude.{Content, IsContent, IsRow, IsStamp, Row, Tag, and_from, and_parts, at_tags, bytes_eq-Decides, content_kind, false≢true, is_less, is_too_long, last_stamp, less_is, less_or, list_all, may_remove}
-use Rattle.misp_rules.proofs.Prelude.{nat_tests, not-true, put, tagged, untagged}
+use Rattle.misp_model.proofs.Prelude.{Content, IsContent, IsRow, IsStamp, Row, Tag, and_from, and_parts, at_tags, bytes_eq-Decides, content_kind, false≢true, is_less, is_too_long, last_stamp, less_is, less_or, list_all, may_remove}
+use Rattle.misp_model.proofs.Prelude.{nat_tests, not-true, put, tagged, untagged}
 use Rattle.misp_copies.proofs.FittingTexts.{fit_name, name_size}
 use Rattle.misp_copies.proofs.RenewedRows.{renewed_row}
 use Rattle.misp_copies.specs.Renewing.{renewed}

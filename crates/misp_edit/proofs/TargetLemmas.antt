@@ -1,9 +1,9 @@
 -- What references name.
 use Rattle.std.proofs.Common.{◌≡◌, ◌∙◌, ℕ, Bool, true, false, not, ◌&&◌, ◌==◌, cond, List, [], ◌∷◌, ◌++◌, map, append-nil, Option, Some, None, option_map, ap, sym, subst, refl, arith, BTreeMap, find, filter_map, IfSome}
 use Rattle.misp_elem.specs.Key.{place_kind, of_reference}
-use Rattle.misp_rules.proofs.Prelude.{AreRows, Content, Draft, Element, ElemId, EventId, IsRow, Key, OrgId, Place, Row, Scene, above, and_parts, cons_option, content_kind, event_of, false≢true}
-use Rattle.misp_rules.proofs.Prelude.{find_passes, fits, has_gone, is_deleted, is_live, is_place_of, is_row_of, is_target_key, label_kind, list_all, list_any, parents, place_in, same_event, same_event-sound, same_key-sound, same_org}
-use Rattle.misp_rules.proofs.Prelude.{same_org-sound, target_in_copy, target_of}
+use Rattle.misp_model.proofs.Prelude.{AreRows, Content, Draft, Element, ElemId, EventId, IsRow, Key, OrgId, Place, Row, Scene, above, and_parts, cons_option, content_kind, event_of, false≢true}
+use Rattle.misp_model.proofs.Prelude.{find_passes, fits, has_gone, is_deleted, is_live, is_place_of, is_row_of, is_target_key, label_kind, list_all, list_any, parents, place_in, same_event, same_event-sound, same_key-sound, same_org}
+use Rattle.misp_model.proofs.Prelude.{same_org-sound, target_in_copy, target_of}
 use Rattle.misp_edit.specs.Objects.{has_object_row, is_object_row}
 use Rattle.misp_edit.specs.Targets.{element_place, live_place, kept_place, target_places, or_place, target_in, AreTargets, is_under}
 

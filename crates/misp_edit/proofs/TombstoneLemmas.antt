@@ -2,7 +2,7 @@
 use Rattle.std.proofs.Common.{◌≡◌, ℕ, List, [], ◌∷◌, Bool, true, false, refl, ap, ◌∙◌, eqb, ◌&&◌, ◌||◌, not, None, find}
 use Rattle.misp_elem.specs.Prelude.{IsLabelBut, IsRow, IsStamp, barred_labels, text_size}
 use Rattle.misp_elem.specs.Row.{fits}
-use Rattle.misp_rules.specs.Prelude.{first_rule, granted_somewhere, is_too_long, sees}
+use Rattle.misp_model.specs.Prelude.{first_rule, granted_somewhere, is_too_long, sees}
 use Rattle.misp_history.proofs.Prelude.{Content, DeleteEvent, Element, EventId, Key, Label, Place, Row, Rule, Scene, change_rules, change_writes, changed_row}
 use Rattle.misp_history.proofs.Prelude.{event_key, false≢true, has_copy, holds_copy, is_at_limit, is_gone, is_row_of, is_statement, last_stamp, own_row}
 use Rattle.misp_copies.specs.Copies.{is_event_key}
@@ -16,7 +16,7 @@ use Rattle.misp_edit.proofs.LimitLemmas.{late_plain, or_nothing}
 use Rattle.misp_edit.proofs.OneRow.{WritesOne, own_owner, own_stamp}
 use Rattle.misp_edit.proofs.RowEdits.{own_row_test}
 use Rattle.misp_copies.proofs.RenewedRows.{later_stamp}
-use Rattle.misp_rules.specs.Scene as rule
+use Rattle.misp_model.specs.Scene as rule
 
 two_by : (copy seen : Bool) → first_rule ((not copy && not seen, rule.NotGranted) ∷ (not copy && seen, rule.NotOwner) ∷ []) ≡ lacking copy seen
 unfolding first_rule lacking

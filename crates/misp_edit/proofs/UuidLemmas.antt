@@ -3,7 +3,7 @@ use Rattle.std.proofs.Common.{◌≡◌, ◌∙◌, ℕ, ◌+◌, ◌<◌, Bool,
 use Rattle.std.proofs.lemmas.List.{at_drop_more}
 use Rattle.misp_lists.proofs.Lists.{map_twice}
 use Rattle.misp_lists.proofs.Ordering.{any_put as placed, any_in_order as ordered}
-use Rattle.misp_rules.proofs.Prelude.{Draft, ElemId, Place, ReferenceDraft, Scene, Submission, any_map, are_distinct, cons_option, has_target, in_order, list_any, map-append, nat_tests, put, target_of, uuid_at, uuids_of}
+use Rattle.misp_model.proofs.Prelude.{Draft, ElemId, Place, ReferenceDraft, Scene, Submission, any_map, are_distinct, cons_option, has_target, in_order, list_any, map-append, nat_tests, put, target_of, uuid_at, uuids_of}
 use Rattle.misp_edit.specs.Uuids.{part_uuid, reference_uuid, numbered_in, clash_in}
 use Rattle.misp_edit.specs.Adding.{numbered_uuids, with_those_before}
 use Rattle.misp_edit.proofs.ListLemmas.{any_or}

@@ -1,8 +1,8 @@
 -- Adding an event: what the caller has, brings and is refused.
 use Rattle.std.specs.Prelude.{◌≡◌, ℕ, Bool, eqb, leb, not, ◌||◌, List, [], ◌∷◌, ◌++◌, map, filter, Option, None, option_map, find}
-use Rattle.misp_rules.specs.Prelude.{EventId, Label, Row, Rule, Scene, Submission, change_rules, first_rule, in_order, is_taken, is_usable, list_any, uuid_at}
-use Rattle.misp_rules.specs.declared.change.Change.TheVariants.{AddEvent}
-use Rattle.misp_rules.specs.Adding.{event_written, has_target}
+use Rattle.misp_model.specs.Prelude.{EventId, Label, Row, Rule, Scene, Submission, change_rules, first_rule, in_order, is_taken, is_usable, list_any, uuid_at}
+use Rattle.misp_model.specs.declared.change.Change.TheVariants.{AddEvent}
+use Rattle.misp_model.specs.Adding.{event_written, has_target}
 use Rattle.misp_history.specs.History.{fresh_row}
 
 -- the rule that refuses to add the event, if there is one

@@ -1,12 +1,12 @@
 -- Changing what is there: which rule refuses, and what is written.
 use Rattle.std.specs.Prelude.{◌≡◌, Bool, eqb, List, [], ◌∷◌, map, Option, None, is_some, option_to_list, find}
-use Rattle.misp_rules.specs.Prelude.{Element, EventId, Group, Inst, Label, OrgId, Place, Row, Rule, Scene, Stamp, change_rules, change_writes, event_key, first_rule, granted_somewhere, has_copy, has_home, is_newer_than}
-use Rattle.misp_rules.specs.Prelude.{is_row_of, last_stamp, row_passes}
-use Rattle.misp_rules.specs.declared.change.Change.{Change}
+use Rattle.misp_model.specs.Prelude.{Element, EventId, Group, Inst, Label, OrgId, Place, Row, Rule, Scene, Stamp, change_rules, change_writes, event_key, first_rule, granted_somewhere, has_copy, has_home, is_newer_than}
+use Rattle.misp_model.specs.Prelude.{is_row_of, last_stamp, row_passes}
+use Rattle.misp_model.specs.declared.change.Change.{Change}
 use Rattle.misp_history.specs.History.{fresh_row}
 use Rattle.misp_copies.specs.Barring.{barring, lacking, or_else}
 use Rattle.misp_edit.specs.Labels.{is_unusable}
-use Rattle.misp_rules.specs.Scene as rule
+use Rattle.misp_model.specs.Scene as rule
 
 -- no rule refuses the change, and these are the rows of what is written
 abbrev pub Changes : Scene → Change → List Row → Type 0

@@ -1,7 +1,7 @@
 -- Labels that may not be used, without a scene.
 use Rattle.std.specs.Prelude.{Bool, false, not, List}
 use Rattle.misp_groups.specs.Audience.{allows, group_passes}
-use Rattle.misp_rules.specs.Prelude.{Group, Inst, Label, OrgId}
+use Rattle.misp_model.specs.Prelude.{Group, Inst, Label, OrgId}
 
 -- the label is a group's, and that group is not known, or does not allow the organisation here
 unfoldable pub is_unusable : List Group → Inst → OrgId → Label → Bool

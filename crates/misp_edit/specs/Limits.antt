@@ -1,8 +1,8 @@
 -- Changes that make no text longer: removing a tag, and deleting a reference.
 use Rattle.std.specs.Prelude.{ℕ, Bool, ◌&&◌, cond, List, Option, None, Some, find}
-use Rattle.misp_rules.specs.Prelude.{ElemId, EventId, OrgId, Row, is_live, same_org}
-use Rattle.misp_rules.specs.Changing.{is_reference_named}
-use Rattle.misp_rules.specs.Edits.{has_tag}
+use Rattle.misp_model.specs.Prelude.{ElemId, EventId, OrgId, Row, is_live, same_org}
+use Rattle.misp_model.specs.Changing.{is_reference_named}
+use Rattle.misp_model.specs.Edits.{has_tag}
 
 -- the row, where it has a tag of this name
 unfoldable pub with_tag : List ℕ → Option Row → Option Row

@@ -1,6 +1,6 @@
 -- Objects of the caller's copy and of a body, and what belongs to them, without a scene.
 use Rattle.std.specs.Prelude.{◌≡◌, ℕ, Bool, true, not, cond, is_some, ◌&&◌, ◌||◌, List, Option}
-use Rattle.misp_rules.specs.Prelude.{BTreeSet, Draft, Element, ElemId, EventId, OrgId, Place, ReferenceDraft, Row, Submission, contains, is_deleted, is_row_of, list_all, list_any, nat_cmp}
+use Rattle.misp_model.specs.Prelude.{BTreeSet, Draft, Element, ElemId, EventId, OrgId, Place, ReferenceDraft, Row, Submission, contains, is_deleted, is_row_of, list_all, list_any, nat_cmp}
 use Rattle.misp_elem.specs.Prelude.{same_place}
 use Rattle.misp_copies.specs.OwnRows.{has_live}
 

@@ -3,16 +3,16 @@ use Rattle.std.specs.Prelude.{◌≡◌, ℕ, Bool, List, [], ◌∷◌, Option,
 use Rattle.misp_ids.specs.Uid.{text_of}
 use Rattle.misp_ids.specs.declared.refusal.Refusal.{Refusal}
 use Rattle.misp_ids.specs.declared.refusal.RuleName.{RuleName}
-use Rattle.misp_rules.specs.Prelude.{ElemId, Label, Rule, Scene, Submission, change_rules, clashes, first_rule, has_unusable}
-use Rattle.misp_rules.specs.declared.ask.Ask.{Ask}
-use Rattle.misp_rules.specs.declared.ask.Ask.TheVariants.{Judge, Propose, Sight}
-use Rattle.misp_rules.specs.declared.change.Change.{Change}
-use Rattle.misp_rules.specs.declared.change.Change.TheVariants.{AddEvent, AddParts, EditEvent, EditAttribute, EditObject}
+use Rattle.misp_model.specs.Prelude.{ElemId, Label, Rule, Scene, Submission, change_rules, clashes, first_rule, has_unusable}
+use Rattle.misp_model.specs.declared.ask.Ask.{Ask}
+use Rattle.misp_model.specs.declared.ask.Ask.TheVariants.{Judge, Propose, Sight}
+use Rattle.misp_model.specs.declared.change.Change.{Change}
+use Rattle.misp_model.specs.declared.change.Change.TheVariants.{AddEvent, AddParts, EditEvent, EditAttribute, EditObject}
 use Rattle.misp_copies.specs.Barring.{rule_of}
 use Rattle.misp_copies.specs.declared.change_fault.ChangeFault.{ChangeFault}
 use Rattle.misp_edit.specs.Adding.{first_clash, first_unusable}
 use Rattle.misp_edit.specs.declared.fault.AddFault.{AddFault}
-use Rattle.misp_rules.specs.Scene as asking
+use Rattle.misp_model.specs.Scene as asking
 
 -- a rule of the requests, as a reply names it
 abbrev pub named : Rule → RuleName

@@ -1,7 +1,7 @@
 -- The rows of an added event and of added parts, by the fields of what is added.
 use Rattle.std.specs.Prelude.{ℕ, true, false, not, List, Option, Some, None, map, ◌++◌, option_map, option_to_list, filter_map}
 use Rattle.misp_elem.specs.declared.content.EventBody.{EventBody}
-use Rattle.misp_rules.specs.Prelude.{Content, Draft, Element, ElemId, EventDraft, EventId, Key, Label, OrgId, Place, Reference, ReferenceDraft, Row, Submission, is_gone}
+use Rattle.misp_model.specs.Prelude.{Content, Draft, Element, ElemId, EventDraft, EventId, Key, Label, OrgId, Place, Reference, ReferenceDraft, Row, Submission, is_gone}
 
 -- a row that is not published
 abbrev pub held_row : OrgId → Key → ℕ → Label → Content → Row

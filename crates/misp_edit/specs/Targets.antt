@@ -1,9 +1,9 @@
 -- What references can name, without a scene.
 use Rattle.std.specs.Prelude.{◌≡◌, ℕ, Bool, false, not, cond, ◌&&◌, List, [], ◌∷◌, ◌++◌, map, Option, Some, None, true, IfSome, find, filter_map}
 use Rattle.std.specs.BTreeMap.{BTreeMap}
-use Rattle.misp_rules.specs.Prelude.{Draft, Element, ElemId, EventId, Key, OrgId, Place, Proposal, Reference, Row, Sighting, Verdict, event_of, is_deleted, is_live, is_place_of, nat_cmp, same_event}
-use Rattle.misp_rules.specs.Prelude.{same_org}
-use Rattle.misp_rules.specs.Adding.{place_in}
+use Rattle.misp_model.specs.Prelude.{Draft, Element, ElemId, EventId, Key, OrgId, Place, Proposal, Reference, Row, Sighting, Verdict, event_of, is_deleted, is_live, is_place_of, nat_cmp, same_event}
+use Rattle.misp_model.specs.Prelude.{same_org}
+use Rattle.misp_model.specs.Adding.{place_in}
 use Rattle.std.specs.BTreeMap as tree
 
 -- the place of an element

@@ -1,6 +1,6 @@
 -- Uuids that stand twice, without a scene.
 use Rattle.std.specs.Prelude.{ℕ, Bool, eqb, cond, ◌||◌, List, [], ◌∷◌, ◌++◌, Option, Some, None, option_map, map, filter_map}
-use Rattle.misp_rules.specs.Prelude.{Draft, ElemId, EventId, Place, ReferenceDraft, Submission, uuid_at}
+use Rattle.misp_model.specs.Prelude.{Draft, ElemId, EventId, Place, ReferenceDraft, Submission, uuid_at}
 
 -- the uuid of a part, with its place in reading order
 unfoldable pub part_uuid : EventId → Draft → ℕ × ℕ

@@ -4,7 +4,7 @@ ghost use Rattle.std.specs.Prelude.{◌≡◌, ℕ, IfOk, IfErr, is_some, true};
 ghost use Rattle.misp_dates.specs.Dates.{date_of};
 ghost use Rattle.misp_elem.specs.Fields.{IsText};
 ghost use Rattle.misp_elem.specs.Row.{AreRows};
-ghost use Rattle.misp_rules.specs.declared.change.Change.TheVariants.{AddEvent};
+ghost use Rattle.misp_model.specs.declared.change.Change.TheVariants.{AddEvent};
 ghost use Rattle.misp_edit.specs.Adding.{Adds};
 ghost use Rattle.misp_copies.specs.Scenes.{scene_for};
 ghost use Rattle.misp_edit.specs.Refusals.{Refuses};

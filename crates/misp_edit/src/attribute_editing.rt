@@ -2,11 +2,11 @@
 
 ghost use Rattle.std.specs.Prelude.{◌≡◌, ℕ, List, [], ◌∷◌, eqb, false, IfOk, IfErr};
 ghost use Rattle.misp_elem.specs.Row.{AreRows, barred_labels};
-ghost use Rattle.misp_rules.specs.declared.change.Change.TheVariants.{EditAttribute};
-ghost use Rattle.misp_rules.specs.Changing.{change_rules};
-ghost use Rattle.misp_rules.specs.Edit.{IsAttributeEdit};
-ghost use Rattle.misp_rules.specs.Edits.{at_attribute, edited, given};
-ghost use Rattle.misp_rules.specs.Scene.{is_too_long};
+ghost use Rattle.misp_model.specs.declared.change.Change.TheVariants.{EditAttribute};
+ghost use Rattle.misp_model.specs.Changing.{change_rules};
+ghost use Rattle.misp_model.specs.Edit.{IsAttributeEdit};
+ghost use Rattle.misp_model.specs.Edits.{at_attribute, edited, given};
+ghost use Rattle.misp_model.specs.Scene.{is_too_long};
 ghost use Rattle.misp_ids.specs.Moments.{last_stamp};
 ghost use Rattle.misp_copies.specs.Scenes.{scene_for};
 ghost use Rattle.misp_copies.specs.Barring.{Refuses, Names};
@@ -18,7 +18,7 @@ use crate::contents::{edited_attribute, label_after};
 use misp_copies::{ChangeFault, Viewer, finished, has_live, label_of, own_row};
 use misp_elem::{Content, Row};
 use misp_ids::{EventId, NoMemory, Stamp};
-use misp_rules::{AttributeEdit, AttributeEditFields, AttributePlace};
+use misp_model::{AttributeEdit, AttributeEditFields, AttributePlace};
 use std::alloc::Global;
 
 fn edited_of(row: &Row, edit: &AttributeEditFields) -> Result<Content, NoMemory>

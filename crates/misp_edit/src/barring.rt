@@ -5,7 +5,7 @@ ghost use Rattle.std.specs.List.{find};
 ghost use Rattle.std.specs.Option.{option_copied, option_map, option_to_list};
 ghost use Rattle.misp_ids.specs.declared.label.Label.TheVariants as labels;
 ghost use Rattle.misp_ids.specs.Moments.{last_stamp};
-ghost use Rattle.misp_rules.specs.Scene.{first_rule, is_newer_than};
+ghost use Rattle.misp_model.specs.Scene.{first_rule, is_newer_than};
 ghost use Rattle.misp_edit.specs.Labels.{is_unusable};
 ghost use Rattle.misp_copies.specs.Barring.{outcome, Names};
 ghost use Rattle.misp_edit.specs.Changing.{late_rules, ruling};
@@ -26,7 +26,7 @@ fn unusable_given(label: Option<Label>, who: &Viewer) -> Option<GroupId>
     }
 }
 
-#[tactic(auto, unfolding(misp_rules::specs::Scene::is_newer_than))]
+#[tactic(auto, unfolding(misp_model::specs::Scene::is_newer_than))]
 fn is_newer_than(row: &Row, stamp: Option<Stamp>) -> bool
     ensures { result ≡ is_newer_than stamp row.now }
 {

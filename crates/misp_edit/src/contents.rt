@@ -1,12 +1,12 @@
 //! What a change makes of what a row says.
 
 ghost use Rattle.std.specs.Prelude.{◌≡◌, true, IfOk, OnOk};
-ghost use Rattle.misp_rules.specs.Edits.{given, edited, edited_event, edited_object};
-ghost use Rattle.misp_rules.specs.Edits.{at_attribute, at_event, at_object, as_deleted};
+ghost use Rattle.misp_model.specs.Edits.{given, edited, edited_event, edited_object};
+ghost use Rattle.misp_model.specs.Edits.{at_attribute, at_event, at_object, as_deleted};
 
 use misp_elem::{AttributeBody, Content, EventBody, ObjectBody, ReferenceBody};
 use misp_ids::{Label, NoMemory, Text};
-use misp_rules::{AttributeEditFields, EventEditFields, ObjectEditFields};
+use misp_model::{AttributeEditFields, EventEditFields, ObjectEditFields};
 
 fn deleted_object(body: &ObjectBody) -> Result<ObjectBody, NoMemory>
     ensures { IfOk result (λ made. made ≡ record body.now { deleted = true }) }
@@ -33,7 +33,7 @@ fn deleted_reference(body: &ReferenceBody) -> Result<ReferenceBody, NoMemory>
 }
 
 /// The element deleted.
-#[tactic(auto, unfolding(misp_rules::specs::Edits::as_deleted))]
+#[tactic(auto, unfolding(misp_model::specs::Edits::as_deleted))]
 pub(crate) fn deleted(content: &Content) -> Result<Content, NoMemory>
     ensures { IfOk result (λ made. made ≡ as_deleted content.now) }
 {
@@ -46,7 +46,7 @@ pub(crate) fn deleted(content: &Content) -> Result<Content, NoMemory>
 }
 
 /// The label that is given, or else the one that was there.
-#[tactic(auto, unfolding(misp_rules::specs::Edits::given))]
+#[tactic(auto, unfolding(misp_model::specs::Edits::given))]
 pub(crate) fn label_after(label: Label, new: Option<Label>) -> Label
     ensures { result ≡ given new label }
 {
@@ -57,7 +57,7 @@ pub(crate) fn label_after(label: Label, new: Option<Label>) -> Label
 }
 
 // Puts the text that is given in the place of the one that was there.
-#[tactic(auto, unfolding(misp_rules::specs::Edits::given))]
+#[tactic(auto, unfolding(misp_model::specs::Edits::given))]
 fn put_text(text: &mut Text, new: &Option<Text>) -> Result<(), NoMemory>
     ensures { OnOk result (text.new ≡ given new.now text.old) }
 {
@@ -68,7 +68,7 @@ fn put_text(text: &mut Text, new: &Option<Text>) -> Result<(), NoMemory>
 }
 
 // Edits an attribute.
-#[tactic(auto, unfolding(misp_rules::specs::Edits::edited, misp_rules::specs::Edits::given))]
+#[tactic(auto, unfolding(misp_model::specs::Edits::edited, misp_model::specs::Edits::given))]
 fn put_attribute(body: &mut AttributeBody, edit: &AttributeEditFields) -> Result<(), NoMemory>
     ensures { OnOk result (body.new ≡ edited edit.now body.old) }
 {
@@ -104,7 +104,7 @@ fn attribute_after(
 }
 
 /// The element after an edit of an attribute.
-#[tactic(auto, unfolding(misp_rules::specs::Edits::at_attribute))]
+#[tactic(auto, unfolding(misp_model::specs::Edits::at_attribute))]
 pub(crate) fn edited_attribute(
     content: &Content,
     edit: &AttributeEditFields,
@@ -118,7 +118,7 @@ pub(crate) fn edited_attribute(
 }
 
 // Edits an event.
-#[tactic(auto, unfolding(misp_rules::specs::Edits::edited_event, misp_rules::specs::Edits::given))]
+#[tactic(auto, unfolding(misp_model::specs::Edits::edited_event, misp_model::specs::Edits::given))]
 fn put_event(body: &mut EventBody, edit: &EventEditFields) -> Result<(), NoMemory>
     ensures { OnOk result (body.new ≡ edited_event edit.now body.old) }
 {
@@ -151,7 +151,7 @@ fn event_after(body: &EventBody, edit: &EventEditFields) -> Result<EventBody, No
 }
 
 /// The element after an edit of an event.
-#[tactic(auto, unfolding(misp_rules::specs::Edits::at_event))]
+#[tactic(auto, unfolding(misp_model::specs::Edits::at_event))]
 pub(crate) fn edited_event(content: &Content, edit: &EventEditFields) -> Result<Content, NoMemory>
     ensures { IfOk result (λ made. made ≡ at_event (edited_event edit.now) content.now) }
 {
@@ -162,7 +162,7 @@ pub(crate) fn edited_event(content: &Content, edit: &EventEditFields) -> Result<
 }
 
 // Edits an object.
-#[tactic(auto, unfolding(misp_rules::specs::Edits::edited_object))]
+#[tactic(auto, unfolding(misp_model::specs::Edits::edited_object))]
 fn put_object(body: &mut ObjectBody, edit: &ObjectEditFields) -> Result<(), NoMemory>
     ensures { OnOk result (body.new ≡ edited_object edit.now body.old) }
 {
@@ -185,7 +185,7 @@ fn object_after(body: &ObjectBody, edit: &ObjectEditFields) -> Result<ObjectBody
 }
 
 /// The element after an edit of an object.
-#[tactic(auto, unfolding(misp_rules::specs::Edits::at_object))]
+#[tactic(auto, unfolding(misp_model::specs::Edits::at_object))]
 pub(crate) fn edited_object(content: &Content, edit: &ObjectEditFields) -> Result<Content, NoMemory>
     ensures { IfOk result (λ made. made ≡ at_object (edited_object edit.now) content.now) }
 {

@@ -2,10 +2,10 @@
 
 ghost use Rattle.std.specs.Prelude.{◌≡◌, ℕ, List, [], ◌∷◌, eqb, false, None, IfOk, IfErr};
 ghost use Rattle.misp_elem.specs.Row.{AreRows};
-ghost use Rattle.misp_rules.specs.declared.change.Change.TheVariants.{Delete};
-ghost use Rattle.misp_rules.specs.Changing.{change_rules};
-ghost use Rattle.misp_rules.specs.Edits.{as_deleted};
-ghost use Rattle.misp_rules.specs.Scene.{is_too_long};
+ghost use Rattle.misp_model.specs.declared.change.Change.TheVariants.{Delete};
+ghost use Rattle.misp_model.specs.Changing.{change_rules};
+ghost use Rattle.misp_model.specs.Edits.{as_deleted};
+ghost use Rattle.misp_model.specs.Scene.{is_too_long};
 ghost use Rattle.misp_ids.specs.Moments.{last_stamp};
 ghost use Rattle.misp_copies.specs.Scenes.{scene_for};
 ghost use Rattle.misp_copies.specs.declared.change_fault.ChangeFault.TheVariants as faults;

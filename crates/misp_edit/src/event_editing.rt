@@ -2,11 +2,11 @@
 
 ghost use Rattle.std.specs.Prelude.{◌≡◌, ℕ, List, [], ◌∷◌, eqb, false, true, IfOk, IfErr};
 ghost use Rattle.misp_elem.specs.Row.{AreRows};
-ghost use Rattle.misp_rules.specs.declared.change.Change.TheVariants.{EditEvent};
-ghost use Rattle.misp_rules.specs.Changing.{change_rules};
-ghost use Rattle.misp_rules.specs.Edit.{IsEventEdit};
-ghost use Rattle.misp_rules.specs.Edits.{at_event, edited_event, given};
-ghost use Rattle.misp_rules.specs.Scene.{is_too_long};
+ghost use Rattle.misp_model.specs.declared.change.Change.TheVariants.{EditEvent};
+ghost use Rattle.misp_model.specs.Changing.{change_rules};
+ghost use Rattle.misp_model.specs.Edit.{IsEventEdit};
+ghost use Rattle.misp_model.specs.Edits.{at_event, edited_event, given};
+ghost use Rattle.misp_model.specs.Scene.{is_too_long};
 ghost use Rattle.misp_ids.specs.Moments.{last_stamp};
 ghost use Rattle.misp_copies.specs.Copies.{is_event_key};
 ghost use Rattle.misp_copies.specs.Scenes.{scene_for};
@@ -19,7 +19,7 @@ use crate::contents::{edited_event, label_after};
 use misp_copies::{ChangeFault, Viewer, finished, label_of, own_row};
 use misp_elem::{Content, Place, Row};
 use misp_ids::{EventId, NoMemory, Stamp};
-use misp_rules::{EventEdit, EventEditFields};
+use misp_model::{EventEdit, EventEditFields};
 use std::alloc::Global;
 
 fn edited_of(row: &Row, edit: &EventEditFields) -> Result<Content, NoMemory>

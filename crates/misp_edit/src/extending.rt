@@ -4,9 +4,9 @@ ghost use Rattle.std.specs.Prelude.{◌≡◌, ℕ, List, IfOk, IfErr, OnOk, Non
 ghost use Rattle.misp_ids.specs.Moments.{Stamp as Moment};
 ghost use Rattle.misp_ids.specs.declared.uid.EventId.{EventId as Event};
 ghost use Rattle.misp_elem.specs.Row.{AreRows};
-ghost use Rattle.misp_rules.specs.declared.change.Change.TheVariants.{AddParts};
-ghost use Rattle.misp_rules.specs.Changing.{change_rules};
-ghost use Rattle.misp_rules.specs.Scene.{first_rule};
+ghost use Rattle.misp_model.specs.declared.change.Change.TheVariants.{AddParts};
+ghost use Rattle.misp_model.specs.Changing.{change_rules};
+ghost use Rattle.misp_model.specs.Scene.{first_rule};
 ghost use Rattle.misp_copies.specs.Barring.{rule_of};
 ghost use Rattle.misp_copies.specs.Scenes.{scene_for, scene_of};
 ghost use Rattle.misp_edit.specs.Changing.{Changes};
@@ -22,7 +22,7 @@ use crate::targets::{Targets, targets};
 use misp_copies::{ChangeFault, Viewer, may_change};
 use misp_elem::{Row, Submission};
 use misp_ids::{EventId, Refusal, Stamp};
-use misp_rules::Parts;
+use misp_model::Parts;
 use std::alloc::Global;
 
 // The refusal by the rule of a fault, without a place.

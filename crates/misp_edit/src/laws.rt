@@ -2,8 +2,8 @@
 
 ghost use Rattle.std.specs.Prelude.{◌≡◌, is_some};
 ghost use Rattle.misp_elem.specs.Draft.{SubmissionFields as Submission};
-ghost use Rattle.misp_rules.specs.Scene.{Scene};
-ghost use Rattle.misp_rules.specs.Adding.{clashes, has_unusable};
+ghost use Rattle.misp_model.specs.Scene.{Scene};
+ghost use Rattle.misp_model.specs.Adding.{clashes, has_unusable};
 ghost use Rattle.misp_edit.specs.Adding.{first_clash, first_unusable};
 
 /// A first clashing uuid and a first unusable label are there exactly where their rules refuse.

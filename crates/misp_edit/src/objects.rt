@@ -31,7 +31,7 @@ fn object_at(place: Place) -> Option<u128>
 }
 
 // The uuid of the object, if the row is the owner's of one in the event, and is deleted or is not.
-#[tactic(auto, unfolding(crate::specs::Objects::is_object_row, misp_rules::specs::View::is_row_of, misp_elem::specs::SameKey::same_key, misp_ids::specs::Same::same_event, misp_ids::specs::Same::same_org))]
+#[tactic(auto, unfolding(crate::specs::Objects::is_object_row, misp_model::specs::View::is_row_of, misp_elem::specs::SameKey::same_key, misp_ids::specs::Same::same_event, misp_ids::specs::Same::same_org))]
 fn own_object(row: &Row, owner: OrgId, event: EventId, deleted: bool) -> Option<u128>
     ensures uuid { (x : ElemId) →
         is_at result x.0.0 ≡ is_object_row owner event deleted x row.now }

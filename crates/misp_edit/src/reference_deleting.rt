@@ -3,8 +3,8 @@
 ghost use Rattle.std.specs.Prelude.{◌≡◌, ℕ, List, None, is_some, IfOk, IfErr};
 ghost use Rattle.std.specs.Option.{option_copied};
 ghost use Rattle.misp_elem.specs.Row.{AreRows};
-ghost use Rattle.misp_rules.specs.declared.change.Change.TheVariants.{DeleteReference};
-ghost use Rattle.misp_rules.specs.Changing.{change_rules, is_reference_named};
+ghost use Rattle.misp_model.specs.declared.change.Change.TheVariants.{DeleteReference};
+ghost use Rattle.misp_model.specs.Changing.{change_rules, is_reference_named};
 ghost use Rattle.misp_copies.specs.Scenes.{scene_for};
 ghost use Rattle.misp_copies.specs.Barring.{Refuses, Names};
 ghost use Rattle.misp_edit.specs.Changing.{Changes};
@@ -18,7 +18,7 @@ use misp_ids::{ElemId, EventId, OrgId, Stamp};
 use std::alloc::Global;
 
 // Whether it is a reference of this object and uuid.
-#[tactic(auto, unfolding(misp_rules::specs::Changing::is_reference_named, misp_ids::specs::Same::same_event, misp_ids::specs::Same::same_elem))]
+#[tactic(auto, unfolding(misp_model::specs::Changing::is_reference_named, misp_ids::specs::Same::same_event, misp_ids::specs::Same::same_elem))]
 fn is_named(row: &Row, event: &EventId, object: &ElemId, reference: &ElemId) -> bool
     ensures { result ≡ is_reference_named event.now object.now reference.now row.now.key }
 {

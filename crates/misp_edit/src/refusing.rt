@@ -3,8 +3,8 @@
 ghost use Rattle.std.specs.Prelude.{◌≡◌, ℕ, List, IfOk, IfErr, OnOk, None};
 ghost use Rattle.misp_ids.specs.Uid.{text_of};
 ghost use Rattle.misp_ids.specs.Moments.{Stamp};
-ghost use Rattle.misp_rules.specs.declared.change.Change.TheVariants.{AddEvent};
-ghost use Rattle.misp_rules.specs.Scene.{first_rule};
+ghost use Rattle.misp_model.specs.declared.change.Change.TheVariants.{AddEvent};
+ghost use Rattle.misp_model.specs.Scene.{first_rule};
 ghost use Rattle.misp_copies.specs.Scenes.{scene_of};
 ghost use Rattle.misp_edit.specs.Adding.{refusing};
 ghost use Rattle.misp_edit.specs.Refusals.{Refuses, Tells, brought_refusal, brought_rules};

@@ -7,7 +7,7 @@ ghost use Rattle.misp_elem.specs.Fields.{IsText, IsDate};
 ghost use Rattle.misp_elem.specs.Contents.{IsEventBody};
 ghost use Rattle.misp_elem.specs.Row.{IsRow, AreRows};
 ghost use Rattle.misp_elem.specs.Draft.{IsOptionalDate, IsLabelOf};
-ghost use Rattle.misp_rules.specs.Adding.{is_place_of};
+ghost use Rattle.misp_model.specs.Adding.{is_place_of};
 ghost use Rattle.misp_edit.specs.Targets.{target_in, AreOfTheirUuids};
 ghost use Rattle.misp_edit.specs.Rows.{held_row, part_row, reference_row, row_with_target, date_given, event_row, body_of, added_rows, parts_rows};
 

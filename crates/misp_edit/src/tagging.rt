@@ -5,11 +5,11 @@ ghost use Rattle.std.specs.List.{find};
 ghost use Rattle.std.specs.Option.{option_copied};
 ghost use Rattle.misp_elem.specs.declared.key.KeyForm.TheVariants.{Element};
 ghost use Rattle.misp_elem.specs.Row.{AreRows};
-ghost use Rattle.misp_rules.specs.declared.change.Change.TheVariants as changes;
-ghost use Rattle.misp_rules.specs.View.{is_row_of};
-ghost use Rattle.misp_rules.specs.Changing.{change_rules};
-ghost use Rattle.misp_rules.specs.Edits.{at_tags, tagged, untagged};
-ghost use Rattle.misp_rules.specs.Scene.{is_too_long};
+ghost use Rattle.misp_model.specs.declared.change.Change.TheVariants as changes;
+ghost use Rattle.misp_model.specs.View.{is_row_of};
+ghost use Rattle.misp_model.specs.Changing.{change_rules};
+ghost use Rattle.misp_model.specs.Edits.{at_tags, tagged, untagged};
+ghost use Rattle.misp_model.specs.Scene.{is_too_long};
 ghost use Rattle.misp_ids.specs.Moments.{last_stamp};
 ghost use Rattle.misp_copies.specs.Scenes.{scene_for};
 ghost use Rattle.misp_copies.specs.declared.change_fault.ChangeFault.TheVariants as faults;
@@ -23,7 +23,7 @@ use crate::tags::{has_tag, with_tag, without_tag};
 use misp_copies::{ChangeFault, Viewer, finished, has_live, label_of, own_row};
 use misp_elem::{Content, Place, Row};
 use misp_ids::{EventId, NoMemory, OrgId, Stamp, Text};
-use misp_rules::{NewTag, TaggedPlace};
+use misp_model::{NewTag, TaggedPlace};
 use std::alloc::Global;
 
 fn tagged_of(alloc: Global, row: &Row, tag: &NewTag) -> Result<Content, NoMemory>

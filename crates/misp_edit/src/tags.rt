@@ -3,7 +3,7 @@
 ghost use Rattle.std.specs.Prelude.{◌≡◌, bytes_eq, IfOk};
 ghost use Rattle.std.specs.List.{list_any, position, position_or_len};
 ghost use Rattle.misp_lists.specs.Order.{is_less};
-ghost use Rattle.misp_rules.specs.Edits.{at_tags, tagged, untagged, has_tag};
+ghost use Rattle.misp_model.specs.Edits.{at_tags, tagged, untagged, has_tag};
 
 use misp_elem::{AttributeBody, Content, EventBody, Row, Tag};
 use misp_ids::{Items, NoMemory, Text};
@@ -32,7 +32,7 @@ fn copy_of(tag: &Tag) -> Result<Tag, NoMemory>
 }
 
 // The tags without that of this name.
-#[tactic(auto, unfolding(misp_rules::specs::Edits::untagged))]
+#[tactic(auto, unfolding(misp_model::specs::Edits::untagged))]
 fn untagged(alloc: Global, name: &Text, tags: &[Tag]) -> Result<Vec<Tag>, NoMemory>
     ensures { IfOk result (λ made. made.items ≡ untagged name.now tags.now) }
 {
@@ -63,7 +63,7 @@ fn count_before(tags: &[Tag], tag: &Tag) -> usize
 }
 
 // The tags with this one, in the place of that of its name.
-#[tactic(auto, unfolding(misp_rules::specs::Edits::tagged))]
+#[tactic(auto, unfolding(misp_model::specs::Edits::tagged))]
 fn tagged(alloc: Global, tag: &Tag, tags: &[Tag]) -> Result<Vec<Tag>, NoMemory>
     ensures { IfOk result (λ made. made.items ≡ tagged tag.now tags.now) }
 {
@@ -82,7 +82,7 @@ fn has_name(tags: &[Tag], name: &Text) -> bool
 // ---- what a row says
 
 /// Whether the row has a tag of this name.
-#[tactic(auto, unfolding(misp_rules::specs::Edits::has_tag, misp_rules::specs::Edits::tags_in))]
+#[tactic(auto, unfolding(misp_model::specs::Edits::has_tag, misp_model::specs::Edits::tags_in))]
 pub(crate) fn has_tag(row: &Row, name: &Text) -> bool
     ensures { result ≡ has_tag name.now row.now }
 {
@@ -110,7 +110,7 @@ fn attribute_with(body: &AttributeBody, tags: Vec<Tag>) -> Result<AttributeBody,
 }
 
 /// The element with the tag.
-#[tactic(auto, unfolding(misp_rules::specs::Edits::at_tags))]
+#[tactic(auto, unfolding(misp_model::specs::Edits::at_tags))]
 pub(crate) fn with_tag(alloc: Global, content: &Content, tag: &Tag) -> Result<Content, NoMemory>
     ensures { IfOk result (λ made. made ≡ at_tags (tagged tag.now) content.now) }
 {
@@ -128,7 +128,7 @@ pub(crate) fn with_tag(alloc: Global, content: &Content, tag: &Tag) -> Result<Co
 }
 
 /// The element without the tag of this name.
-#[tactic(auto, unfolding(misp_rules::specs::Edits::at_tags))]
+#[tactic(auto, unfolding(misp_model::specs::Edits::at_tags))]
 pub(crate) fn without_tag(
     alloc: Global,
     content: &Content,

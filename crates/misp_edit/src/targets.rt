@@ -6,7 +6,7 @@ ghost use Rattle.std.specs.Ordering.{nat_cmp};
 ghost use Rattle.std.specs.BTreeSet.{contains};
 ghost use Rattle.misp_ids.specs.declared.uid.ElemId.{ElemId};
 ghost use Rattle.misp_elem.specs.declared.key.Place.{Place as SomePlace};
-ghost use Rattle.misp_rules.specs.Adding.{is_place_of};
+ghost use Rattle.misp_model.specs.Adding.{is_place_of};
 ghost use Rattle.misp_copies.specs.Uuids.{is_at};
 ghost use Rattle.misp_edit.specs.Targets.{kept_place, target_places, or_place, target_in, AreTargets, is_under};
 
@@ -31,7 +31,7 @@ fn is_under(deleted: &Objects, place: Place) -> bool
 }
 
 // The place of an element of the owner's copy, if neither it nor its object is deleted.
-#[tactic(auto, unfolding(crate::specs::Targets::kept_place, crate::specs::Targets::element_place, misp_rules::specs::Adding::place_in, misp_elem::specs::Parents::event_of, misp_ids::specs::Same::same_event, misp_ids::specs::Same::same_org))]
+#[tactic(auto, unfolding(crate::specs::Targets::kept_place, crate::specs::Targets::element_place, misp_model::specs::Adding::place_in, misp_elem::specs::Parents::event_of, misp_ids::specs::Same::same_event, misp_ids::specs::Same::same_org))]
 fn kept_place(row: &Row, owner: OrgId, event: EventId, deleted: &Objects) -> Option<Place>
     ensures { result ≡ kept_place (contains nat_cmp deleted.now) owner event row.now }
 {
@@ -52,7 +52,7 @@ fn kept_place(row: &Row, owner: OrgId, event: EventId, deleted: &Objects) -> Opt
 }
 
 // The uuid by which a reference names a place.
-#[tactic(auto, unfolding(misp_rules::specs::Adding::is_place_of, misp_ids::specs::Same::same_elem))]
+#[tactic(auto, unfolding(misp_model::specs::Adding::is_place_of, misp_ids::specs::Same::same_elem))]
 fn uuid_of(place: Place) -> Option<u128>
     ensures { (u : ElemId) → is_at result u.0.0 ≡ is_place_of u place }
 {

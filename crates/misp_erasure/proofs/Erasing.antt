@@ -4,13 +4,13 @@ use Rattle.misp_history.proofs.Prelude.{Act, AddEvent, AddParts, Ask, Asks, Call
 use Rattle.misp_history.proofs.Prelude.{Route, Scene, Sight, Syncs, TakePart, Version, World, all_both_give, and_parts, answer, asked, brings, cond_both, counted, cut, cut_rows, event_key, filter-map, filter_all, is_accepted, known}
 use Rattle.misp_history.proofs.Prelude.{known_at, known_cut, list_all, list_all-append, moved, passing, run, same_org, same_org-sound, scene, step, synced, synced_groups, tables, tables_cut}
 use Rattle.std.proofs.lemmas.List.Elements.{filter-append}
-use Rattle.misp_rules.specs.declared.change.Change.TheVariants.{DeleteReference, EditObject}
-use Rattle.misp_rules.proofs.Prelude.{cut_scene}
-use Rattle.misp_rules.specs.Closed.{HasPair, cut_body, erased_ask}
-use Rattle.misp_rules.proofs.Moving.{counted_cut}
-use Rattle.misp_rules.proofs.Plain_requests.{Follows, delete_element_follows, delete_follows, delete_reference_follows, edit_event_follows, edit_follows, edit_object_follows, propose_follows, publish_follows, sight_follows, tag_follows}
-use Rattle.misp_rules.proofs.Plain_requests.{take_follows, untag_follows}
-use Rattle.misp_rules.proofs.Judging.{judge_follows}
+use Rattle.misp_model.specs.declared.change.Change.TheVariants.{DeleteReference, EditObject}
+use Rattle.misp_model.proofs.Prelude.{cut_scene}
+use Rattle.misp_model.specs.Closed.{HasPair, cut_body, erased_ask}
+use Rattle.misp_model.proofs.Moving.{counted_cut}
+use Rattle.misp_model.proofs.Plain_requests.{Follows, delete_element_follows, delete_follows, delete_reference_follows, edit_event_follows, edit_follows, edit_object_follows, propose_follows, publish_follows, sight_follows, tag_follows}
+use Rattle.misp_model.proofs.Plain_requests.{take_follows, untag_follows}
+use Rattle.misp_model.proofs.Judging.{judge_follows}
 use Rattle.misp_history.specs.Acts.{replies_to, reply_to}
 use Rattle.misp_erasure.specs.Erasure.{cut_world, HasKnown, HasPairs, IsKept, erased_request, erased_command, erased_act, erase}
 use Rattle.misp_erasure.proofs.Moving.{passing_cut}

@@ -3,10 +3,10 @@ use Rattle.std.proofs.Common.{ℕ, [], ◌∷◌, false, Some, None, List, lengt
 use Rattle.misp_history.proofs.Prelude.{Act, AddEvent, Administers, Ask, Asks, Content, DeleteEvent, Draft, EditAttribute, EditEvent, ElemId, EventId, Group, Inst, Key, Label, Listed, Net, OrgId, Other, Place, Proposal, Publish, Refused}
 use Rattle.misp_history.proofs.Prelude.{Reply, Route, Rule, Saved, Seen, Submission, Syncs, Taken, is_less, label_kind, same_inst, tables}
 use Rattle.misp_ids.specs.declared.label.Way.TheVariants.{Pull, Push}
-use Rattle.misp_rules.specs.Prelude.{ElementExists, ElementFull, EventExists, EventGone, GroupNotUsable, NotGranted, NotOwner, ProposalExists, TimeLimit, VisibleAttribute, VisibleObject, Way}
-use Rattle.misp_rules.specs.Answers.{Packed, Parts, Shares}
-use Rattle.misp_rules.specs.Scene.{LockedCopy, OlderTime, ProposalClosed}
-use Rattle.misp_rules.specs.Shown.{order_of}
+use Rattle.misp_model.specs.Prelude.{ElementExists, ElementFull, EventExists, EventGone, GroupNotUsable, NotGranted, NotOwner, ProposalExists, TimeLimit, VisibleAttribute, VisibleObject, Way}
+use Rattle.misp_model.specs.Answers.{Packed, Parts, Shares}
+use Rattle.misp_model.specs.Scene.{LockedCopy, OlderTime, ProposalClosed}
+use Rattle.misp_model.specs.Shown.{order_of}
 use Rattle.misp_history.specs.Outcomes.{Stopped, Whole, run_partly}
 use Rattle.misp_erasure.specs.Kept.{replies, erased, start}
 use Rattle.misp_elem.specs.KeyFacts
@@ -26,19 +26,19 @@ use Rattle.misp_ids.specs.Moments
 use Rattle.misp_ids.specs.Same
 use Rattle.misp_levels.specs.Levels
 use Rattle.misp_lists.specs.Order
-use Rattle.misp_rules.specs.Adding
-use Rattle.misp_rules.specs.Answers
-use Rattle.misp_rules.specs.Arrival
-use Rattle.misp_rules.specs.Changing
-use Rattle.misp_rules.specs.Closed
-use Rattle.misp_rules.specs.Edits
-use Rattle.misp_rules.specs.Pulling
-use Rattle.misp_rules.specs.RowOrder
-use Rattle.misp_rules.specs.Scene
-use Rattle.misp_rules.specs.Shown
-use Rattle.misp_rules.specs.Statements
-use Rattle.misp_rules.specs.Version
-use Rattle.misp_rules.specs.View
+use Rattle.misp_model.specs.Adding
+use Rattle.misp_model.specs.Answers
+use Rattle.misp_model.specs.Arrival
+use Rattle.misp_model.specs.Changing
+use Rattle.misp_model.specs.Closed
+use Rattle.misp_model.specs.Edits
+use Rattle.misp_model.specs.Pulling
+use Rattle.misp_model.specs.RowOrder
+use Rattle.misp_model.specs.Scene
+use Rattle.misp_model.specs.Shown
+use Rattle.misp_model.specs.Statements
+use Rattle.misp_model.specs.Version
+use Rattle.misp_model.specs.View
 
 org : ℕ → OrgId
 org n = record { 0 = record { 0 = n } }

@@ -3,9 +3,9 @@ use Rattle.std.proofs.Common.{List, [], ◌∷◌, subst, inl, inr, ◌≡◌, r
 use Rattle.misp_history.proofs.Prelude.{Act, Ask, Asks, Command, ElemId, Element, EventId, Inst, IsClosed, Judge, Key, Net, OrgId, Place, Proposal, ProposalName, Reference, Row, Scene, Sighting, Verdict, Version, World, above, alike}
 use Rattle.misp_history.proofs.Prelude.{and_from, cases_Bool, false≢true, in_order, is_accepted, judged_place, known, known_at, list_all, list_any, newest, newest_from, or_cases, or_left, or_parts, parents, same_inst, same_inst-sound}
 use Rattle.misp_history.proofs.Prelude.{same_org, scene, step, tables}
-use Rattle.misp_rules.proofs.Prelude.{up_to}
-use Rattle.misp_rules.specs.Statements.{judged_at}
-use Rattle.misp_rules.specs.Closed.{HasPair, is_proposal_of}
+use Rattle.misp_model.proofs.Prelude.{up_to}
+use Rattle.misp_model.specs.Statements.{judged_at}
+use Rattle.misp_model.specs.Closed.{HasPair, is_proposal_of}
 use Rattle.misp_erasure.proofs.Members.{Member, member, member_right, member_of, member_joined, of_joined, member_left, of_filter, is_member, member_filter, all_members}
 use Rattle.misp_erasure.specs.Kept.{judged_by, is_one_of, proposal_of, joined, with_parents, with_made, with_acceptances, with_proposals, keys_known, acceptance_in, acceptance_of, keys_ever_known, acceptances}
 use Rattle.misp_erasure.specs.Erasure.{HasKnown, HasPairs, IsKept}

@@ -2,8 +2,8 @@
 use Rattle.std.proofs.Common.{◌≡◌, List, Bool, true, ℕ, [], ◌∷◌, false, refl, ap, sym, ◌∙◌, map, subst, inl, inr, cond, suc, ◌||◌, ◌⊎◌, not, filter}
 use Rattle.misp_history.proofs.Prelude.{Act, Ask, Asks, Command, Element, EventId, IsClosed, Judge, Key, Net, OrgId, ProposalName, Row, Scene, Verdict, Version, World, and_parts, cases_Bool, false≢true, is_accepted, judged_place, known_at}
 use Rattle.misp_history.proofs.Prelude.{list_all, list_any, or_cases, parents, same_org, scene, step}
-use Rattle.misp_rules.specs.Prelude.{is_proposal_of}
-use Rattle.misp_rules.specs.Closed.{HasPair}
+use Rattle.misp_model.specs.Prelude.{is_proposal_of}
+use Rattle.misp_model.specs.Closed.{HasPair}
 use Rattle.misp_erasure.proofs.Members.{Member, member, member_of, of_joined, of_filter}
 use Rattle.misp_erasure.specs.Erasure.{HasKnown, HasPairs, IsKept}
 use Rattle.misp_erasure.specs.Kept.{is_one_of, joined, keys_known, keys_ever_known, acceptance_in, acceptance_of, acceptances, judged_by, proposal_of, with_parents, with_made, with_acceptances, with_proposals}

@@ -2,7 +2,7 @@
 use Rattle.std.proofs.Common.{◌≡◌, List, Bool, ap, ◌∙◌, filter}
 use Rattle.misp_history.proofs.Prelude.{Group, IsClosed, Key, Route, Version, cut, cut_rows, filter_cut, known, known_cut, known_there, newest, passes, passing, row_of, tables, tables_cut}
 use Rattle.misp_history.proofs.Tables.{newest_cut, row_of_cut}
-use Rattle.misp_rules.proofs.Passing.{passes_cut}
+use Rattle.misp_model.proofs.Passing.{passes_cut}
 
 known_there_cut : (keep : Key → Bool) → IsClosed keep → (log : List Version) (groups : List Group) (route : Route) → known_there (cut keep log) groups route ≡ cut_rows keep (known_there log groups route)
 unfolding known_there

@@ -1,7 +1,7 @@
 -- What a request brings is the caller's, and of its act.
 use Rattle.std.proofs.Common.{◌≡◌, true}
 use Rattle.misp_history.proofs.Prelude.{Ask, Scene, as_published, brings, handed_in, let_out_row, list_all, same_org, same_org-refl, written}
-use Rattle.misp_rules.proofs.Owners.{brings_each}
+use Rattle.misp_model.proofs.Owners.{brings_each}
 
 -- what a request brings is the caller's
 pub brings_own : (s : Scene) (a : Ask) → list_all (λ v. same_org v.owner s.by) (brings s a) ≡ true

@@ -8,13 +8,13 @@ use Rattle.std.proofs.lemmas.List.Elements.{filter-append}
 use Rattle.misp_lists.proofs.Lists.{all_cut, any_none_cut, find_first, find_none, none_not_some, some_same}
 use Rattle.misp_elem.specs.Draft.{EventDraftFields as EventDraft}
 use Rattle.misp_elem.proofs.Same.{same_place-sound, target_kept}
-use Rattle.misp_rules.proofs.Prelude.{ElementExists, EventExists, EventGone, GroupNotUsable, NotGranted, cut_scene, is_live_cut, is_place_of, is_target_key, place_in, same_place, sees}
-use Rattle.misp_rules.specs.Adding.{brings_object, fits_parts, object_is_there, part_fits, reference_fits}
-use Rattle.misp_rules.specs.Scene.{LockedCopy, NotOwner, is_usable, own_live}
-use Rattle.misp_rules.specs.Closed.{cut_body, is_empty, keeps_reference, where_kept}
-use Rattle.misp_rules.proofs.Scenes.{holds_copy_cut, holds_home_cut, holds_tombstone_cut, is_taken_cut, is_usable_cut, own_live_cut, sees_cut}
-use Rattle.misp_rules.proofs.Plain_requests.{Follows, empty_is, not_kept}
-use Rattle.misp_rules.proofs.Judging.{is_accepted_where, refuses_less}
+use Rattle.misp_model.proofs.Prelude.{ElementExists, EventExists, EventGone, GroupNotUsable, NotGranted, cut_scene, is_live_cut, is_place_of, is_target_key, place_in, same_place, sees}
+use Rattle.misp_model.specs.Adding.{brings_object, fits_parts, object_is_there, part_fits, reference_fits}
+use Rattle.misp_model.specs.Scene.{LockedCopy, NotOwner, is_usable, own_live}
+use Rattle.misp_model.specs.Closed.{cut_body, is_empty, keeps_reference, where_kept}
+use Rattle.misp_model.proofs.Scenes.{holds_copy_cut, holds_home_cut, holds_tombstone_cut, is_taken_cut, is_usable_cut, own_live_cut, sees_cut}
+use Rattle.misp_model.proofs.Plain_requests.{Follows, empty_is, not_kept}
+use Rattle.misp_model.proofs.Judging.{is_accepted_where, refuses_less}
 
 -- a bar that refuses less where more fits
 bar_less : (a h f g : Bool) → (f ≡ true → g ≡ true) → (a || h && not f) ≡ false → (a || h && not g) ≡ false

@@ -1,8 +1,8 @@
 -- The same acts without what an organisation was never granted.
 use Rattle.std.specs.Prelude.{Bool, cond, Some, None, ℕ, suc, List, [], ◌∷◌, true, not, ◌||◌, ◌≡◌}
-use Rattle.misp_rules.specs.Prelude.{Inst, Key, OrgId, Scene, cut, is_accepted, list_all, same_org}
-use Rattle.misp_rules.specs.Closed.{erased_ask, HasPair}
-use Rattle.misp_rules.specs.declared.ask.Ask.{Ask}
+use Rattle.misp_model.specs.Prelude.{Inst, Key, OrgId, Scene, cut, is_accepted, list_all, same_org}
+use Rattle.misp_model.specs.Closed.{erased_ask, HasPair}
+use Rattle.misp_model.specs.declared.ask.Ask.{Ask}
 use Rattle.misp_history.specs.Acts.{World, Command, Asks, Nothing, Caller, Act, Misfits, Syncs, Takes_groups, Administers, scene, Net, step, known_at}
 
 -- the state without what is not kept

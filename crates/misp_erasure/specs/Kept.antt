@@ -1,9 +1,9 @@
 -- The keys that stay when the rest is erased: what the organisation was ever granted, and what
 -- that needs to make sense.
 use Rattle.std.specs.Prelude.{Bool, List, [], ◌∷◌, ◌++◌, map, filter, ℕ, suc, true, false, cond, Option}
-use Rattle.misp_rules.specs.Prelude.{Element, Key, OrgId, Proposal, Reference, Reply, Scene, Sighting, Verdict, is_accepted, judged_place, list_any, parents, same_key, same_org}
-use Rattle.misp_rules.specs.declared.ask.Ask.{Ask}
-use Rattle.misp_rules.specs.declared.ask.Ask.TheVariants.{View, Propose, Judge, Sight, Index, Groups, SyncGroups, SyncEvents, SyncPart, TakePart}
+use Rattle.misp_model.specs.Prelude.{Element, Key, OrgId, Proposal, Reference, Reply, Scene, Sighting, Verdict, is_accepted, judged_place, list_any, parents, same_key, same_org}
+use Rattle.misp_model.specs.declared.ask.Ask.{Ask}
+use Rattle.misp_model.specs.declared.ask.Ask.TheVariants.{View, Propose, Judge, Sight, Index, Groups, SyncGroups, SyncEvents, SyncPart, TakePart}
 use Rattle.misp_history.specs.Acts.{World, known_at, Act, Net, step, Asks, Misfits, Syncs, Takes_groups, Administers, Nothing, scene, replies_to}
 use Rattle.misp_erasure.specs.Erasure.{erase}
 

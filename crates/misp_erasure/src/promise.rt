@@ -6,7 +6,7 @@ ghost use Rattle.misp_elem.specs.declared.key.KeyForm.{KeyForm as Key};
 ghost use Rattle.misp_history.specs.Acts.{Act, Net, World, run, replies_to};
 ghost use Rattle.misp_ids.specs.Same.{Inst};
 ghost use Rattle.misp_history.specs.History.{tables};
-ghost use Rattle.misp_rules.specs.Closed.{IsClosed, cut_rows};
+ghost use Rattle.misp_model.specs.Closed.{IsClosed, cut_rows};
 ghost use Rattle.misp_erasure.specs.Erasure.{IsKept, cut_world, erase};
 ghost use Rattle.misp_erasure.specs.Kept.{kept, start, erased, replies};
 

@@ -3,7 +3,7 @@ use Rattle.std.proofs.Common.{◌≡◌, ℕ, ◌<◌, ◌≤◌, ◌^◌, Bool,
 use Rattle.misp_elem.specs.Fields.{IsDate}
 use Rattle.misp_elem.specs.Draft.{IsOptionalDate}
 use Rattle.misp_elem.specs.Prelude.{IsLabel, IsLabelBut, IsOptionalUid, IsText, text_limit}
-use Rattle.misp_rules.specs.Edit.{IsGiven, IsKindValue, given_size, pair_size}
+use Rattle.misp_model.specs.Edit.{IsGiven, IsKindValue, given_size, pair_size}
 use Rattle.misp_format.specs.Prelude.{Body, Data, Label, Need, Reading, Uid, is_utf8, label_at, label_kind, must_be}
 use Rattle.misp_format.specs.Edits.{has, given, given_row, given_label_at}
 use Rattle.misp_format.specs.Entries.{IsKeptPair}

@@ -6,10 +6,10 @@ use Rattle.serde_json.specs.Data.{Data}
 use Rattle.misp_ids.specs.declared.label.Label.{Label}
 use Rattle.misp_fields.specs.declared.need.Need.{Need}
 use Rattle.misp_fields.specs.Fields.{member_of, text_of, flag_of, stamp_of, optional_uuid_of}
-use Rattle.misp_rules.specs.declared.edit.EventEditFields.{EventEditFields}
-use Rattle.misp_rules.specs.declared.edit.AttributeEditFields.{AttributeEditFields}
-use Rattle.misp_rules.specs.declared.edit.ObjectEditFields.{ObjectEditFields}
-use Rattle.misp_rules.specs.Edit.{given_size, pair_size}
+use Rattle.misp_model.specs.declared.edit.EventEditFields.{EventEditFields}
+use Rattle.misp_model.specs.declared.edit.AttributeEditFields.{AttributeEditFields}
+use Rattle.misp_model.specs.declared.edit.ObjectEditFields.{ObjectEditFields}
+use Rattle.misp_model.specs.Edit.{given_size, pair_size}
 use Rattle.misp_format.specs.Body.{Body}
 use Rattle.misp_format.specs.Elements.{unless_long, kind_at, value_at}
 use Rattle.misp_format.specs.Kinds.{category_of}

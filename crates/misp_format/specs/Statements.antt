@@ -12,8 +12,8 @@ use Rattle.misp_elem.specs.declared.content.Content.{Content}
 use Rattle.misp_elem.specs.Contents.{is_removal}
 use Rattle.misp_elem.specs.Prelude.{ElemId, EventId, Uid, place_kind, text_size}
 use Rattle.misp_elem.specs.Visible.{place_in}
-use Rattle.misp_rules.specs.declared.statement.ProposalDraftFields.{ProposalDraftFields}
-use Rattle.misp_rules.specs.declared.statement.SightingDraftFields.{SightingDraftFields}
+use Rattle.misp_model.specs.declared.statement.ProposalDraftFields.{ProposalDraftFields}
+use Rattle.misp_model.specs.declared.statement.SightingDraftFields.{SightingDraftFields}
 use Rattle.misp_format.specs.Body.{Body}
 use Rattle.misp_format.specs.Edits.{has, given_row}
 use Rattle.misp_format.specs.Elements.{unless_long, kind_at, no_file_at, value_at}

@@ -4,7 +4,7 @@ use Rattle.misp_history.proofs.Prelude.{AllByRecursion, Inst, IsDistinct, Label,
 use Rattle.misp_history.proofs.Prelude.{filter_all, fresh_row, has_path, is_handed_in, is_published, label_now, list_all, list_all-append, list_any, nat_tests, published_after, put, put_all, put_row}
 use Rattle.misp_history.proofs.Prelude.{released, row_of, same_cell, same_inst, same_inst-refl, same_key, same_org, stands_before, tables}
 use Rattle.misp_levels.specs.Levels.{down}
-use Rattle.misp_rules.proofs.Fresh.{not_handed_in}
+use Rattle.misp_model.proofs.Fresh.{not_handed_in}
 use Rattle.misp_history.proofs.Putting.{is_new_to, or_none, put_many, tables_more}
 
 -- ---- a version that was just written, as a row

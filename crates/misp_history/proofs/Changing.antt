@@ -3,7 +3,7 @@ use Rattle.std.proofs.Common.{◌≡◌, ◌+◌, Bool, true, false, refl, arith
 use Rattle.misp_history.proofs.Prelude.{AllByRecursion, Content, ElemId, Element, EventId, IsDistinct, Key, Label, ProposalBody, ProposalName, Row, Scene, Verdict, Version, acceptance, accepted, and_from, and_parts, and_right, as_deleted}
 use Rattle.misp_history.proofs.Prelude.{at_attribute, changed, changed_row, cond_both, event_of, find_passes, found_among, is_for_new, is_known, is_live, is_row_of, is_taken, judged_place, known, list_any, made, next_stamp, of_part}
 use Rattle.misp_history.proofs.Prelude.{own_reference, own_row, row_of_name, same_cell, same_event-refl, same_inst, same_key, same_org, same_org-sound, tables, takes_uuid, uuid_at, written}
-use Rattle.misp_rules.specs.Changing.{is_reference_named}
+use Rattle.misp_model.specs.Changing.{is_reference_named}
 use Rattle.misp_history.proofs.AsNew.{none_newer}
 use Rattle.misp_history.proofs.Adding.{AreWritten}
 use Rattle.misp_history.proofs.Submitted.{no_own_row, one_free}

@@ -1,6 +1,6 @@
 -- The packages up to the n-th that brings a row, and how many bring one.
 use Rattle.std.proofs.Common.{◌≡◌, ℕ, zero, suc, ◌+◌, min, Bool, List, [], ◌∷◌, ◌++◌, take, refl, ◌∙◌, ap, arith, append_assoc, append-nil}
-use Rattle.misp_rules.specs.Prelude.{Row}
+use Rattle.misp_model.specs.Prelude.{Row}
 use Rattle.misp_history.specs.Merging.{bringing, brought, count_bringing, fewer_where, fresh, more_where}
 
 module _ (test : Row → Bool) where

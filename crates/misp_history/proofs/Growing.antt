@@ -1,8 +1,8 @@
 -- One arrival more: it takes the place of its cell's newest where it is newer, and nothing else changes.
 use Rattle.std.proofs.Common.{◌≡◌, true, ap, ◌∙◌, sym, Bool, false, refl, List, ◌++◌, cond, ◌<◌, ◌≤◌, [], ◌∷◌, arith, leb, ltb, inl, inr, ℕ, ◌&&◌, ◌||◌, not, ltb-true, leb-true, lt-ltb, le-leb, filter}
 use Rattle.std.proofs.lemmas.Bool.{cases_Bool}
-use Rattle.misp_rules.proofs.Prelude.{Inst, Version, alike, and_from, and_left, and_parts, and_right, any_implies, false≢true, list_any, list_any-append, nat_tests, not-false, not-true, or_cases, or_parts, same_inst, same_inst-refl}
-use Rattle.misp_rules.proofs.Prelude.{same_inst-sound, same_key, same_key-refl, same_key-sound, same_org, same_org-refl, same_org-sound}
+use Rattle.misp_model.proofs.Prelude.{Inst, Version, alike, and_from, and_left, and_parts, and_right, any_implies, false≢true, list_any, list_any-append, nat_tests, not-false, not-true, or_cases, or_parts, same_inst, same_inst-refl}
+use Rattle.misp_model.proofs.Prelude.{same_inst-sound, same_key, same_key-refl, same_key-sound, same_org, same_org-refl, same_org-sound}
 use Rattle.misp_history.specs.History.{same_cell, is_newest, newest_from, newest}
 
 -- of one cell: at one instance, of one owner, of one key

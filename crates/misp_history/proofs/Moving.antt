@@ -1,7 +1,7 @@
 -- What arrives of an event's rows is what is of the event in all that arrives.
 use Rattle.std.proofs.Common.{◌≡◌, List, Bool, ap, ◌∙◌, sym, map, filter}
 use Rattle.misp_history.proofs.Prelude.{EventId, Group, IsClosed, Key, Route, Row, arrived, arriving_rows, cut_rows, event_is_closed, event_of, event_rows, filter-map, known, known_cut, of_event, passes, passing_rows, same_event}
-use Rattle.misp_rules.proofs.Passing.{rows_pass_cut}
+use Rattle.misp_model.proofs.Passing.{rows_pass_cut}
 
 -- of an event's rows passes what is of the event in all that passes
 passing_rows_cut : (keep : Key → Bool) → IsClosed keep → (rows : List Row) (groups : List Group) (route : Route) → passing_rows (cut_rows keep rows) groups route ≡ cut_rows keep (passing_rows rows groups route)

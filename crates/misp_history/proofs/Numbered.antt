@@ -2,8 +2,8 @@
 use Rattle.std.proofs.Common.{ℕ, Bool, ltb, ◌≡◌, List, [], ◌∷◌, true, refl, map, suc, arith, ◌&&◌, Option, Some, None}
 use Rattle.misp_history.proofs.Prelude.{Act, Asks, Caller, Command, Group, Inst, Net, Route, Scene, Syncs, Version, World, all-filter, all_both, and_from, and_parts, as_published, asked, brings, cond_both, counted, counts, handed_in}
 use Rattle.misp_history.proofs.Prelude.{is_accepted, is_newest, known_there, let_out_row, list_all, moved, nat_tests, newest, newest_from, passes, passing, row_of, same_inst, scene, step, synced, synced_groups, tables, written}
-use Rattle.misp_rules.specs.declared.ask.Ask.{Ask}
-use Rattle.misp_rules.proofs.Owners.{brings_each}
+use Rattle.misp_model.specs.declared.ask.Ask.{Ask}
+use Rattle.misp_model.proofs.Owners.{brings_each}
 use Rattle.misp_history.proofs.Adding.{below_next}
 
 -- the version is of an act below the number

@@ -6,14 +6,14 @@ use Rattle.misp_history.proofs.Prelude.{at_attribute, at_publishing, at_tags, bo
 use Rattle.misp_history.proofs.Prelude.{fresh_row, handed_in, has_copy, has_event, has_tag, is_for_new, is_held_in, is_row_of, is_statement, is_welcome, judge_writes, judged_place, label_now, length-map, let_out, let_out_row, list_any}
 use Rattle.misp_history.proofs.Prelude.{made, map-append, map-map, new_event, newer, ok_answer, own_reference, own_row, own_row_is, part_version, parts_written, proposal_key, propose_writes, reference_key, reference_version, same_key}
 use Rattle.misp_history.proofs.Prelude.{scene, scene_as, shown, sight_writes, sighting_key, taken_rows, target_in_copy, target_of, untagged, written}
-use Rattle.misp_rules.specs.Numbers.{version_as, versions_as, reply_as}
-use Rattle.misp_rules.specs.declared.change.Change.TheVariants.{DeleteReference}
-use Rattle.misp_rules.specs.Statements.{proposal_row}
-use Rattle.misp_rules.proofs.Numbers.{index_alike, rules_alike, rules_as, shown_alike}
-use Rattle.misp_rules.specs.Answers.{Packed}
-use Rattle.misp_rules.specs.Machine.{pulls}
-use Rattle.misp_rules.specs.Pulling.{pulled_events, pulled_groups, pulled_part, pulled_rows}
-use Rattle.misp_rules.specs.declared.package.PackageFields.{PackageFields as Package}
+use Rattle.misp_model.specs.Numbers.{version_as, versions_as, reply_as}
+use Rattle.misp_model.specs.declared.change.Change.TheVariants.{DeleteReference}
+use Rattle.misp_model.specs.Statements.{proposal_row}
+use Rattle.misp_model.proofs.Numbers.{index_alike, rules_alike, rules_as, shown_alike}
+use Rattle.misp_model.specs.Answers.{Packed}
+use Rattle.misp_model.specs.Machine.{pulls}
+use Rattle.misp_model.specs.Pulling.{pulled_events, pulled_groups, pulled_part, pulled_rows}
+use Rattle.misp_model.specs.declared.package.PackageFields.{PackageFields as Package}
 use Rattle.misp_history.proofs.Prelude.{Groups, Inst, Propose, Sight, SyncEvents, SyncGroups, SyncPart, false≢true}
 
 -- ---- lists

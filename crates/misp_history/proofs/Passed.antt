@@ -4,7 +4,7 @@ use Rattle.misp_history.proofs.Prelude.{AreRows, Content, Element, EventId, Grou
 use Rattle.misp_history.proofs.Prelude.{arrived, arrives, arriving_rows, content_kind, element_granted, element_passes, event_key, event_of, false_from_ne_true, false≢true, first_of_all, fits, found, found_among, granted, granted_by}
 use Rattle.misp_history.proofs.Prelude.{granted_known, has_copy, has_open, is_gone, is_known, is_row_of, is_sent_owner, is_tombstone, kept_has, known, label_kind, lets_out, list_all, list_any, map_from, not-true, of_part, parents}
 use Rattle.misp_history.proofs.Prelude.{pass_alike, passes, passes_at, passes_by, passing_rows, row_is_open, same_key, same_key-refl, same_key-sound, same_org-refl, sent_copy}
-use Rattle.misp_rules.specs.View.{is_before}
+use Rattle.misp_model.specs.View.{is_before}
 use Rattle.misp_history.proofs.Copies.{gone_kept}
 use Rattle.misp_history.proofs.Sent.{passes_granted}
 

@@ -7,33 +7,33 @@ pub use Rattle.misp_lists.proofs.Elements.{all_has, filter_among, first_or, foun
 pub use Rattle.misp_lists.proofs.Lists.{all-map, all_both, all_both_give, all_implies, all_of_kept, any_found, any_never, any_of_kept, any_of_part, filter_all, filter_never, map_same, map_twice, map_where, none_either}
 pub use Rattle.misp_lists.proofs.Ordering.{Ordered, all_put, any_put, from_in_order, in_order_has, in_order_map, in_order_more, put_cut, put_front, put_map, put_swap}
 unfoldable pub use Rattle.misp_ids.specs.Moments.{next_stamp}
-pub use Rattle.misp_rules.proofs.Judging.{none_refuses}
-unfoldable pub use Rattle.misp_rules.proofs.Plain_requests.{refuses}
-unfoldable pub use Rattle.misp_rules.proofs.Prelude.{IsDistinct, above, acceptance, accepted, answer, are_distinct, as_deleted, ask_rules, at_attribute, at_tags, bars, brings, change_rules, change_writes, changed, changed_row, counted}
-unfoldable pub use Rattle.misp_rules.proofs.Prelude.{counts, cut_rows, element_granted, event_key, event_of, event_written, first_of_all, first_rule, granted, granted_by, handed_in, has_copy, has_event, has_gone, has_home, has_open}
-unfoldable pub use Rattle.misp_rules.proofs.Prelude.{has_path, has_target, holds_copy, in_one_cell, in_order, is_accepted, is_for_new, is_gone, is_handed_in, is_known, is_least, is_less, is_live, is_made_at, is_published, is_row_of}
-unfoldable pub use Rattle.misp_rules.proofs.Prelude.{is_statement, is_taken, is_tombstone, is_welcome, judged_place, known, label_is_known, label_now, last_stamp, made, new_event, of_event, ok_answer, own_reference, own_row, parents}
-unfoldable pub use Rattle.misp_rules.proofs.Prelude.{part_version, parts_written, put, put_all, put_group, put_row, reference_key, reference_version, row_is_open, same_event, same_inst, same_key, same_org, shown, spell, stands_before}
-unfoldable pub use Rattle.misp_rules.proofs.Prelude.{takes_uuid, target_in_copy, target_of, untagged, uuid_at, written}
-pub use Rattle.misp_rules.proofs.Prelude.{AllByRecursion, AreRows, Content, Draft, ElemId, Element, EventId, Group, GroupId, Inst, IsClosed, IsContent, IsRow, IsTable, IsUid, Key, Label, OrgId, Other, Place, Proposal, ProposalBody}
-pub use Rattle.misp_rules.proofs.Prelude.{ProposalName, Reference, ReferenceDraft, Refused, Reply, Row, Rule, Saved, Scene, Seen, Sighting, Submission, Tag, Verdict, Version, VisibleEvent, alike, all-filter, all_in_order, all_same}
-pub use Rattle.misp_rules.proofs.Prelude.{and_from, and_left, and_parts, and_right, any_agree, any_cut, any_has, any_implies, any_in_order, any_map, any_weaker, any_within, cons_option, content_kind, event_is_closed, event_kept, event_rows}
-pub use Rattle.misp_rules.proofs.Prelude.{false_from_ne_true, false≢true, filter-map, filter_agree, filter_cut, filter_within, find_passes, fits, found, granted_known, here, kept_has, known_cut, label_kind, length-map, list_all, list_any}
-pub use Rattle.misp_rules.proofs.Prelude.{list_any-append, map-append, map-map, map_from, may_remove, nat_tests, not-false, not-true, of_part, one_cell, or_cases, or_left, or_parts, or_right, part_is_table, pass_alike, row_cell_back}
-pub use Rattle.misp_rules.proofs.Prelude.{row_of_name, same_event-refl, same_event-sound, same_inst-refl, same_inst-sound, same_key-keeps, same_key-refl, same_key-sound, same_org-refl, same_org-sound, there, true_from_ne_false}
-unfoldable pub use Rattle.misp_rules.specs.Answers.{concerning, newer}
-pub use Rattle.misp_rules.specs.Answers.{Listed, Taken}
-unfoldable pub use Rattle.misp_rules.specs.Machine.{hands_in, is_of_copy, let_go, published_row}
-pub use Rattle.misp_rules.specs.Machine.{unheld}
-unfoldable pub use Rattle.misp_rules.specs.Prelude.{as_published, at_publishing, body_seen, clashes, cut, has_tag, has_unusable, holds_home, holds_tombstone, is_at_limit, is_held_in, judge_rules, judge_writes, let_out, let_out_row}
-unfoldable pub use Rattle.misp_rules.specs.Prelude.{own_row_is, proposal_key, propose_rules, propose_writes, sight_rules, sight_writes, sighting_key, taken_rows, uuids_of}
-pub use Rattle.misp_rules.specs.Prelude.{EventDraft, scene_as}
-unfoldable pub use Rattle.misp_rules.specs.Version.{is_event_of}
-pub use Rattle.misp_rules.specs.Version.{Came, Handed_in, Published, Written}
-pub use Rattle.misp_rules.specs.declared.ask.Ask.{Ask}
-pub use Rattle.misp_rules.specs.declared.ask.Ask.TheVariants.{Groups, Index, Judge, Propose, Sight, SyncEvents, SyncGroups, SyncPart, TakePart, View}
-pub use Rattle.misp_rules.specs.declared.change.Change.{Change}
-pub use Rattle.misp_rules.specs.declared.change.Change.TheVariants.{AddEvent, AddParts, Delete, DeleteEvent, EditAttribute, EditEvent, Publish}
+pub use Rattle.misp_model.proofs.Judging.{none_refuses}
+unfoldable pub use Rattle.misp_model.proofs.Plain_requests.{refuses}
+unfoldable pub use Rattle.misp_model.proofs.Prelude.{IsDistinct, above, acceptance, accepted, answer, are_distinct, as_deleted, ask_rules, at_attribute, at_tags, bars, brings, change_rules, change_writes, changed, changed_row, counted}
+unfoldable pub use Rattle.misp_model.proofs.Prelude.{counts, cut_rows, element_granted, event_key, event_of, event_written, first_of_all, first_rule, granted, granted_by, handed_in, has_copy, has_event, has_gone, has_home, has_open}
+unfoldable pub use Rattle.misp_model.proofs.Prelude.{has_path, has_target, holds_copy, in_one_cell, in_order, is_accepted, is_for_new, is_gone, is_handed_in, is_known, is_least, is_less, is_live, is_made_at, is_published, is_row_of}
+unfoldable pub use Rattle.misp_model.proofs.Prelude.{is_statement, is_taken, is_tombstone, is_welcome, judged_place, known, label_is_known, label_now, last_stamp, made, new_event, of_event, ok_answer, own_reference, own_row, parents}
+unfoldable pub use Rattle.misp_model.proofs.Prelude.{part_version, parts_written, put, put_all, put_group, put_row, reference_key, reference_version, row_is_open, same_event, same_inst, same_key, same_org, shown, spell, stands_before}
+unfoldable pub use Rattle.misp_model.proofs.Prelude.{takes_uuid, target_in_copy, target_of, untagged, uuid_at, written}
+pub use Rattle.misp_model.proofs.Prelude.{AllByRecursion, AreRows, Content, Draft, ElemId, Element, EventId, Group, GroupId, Inst, IsClosed, IsContent, IsRow, IsTable, IsUid, Key, Label, OrgId, Other, Place, Proposal, ProposalBody}
+pub use Rattle.misp_model.proofs.Prelude.{ProposalName, Reference, ReferenceDraft, Refused, Reply, Row, Rule, Saved, Scene, Seen, Sighting, Submission, Tag, Verdict, Version, VisibleEvent, alike, all-filter, all_in_order, all_same}
+pub use Rattle.misp_model.proofs.Prelude.{and_from, and_left, and_parts, and_right, any_agree, any_cut, any_has, any_implies, any_in_order, any_map, any_weaker, any_within, cons_option, content_kind, event_is_closed, event_kept, event_rows}
+pub use Rattle.misp_model.proofs.Prelude.{false_from_ne_true, false≢true, filter-map, filter_agree, filter_cut, filter_within, find_passes, fits, found, granted_known, here, kept_has, known_cut, label_kind, length-map, list_all, list_any}
+pub use Rattle.misp_model.proofs.Prelude.{list_any-append, map-append, map-map, map_from, may_remove, nat_tests, not-false, not-true, of_part, one_cell, or_cases, or_left, or_parts, or_right, part_is_table, pass_alike, row_cell_back}
+pub use Rattle.misp_model.proofs.Prelude.{row_of_name, same_event-refl, same_event-sound, same_inst-refl, same_inst-sound, same_key-keeps, same_key-refl, same_key-sound, same_org-refl, same_org-sound, there, true_from_ne_false}
+unfoldable pub use Rattle.misp_model.specs.Answers.{concerning, newer}
+pub use Rattle.misp_model.specs.Answers.{Listed, Taken}
+unfoldable pub use Rattle.misp_model.specs.Machine.{hands_in, is_of_copy, let_go, published_row}
+pub use Rattle.misp_model.specs.Machine.{unheld}
+unfoldable pub use Rattle.misp_model.specs.Prelude.{as_published, at_publishing, body_seen, clashes, cut, has_tag, has_unusable, holds_home, holds_tombstone, is_at_limit, is_held_in, judge_rules, judge_writes, let_out, let_out_row}
+unfoldable pub use Rattle.misp_model.specs.Prelude.{own_row_is, proposal_key, propose_rules, propose_writes, sight_rules, sight_writes, sighting_key, taken_rows, uuids_of}
+pub use Rattle.misp_model.specs.Prelude.{EventDraft, scene_as}
+unfoldable pub use Rattle.misp_model.specs.Version.{is_event_of}
+pub use Rattle.misp_model.specs.Version.{Came, Handed_in, Published, Written}
+pub use Rattle.misp_model.specs.declared.ask.Ask.{Ask}
+pub use Rattle.misp_model.specs.declared.ask.Ask.TheVariants.{Groups, Index, Judge, Propose, Sight, SyncEvents, SyncGroups, SyncPart, TakePart, View}
+pub use Rattle.misp_model.specs.declared.change.Change.{Change}
+pub use Rattle.misp_model.specs.declared.change.Change.TheVariants.{AddEvent, AddParts, Delete, DeleteEvent, EditAttribute, EditEvent, Publish}
 pub use Rattle.misp_history.proofs.Growing.{cell_back, newest_more}
 pub use Rattle.misp_history.proofs.Putting.{before_on, before_one_way}
 pub use Rattle.misp_history.proofs.Tables.{in_order_rows, tables_cut}

@@ -8,14 +8,14 @@ use Rattle.misp_history.proofs.Prelude.{in_order_rows, is_own, kept_has, known_a
 use Rattle.misp_history.proofs.Prelude.{same_event-refl, same_event-sound, same_key-sound, same_org, same_org-refl, scene, sent_copy, stands_before, tables, there}
 use Rattle.misp_ids.specs.declared.label.Way.{Way}
 use Rattle.misp_groups.specs.Audience.{carries}
-use Rattle.misp_rules.specs.Prelude.{NotGranted}
+use Rattle.misp_model.specs.Prelude.{NotGranted}
 use Rattle.misp_history.proofs.Prelude.{all-map, cons_option, known}
 use Rattle.misp_history.proofs.Prelude.{SyncGroups, SyncPart, AllByRecursion, same_org-sound}
-use Rattle.misp_rules.specs.Answers.{Packed, Shares}
-use Rattle.misp_rules.specs.Package.{nobody}
-use Rattle.misp_rules.specs.Packing.{cut}
-use Rattle.misp_rules.specs.Pulling.{arriving_by, pull_route, pulled_events, pulled_groups, pulled_packages, pulled_part, pulled_rows}
-use Rattle.misp_rules.specs.declared.package.PackageFields.{PackageFields as Package}
+use Rattle.misp_model.specs.Answers.{Packed, Shares}
+use Rattle.misp_model.specs.Package.{nobody}
+use Rattle.misp_model.specs.Packing.{cut}
+use Rattle.misp_model.specs.Pulling.{arriving_by, pull_route, pulled_events, pulled_groups, pulled_packages, pulled_part, pulled_rows}
+use Rattle.misp_model.specs.declared.package.PackageFields.{PackageFields as Package}
 use Rattle.misp_history.specs.Answered.{PullsBy, events_in, packages_answered, parts_answered, rows_in, to_nobody}
 use Rattle.misp_history.proofs.Sent.{arriving_table}
 

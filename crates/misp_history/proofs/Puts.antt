@@ -4,9 +4,9 @@ use Rattle.misp_history.proofs.Prelude.{AddEvent, AddParts, AllByRecursion, Ask,
 use Rattle.misp_history.proofs.Prelude.{Version, acceptance, ask_rules, at_tags, bars, body_seen, brings, change_rules, change_writes, clashes, false≢true, fresh_row, hands_in, has_tag, is_accepted, is_for_new, is_row_of, is_taken}
 use Rattle.misp_history.proofs.Prelude.{judge_rules, judge_writes, judged_place, known, list_all, list_any, none_refuses, or_parts, own_row_is, proposal_key, propose_rules, propose_writes, put_all, refuses, same_cell, sight_rules}
 use Rattle.misp_history.proofs.Prelude.{sight_writes, sighting_key, tables, untagged, uuid_at, written}
-use Rattle.misp_rules.specs.declared.change.Change.TheVariants.{DeleteReference}
-use Rattle.misp_rules.specs.declared.statement.ProposalDraftFields.{ProposalDraftFields as ProposalDraft}
-use Rattle.misp_rules.specs.declared.statement.SightingDraftFields.{SightingDraftFields as SightingDraft}
+use Rattle.misp_model.specs.declared.change.Change.TheVariants.{DeleteReference}
+use Rattle.misp_model.specs.declared.statement.ProposalDraftFields.{ProposalDraftFields as ProposalDraft}
+use Rattle.misp_model.specs.declared.statement.SightingDraftFields.{SightingDraftFields as SightingDraft}
 use Rattle.misp_history.proofs.Adding.{AreWritten, tables_written}
 use Rattle.misp_history.proofs.Submitted.{event_new, parts_new}
 use Rattle.misp_history.proofs.Changing.{none_new, changed_row_new, choice_new, reference_new, key_new, acceptance_new, acceptance_apart}

@@ -4,8 +4,8 @@ use Rattle.std.proofs.lemmas.Bool.{cases_Bool, cond_both}
 use Rattle.std.proofs.lemmas.List.{map_push}
 use Rattle.misp_lists.proofs.Orders.{less_on, less_one_way}
 use Rattle.misp_lists.proofs.Ordering.{Apart, in_order_more}
-use Rattle.misp_rules.proofs.Prelude.{AllByRecursion, Inst, IsDistinct, Row, Version, and_from, and_left, and_parts, and_right, event_key, event_of, false≢true, filter-map, filter_agree, has_path, head_of, in_one_cell, in_order}
-use Rattle.misp_rules.proofs.Prelude.{is_published, less_or, list_all, list_any, list_any-append, one_cell, put, put_all, put_row, same_inst, same_inst-sound, same_key, same_org, spell, spells, stands_before, tail_of}
+use Rattle.misp_model.proofs.Prelude.{AllByRecursion, Inst, IsDistinct, Row, Version, and_from, and_left, and_parts, and_right, event_key, event_of, false≢true, filter-map, filter_agree, has_path, head_of, in_one_cell, in_order}
+use Rattle.misp_model.proofs.Prelude.{is_published, less_or, list_all, list_any, list_any-append, one_cell, put, put_all, put_row, same_inst, same_inst-sound, same_key, same_org, spell, spells, stands_before, tail_of}
 use Rattle.misp_history.specs.History.{published_after, released, row_of, is_newest, newest_from, newest, same_cell, tables}
 use Rattle.misp_history.proofs.Growing.{newest_more}
 use Rattle.misp_history.proofs.Tables.{in_order_rows}

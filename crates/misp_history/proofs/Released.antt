@@ -7,7 +7,7 @@ use Rattle.misp_history.proofs.Prelude.{has_home, has_path, holds_copy, holds_ho
 use Rattle.misp_history.proofs.Prelude.{let_out_row, list_all, list_any, list_any-append, map_from, map_same, newest, newest_more, none_refuses, not-true, of_part, or_left, or_parts, or_right, own_row, published_after, published_row, put}
 use Rattle.misp_history.proofs.Prelude.{put_all, put_row, refuses, released, row_of, row_of_name, same_cell, same_event, same_event-sound, same_inst, same_key, same_key-refl, same_key-sound, same_org, same_org-refl, same_org-sound}
 use Rattle.misp_history.proofs.Prelude.{stands_before, tables, unheld, written}
-use Rattle.misp_rules.specs.Scene.{sees as is_seen}
+use Rattle.misp_model.specs.Scene.{sees as is_seen}
 use Rattle.misp_history.proofs.Putting.{lets_out, row_of_more, is_other}
 use Rattle.misp_history.proofs.AsNew.{backed, tables_sorted}
 use Rattle.misp_history.proofs.Publishing.{IsPublishing, others_kept, published_tables, put_kept}

@@ -6,7 +6,7 @@ use Rattle.misp_history.proofs.Prelude.{from_in_order, granted, granted_known, h
 use Rattle.misp_history.proofs.Prelude.{map_has, map_twice, moved, newest, not-true, one_cell, passes, passes_by, passing, passing_rows, row_of, same_cell, same_inst, same_inst-refl, same_key, same_key-refl, same_key-sound, same_org}
 use Rattle.misp_history.proofs.Prelude.{same_org-sound, sent_copy, stands_before, tables, without_local_tags}
 use Rattle.misp_levels.proofs.Steps.{down_more}
-use Rattle.misp_rules.proofs.KnownRows.{granted_is_known}
+use Rattle.misp_model.proofs.KnownRows.{granted_is_known}
 use Rattle.misp_history.proofs.AsNew.{tables_are_tables, newest_apart}
 use Rattle.misp_history.proofs.Arriving.{settled, comes}
 

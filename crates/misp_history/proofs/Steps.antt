@@ -2,7 +2,7 @@
 use Rattle.std.proofs.Common.{◌≡◌, List, [], ◌++◌, Bool, ◌∙◌, true, refl, false, ℕ, append-nil, Option, inl, inr}
 use Rattle.misp_history.proofs.Prelude.{Act, Administers, Ask, Asks, Caller, Change, EventId, Group, Groups, Index, Inst, Misfits, Net, Nothing, OrgId, Scene, View, World, asked, brings, cases_Bool, change_writes, is_accepted, same_inst}
 use Rattle.misp_history.proofs.Prelude.{SyncEvents, SyncGroups, SyncPart, false≢true, same_inst-refl, scene, step, with_groups}
-use Rattle.misp_rules.specs.Machine.{pulls}
+use Rattle.misp_model.specs.Machine.{pulls}
 use Rattle.misp_groups.specs.Changes.{administered}
 
 asked_accepted : (w : World) (s : Scene) (a : Ask) → is_accepted s a ≡ true → asked w s a ≡ record w { log = w.log ++ brings s a }

@@ -3,9 +3,9 @@ use Rattle.std.proofs.Common.{◌≡◌, List, Bool, true, ltb, refl, leb, ◌�
 use Rattle.misp_lists.proofs.Lists.{map_same}
 use Rattle.misp_lists.proofs.Ordering.{in_order_cut}
 use Rattle.misp_lists.proofs.Orders.{less_on, less_past}
-use Rattle.misp_rules.proofs.Prelude.{Inst, IsClosed, Key, Row, Version, and_parts, any_cut, cut_rows, event_kept, event_key, event_of, filter-map, has_path, in_order, is_published, list_all, list_any, same_inst, same_key, same_key-keeps}
-use Rattle.misp_rules.proofs.Prelude.{same_org, stands_before}
-use Rattle.misp_rules.specs.Closed.{cut}
+use Rattle.misp_model.proofs.Prelude.{Inst, IsClosed, Key, Row, Version, and_parts, any_cut, cut_rows, event_kept, event_key, event_of, filter-map, has_path, in_order, is_published, list_all, list_any, same_inst, same_key, same_key-keeps}
+use Rattle.misp_model.proofs.Prelude.{same_org, stands_before}
+use Rattle.misp_model.specs.Closed.{cut}
 use Rattle.misp_history.specs.History.{published_after, released, row_of, same_cell, is_newest, newest_from, newest, tables}
 
 pub published_after_cut : (keep : Key → Bool) → IsClosed keep → (log : List Version) (v : Version) → keep v.key ≡ true → published_after (cut keep log) v ≡ published_after log v

@@ -2,9 +2,9 @@
 use Rattle.std.specs.Prelude.{ℕ, List, Bool, Option, cond, filter, ◌++◌, map, [], Some, None, suc, ◌∷◌}
 use Rattle.misp_groups.specs.Audience.{carries}
 use Rattle.misp_groups.specs.Changes.{take_groups, administered, count_taken}
-use Rattle.misp_rules.specs.Prelude.{Group, Inst, OrgId, Reply, Row, Scene, Stamp, Version, Way, answer, brings, counted, date_of, is_accepted, known, same_inst, same_org}
-use Rattle.misp_rules.specs.declared.ask.Ask.{Ask}
-use Rattle.misp_rules.specs.Answers.{Taken, Other}
+use Rattle.misp_model.specs.Prelude.{Group, Inst, OrgId, Reply, Row, Scene, Stamp, Version, Way, answer, brings, counted, date_of, is_accepted, known, same_inst, same_org}
+use Rattle.misp_model.specs.declared.ask.Ask.{Ask}
+use Rattle.misp_model.specs.Answers.{Taken, Other}
 use Rattle.misp_history.specs.Passing.{Route, passing, moved}
 use Rattle.misp_history.specs.History.{tables}
 

@@ -1,10 +1,10 @@
 -- What a synchronising key is answered, put together.
 use Rattle.std.specs.Prelude.{◌≡◌, ℕ, List, [], Option, Some, None, filter_map, flat_map}
 use Rattle.std.specs.List.{range_with_len}
-use Rattle.misp_rules.specs.Prelude.{EventId, Reply, Row, Scene, Way, answer}
-use Rattle.misp_rules.specs.declared.ask.Ask.TheVariants.{SyncEvents, SyncPart}
-use Rattle.misp_rules.specs.Answers.{Packed, Parts}
-use Rattle.misp_rules.specs.Package.{nobody}
+use Rattle.misp_model.specs.Prelude.{EventId, Reply, Row, Scene, Way, answer}
+use Rattle.misp_model.specs.declared.ask.Ask.TheVariants.{SyncEvents, SyncPart}
+use Rattle.misp_model.specs.Answers.{Packed, Parts}
+use Rattle.misp_model.specs.Package.{nobody}
 use Rattle.misp_history.specs.Passing.{Route}
 
 -- the caller asks as a pull by this route does: where it comes from, for its organisation, with a

@@ -1,8 +1,8 @@
 -- The history: every version that ever counted, the tables as its newest, and what is released.
 use Rattle.std.specs.Prelude.{List, cond, Bool, ◌&&◌, not, ltb, ◌||◌, false, leb, [], ◌∷◌, map}
-use Rattle.misp_rules.specs.Prelude.{Content, Inst, Row, Version, event_key, event_of, in_order, is_gone, is_statement, list_any, same_inst, same_key, same_org, stands_before}
-use Rattle.misp_rules.specs.Version.{has_path, is_published, is_handed_in, label_now}
-unfoldable pub use Rattle.misp_rules.specs.Packing.{exportable, without_local_tags}
+use Rattle.misp_model.specs.Prelude.{Content, Inst, Row, Version, event_key, event_of, in_order, is_gone, is_statement, list_any, same_inst, same_key, same_org, stands_before}
+use Rattle.misp_model.specs.Version.{has_path, is_published, is_handed_in, label_now}
+unfoldable pub use Rattle.misp_model.specs.Packing.{exportable, without_local_tags}
 
 -- the content that it has now: that of its origin, without local tags once it has moved
 unfoldable pub content_now : Version → Content

@@ -1,11 +1,11 @@
 -- What a synchronisation does to tables, told by rows alone: which rows pass, and which are taken.
 use Rattle.std.specs.Prelude.{true, false, List, filter, map, Bool, not, ◌&&◌, ◌||◌, leb, ◌≡◌, [], ◌∷◌, ◌++◌, ℕ, suc, zero, Contains}
-use Rattle.misp_rules.specs.Arrival.{may_come}
-use Rattle.misp_rules.specs.Prelude.{Group, Inst, IsTable, OrgId, Row, event_key, event_of, has_copy, is_row_of, is_statement, is_tombstone, known, list_any, same_key, same_org}
-use Rattle.misp_rules.specs.Machine.{put_all}
+use Rattle.misp_model.specs.Arrival.{may_come}
+use Rattle.misp_model.specs.Prelude.{Group, Inst, IsTable, OrgId, Row, event_key, event_of, has_copy, is_row_of, is_statement, is_tombstone, known, list_any, same_key, same_org}
+use Rattle.misp_model.specs.Machine.{put_all}
 use Rattle.misp_history.specs.Passing.{Route, passes}
-unfoldable pub use Rattle.misp_rules.specs.Packing.{arrived, cut, is_own, others_with, packages}
-pub use Rattle.misp_rules.specs.Packing.{onto}
+unfoldable pub use Rattle.misp_model.specs.Packing.{arrived, cut, is_own, others_with, packages}
+pub use Rattle.misp_model.specs.Packing.{onto}
 
 -- a row as it is handed in: the owner's, carried and not held
 unfoldable pub handed : OrgId → Row → Row

@@ -1,6 +1,6 @@
 -- Runs in which something may fail: for each act, what of it was applied.
 use Rattle.std.specs.Prelude.{ℕ, Bool, List, map, [], cond, ◌++◌, filter, ltb, ◌||◌, Some, None, suc, ◌∷◌}
-use Rattle.misp_rules.specs.Prelude.{Group, Row, Version, is_row_of, list_any}
+use Rattle.misp_model.specs.Prelude.{Group, Row, Version, is_row_of, list_any}
 use Rattle.misp_history.specs.Merging.{packages, arriving_rows, is_taken, brought, bringing}
 use Rattle.misp_history.specs.Passing.{Route, passing, moved}
 use Rattle.misp_history.specs.Acts.{World, synced_groups, Act, Asks, Misfits, Syncs, Takes_groups, Administers, Nothing, Net, step}

@@ -1,9 +1,9 @@
 -- What passes of a history in a synchronisation, and as what it comes.
 use Rattle.std.specs.Prelude.{ℕ, ◌∷◌, List, filter}
-use Rattle.misp_rules.specs.Prelude.{Group, Row, Version, known}
+use Rattle.misp_model.specs.Prelude.{Group, Row, Version, known}
 use Rattle.misp_history.specs.History.{tables, newest, row_of}
-unfoldable pub use Rattle.misp_rules.specs.Passing.{element_passes, is_sent_owner, lets_out, passes, passes_at, passes_by, sent_copy}
-pub use Rattle.misp_rules.specs.Passing.{Route}
+unfoldable pub use Rattle.misp_model.specs.Passing.{element_passes, is_sent_owner, lets_out, passes, passes_at, passes_by, sent_copy}
+pub use Rattle.misp_model.specs.Passing.{Route}
 
 -- what the organisation of a synchronisation knows at the sender: nothing else is looked at
 unfoldable pub known_there : List Version → List Group → Route → List Row

@@ -6,10 +6,10 @@ ghost use Rattle.misp_ids.specs.declared.uid.OrgId.{OrgId};
 ghost use Rattle.misp_ids.specs.declared.uid.EventId.{EventId};
 ghost use Rattle.misp_elem.specs.declared.row.RowFields.{RowFields as Row};
 ghost use Rattle.misp_ids.specs.Same.{Inst};
-ghost use Rattle.misp_rules.specs.View.{IsTable, has_copy, has_gone};
-ghost use Rattle.misp_rules.specs.Version.{Version};
+ghost use Rattle.misp_model.specs.View.{IsTable, has_copy, has_gone};
+ghost use Rattle.misp_model.specs.Version.{Version};
 ghost use Rattle.misp_history.specs.History.{tables};
-ghost use Rattle.misp_rules.specs.Machine.{put_row};
+ghost use Rattle.misp_model.specs.Machine.{put_row};
 
 /// A table has one row for each owner and key: the tables of every history are such, and stay such
 /// with a row put in its place or some left out.

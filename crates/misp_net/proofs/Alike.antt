@@ -7,9 +7,9 @@ use Rattle.misp_http.specs.declared.request.Read.{Read}
 use Rattle.misp_http.specs.declared.request.Read.TheVariants as reads
 use Rattle.misp_orgs.specs.Admin.{who_of}
 use Rattle.misp_effects.specs.Run.{effect_of}
-use Rattle.misp_rules.specs.declared.ask.Ask.{Ask}
-use Rattle.misp_rules.specs.Machine.{seeing}
-use Rattle.misp_rules.specs.Prelude.{Key, Scene}
+use Rattle.misp_model.specs.declared.ask.Ask.{Ask}
+use Rattle.misp_model.specs.Machine.{seeing}
+use Rattle.misp_model.specs.Prelude.{Key, Scene}
 use Rattle.misp_erasure.specs.Erasure.{erased_act, erased_command, erased_request}
 use Rattle.misp_core.specs.Answers.{scene_at}
 use Rattle.misp_core.specs.Effects.{asked, asked_over, refused}

@@ -4,7 +4,7 @@ use Rattle.std.proofs.lemmas.Bool.{cases_order}
 use Rattle.std.proofs.lemmas.List.{get_or-map}
 use Rattle.std.proofs.lemmas.Map.Made.{AllPairs-from_IsDistinct}
 use Rattle.misp_script.specs.Names.{IsNet}
-use Rattle.misp_rules.proofs.Prelude.{IsDistinct, bytes_eq-Decides, length-map, map-map, same_inst}
+use Rattle.misp_model.proofs.Prelude.{IsDistinct, bytes_eq-Decides, length-map, map-map, same_inst}
 use Rattle.misp_net.specs.Prelude.{AreDistinct, Description, Host, described_host, described_hosts, host_at}
 use Rattle.misp_net.specs.Hosts.{nobody}
 

@@ -4,7 +4,7 @@ use Rattle.std.specs.List.{position_or_len}
 use Rattle.std.proofs.lemmas.Bool.{cases_Bool}
 use Rattle.std.proofs.lemmas.Bool.Decides.{eqb_tells}
 use Rattle.std.proofs.lemmas.List.{length-map, get_or-map}
-use Rattle.misp_rules.proofs.Prelude.{map-map}
+use Rattle.misp_model.proofs.Prelude.{map-map}
 use Rattle.misp_ids.specs.Refusal.{bare}
 use Rattle.misp_ids.specs.declared.refusal.RuleName.{RuleName}
 use Rattle.misp_ids.specs.declared.refusal.RuleName.TheVariants.{LinkOff, NoLink}

@@ -5,7 +5,7 @@ use Rattle.misp_http.specs.declared.request.Read.{Read}
 use Rattle.misp_http.specs.declared.request.Read.TheVariants as reads
 use Rattle.misp_effects.specs.Batches.{Batch, put_batches, AreReadable}
 use Rattle.misp_effects.specs.Run.{effect_of, effect_in}
-use Rattle.misp_rules.specs.Prelude.{IsClosed, Key}
+use Rattle.misp_model.specs.Prelude.{IsClosed, Key}
 use Rattle.misp_history.specs.Outcomes.{step_partly}
 use Rattle.misp_history.proofs.Steps.{step_nothing}
 use Rattle.misp_erasure.specs.Erasure.{cut_world, HasKnown}

@@ -6,8 +6,8 @@ use Rattle.misp_elem.specs.Reading.{answer}
 use Rattle.misp_orgs.specs.Admin.{who_of}
 use Rattle.misp_format.specs.Rows.{Reading}
 use Rattle.misp_format.specs.WholeGroup.{groups_text, uncarried}
-use Rattle.misp_rules.specs.Package.{IsPackage}
-use Rattle.misp_rules.specs.declared.package.PackageFields.{PackageFields as Package}
+use Rattle.misp_model.specs.Package.{IsPackage}
+use Rattle.misp_model.specs.declared.package.PackageFields.{PackageFields as Package}
 use Rattle.misp_package.specs.Spelling.{spell_package}
 use Rattle.misp_package.proofs.SpelledPackages.{package_of_bytes_again}
 use Rattle.misp_store.proofs.GroupRows.{AreReadBack}

@@ -4,8 +4,8 @@ use Rattle.std.specs.List.{AllByRecursion}
 use Rattle.std.proofs.lemmas.Bool.{cases_Bool}
 use Rattle.misp_ids.specs.Same.{Inst}
 use Rattle.misp_effects.specs.Effect.{stop_of}
-use Rattle.misp_rules.specs.Closed.{cut_rows}
-use Rattle.misp_rules.specs.Prelude.{IsClosed, Key}
+use Rattle.misp_model.specs.Closed.{cut_rows}
+use Rattle.misp_model.specs.Prelude.{IsClosed, Key}
 use Rattle.misp_history.specs.Acts.{Net}
 use Rattle.misp_history.specs.History.{tables}
 use Rattle.misp_erasure.specs.Erasure.{cut_world, HasKnown, IsKept, erased_act, erase}

@@ -5,7 +5,7 @@ use Rattle.std.specs.Prelude.{MatchResult}
 use Rattle.std.proofs.lemmas.Option.{IfSome_then}
 use Rattle.misp_ids.specs.Names.{is_api_key}
 use Rattle.misp_orgs.specs.Admin.{who_of}
-use Rattle.misp_rules.specs.Machine.{pulls}
+use Rattle.misp_model.specs.Machine.{pulls}
 use Rattle.misp_http.specs.Reading.{IsRead}
 use Rattle.misp_http.specs.declared.request.Read.{Read}
 use Rattle.misp_http.specs.declared.request.Read.TheVariants as reads

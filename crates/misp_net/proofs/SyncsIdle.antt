@@ -13,7 +13,7 @@ use Rattle.misp_format.specs.WholeGroup.{groups_text, uncarried}
 use Rattle.misp_store.specs.declared.reach.Reach.{Reach}
 use Rattle.misp_core.specs.Prelude.{Ask, Caller, EventId, Inst, OrgId, Row, is_permitted}
 use Rattle.misp_package.specs.Spelling.{spell_package}
-use Rattle.misp_rules.specs.declared.package.PackageFields.{PackageFields as Package}
+use Rattle.misp_model.specs.declared.package.PackageFields.{PackageFields as Package}
 use Rattle.misp_sync.specs.Counts.{count_of}
 use Rattle.misp_sync.specs.Handing.{is_short}
 use Rattle.misp_sync.specs.Pulled.{event_taken, events_sent, events_taken, groups_sent, pulled, pulled_by, pulled_over, rows_pulled}
@@ -22,7 +22,7 @@ use Rattle.misp_sync.specs.Telling.{stop_refusal}
 use Rattle.misp_sync.specs.declared.count.SyncCount.{SyncCount}
 use Rattle.misp_sync.specs.declared.reply.SyncReply.{SyncReply}
 use Rattle.misp_groups.specs.Changes.{take_groups}
-use Rattle.misp_rules.specs.Prelude.{Group}
+use Rattle.misp_model.specs.Prelude.{Group}
 use Rattle.misp_net.specs.Prelude.{Effect, Host, Outcome, Seen, Stop, Stopped, SyncData, Synced, Tables, Went, held_at, host_at, nothing_held, seen_in, spelled}
 use Rattle.misp_net.specs.Links.{place_of_peer, synced_at}
 use Rattle.misp_net.specs.Meaning.{syncing}

@@ -4,7 +4,7 @@ use Rattle.std.proofs.lemmas.Bool.{cases_Bool}
 use Rattle.misp_ids.specs.declared.label.Way.{Way}
 use Rattle.misp_effects.specs.Effect.{shown, under}
 use Rattle.misp_effects.specs.Run.{effect_in, effect_of}
-use Rattle.misp_rules.specs.Prelude.{Version, is_row_of, list_any}
+use Rattle.misp_model.specs.Prelude.{Version, is_row_of, list_any}
 use Rattle.misp_history.specs.Acts.{Net}
 use Rattle.misp_history.specs.Passing.{Route, passing}
 use Rattle.misp_history.specs.Outcomes.{coming, first_brought, step_partly, synced_partly}

@@ -2,7 +2,7 @@
 use Rattle.std.specs.Prelude.{◌≡◌, ℕ, suc, List, [], ◌∷◌, length, map, take, Option, Some, None, if◌then◌else◌, filter, zip}
 use Rattle.misp_ids.specs.Same.{Inst}
 use Rattle.misp_outside.specs.Causes.{RoseBy}
-use Rattle.misp_rules.specs.Closed.{cut_rows}
+use Rattle.misp_model.specs.Closed.{cut_rows}
 use Rattle.misp_effects.specs.Effect.{stop_of}
 use Rattle.misp_effects.specs.KeeperStates.{Tables}
 use Rattle.misp_erasure.specs.Kept.{start, erased}

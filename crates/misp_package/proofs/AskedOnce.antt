@@ -2,7 +2,7 @@
 use Rattle.std.proofs.Common.{◌≡◌, List, Bool, true, false, refl, ap, sym, ◌∙◌, ◌&&◌, ◌||◌, not, Option, filter}
 use Rattle.std.proofs.lemmas.Bool.{or_right}
 use Rattle.misp_lists.proofs.Lists.{filter_within}
-use Rattle.misp_rules.proofs.Prelude.{Element, EventId, Group, Key, OrgId, Proposal, Reference, Row, Sighting, Verdict, event_key, is_statement, list_all, list_any, parents, same_key, same_key-sound}
+use Rattle.misp_model.proofs.Prelude.{Element, EventId, Group, Key, OrgId, Proposal, Reference, Row, Sighting, Verdict, event_key, is_statement, list_all, list_any, parents, same_key, same_key-sound}
 use Rattle.misp_history.specs.Passing.{Route, lets_out}
 use Rattle.misp_copies.specs.Keys.{is_about}
 use Rattle.misp_copies.specs.StatementsByKey.{is_lesser}

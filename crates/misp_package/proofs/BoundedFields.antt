@@ -9,7 +9,7 @@ use Rattle.misp_elem.specs.Key.{of_reference, of_sighting}
 use Rattle.misp_elem.specs.KeyReading.{element_at, key_of_kind, place_at, place_of, proposal_at, proposed_at, reference_at, sighting_at, verdict_at}
 use Rattle.misp_elem.specs.Reading.{date_at, elem_at, flag_at, flag_of, inst_at, inst_of, number_at, optional_at, optional_of, text_at, text_of, uid_at, value_at}
 use Rattle.misp_elem.specs.WireReading.{first_key_at, front_at, key_after_at, later_key_at, own_event_at}
-use Rattle.misp_rules.specs.Prelude.{Attribute, Element, EventId, Key, Object, ObjectAttribute, Proposal, Reference, Sighting, Verdict}
+use Rattle.misp_model.specs.Prelude.{Attribute, Element, EventId, Key, Object, ObjectAttribute, Proposal, Reference, Sighting, Verdict}
 
 -- ---- readings
 

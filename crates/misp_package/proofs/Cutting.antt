@@ -1,7 +1,7 @@
 -- A list cut into parts of 64.
 use Rattle.std.proofs.Common.{◌≡◌, ℕ, zero, suc, ◌+◌, ◌-◌, ◌<◌, ◌≤◌, List, [], ◌∷◌, ◌++◌, length, take, drop, map, refl, ap, sym, ◌∙◌, arith, Less, Ordering, take_all}
 use Rattle.std.specs.List.Sorted.{IsStrictlySortedBy}
-use Rattle.misp_rules.proofs.Prelude.{AllByRecursion}
+use Rattle.misp_model.proofs.Prelude.{AllByRecursion}
 use Rattle.std.proofs.lemmas.List.{append_assoc, drop-drop, length-drop}
 use Rattle.misp_history.specs.Merging.{cut, onto}
 

@@ -6,7 +6,7 @@ use Rattle.misp_elem.specs.Prelude.{AreTags, AreTagsAfter, IsKey, IsText, Uid, i
 use Rattle.misp_elem.specs.Key.{IsInstName, IsProposalName}
 use Rattle.misp_elem.specs.Spelling.{flag, flags, key, label, optional_uid, place, stamp, tag, tags, text, uid}
 use Rattle.misp_elem.proofs.Sizes.{least_of, most_of}
-use Rattle.misp_rules.specs.Prelude.{Attribute, Element, Event, Key, Label, Object, ObjectAttribute, Place, Proposal, ProposalName, Reference, Sighting, Tag, Verdict}
+use Rattle.misp_model.specs.Prelude.{Attribute, Element, Event, Key, Label, Object, ObjectAttribute, Place, Proposal, ProposalName, Reference, Sighting, Tag, Verdict}
 
 -- ---- fields
 

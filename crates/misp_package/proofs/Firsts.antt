@@ -2,8 +2,8 @@
 use Rattle.std.proofs.Common.{◌≡◌, Bool, true, false, refl, ap, sym, ◌∙◌, cond, List, [], ◌∷◌, Option, Some, None, ◌||◌, not, find, filter}
 use Rattle.std.proofs.lemmas.Bool.{false≢true, not-false}
 use Rattle.misp_lists.proofs.Lists.{any_implies, find_by}
-use Rattle.misp_rules.specs.Prelude.{Row, first_of_all, is_before, list_any}
-use Rattle.misp_rules.proofs.RowRanks.{before_not, before_on, before_past}
+use Rattle.misp_model.specs.Prelude.{Row, first_of_all, is_before, list_any}
+use Rattle.misp_model.proofs.RowRanks.{before_not, before_on, before_past}
 use Rattle.misp_package.specs.Passing.{better}
 
 -- nothing goes before the row of these

@@ -10,7 +10,7 @@ use Rattle.misp_lists.proofs.All.{all_implied}
 use Rattle.misp_lists.proofs.Ordering.{all_in_order, in_order_map}
 use Rattle.misp_lists.proofs.Orders.{less_of}
 use Rattle.misp_lists.proofs.Sorting.{sorted_in_order, ascend_sorted}
-use Rattle.misp_rules.proofs.Prelude.{AllByRecursion, IsDistinct, Row, false≢true, ordering_reverse, same_key, spell}
+use Rattle.misp_model.proofs.Prelude.{AllByRecursion, IsDistinct, Row, false≢true, ordering_reverse, same_key, spell}
 use Rattle.misp_copies.proofs.KeyOrder.{level_is}
 use Rattle.misp_package.specs.Packing.{key_order}
 

@@ -8,8 +8,8 @@ use Rattle.misp_elem.specs.Prelude.{IsBetween, IsRow}
 use Rattle.misp_elem.specs.Row.{AreRows}
 use Rattle.misp_elem.specs.Spelling.{key}
 use Rattle.misp_elem.specs.WireReading.{IsKeyAfter, IsOnWire}
-use Rattle.misp_rules.specs.Package.{BeginsWith, is_packed}
-use Rattle.misp_rules.specs.Prelude.{EventId, Key, Row, event_key, event_of}
+use Rattle.misp_model.specs.Package.{BeginsWith, is_packed}
+use Rattle.misp_model.specs.Prelude.{EventId, Key, Row, event_key, event_of}
 
 -- each is a row, and stands after the one before it
 abbrev pub AreOnWire : EventId → Option Key → List Row → Type 0

@@ -2,8 +2,8 @@
 use Rattle.std.proofs.Common.{◌≡◌, List, Bool, true, ap, sym, ◌∙◌, inl, inr, ltb, Some, None, ◌&&◌, Option, Contains, lt-ltb}
 use Rattle.std.proofs.lemmas.Bool.{cases_order, not-true}
 use Rattle.misp_lists.proofs.Distinct.{distinct_part}
-use Rattle.misp_rules.proofs.Prelude.{Element, Group, IsDistinct, IsTable, Key, OrgId, Reference, Row, and_from, and_parts, any_has, event_of, false≢true, granted, in_one_cell, is_known, is_least, known, one_cell, part_is_table}
-use Rattle.misp_rules.proofs.Prelude.{same_key, same_key-refl, same_key-sound, same_org-sound}
+use Rattle.misp_model.proofs.Prelude.{Element, Group, IsDistinct, IsTable, Key, OrgId, Reference, Row, and_from, and_parts, any_has, event_of, false≢true, granted, in_one_cell, is_known, is_least, known, one_cell, part_is_table}
+use Rattle.misp_model.proofs.Prelude.{same_key, same_key-refl, same_key-sound, same_org-sound}
 use Rattle.misp_history.specs.Passing.{Route, element_passes, is_sent_owner, passes, passes_by, sent_copy}
 use Rattle.misp_history.specs.Merging.{passing_rows}
 use Rattle.misp_package.proofs.KeyOrders.{one_key}

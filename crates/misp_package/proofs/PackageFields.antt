@@ -13,7 +13,7 @@ use Rattle.misp_elem.specs.WireReading.{IsOnWire, row_of_wire}
 use Rattle.misp_elem.proofs.Exact.{bind_ok, guard_ok, keep_ok, no_error, ok_is, Takes, Takes-then, IsField, tested, under}
 use Rattle.misp_elem.proofs.Numbers.{number_field}
 use Rattle.misp_elem.proofs.Wire.{row_of_wire_takes, row_of_wire_again}
-use Rattle.misp_rules.specs.Prelude.{EventId, Key, Row}
+use Rattle.misp_model.specs.Prelude.{EventId, Key, Row}
 use Rattle.misp_package.specs.Spelling.{form, framed_row, number}
 use Rattle.misp_package.specs.PackageReading.{before_others, count_at, form_at, framed_row_at, parts_at, row_of_length}
 use Rattle.misp_package.proofs.RowSizes.{row_short}

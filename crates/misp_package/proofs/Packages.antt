@@ -9,10 +9,10 @@ use Rattle.misp_lists.proofs.Ordering.{any_in_order, from_in_order, in_order_map
 use Rattle.misp_lists.proofs.Orders.{less_is}
 use Rattle.misp_elem.specs.Fields.{IsBetween}
 use Rattle.misp_elem.specs.Key.{IsKey}
-use Rattle.misp_rules.proofs.Prelude.{AllByRecursion, AreRows, Element, EventId, Group, Proposal, Sighting, Verdict, IsRow, IsTable, Key, Place, Reference, Row, and_from, and_parts, any_map, event_key, event_of, false_from_ne_true, false≢true, is_known, known}
-use Rattle.misp_rules.proofs.Prelude.{length-map, list_all, list_any, nat_tests, same_event, same_event-refl, same_event-sound, same_key, same_key-refl, same_key-sound, slice_cmp, spell, stands_before}
-use Rattle.misp_rules.specs.RowOrder.{spell_place}
-use Rattle.misp_rules.specs.Package.{BeginsWith, is_packed}
+use Rattle.misp_model.proofs.Prelude.{AllByRecursion, AreRows, Element, EventId, Group, Proposal, Sighting, Verdict, IsRow, IsTable, Key, Place, Reference, Row, and_from, and_parts, any_map, event_key, event_of, false_from_ne_true, false≢true, is_known, known}
+use Rattle.misp_model.proofs.Prelude.{length-map, list_all, list_any, nat_tests, same_event, same_event-refl, same_event-sound, same_key, same_key-refl, same_key-sound, slice_cmp, spell, stands_before}
+use Rattle.misp_model.specs.RowOrder.{spell_place}
+use Rattle.misp_model.specs.Package.{BeginsWith, is_packed}
 use Rattle.misp_history.specs.Merging.{arrived, arriving_rows, cut, is_own, others_with, packages, passing_rows}
 use Rattle.misp_history.specs.Passing.{passes}
 use Rattle.misp_history.proofs.Passed.{no_tombstone_passes, with_own}

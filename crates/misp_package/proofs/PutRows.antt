@@ -3,9 +3,9 @@ use Rattle.std.proofs.Common.{◌≡◌, ℕ, ◌+◌, ◌<◌, List, [], ◌∷
 use Rattle.std.proofs.lemmas.List.{take_more}
 use Rattle.misp_lists.proofs.Lists.{any_never, any_of_kept}
 use Rattle.misp_lists.proofs.Ordering.{any_put}
-use Rattle.misp_rules.specs.Prelude.{Stamp}
-use Rattle.misp_rules.specs.Machine.{put_all, put_row}
-use Rattle.misp_rules.proofs.Prelude.{EventId, Group, Inst, Key, OrgId, Row, and_parts, event_key, false_from_ne_true, false≢true, has_copy, has_gone, has_home, in_one_cell, is_row_of, is_tombstone, list_any, one_cell, or_from, row_of_name, same_key, same_org, stands_before}
+use Rattle.misp_model.specs.Prelude.{Stamp}
+use Rattle.misp_model.specs.Machine.{put_all, put_row}
+use Rattle.misp_model.proofs.Prelude.{EventId, Group, Inst, Key, OrgId, Row, and_parts, event_key, false_from_ne_true, false≢true, has_copy, has_gone, has_home, in_one_cell, is_row_of, is_tombstone, list_any, one_cell, or_from, row_of_name, same_key, same_org, stands_before}
 use Rattle.misp_history.proofs.Again.{stays}
 use Rattle.misp_history.specs.Merging.{merged, rows_taken}
 use Rattle.misp_copies.specs.Copies.{copy_state, state_by}

@@ -10,7 +10,7 @@ use Rattle.misp_elem.specs.Reading.{ended}
 use Rattle.misp_elem.specs.Row.{fits, may_remove}
 use Rattle.misp_elem.specs.RowReading.{flags_at, flags_of, group_at, label_at, label_of}
 use Rattle.misp_elem.specs.WireReading.{carried_at, fields_on_wire, nobody_at, row_of_wire, row_on_wire}
-use Rattle.misp_rules.specs.Prelude.{Content, EventId, Key, Label}
+use Rattle.misp_model.specs.Prelude.{Content, EventId, Key, Label}
 use Rattle.misp_package.proofs.BoundedFields.{IsBounded, Within, before, between_bounded, byte_bounded, date_bounded, dropped, fault, final, flag_bounded, from_front}
 use Rattle.misp_package.proofs.BoundedFields.{from_front, key_after_bounded, number_bounded, optional_bounded, org_bounded, stamp_bounded, tested, text_bounded, uid_bounded, value, value_bounded, within_if, within_then}
 

@@ -1,7 +1,7 @@
 -- Reading rows one after the other, as a loop does.
 use Rattle.std.proofs.Common.{◌≡◌, ℕ, suc, ◌-◌, ◌+◌, ◌≤◌, ◌<◌, List, [], ◌∷◌, ◌++◌, Option, Some, Ok, Err, refl, sym, ap, ◌∙◌, append_assoc, arith, append-nil}
 use Rattle.misp_elem.specs.Prelude.{◌>>=◌, Reading}
-use Rattle.misp_rules.specs.Prelude.{EventId, Key, Row}
+use Rattle.misp_model.specs.Prelude.{EventId, Key, Row}
 use Rattle.misp_package.specs.PackageReading.{Fails, framed_row_at, rows_after}
 use Rattle.misp_package.specs.declared.reading.Stop.{Stop}
 

@@ -8,7 +8,7 @@ use Rattle.misp_elem.specs.Spelling.{content, flag, flags, key, label, optional_
 use Rattle.misp_elem.proofs.ShortTexts.{is_text-date}
 use Rattle.misp_elem.proofs.Sizes.{most_of}
 use Rattle.misp_elem.proofs.Contents.{content_may}
-use Rattle.misp_rules.specs.Prelude.{Content, Row}
+use Rattle.misp_model.specs.Prelude.{Content, Row}
 use Rattle.misp_package.proofs.FieldSizes.{flag_size, flags_size, key_size, label_size, optional_size, stamp_size, tags_size, text_size, uid_size}
 
 -- ---- contents

@@ -3,7 +3,7 @@ use Rattle.std.proofs.Common.{◌≡◌, ℕ, ◌+◌, ◌-◌, ◌≤◌, List,
 use Rattle.misp_elem.specs.Reading.{answer, number_at}
 use Rattle.misp_elem.specs.WireReading.{row_of_wire}
 use Rattle.misp_elem.specs.declared.fault.DecodeFault.TheVariants.{BadRow}
-use Rattle.misp_rules.specs.Prelude.{EventId, Key, Row}
+use Rattle.misp_model.specs.Prelude.{EventId, Key, Row}
 use Rattle.misp_package.specs.PackageReading.{before_others, framed_row_at}
 
 -- so many bytes are a row, and the others follow

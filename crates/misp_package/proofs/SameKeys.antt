@@ -10,7 +10,7 @@ use Rattle.misp_elem.specs.SameKey.{same_name}
 use Rattle.misp_elem.specs.contracts.key.KeyOrd.TheImpl as key_order
 use Rattle.misp_elem.specs.contracts.key.PlaceOrd.TheImpl as place_order
 use Rattle.misp_elem.specs.contracts.key.ProposalNameOrd.TheImpl as proposal_order
-use Rattle.misp_rules.proofs.Prelude.{Attribute, ElemId, Element, Event, EventId, Key, Object, ObjectAttribute, OrgId, Place, Proposal, ProposalName, Reference, Sighting, Verdict, alike, and_from, and_parts, bytes_eq-Decides, same_elem, same_event, same_inst, same_key, same_org, same_place}
+use Rattle.misp_model.proofs.Prelude.{Attribute, ElemId, Element, Event, EventId, Key, Object, ObjectAttribute, OrgId, Place, Proposal, ProposalName, Reference, Sighting, Verdict, alike, and_from, and_parts, bytes_eq-Decides, same_elem, same_event, same_inst, same_key, same_org, same_place}
 
 -- ---- numbers and names
 

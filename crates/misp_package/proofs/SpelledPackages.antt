@@ -7,9 +7,9 @@ use Rattle.misp_elem.specs.Prelude.{◌>>=◌, IsBetween}
 use Rattle.misp_elem.specs.Spelling.{uid}
 use Rattle.misp_elem.proofs.Exact.{bind_ok, ok_is, Takes, Takes-then, IsField, IsMade, last, first, whole, all_takes, all_again}
 use Rattle.misp_elem.proofs.Keys.{event_field}
-use Rattle.misp_rules.specs.Package.{IsPackage}
-use Rattle.misp_rules.specs.Prelude.{EventId, Key, Row}
-use Rattle.misp_rules.specs.declared.package.PackageFields.{PackageFields}
+use Rattle.misp_model.specs.Package.{IsPackage}
+use Rattle.misp_model.specs.Prelude.{EventId, Key, Row}
+use Rattle.misp_model.specs.declared.package.PackageFields.{PackageFields}
 use Rattle.misp_package.specs.Spelling.{form, framed_row, framed_rows, number, spell_package}
 use Rattle.misp_package.specs.PackageReading.{framed_row_at, framed_rows_at, package_at, package_of_bytes, rows_after}
 use Rattle.misp_package.proofs.OnWire.{AreOnWire, ArePacked, are_on_wire, are_packed}

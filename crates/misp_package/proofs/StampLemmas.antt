@@ -3,8 +3,8 @@ use Rattle.std.proofs.Common.{◌≡◌, Bool, true, false, cond, refl, ap, sym,
 use Rattle.std.specs.BTreeMap.{IsEmpty}
 use Rattle.misp_lists.proofs.Prelude.{lookup, nat_tests}
 use Rattle.misp_elem.specs.contracts.key.KeyOrd.TheImpl as key_order
-use Rattle.misp_rules.proofs.Prelude.{Key, OrgId, Row, and_parts, false≢true, is_row_of, not-true, same_key, same_key-sound, same_org}
-use Rattle.misp_rules.specs.Prelude.{Stamp}
+use Rattle.misp_model.proofs.Prelude.{Key, OrgId, Row, and_parts, false≢true, is_row_of, not-true, same_key, same_key-sound, same_org}
+use Rattle.misp_model.specs.Prelude.{Stamp}
 use Rattle.misp_package.specs.Stamps.{is_as_new, stamp_at}
 use Rattle.misp_package.proofs.SameKeys.{key_is}
 

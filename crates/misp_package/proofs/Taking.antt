@@ -1,10 +1,10 @@
 -- What a landing decides is taken of a package is what is taken by the rows that are held.
 use Rattle.std.proofs.Common.{◌≡◌, List, Bool, true, false, refl, ap, sym, ◌∙◌, map, ◌&&◌, ◌||◌, not, filter}
 use Rattle.misp_lists.proofs.Lists.{filter_twice}
-use Rattle.misp_rules.specs.Package.{IsPackage, is_packed}
-use Rattle.misp_rules.specs.declared.package.PackageFields.{PackageFields}
-use Rattle.misp_rules.proofs.Prelude.{EventId, Group, Inst, Key, OrgId, Row, all_implies, and_parts, any_agree, any_map, event_key, event_of, filter-map, filter_agree, has_copy, has_gone, has_home, is_made_at, is_statement, label_is_known}
-use Rattle.misp_rules.proofs.Prelude.{list_all, list_any, same_event, same_event-sound, same_key}
+use Rattle.misp_model.specs.Package.{IsPackage, is_packed}
+use Rattle.misp_model.specs.declared.package.PackageFields.{PackageFields}
+use Rattle.misp_model.proofs.Prelude.{EventId, Group, Inst, Key, OrgId, Row, all_implies, and_parts, any_agree, any_map, event_key, event_of, filter-map, filter_agree, has_copy, has_gone, has_home, is_made_at, is_statement, label_is_known}
+use Rattle.misp_model.proofs.Prelude.{list_all, list_any, same_event, same_event-sound, same_key}
 use Rattle.misp_history.specs.Merging.{counts_row, handed, has_event_row, is_newer_row, is_welcome_row, rows_taken}
 use Rattle.misp_copies.specs.Copies.{copy_state, state_by, takes}
 use Rattle.misp_package.specs.Landing.{IsLanding, is_welcome, is_welcome_event, has_event, is_copy, is_taken, taken_by}

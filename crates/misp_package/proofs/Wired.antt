@@ -3,11 +3,11 @@ use Rattle.std.proofs.Common.{◌≡◌, ℕ, zero, suc, ◌<◌, ◌≤◌, ◌
 use Rattle.std.proofs.lemmas.Bool.{not-true}
 use Rattle.std.proofs.lemmas.List.{length-take-le, take_more}
 use Rattle.misp_ids.specs.declared.label.Way.{Way}
-use Rattle.misp_rules.proofs.Prelude.{AllByRecursion, AreRows, EventId, IsRow, Row, and_parts, are_rows_push, length-map, list_all, map-append}
-use Rattle.misp_rules.specs.declared.package.PackageFields.{PackageFields as Package}
+use Rattle.misp_model.proofs.Prelude.{AllByRecursion, AreRows, EventId, IsRow, Row, and_parts, are_rows_push, length-map, list_all, map-append}
+use Rattle.misp_model.specs.declared.package.PackageFields.{PackageFields as Package}
 use Rattle.misp_history.specs.Merging.{arrived}
 use Rattle.misp_history.proofs.ArrivedRows.{arrived_row}
-use Rattle.misp_rules.specs.Package.{nobody}
+use Rattle.misp_model.specs.Package.{nobody}
 use Rattle.misp_package.specs.Packing.{AreNumberedFrom, is_whole, on_wire, rows_in}
 
 -- a row that is no tombstone is one on the wire

@@ -1,6 +1,6 @@
 -- What is known and granted, by sets that are found once for all rows.
 use Rattle.std.specs.Prelude.{Bool, not, ◌||◌}
-use Rattle.misp_rules.specs.Prelude.{Row, same_org}
+use Rattle.misp_model.specs.Prelude.{Row, same_org}
 use Rattle.misp_copies.specs.declared.grants.Grants.{Grants}
 use Rattle.misp_copies.specs.declared.viewer.Viewer.{Viewer}
 use Rattle.misp_copies.specs.Grants.{granted_in}

@@ -1,7 +1,7 @@
 -- What an owner has of one event, as far as it decides what is taken of a package.
 use Rattle.std.specs.Prelude.{◌≡◌, Bool, true, false, not, cond, ◌&&◌, ◌||◌, List, filter, map}
 use Rattle.misp_groups.specs.Audience.{label_is_known}
-use Rattle.misp_rules.specs.Prelude.{EventId, Group, Inst, OrgId, Row, event_key, is_row_of, is_statement, is_tombstone, list_any, same_key}
+use Rattle.misp_model.specs.Prelude.{EventId, Group, Inst, OrgId, Row, event_key, is_row_of, is_statement, is_tombstone, list_any, same_key}
 use Rattle.misp_history.specs.Merging.{handed}
 use Rattle.misp_copies.specs.Copies.{copy_state, takes}
 use Rattle.misp_copies.specs.declared.states.CopyState.{CopyState}

@@ -6,8 +6,8 @@ use Rattle.std.specs.List.{starts_with}
 use Rattle.misp_elem.specs.Prelude.{◌>>=◌, Reading, event_at}
 use Rattle.misp_elem.specs.Reading.{ended, number_at}
 use Rattle.misp_elem.specs.WireReading.{row_of_wire}
-use Rattle.misp_rules.specs.Prelude.{EventId, Key, Row}
-use Rattle.misp_rules.specs.declared.package.PackageFields.{PackageFields}
+use Rattle.misp_model.specs.Prelude.{EventId, Key, Row}
+use Rattle.misp_model.specs.declared.package.PackageFields.{PackageFields}
 use Rattle.misp_package.specs.Spelling.{form}
 use Rattle.misp_package.specs.declared.reading.Stop.{Stop}
 

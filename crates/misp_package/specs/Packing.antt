@@ -5,12 +5,12 @@ use Rattle.misp_lists.specs.Order.{sorted_by}
 use Rattle.misp_levels.specs.Levels.{down}
 use Rattle.misp_elem.specs.Fields.{IsBetween}
 use Rattle.misp_elem.specs.RowFacts.{is_tombstone}
-use Rattle.misp_rules.specs.Prelude.{Bor, EventId, Ordering, Row, event_of, list_all, same_event}
-use Rattle.misp_rules.specs.declared.package.PackageFields.{PackageFields as Package}
-use Rattle.misp_rules.specs.Package.{BeginsWith}
+use Rattle.misp_model.specs.Prelude.{Bor, EventId, Ordering, Row, event_of, list_all, same_event}
+use Rattle.misp_model.specs.declared.package.PackageFields.{PackageFields as Package}
+use Rattle.misp_model.specs.Package.{BeginsWith}
 use Rattle.misp_history.specs.History.{without_local_tags}
 use Rattle.misp_copies.specs.Keys.{key_cmp}
-use Rattle.misp_rules.specs.Package.{nobody}
+use Rattle.misp_model.specs.Package.{nobody}
 
 -- the row as it arrives at nobody
 unfoldable pub on_wire : Row → Row

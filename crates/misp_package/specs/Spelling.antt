@@ -2,8 +2,8 @@
 use Rattle.std.specs.Prelude.{ℕ, List, ◌++◌, codes, length, flat_map}
 use Rattle.std.specs.Int.{w32, to_be_bytes}
 use Rattle.misp_elem.specs.Spelling as spelling
-use Rattle.misp_rules.specs.Prelude.{Row}
-use Rattle.misp_rules.specs.declared.package.PackageFields.{PackageFields}
+use Rattle.misp_model.specs.Prelude.{Row}
+use Rattle.misp_model.specs.declared.package.PackageFields.{PackageFields}
 
 -- what a package begins with
 abbrev pub form : List ℕ

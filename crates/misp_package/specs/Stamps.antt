@@ -2,7 +2,7 @@
 use Rattle.std.specs.Prelude.{◌≡◌, Bool, false, leb, ◌&&◌, List, Option, Some, None}
 use Rattle.std.specs.BTreeMap.{BTreeMap}
 use Rattle.std.specs.Map.{lookup}
-use Rattle.misp_rules.specs.Prelude.{Key, OrgId, Row, Stamp, is_row_of, list_any, same_key}
+use Rattle.misp_model.specs.Prelude.{Key, OrgId, Row, Stamp, is_row_of, list_any, same_key}
 
 -- there is a stamp, and it is as new as this one
 abbrev pub is_as_new : Option Stamp → Stamp → Bool

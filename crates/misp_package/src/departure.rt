@@ -4,7 +4,7 @@ ghost use Rattle.std.specs.Prelude.{◌≡◌, true, length, map, IfOk};
 ghost use Rattle.std.specs.List.{list_all};
 ghost use Rattle.misp_elem.specs.Parents.{event_of};
 ghost use Rattle.misp_ids.specs.Same.{same_event};
-ghost use Rattle.misp_rules.specs.View.{IsTable};
+ghost use Rattle.misp_model.specs.View.{IsTable};
 ghost use Rattle.misp_history.specs.Merging.{arriving_rows, packages};
 ghost use Rattle.misp_package.specs.Packing.{AreNumbered};
 ghost use Rattle.misp_package.specs.Passing.{route_of};
@@ -15,7 +15,7 @@ use crate::passing::passing;
 use crate::via::Via;
 use misp_elem::Row;
 use misp_ids::{EventId, NoMemory};
-use misp_rules::Package;
+use misp_model::Package;
 use std::alloc::Global;
 
 /// The packages in which a synchronisation carries what passes of an event, where these are all of

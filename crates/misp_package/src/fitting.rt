@@ -4,7 +4,7 @@ ghost use Rattle.std.specs.Prelude.{◌≡◌, ◌↔◌, true, map, option_map,
 ghost use Rattle.std.specs.List.{list_all};
 ghost use Rattle.std.specs.List.Sorted.{IsStrictlySortedBy};
 ghost use Rattle.std.specs.Ordering.{is_lt};
-ghost use Rattle.misp_rules.specs.Package.{BeginsWith};
+ghost use Rattle.misp_model.specs.Package.{BeginsWith};
 ghost use Rattle.misp_package.specs.Packing.{ArePackable, IsPacking, is_packable, key_order};
 
 use crate::key_order::{by_keys, compare};

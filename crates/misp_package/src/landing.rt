@@ -6,7 +6,7 @@ ghost use Rattle.misp_ids.specs.Same.{Inst};
 ghost use Rattle.misp_ids.specs.declared.uid.EventId.{EventId as Event};
 ghost use Rattle.misp_ids.specs.declared.uid.OrgId.{OrgId as Owner};
 ghost use Rattle.misp_elem.specs.declared.row.RowFields.{RowFields};
-ghost use Rattle.misp_rules.specs.Machine.{put_all, put_row};
+ghost use Rattle.misp_model.specs.Machine.{put_all, put_row};
 ghost use Rattle.misp_history.specs.Merging.{handed, rows_taken};
 ghost use Rattle.misp_copies.specs.Copies.{copy_state};
 ghost use Rattle.misp_package.specs.Landing.{IsLanding, has_event, is_copy, is_taken, is_welcome, is_welcome_event, state_after, state_by_row, taken_by};
@@ -17,7 +17,7 @@ use misp_copies::{CopyState, has_copy, has_gone, has_home, is_itself, is_row_of_
 use misp_elem::Row;
 use misp_groups::Groups;
 use misp_ids::{EventId, InstId, NoMemory, OrgId};
-use misp_rules::Package;
+use misp_model::Package;
 use std::alloc::Global;
 
 /// What an owner has of one event at an instance, as far as it decides what is taken there: the

@@ -9,7 +9,7 @@ ghost use Rattle.misp_package.specs.Packing.{AreNumbered, IsPart, is_whole, on_w
 use crate::wire::on_wire;
 use misp_elem::Row;
 use misp_ids::{EventId, Items, NoMemory};
-use misp_rules::{Package, PackageFields};
+use misp_model::{Package, PackageFields};
 use std::alloc::Global;
 
 /// The most rows that a package has beside that of the event itself.

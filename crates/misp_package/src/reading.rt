@@ -4,14 +4,14 @@ ghost use Rattle.std.specs.Prelude.{◌≡◌, IfOk, Ok, None, length};
 ghost use Rattle.std.specs.Int.{w32};
 ghost use Rattle.misp_elem.specs.Prelude.{event_at};
 ghost use Rattle.misp_elem.specs.Reading.{Answers, answer, number_at};
-ghost use Rattle.misp_rules.specs.Package.{IsPackage};
+ghost use Rattle.misp_model.specs.Package.{IsPackage};
 ghost use Rattle.misp_package.specs.Spelling.{spell_package};
 ghost use Rattle.misp_package.specs.PackageReading.{Gives, GivesAll, count_at, form_at, framed_row_at, framed_rows_at, package_at, package_of_bytes, parts_at, rows_after};
 
 use crate::writing::FORM;
 use misp_elem::{DecodeFault, Key, Row, decode_on_wire};
 use misp_ids::{EventId, Items, Uid};
-use misp_rules::{Package, PackageFields};
+use misp_model::{Package, PackageFields};
 use std::alloc::{AllocError, AllocFailed, Global};
 use std::marker::Model;
 

@@ -3,7 +3,7 @@
 ghost use Rattle.std.specs.Prelude.{◌≡◌, map};
 ghost use Rattle.std.specs.List.{filter};
 ghost use Rattle.std.specs.Option.{option_copied};
-ghost use Rattle.misp_rules.specs.View.{first_of_all};
+ghost use Rattle.misp_model.specs.View.{first_of_all};
 ghost use Rattle.misp_package.specs.Passing.{better, is_candidate, is_owner_sent, route_of, sent_owner};
 
 use crate::outward::lets_out;

@@ -4,7 +4,7 @@ ghost use Rattle.std.specs.Prelude.{◌≡◌, ℕ, cond, leb, not, ◌&&◌, �
 ghost use Rattle.misp_elem.specs.SameKey.{same_key};
 ghost use Rattle.misp_elem.specs.declared.key.KeyForm.{KeyForm};
 ghost use Rattle.misp_ids.specs.Same.{same_org};
-ghost use Rattle.misp_rules.specs.View.{is_row_of};
+ghost use Rattle.misp_model.specs.View.{is_row_of};
 ghost use Rattle.misp_package.specs.Stamps.{is_as_new, stamp_at, AreNewest};
 
 use misp_copies::is_owned;

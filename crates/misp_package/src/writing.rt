@@ -6,7 +6,7 @@ ghost use Rattle.misp_package.specs.Spelling.{form, number, framed_row, framed_r
 
 use misp_elem::{Row, encode};
 use misp_ids::{EventId, NoMemory};
-use misp_rules::{Package, PackageFields};
+use misp_model::{Package, PackageFields};
 use std::alloc::Global;
 
 /// What a package begins with.

@@ -1,11 +1,11 @@
 -- Which rule refuses to publish an event.
 use Rattle.std.proofs.Common.{◌≡◌, List, [], ◌∷◌, Bool, true, false, refl, ap, sym, ◌∙◌, arith, ◌&&◌, not, Option, Some, None, is_some, find}
-use Rattle.misp_rules.specs.Prelude.{first_rule, granted_somewhere, has_home}
+use Rattle.misp_model.specs.Prelude.{first_rule, granted_somewhere, has_home}
 use Rattle.misp_history.proofs.Prelude.{EventId, Publish, Row, Rule, Scene, bars, change_rules, event_key, false≢true, has_copy, is_at_limit, is_row_of, is_tombstone, list_any}
 use Rattle.misp_copies.specs.Barring.{rule_of, Refuses, barring, or_else}
 use Rattle.misp_copies.specs.declared.change_fault.ChangeFault.{ChangeFault}
 use Rattle.misp_copies.proofs.Barred.{first_of, bars_are, refuses_first}
-use Rattle.misp_rules.specs.Scene as rule
+use Rattle.misp_model.specs.Scene as rule
 
 home_of : (a b c d : Bool) → None ≡ barring a b c d → (a ≡ true) × (d ≡ true)
 unfolding barring

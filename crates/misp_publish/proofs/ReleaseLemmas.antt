@@ -2,11 +2,11 @@
 use Rattle.std.proofs.Common.{◌≡◌, ℕ, List, [], ◌∷◌, ◌++◌, Bool, true, false, refl, ap, sym, ◌∙◌, arith, subst, map, cond, eqb, ◌+◌, ◌<◌, length, take, get_or, append_assoc, ◌&&◌, ◌||◌, not, max, ◌==◌, Option, Some, None, option_to_list}
 use Rattle.std.proofs.Common.{filter, find, append-nil}
 use Rattle.std.proofs.lemmas.List.Elements.{filter_more}
-use Rattle.misp_rules.proofs.Prelude.{Content, Element, EventId, IsContent, IsRow, IsStamp, Key, OrgId, Place, Proposal, Reference, Row, Scene, Sighting, Verdict, and_parts, change_writes, changed, changed_row, content_kind, event_key}
-use Rattle.misp_rules.proofs.Prelude.{event_of, find_passes, fits, is_gone, is_published, is_row_of, is_statement, label_kind, last_stamp, list_all, map-append, may_remove, own_row, same_event, same_key, same_org, same_org-sound, written}
+use Rattle.misp_model.proofs.Prelude.{Content, Element, EventId, IsContent, IsRow, IsStamp, Key, OrgId, Place, Proposal, Reference, Row, Scene, Sighting, Verdict, and_parts, change_writes, changed, changed_row, content_kind, event_key}
+use Rattle.misp_model.proofs.Prelude.{event_of, find_passes, fits, is_gone, is_published, is_row_of, is_statement, label_kind, last_stamp, list_all, map-append, may_remove, own_row, same_event, same_key, same_org, same_org-sound, written}
 use Rattle.misp_lists.proofs.Elements.{all_has, found_among}
-use Rattle.misp_rules.proofs.Prelude.{same_event-sound}
-use Rattle.misp_rules.specs.Prelude.{at_publishing, is_held_in, let_out}
+use Rattle.misp_model.proofs.Prelude.{same_event-sound}
+use Rattle.misp_model.specs.Prelude.{at_publishing, is_held_in, let_out}
 use Rattle.misp_history.proofs.Prelude.{Publish, as_published, fresh_row, is_at_limit, let_out_row, next_stamp, own_row_is}
 use Rattle.misp_copies.specs.Copies.{AreOf, is_event_row}
 use Rattle.misp_copies.proofs.CopyLemmas.{finds_are}

@@ -1,8 +1,8 @@
 -- What a publishing writes, by the rows of one event.
 use Rattle.std.specs.Prelude.{◌≡◌, ℕ, Bool, false, not, ◌&&◌, List, map, None}
-use Rattle.misp_rules.specs.Prelude.{EventId, OrgId, Row, Scene, at_publishing, change_rules, change_writes, event_key, event_of, first_rule, is_at_limit, same_event, same_key, same_org}
-use Rattle.misp_rules.specs.declared.change.Change.{Change}
-use Rattle.misp_rules.specs.declared.change.Change.TheVariants.{Publish}
+use Rattle.misp_model.specs.Prelude.{EventId, OrgId, Row, Scene, at_publishing, change_rules, change_writes, event_key, event_of, first_rule, is_at_limit, same_event, same_key, same_org}
+use Rattle.misp_model.specs.declared.change.Change.{Change}
+use Rattle.misp_model.specs.declared.change.Change.TheVariants.{Publish}
 use Rattle.misp_history.specs.History.{fresh_row}
 
 -- the row of an event, published at this moment under this stamp

@@ -2,8 +2,8 @@
 
 ghost use Rattle.std.specs.Prelude.{◌≡◌, ℕ, None, List, IfOk, IfErr};
 ghost use Rattle.misp_elem.specs.Row.{AreRows};
-ghost use Rattle.misp_rules.specs.declared.change.Change.TheVariants.{Publish};
-ghost use Rattle.misp_rules.specs.Changing.{change_rules};
+ghost use Rattle.misp_model.specs.declared.change.Change.TheVariants.{Publish};
+ghost use Rattle.misp_model.specs.Changing.{change_rules};
 ghost use Rattle.misp_copies.specs.Scenes.{scene_for};
 ghost use Rattle.misp_copies.specs.Barring.{Names, Refuses};
 ghost use Rattle.misp_publish.specs.Release.{Changes};

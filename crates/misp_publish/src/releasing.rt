@@ -6,8 +6,8 @@ ghost use Rattle.misp_ids.specs.declared.uid.EventId.{EventId as SomeEvent};
 ghost use Rattle.misp_elem.specs.Row.{IsRow, AreRows};
 ghost use Rattle.misp_elem.specs.Parents.{event_key, event_of};
 ghost use Rattle.misp_history.specs.History.{fresh_row};
-ghost use Rattle.misp_rules.specs.Edits as asking;
-ghost use Rattle.misp_rules.specs.Scene.{Scene, is_at_limit, own_row};
+ghost use Rattle.misp_model.specs.Edits as asking;
+ghost use Rattle.misp_model.specs.Scene.{Scene, is_at_limit, own_row};
 ghost use Rattle.misp_copies.specs.Copies.{AreOf, is_event_row};
 ghost use Rattle.misp_publish.specs.Release.{Publishes, at_stamp, cleared_row, is_released};
 ghost use Rattle.misp_publish.specs.declared.fault.PublishFault.TheVariants as faults;
@@ -19,7 +19,7 @@ use misp_ids::{EventId, Label, NoMemory, OrgId, Stamp};
 use std::alloc::Global;
 
 // The content, published at this moment.
-#[tactic(auto, unfolding(misp_rules::specs::Edits::at_publishing))]
+#[tactic(auto, unfolding(misp_model::specs::Edits::at_publishing))]
 fn published(content: &Content, now: Stamp) -> Result<Content, NoMemory>
     ensures { IfOk result (λ made. made ≡ asking.at_publishing now content.now) }
 {

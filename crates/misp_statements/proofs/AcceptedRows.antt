@@ -4,9 +4,9 @@ use Rattle.misp_elem.specs.Prelude.{IsAttributeBody, IsText, text_limit}
 use Rattle.misp_elem.specs.Contents.{IsProposalBody, IsProposed, IsRemoval, least_kind}
 use Rattle.misp_elem.specs.Key.{place_kind}
 use Rattle.misp_elem.specs.declared.content.AttributeBody.{AttributeBody}
-use Rattle.misp_rules.proofs.Prelude.{Content, Element, EventId, IsContent, IsRow, IsStamp, IsUid, OrgId, Place, ProposalBody, ProposalName, Row, accepted, at_attribute, content_kind, false≢true, is_for_new, is_too_long}
-use Rattle.misp_rules.proofs.Prelude.{judged_place, last_stamp, made, may_remove}
-use Rattle.misp_rules.specs.Statements.{judged_at}
+use Rattle.misp_model.proofs.Prelude.{Content, Element, EventId, IsContent, IsRow, IsStamp, IsUid, OrgId, Place, ProposalBody, ProposalName, Row, accepted, at_attribute, content_kind, false≢true, is_for_new, is_too_long}
+use Rattle.misp_model.proofs.Prelude.{judged_place, last_stamp, made, may_remove}
+use Rattle.misp_model.specs.Statements.{judged_at}
 use Rattle.misp_copies.specs.Renewing.{renewed}
 use Rattle.misp_copies.proofs.FittingTexts.{attribute_fits}
 use Rattle.misp_copies.proofs.RenewedRows.{renewed_row}

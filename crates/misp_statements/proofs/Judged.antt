@@ -2,10 +2,10 @@
 use Rattle.std.proofs.Common.{◌≡◌, List, [], ◌∷◌, ◌++◌, Bool, true, false, refl, ap, sym, ◌∙◌, map, cond, eqb, ◌&&◌, ◌||◌, not, max, ◌+◌, Option, Some, None, is_some, option_to_list, find, eq-eqb}
 use Rattle.misp_lists.proofs.Lists.{any_found}
 use Rattle.misp_ids.proofs.Same.{same_event-refl}
-use Rattle.misp_rules.specs.Prelude.{ElemId, ProposalBody, ProposalName, first_rule, granted_somewhere, has_home, is_for_new, is_too_long, judge_rules, judge_writes, judged_place, own_live, row_passes, accepted, acceptance}
-use Rattle.misp_rules.specs.Prelude.{at_attribute, body_seen, made, takes_uuid}
-use Rattle.misp_rules.specs.Statements.{can_judge, proposal_body, proposal_row}
-use Rattle.misp_rules.proofs.Prelude.{any_implies}
+use Rattle.misp_model.specs.Prelude.{ElemId, ProposalBody, ProposalName, first_rule, granted_somewhere, has_home, is_for_new, is_too_long, judge_rules, judge_writes, judged_place, own_live, row_passes, accepted, acceptance}
+use Rattle.misp_model.specs.Prelude.{at_attribute, body_seen, made, takes_uuid}
+use Rattle.misp_model.specs.Statements.{can_judge, proposal_body, proposal_row}
+use Rattle.misp_model.proofs.Prelude.{any_implies}
 use Rattle.misp_history.proofs.Prelude.{Content, Element, EventId, Inst, Judge, Key, Label, OrgId, Proposal, Row, Rule, Scene, Verdict, Version, and_from, and_parts, ask_rules, bars, brings, changed, changed_row, event_key}
 use Rattle.misp_history.proofs.Prelude.{event_of, false≢true, find_passes, fresh_row}
 use Rattle.misp_history.proofs.Prelude.{has_copy, is_at_limit, is_gone, is_published, is_row_of, is_statement, is_taken, last_stamp, list_any, next_stamp, own_row, own_row_is, same_event, same_key-sound, same_org, same_org-sound}
@@ -20,7 +20,7 @@ use Rattle.misp_copies.specs.declared.change_fault.ChangeFault.TheVariants.{Elem
 use Rattle.misp_statements.specs.Judging.{IsFullBy, accepted_rows, body_accepted, body_in, changed_rows, has_verdict, held_row, if_accepted, is_full, is_granted_of, is_seen, is_there, late_rules, made_row, may_judge, own_accepted}
 use Rattle.misp_statements.specs.Judging.{ruling, verdict_row}
 use Rattle.misp_statements.specs.Saving.{Saves}
-use Rattle.misp_rules.specs.Scene as rule
+use Rattle.misp_model.specs.Scene as rule
 
 -- ---- tests of what is accepted
 

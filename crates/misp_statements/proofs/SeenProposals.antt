@@ -1,6 +1,6 @@
 -- The proposal as its judge sees it.
 use Rattle.std.proofs.Common.{◌≡◌, ℕ, List, Bool, true, false, refl, ap, sym, ◌∙◌, ltb, ◌&&◌, not, Option, Some, find}
-use Rattle.misp_rules.proofs.Prelude.{Group, Inst, Key, OrgId, Row, and_parts, find_passes, granted, is_least, list_any, same_key, same_key-sound}
+use Rattle.misp_model.proofs.Prelude.{Group, Inst, Key, OrgId, Row, and_parts, find_passes, granted, is_least, list_any, same_key, same_key-sound}
 use Rattle.misp_statements.specs.Judging.{IsLeastOwner, is_below, is_granted_of, is_lesser, is_seen}
 
 module _ (rows : List Row) (groups : List Group) (here : Inst) (o : OrgId) (k : Key) where

@@ -5,12 +5,12 @@ use Rattle.misp_elem.specs.Key.{IsKey, place_kind}
 use Rattle.misp_elem.specs.Contents.{IsProposalBody}
 use Rattle.misp_elem.specs.declared.content.SightingBody.{SightingBody}
 use Rattle.misp_elem.specs.Row.{IsRow}
-use Rattle.misp_rules.specs.Prelude.{Content, EventId, Inst, Key, OrgId, Place, ProposalBody, Row, Rule, Scene, Stamp, ask_rules, brings, first_rule, propose_rules, propose_writes, proposal_key, sight_rules, sight_writes}
-use Rattle.misp_rules.specs.Prelude.{sighting_key, Sighting, written}
-use Rattle.misp_rules.specs.declared.ask.Ask.TheVariants.{Propose, Sight}
-use Rattle.misp_rules.specs.declared.statement.ProposalDraftFields.{ProposalDraftFields as ProposalDraft}
-use Rattle.misp_rules.specs.declared.statement.SightingDraftFields.{SightingDraftFields as SightingDraft}
-use Rattle.misp_rules.specs.Statement.{IsProposalDraft, IsSightingDraft}
+use Rattle.misp_model.specs.Prelude.{Content, EventId, Inst, Key, OrgId, Place, ProposalBody, Row, Rule, Scene, Stamp, ask_rules, brings, first_rule, propose_rules, propose_writes, proposal_key, sight_rules, sight_writes}
+use Rattle.misp_model.specs.Prelude.{sighting_key, Sighting, written}
+use Rattle.misp_model.specs.declared.ask.Ask.TheVariants.{Propose, Sight}
+use Rattle.misp_model.specs.declared.statement.ProposalDraftFields.{ProposalDraftFields as ProposalDraft}
+use Rattle.misp_model.specs.declared.statement.SightingDraftFields.{SightingDraftFields as SightingDraft}
+use Rattle.misp_model.specs.Statement.{IsProposalDraft, IsSightingDraft}
 use Rattle.misp_history.proofs.Prelude.{fresh_row, is_statement}
 use Rattle.misp_copies.specs.Barring.{Refuses, rule_of}
 use Rattle.misp_copies.specs.declared.change_fault.ChangeFault.{ChangeFault}
@@ -57,7 +57,7 @@ proposal_is_row i o name now d k b f g key text stamp fits =
     (subst (λ x. IsRow (statement_row o now (key_of_proposal i o d) (Content.Proposal x))) (sym g)
     (own_proposal i o name now d (subst IsKey f key) text stamp fits))
 
--- the date of a sighting, as misp_rules has it
+-- the date of a sighting, as misp_model has it
 given_date : (now : Stamp) (o : Option Stamp) → date_of_sighting now o ≡ (elim o as (λ x. Stamp) [ Some x ↦ x | None ↦ now ])
 given_date now (Some x) = refl
 given_date now None = refl

@@ -1,8 +1,8 @@
 -- What is seen of the target of a statement.
 use Rattle.std.proofs.Common.{◌≡◌, List, refl, ap, ◌&&◌, true}
 use Rattle.misp_lists.proofs.Lists.{and_where}
-use Rattle.misp_rules.proofs.Prelude.{Element, EventId, Group, Inst, Key, OrgId, Place, Reference, Row, element_granted, false≢true, granted, granted_by, list_any, same_key}
-use Rattle.misp_rules.specs.Prelude.{is_live}
+use Rattle.misp_model.proofs.Prelude.{Element, EventId, Group, Inst, Key, OrgId, Place, Reference, Row, element_granted, false≢true, granted, granted_by, list_any, same_key}
+use Rattle.misp_model.specs.Prelude.{is_live}
 
 element_is : (rows : List Row) (groups : List Group) (i : Inst) (o : OrgId) (e : EventId) (p : Place) (row : Row) → same_key row.key (Element e p) ≡ true →
     granted rows groups i o row ≡ element_granted rows groups i o row

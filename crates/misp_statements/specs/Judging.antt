@@ -1,9 +1,9 @@
 -- Accepting and discarding a proposal, without a scene.
 use Rattle.std.specs.Prelude.{◌≡◌, ℕ, Bool, true, false, ◌&&◌, ◌||◌, ltb, eqb, cond, List, [], ◌∷◌, Option, Some, None, find}
-use Rattle.misp_rules.specs.Prelude.{Content, Element, EventId, Group, Inst, Key, Label, OrgId, Proposal, ProposalBody, ProposalName, Row, Rule, Stamp, Verdict, accepted, at_attribute, event_key, first_rule, granted}
-use Rattle.misp_rules.specs.Prelude.{granted_somewhere, has_copy}
-use Rattle.misp_rules.specs.Prelude.{has_home, is_for_new, is_least, is_row_of, is_too_long, judged_place, last_stamp, list_any, made, row_passes, same_key, uuid_at}
-use Rattle.misp_rules.specs.Statements.{proposal_body}
+use Rattle.misp_model.specs.Prelude.{Content, Element, EventId, Group, Inst, Key, Label, OrgId, Proposal, ProposalBody, ProposalName, Row, Rule, Stamp, Verdict, accepted, at_attribute, event_key, first_rule, granted}
+use Rattle.misp_model.specs.Prelude.{granted_somewhere, has_copy}
+use Rattle.misp_model.specs.Prelude.{has_home, is_for_new, is_least, is_row_of, is_too_long, judged_place, last_stamp, list_any, made, row_passes, same_key, uuid_at}
+use Rattle.misp_model.specs.Statements.{proposal_body}
 use Rattle.misp_copies.specs.Barring.{barring, or_else}
 use Rattle.misp_copies.specs.OwnRows.{has_live}
 use Rattle.misp_copies.specs.Renewing.{renewed}
@@ -11,7 +11,7 @@ use Rattle.misp_copies.specs.Uuids.{is_used}
 use Rattle.misp_copies.specs.declared.change_fault.ChangeFault.{ChangeFault}
 use Rattle.misp_copies.specs.declared.change_fault.ChangeFault.TheVariants.{ElementFull, NoMemory}
 use Rattle.misp_statements.specs.Rows.{statement_row}
-use Rattle.misp_rules.specs.Scene as rule
+use Rattle.misp_model.specs.Scene as rule
 
 -- ---- the proposal as its judge sees it
 

@@ -1,9 +1,9 @@
 -- The rows of statements.
 use Rattle.std.specs.Prelude.{ℕ, List, Option, Some, None, false}
 use Rattle.misp_elem.specs.declared.content.SightingBody.{SightingBody}
-use Rattle.misp_rules.specs.Prelude.{Content, EventId, Inst, Key, Label, OrgId, Place, Proposal, ProposalBody, Row, Sighting, Stamp}
-use Rattle.misp_rules.specs.declared.statement.ProposalDraftFields.{ProposalDraftFields as ProposalDraft}
-use Rattle.misp_rules.specs.declared.statement.SightingDraftFields.{SightingDraftFields as SightingDraft}
+use Rattle.misp_model.specs.Prelude.{Content, EventId, Inst, Key, Label, OrgId, Place, Proposal, ProposalBody, Row, Sighting, Stamp}
+use Rattle.misp_model.specs.declared.statement.ProposalDraftFields.{ProposalDraftFields as ProposalDraft}
+use Rattle.misp_model.specs.declared.statement.SightingDraftFields.{SightingDraftFields as SightingDraft}
 
 -- the row of a statement that its owner makes at this moment
 abbrev pub statement_row : OrgId → Stamp → Key → Content → Row

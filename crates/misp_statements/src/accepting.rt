@@ -6,10 +6,10 @@ ghost use Rattle.misp_elem.specs.Contents.{IsProposalBody};
 ghost use Rattle.misp_elem.specs.declared.key.KeyForm.TheVariants.{Proposal};
 ghost use Rattle.misp_elem.specs.Row.{IsRow, AreRows, may_remove};
 ghost use Rattle.misp_ids.specs.Moments.{last_stamp};
-ghost use Rattle.misp_rules.specs.Changing.{row_passes};
-ghost use Rattle.misp_rules.specs.Edits.{at_attribute};
-ghost use Rattle.misp_rules.specs.Scene.{is_too_long};
-ghost use Rattle.misp_rules.specs.Statements.{accepted, judged_place, made, is_for_new};
+ghost use Rattle.misp_model.specs.Changing.{row_passes};
+ghost use Rattle.misp_model.specs.Edits.{at_attribute};
+ghost use Rattle.misp_model.specs.Scene.{is_too_long};
+ghost use Rattle.misp_model.specs.Statements.{accepted, judged_place, made, is_for_new};
 ghost use Rattle.misp_copies.specs.declared.change_fault.ChangeFault.TheVariants as faults;
 ghost use Rattle.misp_copies.specs.Renewing.{IsFull, renewed};
 ghost use Rattle.misp_statements.specs.Judging.{accepted_rows, changed_rows, held_row, is_full, IsFullBy, made_row};
@@ -19,13 +19,13 @@ use crate::seeing::{is_for_new, name_of};
 use misp_copies::{ChangeFault, finished, label_of};
 use misp_elem::{AttributeBody, Content, KeyForm, Place, ProposalBody, Row, RowFields};
 use misp_ids::{EventId, Items, Label, NoMemory, OrgId, Stamp};
-use misp_rules::NamedProposal;
+use misp_model::NamedProposal;
 use std::alloc::Global;
 
 // ---- contents
 
 // A new attribute as the proposal makes it.
-#[tactic(auto, unfolding(misp_rules::specs::Statements::made))]
+#[tactic(auto, unfolding(misp_model::specs::Statements::made))]
 fn made(alloc: Global, body: &ProposalBody) -> Result<AttributeBody, NoMemory>
     ensures { IfOk result (λ attribute. attribute ≡ made body.now) }
 {
@@ -44,7 +44,7 @@ fn made(alloc: Global, body: &ProposalBody) -> Result<AttributeBody, NoMemory>
 }
 
 // Makes the attribute as the proposal asks: deleted, or with the proposal's texts.
-#[tactic(auto, unfolding(misp_rules::specs::Statements::accepted))]
+#[tactic(auto, unfolding(misp_model::specs::Statements::accepted))]
 fn accept(body: &ProposalBody, attribute: &mut AttributeBody) -> Result<(), NoMemory>
     ensures { OnOk result (attribute.new ≡ accepted body.now attribute.old) }
 {
@@ -74,7 +74,7 @@ fn accepted(body: &ProposalBody, own: &AttributeBody) -> Result<AttributeBody, N
     }
 }
 
-#[tactic(auto, unfolding(misp_rules::specs::Edits::at_attribute))]
+#[tactic(auto, unfolding(misp_model::specs::Edits::at_attribute))]
 fn accepted_content(body: &ProposalBody, content: &Content) -> Result<Content, NoMemory>
     ensures { IfOk result (λ made. made ≡ at_attribute (accepted body.now) content.now) }
 {
@@ -93,7 +93,7 @@ fn accepted_of(body: &ProposalBody, row: &Row) -> Result<Content, NoMemory>
 // ---- rows
 
 /// The place that the acceptance of the proposal changes or makes.
-#[tactic(auto, unfolding(misp_rules::specs::Statements::judged_place, misp_rules::specs::Statements::judged_at))]
+#[tactic(auto, unfolding(misp_model::specs::Statements::judged_place, misp_model::specs::Statements::judged_at))]
 pub(crate) fn judged_place(proposal: &NamedProposal) -> Place
     ensures { result ≡ judged_place proposal.now }
 {
@@ -184,7 +184,7 @@ fn changed_row(
 }
 
 // The same, if there is a row.
-#[tactic(auto, unfolding(crate::specs::Judging::changed_rows, crate::specs::Judging::is_full, misp_rules::specs::Changing::row_passes))]
+#[tactic(auto, unfolding(crate::specs::Judging::changed_rows, crate::specs::Judging::is_full, misp_model::specs::Changing::row_passes))]
 fn changed_rows(
     alloc: Global,
     body: &ProposalBody,
@@ -207,7 +207,7 @@ fn changed_rows(
 
 /// The rows of what is accepted: those of a new attribute, or of the caller's row, which has not
 /// the last stamp, as the proposal changes it.
-#[tactic(auto, unfolding(crate::specs::Judging::accepted_rows, crate::specs::Judging::is_full, misp_rules::specs::Changing::row_passes))]
+#[tactic(auto, unfolding(crate::specs::Judging::accepted_rows, crate::specs::Judging::is_full, misp_model::specs::Changing::row_passes))]
 pub(crate) fn accepted_rows(
     alloc: Global,
     body: Option<&ProposalBody>,

@@ -3,7 +3,7 @@
 ghost use Rattle.std.specs.Prelude.{◌≡◌, [], ◌∷◌, Some, not, IfOk, IfErr};
 ghost use Rattle.misp_elem.specs.Row.{AreRows, IsRow};
 ghost use Rattle.misp_ids.specs.declared.uid.ElemId.{ElemId as SomeElement};
-ghost use Rattle.misp_rules.specs.Scene.{EventGone, NotGranted, Rule, first_rule};
+ghost use Rattle.misp_model.specs.Scene.{EventGone, NotGranted, Rule, first_rule};
 ghost use Rattle.misp_copies.specs.Barring.{NamesUuid, outcome, rule_of};
 ghost use Rattle.misp_statements.specs.Rows.{statement_row};
 
@@ -14,7 +14,7 @@ use std::alloc::Global;
 
 // The first of these that refuses: its target is not seen, the caller's copy is deleted, or the
 // caller has made it.
-#[tactic(auto, unfolding(misp_copies::specs::Barring::rule_of, misp_rules::specs::Scene::first_rule))]
+#[tactic(auto, unfolding(misp_copies::specs::Barring::rule_of, misp_model::specs::Scene::first_rule))]
 pub(crate) fn admitted(
     seen: bool,
     gone: bool,

@@ -6,11 +6,11 @@ ghost use Rattle.std.specs.Option.{option_copied};
 ghost use Rattle.misp_elem.specs.declared.key.KeyForm.TheVariants.{Verdict};
 ghost use Rattle.misp_elem.specs.Row.{IsRow, AreRows};
 ghost use Rattle.misp_ids.specs.Moments.{last_stamp};
-ghost use Rattle.misp_rules.specs.Answers.{ask_rules};
-ghost use Rattle.misp_rules.specs.Changing.{row_passes};
-ghost use Rattle.misp_rules.specs.Scene.{first_rule};
-ghost use Rattle.misp_rules.specs.Statements.{is_for_new};
-ghost use Rattle.misp_rules.specs.declared.ask.Ask.TheVariants.{Judge};
+ghost use Rattle.misp_model.specs.Answers.{ask_rules};
+ghost use Rattle.misp_model.specs.Changing.{row_passes};
+ghost use Rattle.misp_model.specs.Scene.{first_rule};
+ghost use Rattle.misp_model.specs.Statements.{is_for_new};
+ghost use Rattle.misp_model.specs.declared.ask.Ask.TheVariants.{Judge};
 ghost use Rattle.misp_copies.specs.Barring.{outcome, NamesUuid, Refuses};
 ghost use Rattle.misp_copies.specs.Scenes.{scene_for};
 ghost use Rattle.misp_statements.specs.Judging.{accepted_rows, body_accepted, has_verdict, is_full, is_there, IsFullBy, late_rules, own_accepted, ruling, verdict_row};
@@ -22,7 +22,7 @@ use crate::seeing::{body_accepted, is_for_new, may_judge, name_of};
 use misp_copies::{ChangeFault, Viewer, is_row_of, is_used, may_change, own_row};
 use misp_elem::{Content, Key, KeyForm, Row, uuid_at};
 use misp_ids::{ElemId, EventId, InstId, LAST_SECOND, NoMemory, OrgId, Stamp};
-use misp_rules::NamedProposal;
+use misp_model::NamedProposal;
 use std::alloc::Global;
 
 // ---- rules
@@ -61,7 +61,7 @@ fn own_accepted<'a>(
 }
 
 // Whether there is a row, and it has the last stamp.
-#[tactic(auto, unfolding(misp_rules::specs::Changing::row_passes, misp_ids::specs::Moments::last_stamp))]
+#[tactic(auto, unfolding(misp_model::specs::Changing::row_passes, misp_ids::specs::Moments::last_stamp))]
 fn is_last(own: Option<&Row>) -> bool
     ensures { result
         ≡ row_passes (λ row. eqb row.stamp last_stamp) (option_copied own.entry) }

@@ -4,11 +4,11 @@ ghost use Rattle.std.specs.Prelude.{◌≡◌, ℕ, List, IfOk, IfErr};
 ghost use Rattle.misp_ids.specs.Moments as moments;
 ghost use Rattle.misp_elem.specs.Fields.{IsText};
 ghost use Rattle.misp_elem.specs.Row.{AreRows, IsRow};
-ghost use Rattle.misp_rules.specs.declared.ask.Ask.TheVariants.{Propose};
-ghost use Rattle.misp_rules.specs.Answers.{ask_rules};
-ghost use Rattle.misp_rules.specs.Scene.{first_rule};
-ghost use Rattle.misp_rules.specs.Statement.{IsProposalDraft};
-ghost use Rattle.misp_rules.specs.Statements.{propose_rules};
+ghost use Rattle.misp_model.specs.declared.ask.Ask.TheVariants.{Propose};
+ghost use Rattle.misp_model.specs.Answers.{ask_rules};
+ghost use Rattle.misp_model.specs.Scene.{first_rule};
+ghost use Rattle.misp_model.specs.Statement.{IsProposalDraft};
+ghost use Rattle.misp_model.specs.Statements.{propose_rules};
 ghost use Rattle.misp_copies.specs.Scenes.{scene_for};
 ghost use Rattle.misp_copies.specs.Barring.{NamesUuid, Refuses, outcome};
 ghost use Rattle.misp_statements.specs.Rows.{key_of_proposal, named, proposal_row};
@@ -19,7 +19,7 @@ use crate::targets::{has_own, sees_target};
 use misp_copies::{ChangeFault, Viewer, has_gone};
 use misp_elem::{Content, Key, KeyForm, ProposalBody, ProposalName, Row};
 use misp_ids::{InstId, NoMemory, OrgId, Stamp, Text};
-use misp_rules::{ProposalDraft, ProposalDraftFields};
+use misp_model::{ProposalDraft, ProposalDraftFields};
 use std::alloc::Global;
 
 fn proposal_key(draft: &ProposalDraftFields, at: InstId, by: OrgId) -> Key

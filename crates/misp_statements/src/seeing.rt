@@ -7,16 +7,16 @@ ghost use Rattle.misp_elem.specs.Contents.{IsProposalBody};
 ghost use Rattle.misp_elem.specs.Key.{IsProposalName};
 ghost use Rattle.misp_elem.specs.declared.key.KeyForm.TheVariants.{Proposal};
 ghost use Rattle.misp_elem.specs.Row.{may_remove};
-ghost use Rattle.misp_rules.specs.Statements.{is_for_new, proposal_body};
+ghost use Rattle.misp_model.specs.Statements.{is_for_new, proposal_body};
 ghost use Rattle.misp_statements.specs.Judging.{is_below, is_lesser, is_seen, is_granted_of, IsLeastOwner, body_accepted, may_judge};
 
 use misp_copies::{Viewer, are_same, has_live, is_granted};
 use misp_elem::{Content, Key, KeyForm, Place, ProposalBody, ProposalName, Row};
 use misp_ids::EventId;
-use misp_rules::NamedProposal;
+use misp_model::NamedProposal;
 
 /// Whether the proposal is for a new attribute.
-#[tactic(auto, unfolding(misp_rules::specs::Statements::is_for_new))]
+#[tactic(auto, unfolding(misp_model::specs::Statements::is_for_new))]
 pub(crate) fn is_for_new(proposal: &NamedProposal) -> bool
     ensures { result ≡ is_for_new proposal.now }
 {
@@ -152,7 +152,7 @@ fn seen_row<'a>(rows: &'a [Row], who: &Viewer, key: &Key) -> Option<&'a Row>
 
 // ---- its body
 
-#[tactic(auto, unfolding(misp_rules::specs::Statements::proposal_body))]
+#[tactic(auto, unfolding(misp_model::specs::Statements::proposal_body))]
 fn body_of(row: &Row) -> Option<&ProposalBody>
     ensures value { option_copied result ≡ proposal_body row.now.content }
     ensures fits { IfSome result (λ body. IsProposalBody (may_remove row.now.key) body.now) }

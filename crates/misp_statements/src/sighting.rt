@@ -5,12 +5,12 @@ ghost use Rattle.misp_ids.specs.Moments as moments;
 ghost use Rattle.misp_elem.specs.Fields.{IsStamp, IsText};
 ghost use Rattle.misp_elem.specs.Row.{AreRows, IsRow};
 ghost use Rattle.misp_elem.specs.declared.key.KeyForm.TheVariants.{Sighting};
-ghost use Rattle.misp_rules.specs.declared.ask.Ask.TheVariants.{Sight};
-ghost use Rattle.misp_rules.specs.Answers.{ask_rules};
-ghost use Rattle.misp_rules.specs.Place.{IsAttributePlace};
-ghost use Rattle.misp_rules.specs.Scene.{first_rule};
-ghost use Rattle.misp_rules.specs.Statement.{IsSightingDraft};
-ghost use Rattle.misp_rules.specs.Statements.{sight_rules};
+ghost use Rattle.misp_model.specs.declared.ask.Ask.TheVariants.{Sight};
+ghost use Rattle.misp_model.specs.Answers.{ask_rules};
+ghost use Rattle.misp_model.specs.Place.{IsAttributePlace};
+ghost use Rattle.misp_model.specs.Scene.{first_rule};
+ghost use Rattle.misp_model.specs.Statement.{IsSightingDraft};
+ghost use Rattle.misp_model.specs.Statements.{sight_rules};
 ghost use Rattle.misp_copies.specs.Scenes.{scene_for};
 ghost use Rattle.misp_copies.specs.Barring.{NamesUuid, Refuses, outcome};
 ghost use Rattle.misp_statements.specs.Rows.{date_of_sighting, sighting_body, sighting_row};
@@ -21,7 +21,7 @@ use crate::targets::{has_own, sees_live};
 use misp_copies::{ChangeFault, Viewer, has_gone};
 use misp_elem::{Content, Key, KeyForm, Place, Row, SightingBody};
 use misp_ids::{ElemId, EventId, InstId, NoMemory, OrgId, Stamp, Text};
-use misp_rules::{AttributePlace, SightingDraft, SightingDraftFields};
+use misp_model::{AttributePlace, SightingDraft, SightingDraftFields};
 use std::alloc::Global;
 
 fn sighting_key(event: EventId, target: Place, at: InstId, by: OrgId, uuid: ElemId) -> Key

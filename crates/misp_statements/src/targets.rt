@@ -5,9 +5,9 @@ ghost use Rattle.std.specs.List.{list_any};
 ghost use Rattle.misp_ids.specs.Moments as moments;
 ghost use Rattle.misp_elem.specs.SameKey.{same_key};
 ghost use Rattle.misp_elem.specs.declared.key.KeyForm.TheVariants.{Element};
-ghost use Rattle.misp_rules.specs.Scene as scene;
-ghost use Rattle.misp_rules.specs.Statements as statements;
-ghost use Rattle.misp_rules.specs.View.{granted, is_live, is_row_of};
+ghost use Rattle.misp_model.specs.Scene as scene;
+ghost use Rattle.misp_model.specs.Statements as statements;
+ghost use Rattle.misp_model.specs.View.{granted, is_live, is_row_of};
 ghost use Rattle.misp_copies.specs.Scenes.{scene_for};
 
 use misp_copies::{Viewer, are_same, element_key, is_granted, is_row_of, live, sees_event};
@@ -43,7 +43,7 @@ pub(crate) fn sees_live(rows: &[Row], who: &Viewer<'_>, event: &EventId, place: 
 }
 
 // Whether the event is granted, or the element at this place granted and live.
-#[tactic(auto, unfolding(misp_rules::specs::Statements::sees_target, misp_rules::specs::Scene::sees))]
+#[tactic(auto, unfolding(misp_model::specs::Statements::sees_target, misp_model::specs::Scene::sees))]
 pub(crate) fn sees_target(rows: &[Row], who: &Viewer<'_>, event: &EventId, place: &Place) -> bool
     ensures { (act : ℕ) (name today : List ℕ) (now : moments.Stamp) → result
         ≡ statements.sees_target (scene_for act who.now name now today rows.now)

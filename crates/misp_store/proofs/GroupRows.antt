@@ -15,7 +15,7 @@ use Rattle.misp_groups.proofs.Putting.{in_order_again}
 use Rattle.misp_elem.proofs.KeyOrder.{uid_orders}
 use Rattle.misp_format.specs.Prelude.{IsGroup, group_in_text, uncarried}
 use Rattle.misp_format.specs.WholeGroup.{group_text}
-use Rattle.misp_rules.proofs.Prelude.{AllByRecursion, Group, GroupId, IsUid, and_from, and_parts, bytes_eq-Decides, is_eq-slice_cmp, list_all, nat_tests, ordering_then, put, put_group, slice_cmp, uid}
+use Rattle.misp_model.proofs.Prelude.{AllByRecursion, Group, GroupId, IsUid, and_from, and_parts, bytes_eq-Decides, is_eq-slice_cmp, list_all, nat_tests, ordering_then, put, put_group, slice_cmp, uid}
 use Rattle.misp_store.specs.Raw.{onto}
 use Rattle.misp_store.specs.Sharing.{carried_flag, group_name, group_row, flagged, group_told, is_id, is_row_of, group_where, group_in, groups_in, HoldsGroups}
 use Rattle.misp_store.specs.Decoding.{put_onto}

@@ -2,9 +2,9 @@
 use Rattle.std.proofs.Common.{◌≡◌, List, [], ◌∷◌, Bool, true, false, refl, sym, ap, ◌∙◌, map, cond, Some, None, Ok, arith, ◌&&◌, not, filter}
 use Rattle.misp_outside.specs.Held.{comes_before, same_raw, put_raw, put_rows, rows_of}
 use Rattle.misp_elem.proofs.Rows.{row_of_again}
-use Rattle.misp_rules.proofs.Prelude.{AreRows, EventId, IsRow, Row, and_from, bytes_eq-Decides, event_of, event_rows, name_bytes, put, put_all, put_row, same_event, same_event-refl, same_key, same_org, stands_before}
-use Rattle.misp_rules.specs.Machine.{event_number}
-use Rattle.misp_rules.proofs.NameOrder.{rows_in_bytes, same_in_bytes, before_is_less}
+use Rattle.misp_model.proofs.Prelude.{AreRows, EventId, IsRow, Row, and_from, bytes_eq-Decides, event_of, event_rows, name_bytes, put, put_all, put_row, same_event, same_event-refl, same_key, same_org, stands_before}
+use Rattle.misp_model.specs.Machine.{event_number}
+use Rattle.misp_model.proofs.NameOrder.{rows_in_bytes, same_in_bytes, before_is_less}
 use Rattle.misp_store.specs.Raw.{raw_row, stands_under, row_read, row_in, onto, rows_in}
 
 -- ---- reading

@@ -5,7 +5,7 @@ use Rattle.misp_lists.proofs.Orders.{in_bytes, then_equal}
 use Rattle.misp_outside.specs.Held.{rows_named}
 use Rattle.misp_elem.specs.Prelude.{Uid, key}
 use Rattle.misp_elem.proofs.KeyOrder.{uid_orders}
-use Rattle.misp_rules.proofs.Prelude.{AreRows, EventId, IsRow, IsUid, OrgId, Row, is_eq-slice_cmp, name_bytes, nat_tests, same_event, same_org, uid}
+use Rattle.misp_model.proofs.Prelude.{AreRows, EventId, IsRow, IsUid, OrgId, Row, is_eq-slice_cmp, name_bytes, nat_tests, same_event, same_org, uid}
 use Rattle.misp_store.specs.Raw.{raw_row, owner_rows}
 use Rattle.misp_store.proofs.RowNames.{uid_length}
 

@@ -7,7 +7,7 @@ use Rattle.misp_elem.specs.declared.key.KeyForm.TheVariants.{Element, Proposal, 
 use Rattle.misp_elem.specs.declared.key.ProposalName.{ProposalName}
 use Rattle.misp_format.specs.Prelude.{Uid}
 use Rattle.misp_effects.specs.Prelude.{Row}
-use Rattle.misp_rules.specs.Machine.{name_bytes}
+use Rattle.misp_model.specs.Machine.{name_bytes}
 
 -- ---- how long it is
 

@@ -5,8 +5,8 @@ use Rattle.misp_outside.specs.declared.row.RawRow.{RawRow}
 use Rattle.misp_outside.specs.Held.{Held, name_order, raw_name, comes_before}
 use Rattle.misp_outside.proofs.Names.{names_total}
 use Rattle.misp_elem.specs.Prelude.{key, row_of}
-use Rattle.misp_rules.proofs.Prelude.{AllByRecursion, IsDistinct, IsTable, Row, and_parts, bytes_eq-Decides, event_of, false_from_ne_true, false≢true, in_one_cell, list_all, name_bytes, ordering_reverse, same_event, same_key}
-use Rattle.misp_rules.proofs.Prelude.{same_key-sound, same_org, same_org-sound, uid}
+use Rattle.misp_model.proofs.Prelude.{AllByRecursion, IsDistinct, IsTable, Row, and_parts, bytes_eq-Decides, event_of, false_from_ne_true, false≢true, in_one_cell, list_all, name_bytes, ordering_reverse, same_event, same_key}
+use Rattle.misp_model.proofs.Prelude.{same_key-sound, same_org, same_org-sound, uid}
 use Rattle.misp_store.specs.Raw.{stands_under, row_read, row_in, onto, rows_in}
 
 -- nothing comes before what has its name

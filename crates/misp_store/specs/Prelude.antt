@@ -8,7 +8,7 @@ pub use Rattle.misp_effects.specs.Prelude.{Effect, Held}
 pub use Rattle.misp_effects.specs.declared.stop.Side.TheVariants.{Here}
 pub use Rattle.misp_effects.specs.declared.stop.Stop.{Stop}
 pub use Rattle.misp_format.specs.Prelude.{IsGroup, Refusal}
-pub use Rattle.misp_rules.specs.Prelude.{AllByRecursion, Group, Row}
+pub use Rattle.misp_model.specs.Prelude.{AllByRecursion, Group, Row}
 pub use Rattle.misp_store.specs.Batches.{spelled}
 pub use Rattle.misp_store.specs.Reach.{reach_of}
 unfoldable pub use Rattle.misp_store.specs.Sharing.{groups_in}

@@ -2,7 +2,7 @@
 use Rattle.std.specs.Prelude.{ℕ, Bool, ◌&&◌, cond, List, [], ◌∷◌, filter, Result, Ok, Err, bytes_eq, Option, None, Some}
 use Rattle.misp_elem.specs.Prelude.{EventId, OrgId, event_of, row_of, same_event, same_org}
 use Rattle.misp_effects.specs.Prelude.{RawRow, Row}
-use Rattle.misp_rules.specs.Machine.{name_bytes}
+use Rattle.misp_model.specs.Machine.{name_bytes}
 use Rattle.misp_elem.specs.Spelling as spelling
 
 -- a row as a keeper holds it: spelled, under its event and its name

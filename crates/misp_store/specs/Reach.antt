@@ -1,10 +1,10 @@
 -- How much of what is held an ask reads.
 use Rattle.misp_ids.specs.declared.uid.OrgId.{OrgId}
-use Rattle.misp_rules.specs.declared.ask.Ask.{Ask}
-use Rattle.misp_rules.specs.declared.ask.Ask.TheVariants.{View}
-use Rattle.misp_rules.specs.declared.change.Change.{Change}
-use Rattle.misp_rules.specs.declared.change.Change.TheVariants.{AddEvent}
-use Rattle.misp_rules.specs.Machine.{event_changed}
+use Rattle.misp_model.specs.declared.ask.Ask.{Ask}
+use Rattle.misp_model.specs.declared.ask.Ask.TheVariants.{View}
+use Rattle.misp_model.specs.declared.change.Change.{Change}
+use Rattle.misp_model.specs.declared.change.Change.TheVariants.{AddEvent}
+use Rattle.misp_model.specs.Machine.{event_changed}
 use Rattle.misp_store.specs.declared.reach.Reach.{Reach}
 
 -- how much of what is held a change by an organisation reads: the rows of its event, of an event

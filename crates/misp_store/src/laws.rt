@@ -12,7 +12,7 @@ ghost use Rattle.misp_groups.specs.declared.group.GroupFields.{GroupFields as Gr
 ghost use Rattle.misp_groups.specs.Group.{IsGroup};
 ghost use Rattle.misp_outside.specs.declared.row.AdminRow.{AdminRow};
 ghost use Rattle.misp_outside.specs.Held.{rows_of, rows_named, put_rows, put_admin};
-ghost use Rattle.misp_rules.specs.Machine.{put_all, event_rows};
+ghost use Rattle.misp_model.specs.Machine.{put_all, event_rows};
 ghost use Rattle.misp_groups.specs.Changes.{put_group};
 ghost use Rattle.misp_store.specs.Raw.{raw_row, rows_in, owner_rows};
 ghost use Rattle.misp_store.specs.Sharing.{group_row, groups_in};

@@ -1,7 +1,7 @@
 //! Rows and groups, as they are loaded from a keeper.
 
 ghost use Rattle.std.specs.Prelude.{◌≡◌, Ok, Err, IfOk, IfErr, IfSome, IsTrue};
-ghost use Rattle.misp_rules.specs.View.{IsTable};
+ghost use Rattle.misp_model.specs.View.{IsTable};
 ghost use Rattle.misp_outside.specs.Causes.{HasCause, StaysUnless};
 ghost use Rattle.misp_lists.specs.Order.{ascend};
 ghost use Rattle.misp_outside.specs.Held.{comes_before};

@@ -2,7 +2,7 @@
 
 ghost use Rattle.std.specs.Prelude.{◌≡◌, ◌≤◌, length, bytes_eq};
 ghost use Rattle.misp_elem.specs.Spelling as spelling;
-ghost use Rattle.misp_rules.specs.Machine.{name_bytes};
+ghost use Rattle.misp_model.specs.Machine.{name_bytes};
 
 use misp_elem::{KeyForm, Place, ProposalName, Row};
 use misp_ids::InstId;

@@ -1,11 +1,11 @@
 //! How much of what is held is read.
 
 ghost use Rattle.std.specs.Prelude.{◌≡◌};
-ghost use Rattle.misp_rules.specs.Machine.{event_changed};
+ghost use Rattle.misp_model.specs.Machine.{event_changed};
 ghost use Rattle.misp_store.specs.Reach.{change_reach, reach_of};
 
 use misp_ids::{EventId, OrgId};
-use misp_rules::{Ask, Change};
+use misp_model::{Ask, Change};
 
 /// How much of the rows of events is read: none, those that one organisation has of one event, all
 /// of one event, or all.
@@ -18,7 +18,7 @@ pub enum Reach {
 }
 
 // The event that a change is about.
-#[tactic(auto, unfolding(misp_rules::specs::Machine::event_changed))]
+#[tactic(auto, unfolding(misp_model::specs::Machine::event_changed))]
 fn event_changed(change: &Change) -> EventId
     ensures { result ≡ event_changed change.now }
 {

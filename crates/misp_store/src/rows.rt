@@ -88,7 +88,7 @@ pub(crate) fn decode_rows(alloc: Global, raws: &[RawRow]) -> Result<Vec<Row>, Ro
     Ok(rows)
 }
 
-#[tactic(auto, unfolding(crate::specs::Raw::raw_row, misp_rules::specs::Machine::name_bytes))]
+#[tactic(auto, unfolding(crate::specs::Raw::raw_row, misp_model::specs::Machine::name_bytes))]
 fn raw_row(alloc: Global, row: &Row) -> Result<RawRow, NoMemory>
     ensures { IfOk result (λ raw. raw ≡ raw_row row.now) }
 {

@@ -5,7 +5,7 @@ use Rattle.misp_lists.proofs.Prelude.{put}
 use Rattle.misp_outside.specs.Held.{Held, comes_before, put_admins, put_raw, put_rows, rows_named, same_raw, with_batch}
 use Rattle.misp_outside.specs.declared.row.RawRow.{RawRow}
 use Rattle.misp_effects.specs.Batches.{batch, put_batches}
-use Rattle.misp_rules.proofs.Prelude.{EventId, OrgId, Row, event_of, nat_tests, same_event, uid, and_parts}
+use Rattle.misp_model.proofs.Prelude.{EventId, OrgId, Row, event_of, nat_tests, same_event, uid, and_parts}
 use Rattle.misp_store.specs.Raw.{raw_row, rows_in}
 use Rattle.misp_core.specs.Effects.{row_batches}
 use Rattle.misp_core.specs.Prelude.{spelled}

@@ -1,7 +1,7 @@
 -- What packages bring, part by part.
 use Rattle.std.proofs.Common.{◌≡◌, ℕ, zero, suc, Bool, true, List, [], ◌∷◌, ◌++◌, refl, sym, ap, ◌∙◌, cond, filter, flat_map, take}
 use Rattle.misp_lists.proofs.All.{all_take}
-use Rattle.misp_rules.proofs.Prelude.{AreRows, Group, IsTable, Row, is_row_of, list_all, list_any, put_all}
+use Rattle.misp_model.proofs.Prelude.{AreRows, Group, IsTable, Row, is_row_of, list_all, list_any, put_all}
 use Rattle.misp_history.specs.Acts.{World, synced, synced_groups}
 use Rattle.misp_history.specs.History.{tables}
 use Rattle.misp_history.specs.Merging.{IsPackageOf, arrives, bringing, brought, count_bringing, fewer_where, fresh, is_taken, more_where, packages}

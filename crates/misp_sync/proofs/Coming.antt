@@ -7,10 +7,10 @@ use Rattle.misp_groups.specs.Changes.{take_groups}
 use Rattle.misp_effects.specs.Batches.{Batch, batch}
 use Rattle.misp_effects.specs.Effect.{behind, effect}
 use Rattle.misp_format.specs.WholeGroup.{uncarried}
-use Rattle.misp_rules.specs.Package.{nobody}
-use Rattle.misp_rules.specs.Packing.{is_own, packages}
-use Rattle.misp_rules.specs.Pulling.{pulled_events, pulled_groups, pulled_packages, pulled_rows}
-use Rattle.misp_rules.proofs.Prelude.{AreRows, EventId, Group, Inst, IsTable, OrgId, Row, Scene, event_of, event_rows, list_all, same_event, same_org, seeing, stands_before}
+use Rattle.misp_model.specs.Package.{nobody}
+use Rattle.misp_model.specs.Packing.{is_own, packages}
+use Rattle.misp_model.specs.Pulling.{pulled_events, pulled_groups, pulled_packages, pulled_rows}
+use Rattle.misp_model.proofs.Prelude.{AreRows, EventId, Group, Inst, IsTable, OrgId, Row, Scene, event_of, event_rows, list_all, same_event, same_org, seeing, stands_before}
 use Rattle.misp_history.specs.Acts.{World, known_at, scene, synced_groups}
 use Rattle.misp_history.specs.Answered.{PullsBy}
 use Rattle.misp_history.specs.History.{tables}

@@ -3,7 +3,7 @@ use Rattle.std.proofs.Common.{◌≡◌, ℕ, zero, suc, true, false, Option, So
 use Rattle.misp_ids.specs.declared.label.Way.{Way}
 use Rattle.misp_orgs.specs.Admin.{link_of}
 use Rattle.misp_effects.specs.Effect.{Outcome, Stopped, Went}
-use Rattle.misp_rules.proofs.Prelude.{Inst, same_inst}
+use Rattle.misp_model.proofs.Prelude.{Inst, same_inst}
 use Rattle.misp_history.specs.Acts.{Net, World, synced, synced_groups}
 use Rattle.misp_history.specs.History.{tables}
 use Rattle.misp_history.specs.Outcomes.{step_partly, synced_partly}

@@ -13,7 +13,7 @@ use Rattle.misp_outside.specs.Causes.{HasCause}
 use Rattle.misp_outside.specs.Held.{Held}
 use Rattle.misp_package.specs.Landing.{IsLanding}
 use Rattle.misp_package.specs.declared.landing.Landing.{Landing}
-use Rattle.misp_rules.proofs.Prelude.{nat_tests, same_event}
+use Rattle.misp_model.proofs.Prelude.{nat_tests, same_event}
 use Rattle.misp_store.specs.Loading.{NamesFault}
 use Rattle.misp_store.specs.declared.fault.LoadFault.{LoadFault}
 use Rattle.misp_store.specs.declared.reach.Reach.{Reach}

@@ -7,10 +7,10 @@ use Rattle.misp_lists.proofs.All.{all_among, all_of}
 use Rattle.misp_lists.proofs.Distinct.{apart_in_order, distinct_part}
 use Rattle.misp_lists.proofs.Elements.{all_has, found, here, of_part, there}
 use Rattle.misp_lists.proofs.Ordering.{from_in_order}
-use Rattle.misp_rules.proofs.Prelude.{AllByRecursion, EventId, Group, Inst, IsDistinct, IsTable, OrgId, Row, all_implies, and_parts, event_key, event_of, event_rows, false_from_ne_true, false≢true}
-use Rattle.misp_rules.proofs.Prelude.{in_one_cell, is_row_of, list_all, list_any, one_cell, part_is_table, row_cell_back, row_of_name, same_event, same_event-refl, same_event-sound}
-use Rattle.misp_rules.proofs.Prelude.{same_key-sound, same_org, same_org-sound, stands_before}
-use Rattle.misp_rules.specs.Packing.{is_own, packages}
+use Rattle.misp_model.proofs.Prelude.{AllByRecursion, EventId, Group, Inst, IsDistinct, IsTable, OrgId, Row, all_implies, and_parts, event_key, event_of, event_rows, false_from_ne_true, false≢true}
+use Rattle.misp_model.proofs.Prelude.{in_one_cell, is_row_of, list_all, list_any, one_cell, part_is_table, row_cell_back, row_of_name, same_event, same_event-refl, same_event-sound}
+use Rattle.misp_model.proofs.Prelude.{same_key-sound, same_org, same_org-sound, stands_before}
+use Rattle.misp_model.specs.Packing.{is_own, packages}
 use Rattle.misp_effects.specs.Batches.{batch}
 use Rattle.misp_effects.specs.Effect.{effect}
 use Rattle.misp_history.specs.Merging.{IsPackageOf, arrives, brought, handed, is_taken}

@@ -7,7 +7,7 @@ use Rattle.misp_effects.specs.Batches.{put_batches}
 use Rattle.misp_groups.specs.Prelude.{IsStrictlySortedBy}
 use Rattle.misp_ids.specs.declared.refusal.Refusal.{Refusal}
 use Rattle.misp_outside.specs.Held.{Held}
-use Rattle.misp_rules.proofs.Prelude.{nat_tests, same_event}
+use Rattle.misp_model.proofs.Prelude.{nat_tests, same_event}
 use Rattle.misp_store.specs.declared.reach.Reach.{Reach}
 use Rattle.misp_core.specs.Prelude.{EventId, Group, Inst, OrgId, Row, Seen, groups_of, seen_in, spelled}
 use Rattle.misp_core.specs.Sound.{by_event}

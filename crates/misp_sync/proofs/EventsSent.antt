@@ -8,12 +8,12 @@ use Rattle.misp_orgs.specs.Admin.{who_of}
 use Rattle.misp_outside.specs.Held.{Held, rows_of}
 use Rattle.misp_outside.specs.declared.row.RawRow.{RawRow}
 use Rattle.misp_elem.specs.Prelude.{row_of}
-use Rattle.misp_rules.proofs.Prelude.{and_parts, event_of, event_rows, same_event, same_event-sound}
-use Rattle.misp_rules.specs.Answers.{answer, ask_rules, ok_answer}
-use Rattle.misp_rules.specs.Packing.{packages}
-use Rattle.misp_rules.specs.Pulling.{pulled_events, pulled_packages, pulled_rows}
-use Rattle.misp_rules.specs.Scene.{first_rule}
-use Rattle.misp_rules.specs.declared.ask.Ask.{Ask}
+use Rattle.misp_model.proofs.Prelude.{and_parts, event_of, event_rows, same_event, same_event-sound}
+use Rattle.misp_model.specs.Answers.{answer, ask_rules, ok_answer}
+use Rattle.misp_model.specs.Packing.{packages}
+use Rattle.misp_model.specs.Pulling.{pulled_events, pulled_packages, pulled_rows}
+use Rattle.misp_model.specs.Scene.{first_rule}
+use Rattle.misp_model.specs.declared.ask.Ask.{Ask}
 use Rattle.misp_store.specs.Raw.{onto, row_in, row_read, rows_in, stands_under}
 use Rattle.misp_store.specs.declared.reach.Reach.{Reach}
 use Rattle.misp_store.proofs.TableRows.{onto_parts}

@@ -10,8 +10,8 @@ use Rattle.misp_orgs.specs.declared.role.Perm.{Perm}
 use Rattle.misp_groups.specs.Changes.{take_groups}
 use Rattle.misp_effects.specs.Batches.{AreReadable, batch, put_batches}
 use Rattle.misp_format.specs.WholeGroup.{groups_text, uncarried}
-use Rattle.misp_rules.specs.Permission.{no_permission}
-use Rattle.misp_rules.specs.declared.package.PackageFields.{PackageFields as Package}
+use Rattle.misp_model.specs.Permission.{no_permission}
+use Rattle.misp_model.specs.declared.package.PackageFields.{PackageFields as Package}
 use Rattle.misp_store.specs.Sharing.{groups_in, is_sound, or_none}
 use Rattle.misp_store.proofs.GroupRows.{AreReadBack}
 use Rattle.misp_core.specs.HandedGroups.{group_batches}

@@ -12,10 +12,10 @@ use Rattle.misp_ids.specs.declared.refusal.Refusal.{Refusal}
 use Rattle.misp_ids.specs.declared.refusal.RuleName.{RuleName}
 use Rattle.misp_orgs.specs.Admin.{who_of}
 use Rattle.misp_outside.specs.Held.{Held, put_rows}
-use Rattle.misp_rules.specs.Answers.{answer, ask_rules, ok_answer}
-use Rattle.misp_rules.specs.Pulling.{pulled_groups}
-use Rattle.misp_rules.specs.Scene.{first_rule}
-use Rattle.misp_rules.specs.declared.ask.Ask.{Ask}
+use Rattle.misp_model.specs.Answers.{answer, ask_rules, ok_answer}
+use Rattle.misp_model.specs.Pulling.{pulled_groups}
+use Rattle.misp_model.specs.Scene.{first_rule}
+use Rattle.misp_model.specs.declared.ask.Ask.{Ask}
 use Rattle.misp_store.specs.Raw.{rows_in}
 use Rattle.misp_store.specs.declared.reach.Reach.{Reach}
 use Rattle.misp_core.specs.Answers.{reply_in}

@@ -6,9 +6,9 @@ use Rattle.std.proofs.lemmas.List.Folds.{flat_map-map}
 use Rattle.misp_lists.specs.Order.{in_order, is_less}
 use Rattle.misp_lists.proofs.Lists.{filter-map, map_twice}
 use Rattle.misp_lists.proofs.Ordering.{in_order_map, in_order_same}
-use Rattle.misp_rules.proofs.Prelude.{Element, EventId, Group, Key, OrgId, Proposal, Reference, Row, Sighting, Verdict, event_of, event_rows, known, list_all}
-use Rattle.misp_rules.proofs.Prelude.{same_event, same_org, same_org-sound, spell, stands_before}
-use Rattle.misp_rules.specs.Packing.{arrived, cut, is_own, onto, others_with, packages}
+use Rattle.misp_model.proofs.Prelude.{Element, EventId, Group, Key, OrgId, Proposal, Reference, Row, Sighting, Verdict, event_of, event_rows, known, list_all}
+use Rattle.misp_model.proofs.Prelude.{same_event, same_org, same_org-sound, spell, stands_before}
+use Rattle.misp_model.specs.Packing.{arrived, cut, is_own, onto, others_with, packages}
 use Rattle.misp_history.specs.Answered.{to_nobody}
 use Rattle.misp_history.specs.Merging.{arriving_rows, handed, passing_rows}
 use Rattle.misp_history.specs.Passing.{Route, element_passes, lets_out, passes, passes_at, passes_by, sent_copy}

@@ -11,10 +11,10 @@ use Rattle.misp_effects.specs.declared.stop.Stop.{Stop}
 use Rattle.misp_format.specs.WholeGroup.{groups_text, uncarried}
 use Rattle.misp_history.specs.Merging.{counts_row, handed, is_newer_row, rows_taken}
 use Rattle.misp_package.specs.Spelling.{spell_package}
-use Rattle.misp_rules.proofs.Prelude.{Row, length-map}
-use Rattle.misp_rules.specs.Package.{IsPackage}
-use Rattle.misp_rules.specs.Permission.{no_permission}
-use Rattle.misp_rules.specs.declared.package.PackageFields.{PackageFields as Package}
+use Rattle.misp_model.proofs.Prelude.{Row, length-map}
+use Rattle.misp_model.specs.Package.{IsPackage}
+use Rattle.misp_model.specs.Permission.{no_permission}
+use Rattle.misp_model.specs.declared.package.PackageFields.{PackageFields as Package}
 use Rattle.misp_store.specs.declared.reach.Reach.{Reach}
 use Rattle.misp_core.specs.Answers.{bad_row}
 use Rattle.misp_core.specs.Effects.{row_batches, telling}

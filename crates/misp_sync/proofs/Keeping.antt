@@ -3,7 +3,7 @@ use Rattle.std.proofs.Common.{◌≡◌, Option, Some, None, refl, sym, ap, ◌�
 use Rattle.misp_orgs.specs.Admin.{link_of, who_of}
 use Rattle.misp_orgs.specs.declared.link.Link.{Link}
 use Rattle.misp_outside.specs.Held.{Held}
-use Rattle.misp_rules.proofs.Prelude.{AreRows, Inst, OrgId}
+use Rattle.misp_model.proofs.Prelude.{AreRows, Inst, OrgId}
 use Rattle.misp_history.specs.Acts.{World}
 use Rattle.misp_history.specs.History.{tables}
 use Rattle.misp_core.specs.Prelude.{Ask, Caller, Host, Keeps, RuleName, Seen, bare, forbidden, is_permitted, seen_in}

@@ -8,8 +8,8 @@ use Rattle.misp_effects.specs.Batches.{AreReadable, Batch, IsReadable, batch, pu
 use Rattle.misp_effects.specs.Effect.{Outcome, Stopped, Went, left, under}
 use Rattle.misp_format.specs.WholeGroup.{uncarried}
 use Rattle.misp_lists.proofs.All.{all_take}
-use Rattle.misp_rules.proofs.Prelude.{AreRows, Group, Inst, Row, put_all}
-use Rattle.misp_rules.specs.Packing.{packages}
+use Rattle.misp_model.proofs.Prelude.{AreRows, Group, Inst, Row, put_all}
+use Rattle.misp_model.specs.Packing.{packages}
 use Rattle.misp_history.specs.Acts.{Net, World, synced, synced_groups}
 use Rattle.misp_history.specs.History.{tables}
 use Rattle.misp_history.specs.Merging.{bringing, brought}

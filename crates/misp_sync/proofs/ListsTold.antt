@@ -4,8 +4,8 @@ use Rattle.std.specs.List.{slice_get}
 use Rattle.misp_ids.specs.declared.refusal.Refusal.{Refusal}
 use Rattle.misp_ids.specs.declared.refusal.RuleName.{RuleName}
 use Rattle.misp_orgs.specs.Admin.{who_of}
-use Rattle.misp_rules.specs.Pulling.{pulled_events}
-use Rattle.misp_rules.specs.declared.ask.Ask.{Ask}
+use Rattle.misp_model.specs.Pulling.{pulled_events}
+use Rattle.misp_model.specs.declared.ask.Ask.{Ask}
 use Rattle.misp_store.specs.declared.reach.Reach.{Reach}
 use Rattle.misp_core.specs.Answers.{bad_row, event_parts}
 use Rattle.misp_core.specs.Effects.{Did, asked_where, refused}

@@ -6,10 +6,10 @@ use Rattle.misp_lists.proofs.Elements.{all_has}
 use Rattle.misp_outside.specs.Held.{Held, rows_named}
 use Rattle.misp_elem.specs.Prelude.{key}
 use Rattle.misp_groups.specs.Audience.{label_is_known}
-use Rattle.misp_rules.proofs.Prelude.{EventId, Group, Inst, IsTable, Key, OrgId, Row, all_implies, and_from, and_parts, event_key, event_of}
-use Rattle.misp_rules.proofs.Prelude.{has_copy, has_gone, has_home, is_made_at, is_row_of, is_statement, is_tombstone, list_all, list_any, name_bytes, row_of_name, same_event, same_event-refl}
-use Rattle.misp_rules.proofs.Prelude.{same_key, same_key-sound, same_org, same_org-sound, uid}
-use Rattle.misp_rules.proofs.Spelled.{begins_with_itself}
+use Rattle.misp_model.proofs.Prelude.{EventId, Group, Inst, IsTable, Key, OrgId, Row, all_implies, and_from, and_parts, event_key, event_of}
+use Rattle.misp_model.proofs.Prelude.{has_copy, has_gone, has_home, is_made_at, is_row_of, is_statement, is_tombstone, list_all, list_any, name_bytes, row_of_name, same_event, same_event-refl}
+use Rattle.misp_model.proofs.Prelude.{same_key, same_key-sound, same_org, same_org-sound, uid}
+use Rattle.misp_model.proofs.Spelled.{begins_with_itself}
 use Rattle.misp_history.specs.Acts.{World}
 use Rattle.misp_history.specs.History.{tables}
 use Rattle.misp_history.specs.Merging.{arrives, counts_row, has_event_row, is_newer_row, is_taken, is_welcome_row}

@@ -13,9 +13,9 @@ use Rattle.misp_elem.specs.Spelling.{content, flag, flags, key, label, optional_
 use Rattle.misp_elem.proofs.Contents.{content_may}
 use Rattle.misp_elem.proofs.ShortTexts.{is_text-date}
 use Rattle.misp_elem.proofs.Sizes.{least_of, most_of, size_within}
-use Rattle.misp_rules.proofs.Prelude.{AreRows}
-use Rattle.misp_rules.specs.Prelude.{Content, Row, Tag}
-use Rattle.misp_rules.specs.declared.package.PackageFields.{PackageFields as Package}
+use Rattle.misp_model.proofs.Prelude.{AreRows}
+use Rattle.misp_model.specs.Prelude.{Content, Row, Tag}
+use Rattle.misp_model.specs.declared.package.PackageFields.{PackageFields as Package}
 use Rattle.misp_package.specs.Spelling.{form, framed_row, framed_rows, number, spell_package}
 use Rattle.misp_package.proofs.FieldSizes.{flag_size, flags_size, key_size, label_size, optional_size, stamp_size, text_size as text_is, uid_size}
 use Rattle.misp_sync.specs.Handing.{is_short}

@@ -6,8 +6,8 @@ use Rattle.misp_outside.specs.Held.{Held}
 use Rattle.misp_orgs.specs.Admin.{who_of}
 use Rattle.misp_orgs.specs.Roles.{permits}
 use Rattle.misp_orgs.specs.declared.role.Perm.{Perm}
-use Rattle.misp_rules.specs.Package.{IsPackage}
-use Rattle.misp_rules.specs.declared.package.PackageFields.{PackageFields as Package}
+use Rattle.misp_model.specs.Package.{IsPackage}
+use Rattle.misp_model.specs.declared.package.PackageFields.{PackageFields as Package}
 use Rattle.misp_core.specs.Prelude.{Caller, Effect, Host, Inst, OrgId, Standing, groups_of, host_of, seen_in}
 use Rattle.misp_sync.specs.Handing.{HandPart, Handing}
 use Rattle.misp_sync.specs.Pulled.{ends}

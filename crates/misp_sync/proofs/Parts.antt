@@ -4,7 +4,7 @@ use Rattle.std.proofs.lemmas.List.Elements.{Contains-append_cases}
 use Rattle.std.proofs.lemmas.List.Folds.{list_any-append}
 use Rattle.misp_effects.specs.Batches.{Batch, batch}
 use Rattle.misp_lists.proofs.Elements.{here, of_part, there}
-use Rattle.misp_rules.proofs.Prelude.{AllByRecursion, Group, Inst, IsTable, OrgId, Row, is_row_of, list_all, list_any}
+use Rattle.misp_model.proofs.Prelude.{AllByRecursion, Group, Inst, IsTable, OrgId, Row, is_row_of, list_all, list_any}
 use Rattle.misp_history.specs.Merging.{IsPackageOf, arrives, brought, fresh, is_taken, merged, merged_by}
 use Rattle.misp_history.proofs.ByPackages.{next_taken}
 use Rattle.misp_core.specs.Effects.{row_batches}

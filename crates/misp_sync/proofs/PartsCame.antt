@@ -10,9 +10,9 @@ use Rattle.misp_history.specs.Merging.{handed, merged, rows_taken}
 use Rattle.misp_package.specs.Landing.{IsLanding}
 use Rattle.misp_package.specs.declared.landing.Landing.{Landing}
 use Rattle.misp_store.specs.declared.reach.Reach.{Reach}
-use Rattle.misp_rules.proofs.Prelude.{and_parts, same_event, same_event-sound}
-use Rattle.misp_rules.specs.Package.{IsPackage}
-use Rattle.misp_rules.specs.declared.package.PackageFields.{PackageFields as Package}
+use Rattle.misp_model.proofs.Prelude.{and_parts, same_event, same_event-sound}
+use Rattle.misp_model.specs.Package.{IsPackage}
+use Rattle.misp_model.specs.declared.package.PackageFields.{PackageFields as Package}
 use Rattle.misp_core.specs.Effects.{row_batches}
 use Rattle.misp_core.specs.declared.reply.EventParts.{EventParts}
 use Rattle.misp_core.specs.Prelude.{EventId, Group, Inst, OrgId, Row, groups_of, seen_in, spelled}

@@ -12,9 +12,9 @@ use Rattle.misp_effects.specs.Batches.{AreReadable, Batch, put_batches}
 use Rattle.misp_history.specs.Merging.{counts_row, handed, is_newer_row, merged, rows_taken}
 use Rattle.misp_package.specs.Spelling.{spell_package}
 use Rattle.misp_package.proofs.Handed.{handed_is_row}
-use Rattle.misp_rules.proofs.Prelude.{AllByRecursion, AreRows, EventId, Group, Inst, IsRow, OrgId, Row, and_from, and_parts, event_key, event_of, put_all, same_event, same_event-sound, same_org, same_org-refl, same_org-sound}
-use Rattle.misp_rules.specs.Package.{BeginsWith, IsPackage, is_packed}
-use Rattle.misp_rules.specs.declared.package.PackageFields.{PackageFields as Package}
+use Rattle.misp_model.proofs.Prelude.{AllByRecursion, AreRows, EventId, Group, Inst, IsRow, OrgId, Row, and_from, and_parts, event_key, event_of, put_all, same_event, same_event-sound, same_org, same_org-refl, same_org-sound}
+use Rattle.misp_model.specs.Package.{BeginsWith, IsPackage, is_packed}
+use Rattle.misp_model.specs.declared.package.PackageFields.{PackageFields as Package}
 use Rattle.misp_store.specs.Raw.{raw_row, rows_in}
 use Rattle.misp_store.specs.declared.reach.Reach.{Reach}
 use Rattle.misp_core.specs.Answers.{bad_row}

@@ -8,9 +8,9 @@ use Rattle.misp_package.specs.Landing.{IsLanding}
 use Rattle.misp_package.specs.declared.landing.Landing.{Landing}
 use Rattle.misp_ids.specs.Uid.{IsUid}
 use Rattle.misp_ids.specs.declared.refusal.Refusal.{Refusal}
-use Rattle.misp_rules.proofs.Prelude.{AreRows, EventId, Inst, OrgId, Row, and_from, and_parts, event_of, same_event, same_event-sound, nat_tests}
-use Rattle.misp_rules.specs.Package.{IsPackage, is_packed}
-use Rattle.misp_rules.specs.declared.package.PackageFields.{PackageFields as Package}
+use Rattle.misp_model.proofs.Prelude.{AreRows, EventId, Inst, OrgId, Row, and_from, and_parts, event_of, same_event, same_event-sound, nat_tests}
+use Rattle.misp_model.specs.Package.{IsPackage, is_packed}
+use Rattle.misp_model.specs.declared.package.PackageFields.{PackageFields as Package}
 use Rattle.misp_history.specs.Merging.{counts_row, handed, is_newer_row, merged, rows_taken}
 use Rattle.misp_package.proofs.Handed.{handed_is_row}
 use Rattle.misp_store.proofs.HeldRows.{rows_filtered}

@@ -1,7 +1,7 @@
 -- What a package tells.
 use Rattle.std.proofs.Common.{◌≡◌, ℕ, Bool, true, false, List, Result, Ok, Err, refl, sym, ap, ◌∙◌, subst, if◌then◌else◌}
-use Rattle.misp_rules.specs.Package.{IsPackage}
-use Rattle.misp_rules.specs.declared.package.PackageFields.{PackageFields as Package}
+use Rattle.misp_model.specs.Package.{IsPackage}
+use Rattle.misp_model.specs.declared.package.PackageFields.{PackageFields as Package}
 use Rattle.misp_package.specs.PackageReading.{package_of_bytes}
 use Rattle.misp_package.specs.Spelling.{spell_package}
 use Rattle.misp_package.proofs.SpelledPackages.{package_of_bytes_again}

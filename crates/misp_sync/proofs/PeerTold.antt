@@ -8,13 +8,13 @@ use Rattle.misp_effects.specs.declared.stop.Stop.{Stop}
 use Rattle.misp_ids.specs.declared.refusal.Refusal.{Refusal}
 use Rattle.misp_ids.specs.declared.refusal.RuleName.{RuleName}
 use Rattle.misp_orgs.specs.Admin.{who_of}
-use Rattle.misp_rules.proofs.Prelude.{nat_tests, same_event-refl}
-use Rattle.misp_rules.specs.Answers.{answer, ask_rules, ok_answer}
-use Rattle.misp_rules.specs.declared.ask.Ask.{Ask}
-use Rattle.misp_rules.specs.Prelude.{same_event}
-use Rattle.misp_rules.specs.Pulling.{pulled_packages, pulled_part, pulled_rows}
-use Rattle.misp_rules.specs.Scene.{NotGranted, first_rule}
-use Rattle.misp_rules.specs.declared.package.PackageFields.{PackageFields as Package}
+use Rattle.misp_model.proofs.Prelude.{nat_tests, same_event-refl}
+use Rattle.misp_model.specs.Answers.{answer, ask_rules, ok_answer}
+use Rattle.misp_model.specs.declared.ask.Ask.{Ask}
+use Rattle.misp_model.specs.Prelude.{same_event}
+use Rattle.misp_model.specs.Pulling.{pulled_packages, pulled_part, pulled_rows}
+use Rattle.misp_model.specs.Scene.{NotGranted, first_rule}
+use Rattle.misp_model.specs.declared.package.PackageFields.{PackageFields as Package}
 use Rattle.misp_store.specs.declared.reach.Reach.{Reach}
 use Rattle.misp_core.specs.Answers.{reply_in, reply_of as reply_by}
 use Rattle.misp_core.specs.Effects.{Did, asked, asked_over, asked_where, refused, refused_by, requested, rule_told, telling}
@@ -26,7 +26,7 @@ use Rattle.misp_sync.specs.Steps.{Sends, cause_of}
 use Rattle.misp_sync.specs.Telling.{IsCutShort, IsFetched, Shows, asked_for, garbled, part_told, peer_refused, stop_refusal}
 use Rattle.misp_sync.specs.declared.query.Query.{Query}
 use Rattle.misp_core.specs.Effects as core
-use Rattle.misp_rules.specs.Answers as model
+use Rattle.misp_model.specs.Answers as model
 
 -- ---- replies under an outcome
 

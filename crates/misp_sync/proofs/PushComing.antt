@@ -11,10 +11,10 @@ use Rattle.misp_groups.specs.Changes.{take_groups}
 use Rattle.misp_effects.specs.Batches.{batch}
 use Rattle.misp_effects.specs.Effect.{behind, effect}
 use Rattle.misp_format.specs.WholeGroup.{uncarried}
-use Rattle.misp_rules.proofs.Prelude.{AllByRecursion, AreRows, Element, EventId, Group, Inst, IsDistinct, IsRow, IsTable, Key, OrgId, Proposal, Reference, Row, Sighting, Verdict, event_of, event_rows, known, list_all, part_is_table}
-use Rattle.misp_rules.proofs.Prelude.{same_event, same_org, same_org-refl, stands_before}
-use Rattle.misp_rules.specs.Package.{nobody}
-use Rattle.misp_rules.specs.Packing.{arrived, cut, is_own, others_with, packages}
+use Rattle.misp_model.proofs.Prelude.{AllByRecursion, AreRows, Element, EventId, Group, Inst, IsDistinct, IsRow, IsTable, Key, OrgId, Proposal, Reference, Row, Sighting, Verdict, event_of, event_rows, known, list_all, part_is_table}
+use Rattle.misp_model.proofs.Prelude.{same_event, same_org, same_org-refl, stands_before}
+use Rattle.misp_model.specs.Package.{nobody}
+use Rattle.misp_model.specs.Packing.{arrived, cut, is_own, others_with, packages}
 use Rattle.misp_history.specs.Acts.{World, synced_groups}
 use Rattle.misp_history.specs.History.{tables}
 use Rattle.misp_history.specs.Merging.{IsPackageOf, arrives, arriving_rows, handed, passing_rows}

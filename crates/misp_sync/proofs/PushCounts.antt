@@ -4,7 +4,7 @@ use Rattle.std.proofs.lemmas.List.{append_cancel_left}
 use Rattle.misp_ids.specs.Refusal.{bare}
 use Rattle.misp_ids.specs.declared.refusal.Refusal.{Refusal}
 use Rattle.misp_ids.specs.declared.refusal.RuleName.{RuleName}
-use Rattle.misp_rules.specs.declared.package.PackageFields.{PackageFields as Package}
+use Rattle.misp_model.specs.declared.package.PackageFields.{PackageFields as Package}
 use Rattle.misp_sync.specs.Comes.{IsCauseOf, IsFaultOf, IsReadOf}
 use Rattle.misp_sync.specs.Counts.{with_groups, with_rows}
 use Rattle.misp_sync.specs.Handing.{HandPart, Handing, most_in}

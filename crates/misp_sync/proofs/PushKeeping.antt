@@ -9,8 +9,8 @@ use Rattle.misp_outside.specs.Held.{Held, rows_of}
 use Rattle.misp_effects.specs.Batches.{AreReadable}
 use Rattle.misp_effects.specs.Effect.{Outcome, left, under}
 use Rattle.misp_format.specs.WholeGroup.{groups_text}
-use Rattle.misp_rules.proofs.Prelude.{AreRows, EventId, Group, Inst, IsTable, OrgId, Row, event_of, event_rows, list_all, same_event, same_inst}
-use Rattle.misp_rules.specs.Permission.{no_permission}
+use Rattle.misp_model.proofs.Prelude.{AreRows, EventId, Group, Inst, IsTable, OrgId, Row, event_of, event_rows, list_all, same_event, same_inst}
+use Rattle.misp_model.specs.Permission.{no_permission}
 use Rattle.misp_history.specs.Acts.{Net, World}
 use Rattle.misp_history.specs.History.{tables}
 use Rattle.misp_history.specs.Merging.{arrives}

@@ -6,8 +6,8 @@ use Rattle.misp_orgs.specs.Admin.{who_of}
 use Rattle.misp_orgs.specs.Roles.{permits}
 use Rattle.misp_orgs.specs.declared.link.Link.{Link}
 use Rattle.misp_orgs.specs.declared.role.Perm.{Perm}
-use Rattle.misp_rules.proofs.Prelude.{AreRows, Group, Inst}
-use Rattle.misp_rules.specs.Permission.{no_permission}
+use Rattle.misp_model.proofs.Prelude.{AreRows, Group, Inst}
+use Rattle.misp_model.specs.Permission.{no_permission}
 use Rattle.misp_history.specs.Acts.{World}
 use Rattle.misp_history.specs.History.{tables}
 use Rattle.misp_core.specs.Prelude.{Caller, Effect, Host, Refusal, RuleName, Seen, bare}

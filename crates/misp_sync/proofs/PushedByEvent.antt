@@ -1,8 +1,8 @@
 -- Packages that are handed in one after another are taken event after event.
 use Rattle.std.proofs.Common.{◌≡◌, ◌≤◌, ℕ, suc, false, List, [], ◌∷◌, ◌++◌, append_assoc, length, map, Some, Result, Ok, refl, sym, ap, ◌∙◌, if◌then◌else◌}
 use Rattle.misp_lists.proofs.All.{all_both, all_implied}
-use Rattle.misp_rules.proofs.Prelude.{AllByRecursion, AreRows, EventId, Group, Inst, IsDistinct, OrgId, Row, same_event, same_event-refl}
-use Rattle.misp_rules.specs.declared.package.PackageFields.{PackageFields as Package}
+use Rattle.misp_model.proofs.Prelude.{AllByRecursion, AreRows, EventId, Group, Inst, IsDistinct, OrgId, Row, same_event, same_event-refl}
+use Rattle.misp_model.specs.declared.package.PackageFields.{PackageFields as Package}
 use Rattle.misp_effects.specs.Effect.{effect}
 use Rattle.misp_history.specs.Merging.{handed, merged, rows_taken}
 use Rattle.misp_store.specs.Prelude.{Batch}

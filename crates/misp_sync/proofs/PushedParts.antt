@@ -11,7 +11,7 @@ use Rattle.misp_orgs.specs.declared.role.Perm.{Perm}
 use Rattle.misp_effects.specs.Effect.{Does}
 use Rattle.misp_effects.specs.declared.stop.Side.TheVariants.{Here}
 use Rattle.misp_effects.specs.declared.stop.Stop.{Stop}
-use Rattle.misp_rules.specs.declared.package.PackageFields.{PackageFields as Package}
+use Rattle.misp_model.specs.declared.package.PackageFields.{PackageFields as Package}
 use Rattle.misp_groups.specs.Changes.{take_groups}
 use Rattle.misp_format.specs.WholeGroup.{uncarried}
 use Rattle.misp_store.specs.Loading.{NamesFault}

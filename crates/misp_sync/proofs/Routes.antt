@@ -6,7 +6,7 @@ use Rattle.misp_orgs.specs.declared.link.Link.{Link}
 use Rattle.misp_effects.specs.Batches.{Batch}
 use Rattle.misp_effects.specs.Effect.{Outcome, Stopped, Went, under}
 use Rattle.misp_store.specs.declared.reach.Reach.{Reach}
-use Rattle.misp_rules.proofs.Prelude.{AreRows, Inst, OrgId}
+use Rattle.misp_model.proofs.Prelude.{AreRows, Inst, OrgId}
 use Rattle.misp_history.specs.Acts.{Net, World, step, synced}
 use Rattle.misp_history.specs.History.{tables}
 use Rattle.misp_history.specs.Outcomes.{step_partly, synced_partly}

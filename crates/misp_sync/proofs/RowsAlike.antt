@@ -5,10 +5,10 @@ use Rattle.misp_lists.proofs.Ordering.{any_put}
 use Rattle.misp_outside.specs.Held.{comes_before, put_raw, put_rows, rows_of, same_raw}
 use Rattle.misp_outside.specs.declared.row.RawRow.{RawRow}
 use Rattle.misp_groups.specs.Audience.{label_is_known}
-use Rattle.misp_rules.proofs.NameOrder.{same_in_bytes}
-use Rattle.misp_rules.proofs.Prelude.{AllByRecursion, AreRows, EventId, Group, Inst, IsRow, OrgId, Row, and_parts, event_key, event_of, has_copy, has_gone, has_home, is_made_at, is_row_of, is_statement, is_tombstone}
-use Rattle.misp_rules.proofs.Prelude.{list_any, name_bytes, nat_tests, put_all, put_row, row_of_name, same_event, same_event-refl, same_event-sound, same_key, same_org, stands_before}
-use Rattle.misp_rules.specs.Machine.{event_number}
+use Rattle.misp_model.proofs.NameOrder.{same_in_bytes}
+use Rattle.misp_model.proofs.Prelude.{AllByRecursion, AreRows, EventId, Group, Inst, IsRow, OrgId, Row, and_parts, event_key, event_of, has_copy, has_gone, has_home, is_made_at, is_row_of, is_statement, is_tombstone}
+use Rattle.misp_model.proofs.Prelude.{list_any, name_bytes, nat_tests, put_all, put_row, row_of_name, same_event, same_event-refl, same_event-sound, same_key, same_org, stands_before}
+use Rattle.misp_model.specs.Machine.{event_number}
 use Rattle.misp_history.specs.Merging.{counts_row, has_event_row, is_newer_row, is_welcome_row, rows_taken}
 use Rattle.misp_store.specs.Raw.{raw_row, rows_in}
 use Rattle.misp_core.proofs.PutRead.{IsPut, other_raw, other_row, others_read, put_read}

@@ -6,8 +6,8 @@ use Rattle.misp_effects.specs.declared.stop.Side.TheVariants.{Here, There}
 use Rattle.misp_effects.specs.declared.stop.Stop.{Stop}
 use Rattle.misp_ids.specs.declared.refusal.Refusal.{Refusal}
 use Rattle.misp_ids.specs.declared.refusal.RuleName.{RuleName}
-use Rattle.misp_rules.specs.Prelude.{same_event}
-use Rattle.misp_rules.specs.declared.package.PackageFields.{PackageFields as Package}
+use Rattle.misp_model.specs.Prelude.{same_event}
+use Rattle.misp_model.specs.declared.package.PackageFields.{PackageFields as Package}
 use Rattle.misp_core.specs.Prelude.{EventId, Standing, bare}
 use Rattle.misp_core.specs.Effects.{by_keeper}
 use Rattle.misp_core.specs.declared.reply.Answer.{Answer}

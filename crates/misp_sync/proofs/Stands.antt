@@ -6,7 +6,7 @@ use Rattle.misp_effects.specs.Batches.{AreReadable, Batch, IsReadable, put_batch
 use Rattle.misp_groups.specs.Groups.{by_name, put_groups}
 use Rattle.misp_groups.specs.Prelude.{put_group}
 use Rattle.misp_groups.proofs.Sorted.{all_put, sorted_put}
-use Rattle.misp_rules.proofs.Prelude.{AreRows, Inst, Row, put_all, put_row}
+use Rattle.misp_model.proofs.Prelude.{AreRows, Inst, Row, put_all, put_row}
 use Rattle.misp_history.specs.Acts.{World}
 use Rattle.misp_history.specs.History.{tables}
 use Rattle.misp_store.specs.Batches.{spelled}

@@ -3,10 +3,10 @@ use Rattle.std.proofs.Common.{ℕ, Bool, true, false, List, [], ◌∷◌, Optio
 use Rattle.misp_effects.specs.Effect.{Effect, Outcome, Went, Stopped, under}
 use Rattle.misp_orgs.specs.Admin.{who_of}
 use Rattle.misp_outside.specs.Held.{Held}
-use Rattle.misp_rules.specs.Answers.{Other, Packed, Refused, answer, ask_rules, ok_answer}
-use Rattle.misp_rules.specs.Pulling.{pulled_part}
-use Rattle.misp_rules.specs.Scene.{NotGranted, Scene, first_rule}
-use Rattle.misp_rules.specs.declared.package.PackageFields.{PackageFields}
+use Rattle.misp_model.specs.Answers.{Other, Packed, Refused, answer, ask_rules, ok_answer}
+use Rattle.misp_model.specs.Pulling.{pulled_part}
+use Rattle.misp_model.specs.Scene.{NotGranted, Scene, first_rule}
+use Rattle.misp_model.specs.declared.package.PackageFields.{PackageFields}
 use Rattle.misp_core.specs.Answers.{reply_in, reply_of, scene_at}
 use Rattle.misp_core.specs.Effects.{Did, asked_over, asked_where, refused, telling}
 use Rattle.misp_core.specs.Prelude.{Admin, Caller, EventId, Group, Host, Row, Seen, forbidden, is_permitted, reach_of, seeing, seen_in}

@@ -7,7 +7,7 @@ use Rattle.misp_history.specs.Merging.{handed}
 use Rattle.misp_orgs.specs.declared.link.Link.{Link}
 use Rattle.misp_package.specs.Landing.{IsLanding}
 use Rattle.misp_package.specs.declared.landing.Landing.{Landing}
-use Rattle.misp_rules.specs.declared.package.PackageFields.{PackageFields as Package}
+use Rattle.misp_model.specs.declared.package.PackageFields.{PackageFields as Package}
 use Rattle.misp_store.specs.Prelude.{Batch}
 use Rattle.misp_store.specs.declared.reach.Reach.{Reach}
 use Rattle.misp_core.specs.declared.reply.EventParts.{EventParts}

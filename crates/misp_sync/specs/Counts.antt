@@ -1,7 +1,7 @@
 -- What is counted of batches that were put.
 use Rattle.std.specs.Prelude.{ℕ, ◌+◌, ◌^◌, ◌-◌, min, List, [], ◌∷◌, length, Option, None, Some, if◌then◌else◌}
 use Rattle.misp_effects.specs.Batches.{Batch}
-use Rattle.misp_rules.specs.Prelude.{event_of, same_event}
+use Rattle.misp_model.specs.Prelude.{event_of, same_event}
 use Rattle.misp_core.specs.Prelude.{EventId, Row}
 use Rattle.misp_sync.specs.declared.count.SyncCount.{SyncCount}
 use Rattle.misp_sync.specs.declared.count.Tally.{Tally}

@@ -9,8 +9,8 @@ use Rattle.misp_format.specs.WholeGroup.{groups_text, uncarried}
 use Rattle.misp_http.specs.Limits.{body_limit}
 use Rattle.misp_http.specs.Texts.{request_text}
 use Rattle.misp_package.specs.Spelling.{spell_package}
-use Rattle.misp_rules.specs.Package.{IsPackage}
-use Rattle.misp_rules.specs.declared.package.PackageFields.{PackageFields as Package}
+use Rattle.misp_model.specs.Package.{IsPackage}
+use Rattle.misp_model.specs.declared.package.PackageFields.{PackageFields as Package}
 use Rattle.misp_store.specs.Sharing.{is_sound}
 use Rattle.misp_core.specs.Effects.{by_keeper}
 use Rattle.misp_core.specs.HandedGroups.{groups_handed}

@@ -6,7 +6,7 @@ use Rattle.misp_groups.specs.Changes.{take_groups}
 use Rattle.misp_effects.specs.Batches.{batch}
 use Rattle.misp_effects.specs.Effect.{Telling, behind, effect}
 use Rattle.misp_format.specs.WholeGroup.{uncarried}
-use Rattle.misp_rules.specs.Pulling.{pulled_events, pulled_groups, pulled_packages}
+use Rattle.misp_model.specs.Pulling.{pulled_events, pulled_groups, pulled_packages}
 use Rattle.misp_history.specs.Merging.{handed, merged, rows_taken}
 use Rattle.misp_store.specs.Prelude.{Batch}
 use Rattle.misp_store.specs.declared.reach.Reach.{Reach}

@@ -1,7 +1,7 @@
 -- What a push handed in at its peer, and what it was answered, as bytes in their order.
 use Rattle.std.specs.Prelude.{◌≡◌, ◌⊎◌, ℕ, ◌*◌, true, List, [], ◌∷◌, length, map, Option, None, Some, Ok, Err, IfSome, Result}
 use Rattle.misp_orgs.specs.declared.link.Link.{Link}
-use Rattle.misp_rules.specs.declared.package.PackageFields.{PackageFields as Package}
+use Rattle.misp_model.specs.declared.package.PackageFields.{PackageFields as Package}
 use Rattle.misp_store.specs.declared.reach.Reach.{Reach}
 use Rattle.misp_core.specs.Prelude.{Did, Group, Held, Host, Standing, seen_in}
 use Rattle.misp_core.specs.Text.{http_text}

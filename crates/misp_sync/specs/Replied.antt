@@ -13,8 +13,8 @@ use Rattle.misp_format.specs.Json.{json_in}
 use Rattle.misp_format.specs.Rows.{Reading}
 use Rattle.misp_http.specs.Reply.{HasNoReplyHead, HasOtherBody, IsReply}
 use Rattle.misp_package.specs.PackageReading.{package_of_bytes}
-use Rattle.misp_rules.specs.declared.package.PackageFields.{PackageFields as Package}
-use Rattle.misp_rules.specs.Prelude.{same_event}
+use Rattle.misp_model.specs.declared.package.PackageFields.{PackageFields as Package}
+use Rattle.misp_model.specs.Prelude.{same_event}
 use Rattle.misp_core.specs.Prelude.{EventId, Group, Standing}
 use Rattle.misp_core.specs.declared.reply.EventParts.{EventParts}
 use Rattle.misp_core.specs.declared.reply.Reply.{Reply}

@@ -6,8 +6,8 @@ use Rattle.misp_outside.specs.declared.fault.KeeperFault.{KeeperFault}
 use Rattle.misp_effects.specs.Batches.{AreReadable, put_batches}
 use Rattle.misp_effects.specs.declared.stop.Side.TheVariants.{Here, There}
 use Rattle.misp_effects.specs.declared.stop.Stop.{Stop}
-use Rattle.misp_rules.specs.Prelude.{same_event}
-use Rattle.misp_rules.specs.Pulling.{pulled_packages}
+use Rattle.misp_model.specs.Prelude.{same_event}
+use Rattle.misp_model.specs.Pulling.{pulled_packages}
 use Rattle.misp_history.specs.Merging.{handed, merged}
 use Rattle.misp_package.specs.Landing.{IsLanding}
 use Rattle.misp_package.specs.declared.landing.Landing.{Landing}

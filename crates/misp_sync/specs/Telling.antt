@@ -4,8 +4,8 @@ use Rattle.misp_ids.specs.Refusal.{rule_number, rule_status}
 use Rattle.misp_effects.specs.declared.stop.Side.TheVariants.{Here, There}
 use Rattle.misp_effects.specs.declared.stop.Stop.{Stop}
 use Rattle.misp_format.specs.WholeGroup.{uncarried}
-use Rattle.misp_rules.specs.declared.package.PackageFields.{PackageFields as Package}
-use Rattle.misp_rules.specs.Prelude.{same_event}
+use Rattle.misp_model.specs.declared.package.PackageFields.{PackageFields as Package}
+use Rattle.misp_model.specs.Prelude.{same_event}
 use Rattle.misp_core.specs.Prelude.{EventId, Group, Refusal, RuleName, Standing, bare}
 use Rattle.misp_core.specs.declared.reply.Answer.{Answer}
 use Rattle.misp_core.specs.declared.reply.EventParts.{EventParts}

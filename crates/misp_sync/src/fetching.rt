@@ -6,7 +6,7 @@ ghost use Rattle.misp_ids.specs.Refusal.{bare};
 ghost use Rattle.misp_ids.specs.declared.refusal.RuleName.TheVariants as rules;
 ghost use Rattle.misp_outside.specs.Causes.{HasCause, StaysUnless};
 ghost use Rattle.misp_groups.specs.Group.{IsGroup};
-ghost use Rattle.misp_rules.specs.Package.{IsPackage};
+ghost use Rattle.misp_model.specs.Package.{IsPackage};
 ghost use Rattle.misp_core.specs.Sound.{IsListed};
 ghost use Rattle.misp_sync.specs.Comes.{Comes, IsCauseOf, IsFaultOf, IsReadOf};
 ghost use Rattle.misp_sync.specs.Replied.{Gives, IsBrought, IsOwn, ReadsReplyBy, events_in, groups_in, is_wanted, package_in};
@@ -28,7 +28,7 @@ use misp_format::a_group_is_read_from_its_text;
 use misp_groups::Group;
 use misp_ids::{ApiKey, EventId, Refusal};
 use misp_package::read_package;
-use misp_rules::Package;
+use misp_model::Package;
 use std::alloc::Global;
 
 // ---- groups

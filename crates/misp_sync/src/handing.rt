@@ -7,7 +7,7 @@ ghost use Rattle.misp_ids.specs.declared.refusal.RuleName.TheVariants as rules;
 ghost use Rattle.misp_outside.specs.Causes.{HasCause, StaysUnless};
 ghost use Rattle.misp_groups.specs.Group.{IsGroup};
 ghost use Rattle.misp_format.specs.WholeGroup.{groups_text};
-ghost use Rattle.misp_rules.specs.Package.{IsPackage};
+ghost use Rattle.misp_model.specs.Package.{IsPackage};
 ghost use Rattle.misp_sync.specs.Comes.{IsFaultOf, IsReadOf};
 ghost use Rattle.misp_sync.specs.Handing.{HandGroups, HandPart, Handing, HoldsGroupsAlone, IsHandedReply, IsHanding, MayBeHanded, body_in, most_in, post_text, target_in};
 ghost use Rattle.misp_sync.specs.PushCount.{IsSaid};
@@ -28,7 +28,7 @@ use misp_http::request_bytes;
 use misp_ids::{ApiKey, NoMemory, Refusal, RuleName};
 use misp_outside::WireFault;
 use misp_package::package_bytes;
-use misp_rules::Package;
+use misp_model::Package;
 use std::alloc::Global;
 
 // ---- requests

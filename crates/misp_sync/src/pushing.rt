@@ -40,7 +40,7 @@ use misp_format::a_group_is_read_from_its_text;
 use misp_ids::{ApiKey, InstId, NoMemory, Refusal, RuleName};
 use misp_orgs::Link;
 use misp_outside::Keeper;
-use misp_rules::Package;
+use misp_model::Package;
 use std::alloc::Global;
 
 // Hands in packages, one after another.

@@ -1,8 +1,8 @@
 -- When a row of the event itself is granted.
 use Rattle.std.proofs.Common.{◌≡◌, Bool, true, false, refl, sym, ◌∙◌, List, ◌&&◌, not, Contains}
 use Rattle.std.proofs.lemmas.Bool.{not_from_false}
-use Rattle.misp_rules.proofs.Prelude.{EventId, Group, Inst, Key, OrgId, Row, above, and_from, any_has, element_granted, event_key, event_of, granted, granted_by, has_copy, has_open, is_row_of, is_tombstone, list_all, parents, row_is_open}
-use Rattle.misp_rules.proofs.Prelude.{same_key, same_key-sound, same_org, same_org-refl}
+use Rattle.misp_model.proofs.Prelude.{EventId, Group, Inst, Key, OrgId, Row, above, and_from, any_has, element_granted, event_key, event_of, granted, granted_by, has_copy, has_open, is_row_of, is_tombstone, list_all, parents, row_is_open}
+use Rattle.misp_model.proofs.Prelude.{same_key, same_key-sound, same_org, same_org-refl}
 use Rattle.misp_view.specs.View.{is_granted_itself}
 
 -- a row of the event itself is granted where its copy is there and it is open

@@ -5,8 +5,8 @@ use Rattle.std.proofs.lemmas.Bool.{false≢true, and_right, and_left, and_from, 
 use Rattle.std.proofs.lemmas.List.Folds.{find-append, list_any-append}
 use Rattle.std.proofs.lemmas.List.Elements.{filter_more}
 use Rattle.misp_lists.proofs.Lists.{any_weaker, find_passes, find_by}
-use Rattle.misp_rules.specs.Prelude.{Row, first_of_all, is_before, list_any}
-use Rattle.misp_rules.proofs.RowRanks.{before_not, before_on, before_past}
+use Rattle.misp_model.specs.Prelude.{Row, first_of_all, is_before, list_any}
+use Rattle.misp_model.proofs.RowRanks.{before_not, before_on, before_past}
 use Rattle.misp_view.specs.View.{IsBestOf, better}
 
 module _ {X : Type 0} where

@@ -2,9 +2,9 @@
 use Rattle.std.proofs.Common.{◌≡◌, ℕ, Bool, true, false, refl, ap, sym, ◌∙◌, arith, List, [], map, eqb, ltb, ◌&&◌, not, Option, Some, None, option_map, filter, BTreeSet}
 use Rattle.misp_lists.proofs.Lists.{all_of_kept, any_of_kept, filter_twice, map_where}
 use Rattle.misp_elem.specs.declared.visible.VisibleAttribute.{VisibleAttribute}
-use Rattle.misp_rules.proofs.Prelude.{Attribute, Element, Event, EventId, Group, GroupId, Inst, Key, Object, ObjectAttribute, OrgId, Proposal, Reference, Row, Scene, Sighting, Verdict, VisibleEvent, and_parts, and_right, any_agree}
-use Rattle.misp_rules.proofs.Prelude.{creator, event_key, event_row, false≢true, filter_agree, form_of, granted, in_order, is_attribute_of, is_closed, is_least, is_object, is_plain_attribute, is_reference_of, is_shown, is_statement}
-use Rattle.misp_rules.proofs.Prelude.{is_verdict_on, list_all, list_any, nat_tests, object_of, proposals_on, same_elem, same_event, same_key, shown, shown_at, shown_attribute, shown_object, sightings_on, sorted, uuid_at}
+use Rattle.misp_model.proofs.Prelude.{Attribute, Element, Event, EventId, Group, GroupId, Inst, Key, Object, ObjectAttribute, OrgId, Proposal, Reference, Row, Scene, Sighting, Verdict, VisibleEvent, and_parts, and_right, any_agree}
+use Rattle.misp_model.proofs.Prelude.{creator, event_key, event_row, false≢true, filter_agree, form_of, granted, in_order, is_attribute_of, is_closed, is_least, is_object, is_plain_attribute, is_reference_of, is_shown, is_statement}
+use Rattle.misp_model.proofs.Prelude.{is_verdict_on, list_all, list_any, nat_tests, object_of, proposals_on, same_elem, same_event, same_key, shown, shown_at, shown_attribute, shown_object, sightings_on, sorted, uuid_at}
 use Rattle.misp_copies.specs.declared.copy_view.CopyView.{CopyView}
 use Rattle.misp_copies.specs.Kinds.{is_link}
 use Rattle.misp_copies.specs.ElementSet.{Numbers}

@@ -1,6 +1,6 @@
 -- Objects with what is in them, where that is by objects.
 use Rattle.std.proofs.Common.{◌≡◌, ap, sym, ◌∙◌, List, map, subst, Bor}
-use Rattle.misp_rules.specs.Prelude.{Row, VisibleObject}
+use Rattle.misp_model.specs.Prelude.{Row, VisibleObject}
 use Rattle.misp_view.specs.Parts.{Rises, around}
 use Rattle.misp_view.specs.Form.{attribute_in, beside, object_in}
 use Rattle.misp_view.specs.Inside.{IsList, IsGrouped}

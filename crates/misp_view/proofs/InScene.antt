@@ -1,7 +1,7 @@
 -- What shows of an event hangs on the rows, the groups, the instance and the caller alone.
 use Rattle.std.proofs.Common.{◌≡◌, refl, ap, ◌∙◌, [], Option, Some, None, Bool, map, option_map}
-use Rattle.misp_rules.specs.Prelude.{Element, ElemId, EventId, Key, OrgId, Proposal, Reference, Row, Scene, Sighting, Verdict, VisibleEvent, VisibleObject, event_key}
-use Rattle.misp_rules.specs.Shown.{is_shown, shown_at, is_attribute_of, is_object, is_plain_attribute, object_of, creator, is_reference_of, is_closed, proposals_on, sightings_on, shown_attribute, shown_object, form_of, event_row, shown}
+use Rattle.misp_model.specs.Prelude.{Element, ElemId, EventId, Key, OrgId, Proposal, Reference, Row, Scene, Sighting, Verdict, VisibleEvent, VisibleObject, event_key}
+use Rattle.misp_model.specs.Shown.{is_shown, shown_at, is_attribute_of, is_object, is_plain_attribute, object_of, creator, is_reference_of, is_closed, proposals_on, sightings_on, shown_attribute, shown_object, form_of, event_row, shown}
 use Rattle.misp_view.specs.View.{scene_of}
 
 -- the scene with another number, moment and names

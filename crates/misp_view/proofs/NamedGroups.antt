@@ -2,7 +2,7 @@
 use Rattle.std.proofs.Common.{◌≡◌, ℕ, Bool, true, false, refl, ap, ◌∙◌, cond, List, map, ◌||◌, filter, BTreeSet}
 use Rattle.std.specs.BTreeSet.{IsEmpty}
 use Rattle.std.specs.BTreeMap.{is_at}
-use Rattle.misp_rules.specs.Prelude.{Group, GroupId, VisibleEvent, contains, same_group, same_org}
+use Rattle.misp_model.specs.Prelude.{Group, GroupId, VisibleEvent, contains, same_group, same_org}
 use Rattle.misp_copies.specs.Table.{pair_cmp}
 use Rattle.misp_copies.proofs.Pairs.{pair_more, none_in}
 use Rattle.misp_view.specs.Naming.{has_group, event_names, group_names, with_name}

@@ -4,8 +4,8 @@ use Rattle.std.specs.Cmp.{IsStrictWeakOrder}
 use Rattle.misp_ids.specs.Names.{is_name_byte, is_inst_name}
 use Rattle.misp_lists.proofs.Orders.{less_weak, then_assoc, less, greater}
 use Rattle.misp_elem.specs.Key.{IsKey}
-use Rattle.misp_rules.proofs.Prelude.{Element, Inst, Key, OrgId, Proposal, Reference, Row, Sighting, Verdict, and_parts, false≢true, is_less, less_is, list_all, ordering_then, slice_cmp, spell}
-use Rattle.misp_rules.proofs.NameOrder.{keys_in_bytes}
+use Rattle.misp_model.proofs.Prelude.{Element, Inst, Key, OrgId, Proposal, Reference, Row, Sighting, Verdict, and_parts, false≢true, is_less, less_is, list_all, ordering_then, slice_cmp, spell}
+use Rattle.misp_model.proofs.NameOrder.{keys_in_bytes}
 use Rattle.misp_view.specs.Order.{class_of, origin_of, origin_text, rest_of, goes_before}
 use Rattle.misp_elem.specs.Spelling as spelling
 

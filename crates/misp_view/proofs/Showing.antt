@@ -3,9 +3,9 @@ use Rattle.std.proofs.Common.{◌≡◌, ℕ, Bool, true, false, refl, ap, sym, 
 use Rattle.misp_lists.proofs.Lists.{all_of_kept, any_by}
 use Rattle.misp_lists.proofs.Ordering.{tests_in_order, in_order_cut, in_order_same}
 use Rattle.misp_lists.proofs.Orders.{less_on, less_past}
-use Rattle.misp_rules.proofs.Prelude.{Element, EventId, Group, Inst, Key, OrgId, Place, Proposal, Reference, Row, Sighting, Verdict, all_same, and_from, and_parts, event_of, false≢true, filter_agree, in_order, is_deleted, is_less, is_live}
-use Rattle.misp_rules.proofs.Prelude.{is_object, is_plain_attribute, is_row_of, is_shown, is_statement, list_all, list_any, nat_tests, parents, same_event, same_key, same_key-sound, same_org, shown_at, sorted}
-use Rattle.misp_rules.specs.Shown.{order_of}
+use Rattle.misp_model.proofs.Prelude.{Element, EventId, Group, Inst, Key, OrgId, Place, Proposal, Reference, Row, Sighting, Verdict, all_same, and_from, and_parts, event_of, false≢true, filter_agree, in_order, is_deleted, is_less, is_live}
+use Rattle.misp_model.proofs.Prelude.{is_object, is_plain_attribute, is_row_of, is_shown, is_statement, list_all, list_any, nat_tests, parents, same_event, same_key, same_key-sound, same_org, shown_at, sorted}
+use Rattle.misp_model.specs.Shown.{order_of}
 use Rattle.misp_copies.specs.declared.copy_view.CopyView.{CopyView}
 use Rattle.misp_copies.specs.OwnRows.{has_deleted}
 use Rattle.misp_copies.specs.Kinds.{is_link}

@@ -1,7 +1,7 @@
 -- Of which form a statement is, by its key.
 use Rattle.std.proofs.Common.{◌≡◌, Bool, true, false, refl, ap, ◌∙◌, eqb, ◌&&◌}
-use Rattle.misp_rules.proofs.Prelude.{Element, Key, OrgId, Proposal, Reference, Row, Sighting, Verdict, false≢true, is_statement, is_verdict_on, same_key, same_key-sound}
-use Rattle.misp_rules.specs.Shown.{is_proposal_on, is_sighting_on}
+use Rattle.misp_model.proofs.Prelude.{Element, Key, OrgId, Proposal, Reference, Row, Sighting, Verdict, false≢true, is_statement, is_verdict_on, same_key, same_key-sound}
+use Rattle.misp_model.specs.Shown.{is_proposal_on, is_sighting_on}
 use Rattle.misp_copies.specs.Keys.{target_of, is_about}
 use Rattle.misp_view.specs.Order.{class_of}
 use Rattle.misp_view.specs.Statements.{is_proposal, is_sighting, is_verdict_of}

@@ -2,7 +2,7 @@
 use Rattle.std.proofs.Common.{◌≡◌, Bool, ap, sym, ◌∙◌, List, not, ◌&&◌, filter, IsPermutation}
 use Rattle.std.proofs.lemmas.List.Sorted.{list_any-IsPermutation}
 use Rattle.misp_lists.proofs.Lists.{any_of_kept, any_alike}
-use Rattle.misp_rules.specs.Prelude.{Key, OrgId, Row, in_order, list_any}
+use Rattle.misp_model.specs.Prelude.{Key, OrgId, Row, in_order, list_any}
 use Rattle.misp_copies.specs.Keys.{is_about}
 use Rattle.misp_copies.specs.StatementsByTarget.{IsByTarget}
 use Rattle.misp_copies.specs.StatementsByKey.{is_lesser}

@@ -3,11 +3,11 @@ use Rattle.std.proofs.Common.{◌≡◌, Bool, true, false, refl, ap, sym, ◌�
 use Rattle.misp_lists.proofs.All.{all_filter, all_found, all_both, all_map, all_implied}
 use Rattle.misp_ids.proofs.Same.{same_elem-sound}
 use Rattle.misp_elem.specs.Visible.{IsAttributeOf, IsReferenceOf, IsObjectOf, IsWhole}
-use Rattle.misp_rules.proofs.Prelude.{AllByRecursion, AreRows, Attribute, Content, Element, ElemId, Event, EventId, Group, Inst, IsRow, IsTable, Key, Object, ObjectAttribute, OrgId, Proposal, Reference, Row, Scene, Sighting, Verdict}
-use Rattle.misp_rules.proofs.Prelude.{all_in_order, and_from, and_parts, chosen, content_kind, creator, event_key, event_row, false≢true, find_passes, first_of_all, fits, form_of, granted, has_copy, has_gone, is_attribute_of, is_gone}
-use Rattle.misp_rules.proofs.Prelude.{is_object, is_plain_attribute, is_reference_of, is_row_of, is_shown, is_tombstone, label_kind, list_any, object_of, same_elem, same_event, same_event-sound, same_key, same_key-sound, same_org-refl}
-use Rattle.misp_rules.proofs.Prelude.{shown_at, shown_attribute, shown_object, sorted, uuid_at}
-use Rattle.misp_rules.proofs.OneRow.{is_unmixed}
+use Rattle.misp_model.proofs.Prelude.{AllByRecursion, AreRows, Attribute, Content, Element, ElemId, Event, EventId, Group, Inst, IsRow, IsTable, Key, Object, ObjectAttribute, OrgId, Proposal, Reference, Row, Scene, Sighting, Verdict}
+use Rattle.misp_model.proofs.Prelude.{all_in_order, and_from, and_parts, chosen, content_kind, creator, event_key, event_row, false≢true, find_passes, first_of_all, fits, form_of, granted, has_copy, has_gone, is_attribute_of, is_gone}
+use Rattle.misp_model.proofs.Prelude.{is_object, is_plain_attribute, is_reference_of, is_row_of, is_shown, is_tombstone, label_kind, list_any, object_of, same_elem, same_event, same_event-sound, same_key, same_key-sound, same_org-refl}
+use Rattle.misp_model.proofs.Prelude.{shown_at, shown_attribute, shown_object, sorted, uuid_at}
+use Rattle.misp_model.proofs.OneRow.{is_unmixed}
 use Rattle.misp_view.specs.View.{scene_of}
 use Rattle.misp_view.proofs.Candidates.{granted_at}
 

@@ -1,6 +1,6 @@
 -- The form of one copy, by the lists of what shows there.
 use Rattle.std.specs.Prelude.{Bool, eqb, ◌&&◌, List, map, filter}
-use Rattle.misp_rules.specs.Prelude.{EventId, Group, Inst, OrgId, Row, VisibleAttribute, VisibleObject, event_key, granted, is_row_of}
+use Rattle.misp_model.specs.Prelude.{EventId, Group, Inst, OrgId, Row, VisibleAttribute, VisibleObject, event_key, granted, is_row_of}
 use Rattle.misp_copies.specs.Keys.{is_about}
 use Rattle.misp_view.specs.Parts.{around}
 

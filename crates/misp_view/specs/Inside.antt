@@ -1,6 +1,6 @@
 -- What is in one copy of an event, by the lists of what shows there.
 use Rattle.std.specs.Prelude.{◌≡◌, ℕ, eqb, List, [], map, filter}
-use Rattle.misp_rules.specs.Prelude.{Bor, BTreeSet, EventId, Row, VisibleEvent, event_key, in_order, list_any}
+use Rattle.misp_model.specs.Prelude.{Bor, BTreeSet, EventId, Row, VisibleEvent, event_key, in_order, list_any}
 use Rattle.misp_copies.specs.declared.copy_view.CopyView.{CopyView}
 use Rattle.misp_copies.specs.Keys.{is_about}
 use Rattle.misp_copies.specs.Kinds.{is_link}

@@ -1,7 +1,7 @@
 -- What shows of a copy, by its kinds.
 use Rattle.std.specs.Prelude.{Bool, false, ◌&&◌}
-use Rattle.misp_rules.specs.Prelude.{Attribute, BTreeSet, Element, Event, EventId, Key, Object, ObjectAttribute, OrgId, Proposal, Reference, Row, Sighting, Verdict, same_event}
-use Rattle.misp_rules.specs.Shown.{is_plain_attribute, is_object}
+use Rattle.misp_model.specs.Prelude.{Attribute, BTreeSet, Element, Event, EventId, Key, Object, ObjectAttribute, OrgId, Proposal, Reference, Row, Sighting, Verdict, same_event}
+use Rattle.misp_model.specs.Shown.{is_plain_attribute, is_object}
 use Rattle.misp_copies.specs.declared.copy_view.CopyView.{CopyView}
 use Rattle.misp_copies.specs.ElementSet.{Numbers, has_element}
 use Rattle.misp_copies.specs.CopyView.{shows_in}

@@ -1,6 +1,6 @@
 -- The names of the groups that the labels of a shown event name.
 use Rattle.std.specs.Prelude.{ℕ, Bool, false, ◌||◌, List, map, filter}
-use Rattle.misp_rules.specs.Prelude.{BTreeSet, Group, GroupId, Label, VisibleAttribute, VisibleEvent, VisibleObject, contains, list_any, same_group}
+use Rattle.misp_model.specs.Prelude.{BTreeSet, Group, GroupId, Label, VisibleAttribute, VisibleEvent, VisibleObject, contains, list_any, same_group}
 use Rattle.misp_copies.specs.Table.{pair_cmp}
 
 -- groups with their names

@@ -1,6 +1,6 @@
 -- The order of rows in a list.
 use Rattle.std.specs.Prelude.{ℕ, Bool, List, [], ◌∷◌, ◌++◌, Option, Some, None}
-use Rattle.misp_rules.specs.Prelude.{Element, Inst, Key, OrgId, Proposal, Reference, Row, Sighting, Verdict, is_less, spell, uuid_at}
+use Rattle.misp_model.specs.Prelude.{Element, Inst, Key, OrgId, Proposal, Reference, Row, Sighting, Verdict, is_less, spell, uuid_at}
 
 -- the number of its kind: elements and references, proposals, verdicts, sightings
 unfoldable pub class_of : Key → ℕ

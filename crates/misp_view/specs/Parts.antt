@@ -1,7 +1,7 @@
 -- What belongs to one object.
 use Rattle.std.specs.Prelude.{◌≡◌, ℕ, eqb, List, map, filter}
 use Rattle.std.specs.List.Sorted.{IsNonDecreasingBy}
-use Rattle.misp_rules.specs.Prelude.{Attribute, Bor, Element, Event, Key, Object, ObjectAttribute, Proposal, Reference, Row, Sighting, Verdict}
+use Rattle.misp_model.specs.Prelude.{Attribute, Bor, Element, Event, Key, Object, ObjectAttribute, Proposal, Reference, Row, Sighting, Verdict}
 
 -- the number of the object that it is, or that it is in; else 0
 unfoldable pub around : Key → ℕ

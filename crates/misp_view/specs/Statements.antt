@@ -1,7 +1,7 @@
 -- The statements that show, of those that are granted.
 use Rattle.std.specs.Prelude.{Bool, true, false, not, ◌&&◌, List}
-use Rattle.misp_rules.specs.Prelude.{Element, Key, OrgId, Proposal, Reference, Row, Sighting, Verdict, is_statement, list_any, same_org}
-use Rattle.misp_rules.specs.Shown.{is_verdict_on}
+use Rattle.misp_model.specs.Prelude.{Element, Key, OrgId, Proposal, Reference, Row, Sighting, Verdict, is_statement, list_any, same_org}
+use Rattle.misp_model.specs.Shown.{is_verdict_on}
 use Rattle.misp_copies.specs.declared.copy_view.CopyView.{CopyView}
 use Rattle.misp_copies.specs.Keys.{is_about}
 use Rattle.misp_copies.specs.StatementsByKey.{is_lesser}

@@ -1,6 +1,6 @@
 -- The scene of one event's rows.
 use Rattle.std.specs.Prelude.{◌≡◌, Bool, ◌&&◌, cond, List, [], Option, Some, None}
-use Rattle.misp_rules.specs.Prelude.{EventId, Group, Inst, OrgId, Row, Scene, event_key, first_of_all, granted, is_before, same_key}
+use Rattle.misp_model.specs.Prelude.{EventId, Group, Inst, OrgId, Row, Scene, event_key, first_of_all, granted, is_before, same_key}
 
 -- a scene of these rows and groups alone, as the organisation looks at them there
 abbrev pub scene_of : List Group → Inst → OrgId → List Row → Scene

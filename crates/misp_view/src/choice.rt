@@ -5,7 +5,7 @@ ghost use Rattle.std.specs.List.{Contains};
 ghost use Rattle.std.specs.Option.{option_copied, option_map};
 ghost use Rattle.misp_elem.specs.Parents.{event_key};
 ghost use Rattle.misp_elem.specs.SameKey.{same_key};
-ghost use Rattle.misp_rules.specs.View.{has_copy, chosen};
+ghost use Rattle.misp_model.specs.View.{has_copy, chosen};
 ghost use Rattle.misp_view.specs.View.{better, is_granted_itself};
 
 use misp_copies::{Viewer, has_copy, is_before, is_itself, is_open};

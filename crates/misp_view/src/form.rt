@@ -3,10 +3,10 @@
 ghost use Rattle.std.specs.Prelude.{◌≡◌, IfOk, IfSome, OnOk};
 ghost use Rattle.misp_elem.specs.Row.{AreRows};
 ghost use Rattle.misp_elem.specs.Visible.{IsWhole};
-ghost use Rattle.misp_rules.specs.View.{IsTable, known};
+ghost use Rattle.misp_model.specs.View.{IsTable, known};
 ghost use Rattle.std.specs.List.{find};
 ghost use Rattle.std.specs.Option.{option_copied};
-ghost use Rattle.misp_rules.specs.Shown.{creator, event_row, form_of, shown};
+ghost use Rattle.misp_model.specs.Shown.{creator, event_row, form_of, shown};
 ghost use Rattle.misp_view.specs.View.{scene_of};
 ghost use Rattle.misp_view.specs.Form.{is_granted_row_of};
 ghost use Rattle.misp_view.specs.Inside.{IsFormWith};
@@ -42,7 +42,7 @@ fn row_of<'a>(rows: &'a [Row], who: &Viewer, event: &EventId, owner: &OrgId) -> 
 }
 
 // The row of the event itself in the named owner's copy, or in the chosen one.
-#[tactic(auto, unfolding(misp_rules::specs::Shown::event_row, crate::specs::Form::is_granted_row_of))]
+#[tactic(auto, unfolding(misp_model::specs::Shown::event_row, crate::specs::Form::is_granted_row_of))]
 fn event_row<'a>(
     rows: &'a [Row],
     who: &Viewer,
@@ -60,7 +60,7 @@ fn event_row<'a>(
 }
 
 // Who created the event, by its row.
-#[tactic(auto, unfolding(misp_rules::specs::Shown::creator))]
+#[tactic(auto, unfolding(misp_model::specs::Shown::creator))]
 fn creator(row: &Row) -> OrgId
     ensures { result ≡ creator row.now }
 {

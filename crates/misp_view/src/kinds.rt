@@ -2,7 +2,7 @@
 
 ghost use Rattle.std.specs.Prelude.{◌≡◌, ◌&&◌, map, IfOk};
 ghost use Rattle.std.specs.List.{filter};
-ghost use Rattle.misp_rules.specs.Shown.{is_plain_attribute, is_object};
+ghost use Rattle.misp_model.specs.Shown.{is_plain_attribute, is_object};
 ghost use Rattle.misp_view.specs.Kinds.{is_inner, is_seen_reference, is_of_kind, is_one};
 
 use misp_copies::{CopyView, ElementSet, has_element};
@@ -20,7 +20,7 @@ pub(crate) enum Kind {
 }
 
 // Whether it is an attribute of the event outside objects.
-#[tactic(auto, unfolding(misp_rules::specs::Shown::is_plain_attribute, misp_ids::specs::Same::same_event))]
+#[tactic(auto, unfolding(misp_model::specs::Shown::is_plain_attribute, misp_ids::specs::Same::same_event))]
 fn is_plain_attribute(row: &Row, event: &EventId) -> bool
     ensures { result ≡ is_plain_attribute event.now row.now.key }
 {
@@ -34,7 +34,7 @@ fn is_plain_attribute(row: &Row, event: &EventId) -> bool
 }
 
 // Whether it is an object of the event.
-#[tactic(auto, unfolding(misp_rules::specs::Shown::is_object, misp_ids::specs::Same::same_event))]
+#[tactic(auto, unfolding(misp_model::specs::Shown::is_object, misp_ids::specs::Same::same_event))]
 fn is_object(row: &Row, event: &EventId) -> bool
     ensures { result ≡ is_object event.now row.now.key }
 {

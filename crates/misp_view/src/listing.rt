@@ -1,7 +1,7 @@
 //! The groups that concern an organisation.
 
 ghost use Rattle.std.specs.Prelude.{◌≡◌, ◌||◌, filter, IfOk};
-ghost use Rattle.misp_rules.specs.Answers.{concerns};
+ghost use Rattle.misp_model.specs.Answers.{concerns};
 ghost use Rattle.misp_groups.specs.Audience.{allows};
 ghost use Rattle.misp_ids.specs.Same.{same_org};
 

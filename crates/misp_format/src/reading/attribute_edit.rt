@@ -3,7 +3,7 @@
 ghost use Rattle.std.specs.Prelude.{◌≡◌, IfOk, IfSome, codes, min};
 ghost use Rattle.serde_json.specs.View.{view};
 ghost use Rattle.misp_fields.specs.Fields.{flag_of};
-ghost use Rattle.misp_rules.specs.Edit.{pair_size};
+ghost use Rattle.misp_model.specs.Edit.{pair_size};
 ghost use Rattle.misp_format.specs.Edits.{given_row, given_kind_value_at, attribute_edit_at};
 ghost use Rattle.misp_format.specs.Entries.{IsKeptPair};
 ghost use Rattle.misp_format.specs.Kinds.{category_of};
@@ -18,7 +18,7 @@ use crate::reading::members::Members;
 use crate::reading::path::Path;
 use misp_fields::member;
 use misp_ids::Text;
-use misp_rules::{AttributeEdit, AttributeEditFields};
+use misp_model::{AttributeEdit, AttributeEditFields};
 use serde_json::Value;
 use std::alloc::Global;
 

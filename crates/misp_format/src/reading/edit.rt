@@ -4,7 +4,7 @@ ghost use Rattle.std.specs.Prelude.{◌≡◌, true, IfOk, IfSome};
 ghost use Rattle.std.specs.Str.{is_utf8};
 ghost use Rattle.misp_elem.specs.Row.{IsLabel};
 ghost use Rattle.misp_fields.specs.Fields.{text_of, stamp_of};
-ghost use Rattle.misp_rules.specs.Edit.{IsGiven, given_size};
+ghost use Rattle.misp_model.specs.Edit.{IsGiven, given_size};
 ghost use Rattle.misp_format.specs.Edits.{given_row, given_label_at};
 ghost use Rattle.misp_format.specs.Members.{body_of};
 ghost use Rattle.misp_format.specs.Rows.{Gives};

@@ -16,7 +16,7 @@ use crate::reading::members::Members;
 use crate::reading::path::Path;
 use misp_fields::member;
 use misp_ids::{Text, Uid};
-use misp_rules::{EventEdit, EventEditFields};
+use misp_model::{EventEdit, EventEditFields};
 use serde_json::Value;
 use std::alloc::Global;
 

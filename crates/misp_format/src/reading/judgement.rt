@@ -14,7 +14,7 @@ use crate::reading::path::Path;
 use misp_elem::{Place, ProposalName};
 use misp_fields::member;
 use misp_ids::{ElemId, OrgId};
-use misp_rules::NamedProposal;
+use misp_model::NamedProposal;
 use serde_json::Value;
 use std::alloc::Global;
 

@@ -9,7 +9,7 @@ use crate::reading::edit::{given_label, given_size, given_stamp, given_text};
 use crate::reading::event::unwrapped;
 use crate::reading::members::Members;
 use crate::reading::path::Path;
-use misp_rules::{ObjectEdit, ObjectEditFields};
+use misp_model::{ObjectEdit, ObjectEditFields};
 use serde_json::Value;
 use std::alloc::Global;
 

@@ -19,7 +19,7 @@ use crate::reading::path::Path;
 use misp_elem::{Place, ProposalBody};
 use misp_fields::{self as fields, Need, member};
 use misp_ids::{ElemId, EventId, Text, Uid};
-use misp_rules::{ProposalDraft, ProposalDraftFields, TaggedPlace};
+use misp_model::{ProposalDraft, ProposalDraftFields, TaggedPlace};
 use serde_json::Value;
 use std::alloc::Global;
 

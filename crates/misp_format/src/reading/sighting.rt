@@ -11,7 +11,7 @@ use crate::reading::event::unwrapped;
 use crate::reading::members::Members;
 use crate::reading::path::Path;
 use misp_ids::{ElemId, Uid};
-use misp_rules::{SightingDraft, SightingDraftFields};
+use misp_model::{SightingDraft, SightingDraftFields};
 use serde_json::Value;
 use std::alloc::Global;
 

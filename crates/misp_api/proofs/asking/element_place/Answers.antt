@@ -1,6 +1,6 @@
 use Rattle.std.proofs.Common.{◌≡◌, None}
 use Rattle.misp_elem.specs.declared.key.Place.{Place}
-use Rattle.misp_rules.specs.Place.{IsAttributePlace, element_place}
+use Rattle.misp_model.specs.Place.{IsAttributePlace, element_place}
 use Rattle.misp_api.proofs.asking.element_place.Goals as goal
 
 -- the place of an attribute is that of an element

@@ -1,6 +1,6 @@
 use Rattle.std.proofs.Common.{arith, subst}
 use Rattle.misp_lists.proofs.Prelude.{common_steps, list_any_more}
-use Rattle.misp_rules.proofs.Prelude.{IsRow, is_row_of}
+use Rattle.misp_model.proofs.Prelude.{IsRow, is_row_of}
 use Rattle.misp_copies.proofs.RowLists.{rows_more}
 use Rattle.misp_copies.proofs.copy_view.deletions.Goals as goal
 

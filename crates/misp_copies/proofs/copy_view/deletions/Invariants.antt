@@ -1,5 +1,5 @@
 use Rattle.std.proofs.Common.{take}
-use Rattle.misp_rules.proofs.Prelude.{AreRows, is_deleted}
+use Rattle.misp_model.proofs.Prelude.{AreRows, is_deleted}
 use Rattle.misp_copies.specs.Grants.{IsElementSet}
 use Rattle.misp_copies.proofs.copy_view.deletions.Given as goal
 

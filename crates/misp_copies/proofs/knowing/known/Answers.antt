@@ -1,6 +1,6 @@
 use Rattle.std.proofs.Common.{◌||◌, rules, ◌∙◌, subst, List}
 use Rattle.std.proofs.lemmas.Fn.{filter_same}
-use Rattle.misp_rules.specs.Prelude.{Row, same_org}
+use Rattle.misp_model.specs.Prelude.{Row, same_org}
 use Rattle.misp_copies.specs.Grants.{IsGrants, granted_in}
 use Rattle.misp_copies.proofs.Granted.{known_is}
 use Rattle.misp_copies.proofs.knowing.known.Goals as goal

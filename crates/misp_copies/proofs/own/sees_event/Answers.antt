@@ -1,5 +1,5 @@
 use Rattle.std.proofs.Common.{◌∙◌}
-use Rattle.misp_rules.specs.View.{granted_somewhere}
+use Rattle.misp_model.specs.View.{granted_somewhere}
 use Rattle.misp_copies.proofs.Seeing.{seen_is}
 use Rattle.misp_copies.proofs.own.sees_event.Goals as goal
 

@@ -1,6 +1,6 @@
 use Rattle.std.proofs.Common.{ap, sym, ◌∙◌}
 use Rattle.misp_ids.specs.Stamp.{next_stamp as next_of}
-use Rattle.misp_rules.proofs.Prelude.{Row, false≢true}
+use Rattle.misp_model.proofs.Prelude.{Row, false≢true}
 use Rattle.misp_copies.proofs.Stamps.{next_none}
 use Rattle.misp_copies.proofs.renewing.stamp_after.Goals as goal
 

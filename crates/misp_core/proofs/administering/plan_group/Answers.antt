@@ -2,7 +2,7 @@ use Rattle.std.proofs.Common.{◌≡◌, Bool, true, false, not, List, Option, S
 use Rattle.misp_ids.specs.declared.refusal.RuleName.TheVariants.{NotCreator, GroupExists, LockedGroup, TimeLimit}
 use Rattle.misp_groups.specs.Prelude.{GroupId, OrgId, RuleName, Stamp, bare, group_now, is_known_group, known_group, same_org, why_not}
 use Rattle.misp_groups.specs.Groups.{why_kept}
-use Rattle.misp_rules.specs.Prelude.{Group, last_stamp}
+use Rattle.misp_model.specs.Prelude.{Group, last_stamp}
 use Rattle.misp_core.specs.Administering.{effect_by, administered}
 use Rattle.misp_core.specs.Effects.{stop_by}
 use Rattle.misp_core.specs.Planning.{Refuses}

@@ -1,6 +1,6 @@
 use Rattle.std.proofs.Common.{rules}
 use Rattle.std.proofs.lemmas.List.Sorted.{IsNonDecreasingBy-from_sort_by_key, answers_always}
-use Rattle.misp_rules.specs.Machine.{event_number}
+use Rattle.misp_model.specs.Machine.{event_number}
 use Rattle.misp_core.proofs.Numbered.{same_rows}
 use Rattle.misp_core.proofs.by_event.by_event.Goals as goal
 

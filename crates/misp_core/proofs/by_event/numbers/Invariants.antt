@@ -1,5 +1,5 @@
 use Rattle.std.proofs.Common.{◌≡◌, take, map}
-use Rattle.misp_rules.specs.Machine.{event_number}
+use Rattle.misp_model.specs.Machine.{event_number}
 use Rattle.misp_core.proofs.by_event.numbers.Given as goal
 
 abbrev pub invariant-loop-row : goal.invariant-loop-row

@@ -1,6 +1,6 @@
 use Rattle.std.proofs.Common.{rules}
 use Rattle.std.proofs.lemmas.Fn.{filter_same}
-use Rattle.misp_rules.specs.Prelude.{Row, event_of, same_event}
+use Rattle.misp_model.specs.Prelude.{Row, event_of, same_event}
 use Rattle.misp_core.proofs.by_event.of_event.Goals as goal
 
 pub returns : goal.returns

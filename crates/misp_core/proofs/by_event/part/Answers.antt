@@ -1,6 +1,6 @@
 use Rattle.std.proofs.Common.{rules, ◌-◌, length, take, drop, ltb, leb}
 use Rattle.std.proofs.lemmas.List.Sorted.{IsPartitionPoint-from_clause, IsPartitionedBy-ltb, IsPartitionedBy-leb, IsNonDecreasingBy-take, IsNonDecreasingBy-drop}
-use Rattle.misp_rules.specs.Machine.{event_number}
+use Rattle.misp_model.specs.Machine.{event_number}
 use Rattle.misp_core.proofs.Numbered.{cut_rows}
 use Rattle.misp_core.proofs.by_event.part.Goals as goal
 

@@ -1,7 +1,7 @@
 use Rattle.std.proofs.Common.{sym}
-use Rattle.misp_rules.specs.Prelude.{change_writes}
-use Rattle.misp_rules.specs.declared.change.Change.TheVariants.{AddEvent}
-use Rattle.misp_rules.specs.Machine.{event_changed}
+use Rattle.misp_model.specs.Prelude.{change_writes}
+use Rattle.misp_model.specs.declared.change.Change.TheVariants.{AddEvent}
+use Rattle.misp_model.specs.Machine.{event_changed}
 use Rattle.misp_core.proofs.changing.add.Goals as goal
 
 pub returns-in-Ok : goal.returns-in-Ok

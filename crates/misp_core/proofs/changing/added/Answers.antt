@@ -1,7 +1,7 @@
 use Rattle.std.proofs.Common.{subst, IfOk, IfErr}
 use Rattle.misp_store.specs.Prelude.{AreRows}
-use Rattle.misp_rules.specs.Prelude.{ask_rules, brings}
-use Rattle.misp_rules.specs.declared.ask.Ask.{Ask}
+use Rattle.misp_model.specs.Prelude.{ask_rules, brings}
+use Rattle.misp_model.specs.declared.ask.Ask.{Ask}
 use Rattle.misp_edit.specs.Changing.{Changes}
 use Rattle.misp_core.proofs.Decisions.{rows_planned, not_changed}
 use Rattle.misp_core.proofs.changing.added.Goals as goal

@@ -1,6 +1,6 @@
 use Rattle.std.proofs.lemmas.Result.{IfErr-weaker}
-use Rattle.misp_rules.specs.Prelude.{ask_rules, brings}
-use Rattle.misp_rules.specs.declared.ask.Ask.{Ask}
+use Rattle.misp_model.specs.Prelude.{ask_rules, brings}
+use Rattle.misp_model.specs.declared.ask.Ask.{Ask}
 use Rattle.misp_core.proofs.Decisions.{group_placed}
 use Rattle.misp_core.proofs.changing.changed.Goals as goal
 

@@ -1,7 +1,7 @@
 use Rattle.std.proofs.Common.{refl, sym}
-use Rattle.misp_rules.specs.Prelude.{date_of}
-use Rattle.misp_rules.specs.declared.change.Change.TheVariants.{AddParts, EditAttribute, EditEvent, EditObject}
-use Rattle.misp_rules.specs.Machine.{event_changed}
+use Rattle.misp_model.specs.Prelude.{date_of}
+use Rattle.misp_model.specs.declared.change.Change.TheVariants.{AddParts, EditAttribute, EditEvent, EditObject}
+use Rattle.misp_model.specs.Machine.{event_changed}
 use Rattle.misp_core.specs.Answers.{name_in}
 use Rattle.misp_core.proofs.changing.plan_change.Goals as goal
 

@@ -1,8 +1,8 @@
 use Rattle.std.proofs.Common.{refl, None}
-use Rattle.misp_rules.specs.Prelude.{date_of}
-use Rattle.misp_rules.specs.declared.change.Change.TheVariants.{Delete, DeleteEvent, DeleteReference, Publish}
-use Rattle.misp_rules.specs.Machine.{event_changed}
-use Rattle.misp_rules.specs.declared.change.Change.{Change}
+use Rattle.misp_model.specs.Prelude.{date_of}
+use Rattle.misp_model.specs.declared.change.Change.TheVariants.{Delete, DeleteEvent, DeleteReference, Publish}
+use Rattle.misp_model.specs.Machine.{event_changed}
+use Rattle.misp_model.specs.declared.change.Change.{Change}
 use Rattle.misp_core.specs.Answers.{name_in}
 use Rattle.misp_core.proofs.Decisions.{none_named}
 use Rattle.misp_core.proofs.changing.plan_mark.Goals as goal

@@ -1,5 +1,5 @@
 use Rattle.std.proofs.Common.{subst, sym}
-use Rattle.misp_rules.proofs.Prelude.{AreRows}
+use Rattle.misp_model.proofs.Prelude.{AreRows}
 use Rattle.misp_core.specs.Handing.{scene_in}
 use Rattle.misp_core.proofs.HandedAsks.{handed_planned, taken_are_rows}
 use Rattle.misp_core.proofs.handing_in.plan_landed.Goals as goal

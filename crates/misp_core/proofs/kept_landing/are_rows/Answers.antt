@@ -1,5 +1,5 @@
 use Rattle.std.proofs.Common.{subst}
-use Rattle.misp_rules.proofs.Prelude.{IsRow}
+use Rattle.misp_model.proofs.Prelude.{IsRow}
 use Rattle.misp_copies.proofs.RowLists.{rows_more}
 use Rattle.misp_core.proofs.kept_landing.are_rows.Goals as goal
 

@@ -1,5 +1,5 @@
 use Rattle.std.proofs.Common.{◌≡◌, IfOk, ap, length, subst, sym, ◌∙◌}
-use Rattle.misp_rules.specs.Packing.{packages}
+use Rattle.misp_model.specs.Packing.{packages}
 use Rattle.misp_history.specs.Merging.{arriving_rows}
 use Rattle.misp_core.specs.Handing.{pull_scene}
 use Rattle.misp_core.proofs.Pulled.{none_packed, pulled_by, pulled_none}

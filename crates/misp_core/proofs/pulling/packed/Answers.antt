@@ -1,6 +1,6 @@
 use Rattle.std.proofs.Common.{◌∙◌}
-use Rattle.misp_rules.specs.Machine.{seeing}
-use Rattle.misp_rules.specs.Pulling.{pulled_part}
+use Rattle.misp_model.specs.Machine.{seeing}
+use Rattle.misp_model.specs.Pulling.{pulled_part}
 use Rattle.misp_core.specs.Handing.{pull_scene}
 use Rattle.misp_core.proofs.KeptParts.{slots_hold}
 use Rattle.misp_core.proofs.Pulled.{part_is}

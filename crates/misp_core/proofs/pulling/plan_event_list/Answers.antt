@@ -1,5 +1,5 @@
 use Rattle.std.proofs.Common.{subst, sym}
-use Rattle.misp_rules.specs.Machine.{seeing}
+use Rattle.misp_model.specs.Machine.{seeing}
 use Rattle.misp_core.specs.Handing.{pull_scene}
 use Rattle.misp_core.specs.Pulling.{IsByEvent}
 use Rattle.misp_core.proofs.Decisions.{events_listed}

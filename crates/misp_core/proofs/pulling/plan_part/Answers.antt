@@ -1,5 +1,5 @@
 use Rattle.std.proofs.Common.{inr, sym, ◌∙◌}
-use Rattle.misp_rules.specs.Machine.{seeing}
+use Rattle.misp_model.specs.Machine.{seeing}
 use Rattle.misp_core.specs.Handing.{pull_scene}
 use Rattle.misp_core.proofs.Decisions.{part_refused, part_shown}
 use Rattle.misp_core.proofs.pulling.plan_part.Goals as goal

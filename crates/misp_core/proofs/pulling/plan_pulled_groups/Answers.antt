@@ -1,4 +1,4 @@
-use Rattle.misp_rules.specs.Pulling.{pulled_groups}
+use Rattle.misp_model.specs.Pulling.{pulled_groups}
 use Rattle.misp_core.specs.Handing.{knowing, pull_scene}
 use Rattle.misp_core.proofs.Decisions.{groups_pulled}
 use Rattle.misp_core.proofs.pulling.plan_pulled_groups.Goals as goal

@@ -1,7 +1,7 @@
 use Rattle.std.proofs.Common.{ℕ, Option, ◌∙◌, ap, filter_map, length, nat_cmp, subst, sym, take_all}
-use Rattle.misp_rules.specs.Machine.{event_rows, seeing}
-use Rattle.misp_rules.specs.Packing.{packages}
-use Rattle.misp_rules.specs.Pulling.{pulled_rows}
+use Rattle.misp_model.specs.Machine.{event_rows, seeing}
+use Rattle.misp_model.specs.Packing.{packages}
+use Rattle.misp_model.specs.Pulling.{pulled_rows}
 use Rattle.misp_store.specs.Prelude.{AllByRecursion}
 use Rattle.misp_core.specs.Prelude.{EventId, IsStrictlySortedBy, Scene}
 use Rattle.misp_core.specs.declared.reply.EventParts.{EventParts}

@@ -1,8 +1,8 @@
 use Rattle.std.proofs.Common.{◌≡◌, List, filter_map, length, nat_cmp, take}
-use Rattle.misp_rules.specs.Machine.{event_rows, seeing}
-use Rattle.misp_rules.specs.Packing.{packages}
-use Rattle.misp_rules.specs.Prelude.{IsTable, Row}
-use Rattle.misp_rules.specs.Pulling.{pulled_rows}
+use Rattle.misp_model.specs.Machine.{event_rows, seeing}
+use Rattle.misp_model.specs.Packing.{packages}
+use Rattle.misp_model.specs.Prelude.{IsTable, Row}
+use Rattle.misp_model.specs.Pulling.{pulled_rows}
 use Rattle.misp_store.specs.Prelude.{AllByRecursion}
 use Rattle.misp_core.specs.Prelude.{IsStrictlySortedBy}
 use Rattle.misp_core.specs.Handing.{pull_scene}

@@ -1,5 +1,5 @@
 use Rattle.std.proofs.Common.{◌≡◌, IfOk, ap, length, map, subst, sym, ◌∙◌}
-use Rattle.misp_rules.specs.Packing.{packages}
+use Rattle.misp_model.specs.Packing.{packages}
 use Rattle.misp_history.specs.Merging.{arriving_rows}
 use Rattle.misp_package.specs.Packing.{AreNumberedFrom}
 use Rattle.misp_core.specs.Handing.{pull_scene}

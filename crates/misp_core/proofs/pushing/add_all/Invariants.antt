@@ -1,5 +1,5 @@
 use Rattle.std.proofs.Common.{◌≡◌, ◌++◌}
-use Rattle.misp_rules.specs.Package.{IsPackage}
+use Rattle.misp_model.specs.Package.{IsPackage}
 use Rattle.misp_store.specs.Prelude.{AllByRecursion}
 use Rattle.misp_core.proofs.pushing.add_all.Given as goal
 

@@ -1,8 +1,8 @@
 use Rattle.std.proofs.Common.{◌≡◌, ◌∙◌, List, ap, flat_map, refl, subst, sym, take_all}
-use Rattle.misp_rules.specs.Machine.{event_rows}
-use Rattle.misp_rules.specs.Package.{IsPackage}
-use Rattle.misp_rules.specs.Packing.{packages}
-use Rattle.misp_rules.specs.Passing.{Route}
+use Rattle.misp_model.specs.Machine.{event_rows}
+use Rattle.misp_model.specs.Package.{IsPackage}
+use Rattle.misp_model.specs.Packing.{packages}
+use Rattle.misp_model.specs.Passing.{Route}
 use Rattle.misp_history.specs.Merging.{arriving_rows}
 use Rattle.misp_package.specs.Passing.{route_of}
 use Rattle.misp_store.specs.Prelude.{AllByRecursion}

@@ -1,6 +1,6 @@
 use Rattle.std.proofs.Common.{◌≡◌, List, flat_map, take}
-use Rattle.misp_rules.specs.Package.{IsPackage}
-use Rattle.misp_rules.specs.Prelude.{IsTable, Row}
+use Rattle.misp_model.specs.Package.{IsPackage}
+use Rattle.misp_model.specs.Prelude.{IsTable, Row}
 use Rattle.misp_package.specs.Passing.{route_of}
 use Rattle.misp_store.specs.Prelude.{AllByRecursion}
 use Rattle.misp_core.specs.Pulling.{IsByEvent}

@@ -1,6 +1,6 @@
 use Rattle.std.proofs.Common.{subst, IfOk, IfErr}
 use Rattle.misp_store.specs.Prelude.{AreRows}
-use Rattle.misp_rules.specs.Prelude.{ask_rules}
+use Rattle.misp_model.specs.Prelude.{ask_rules}
 use Rattle.misp_copies.specs.Barring.{Refuses}
 use Rattle.misp_statements.specs.Saving.{Saves}
 use Rattle.misp_core.specs.Saving.{NamesPlace}

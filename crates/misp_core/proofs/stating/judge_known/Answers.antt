@@ -1,7 +1,7 @@
 use Rattle.std.proofs.Common.{refl}
 use Rattle.std.proofs.lemmas.Result.{IfErr-weaker}
-use Rattle.misp_rules.specs.declared.ask.Ask.TheVariants.{Judge}
-use Rattle.misp_rules.specs.Prelude.{date_of}
+use Rattle.misp_model.specs.declared.ask.Ask.TheVariants.{Judge}
+use Rattle.misp_model.specs.Prelude.{date_of}
 use Rattle.misp_core.specs.Answers.{name_in}
 use Rattle.misp_core.specs.Handing.{knowing, scene_in}
 use Rattle.misp_core.proofs.Decisions.{uuid_placed}

@@ -1,6 +1,6 @@
 use Rattle.std.proofs.Common.{refl, sym}
 use Rattle.std.proofs.lemmas.Result.{IfErr-weaker}
-use Rattle.misp_rules.specs.declared.ask.Ask.TheVariants.{Propose}
+use Rattle.misp_model.specs.declared.ask.Ask.TheVariants.{Propose}
 use Rattle.misp_core.specs.Handing.{knowing, scene_in}
 use Rattle.misp_core.proofs.Decisions.{uuid_placed}
 use Rattle.misp_core.proofs.stating.propose_known.Goals as goal

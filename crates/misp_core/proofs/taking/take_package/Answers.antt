@@ -1,6 +1,6 @@
 use Rattle.std.proofs.Common.{List, subst}
 use Rattle.misp_core.specs.Prelude.{Row}
-use Rattle.misp_rules.specs.Machine.{put_all}
+use Rattle.misp_model.specs.Machine.{put_all}
 use Rattle.misp_package.specs.Landing.{IsLanding}
 use Rattle.misp_package.proofs.PutRows.{landing_merged}
 use Rattle.misp_core.proofs.taking.take_package.Goals as goal

@@ -1,5 +1,5 @@
 use Rattle.std.proofs.Common.{◌∙◌, sym, subst, IfSome, Option, true, ◌≡◌}
-use Rattle.misp_rules.specs.Prelude.{Place, Scene, date_of, is_place_of}
+use Rattle.misp_model.specs.Prelude.{Place, Scene, date_of, is_place_of}
 use Rattle.misp_copies.specs.Scenes.{scene_for}
 use Rattle.misp_edit.specs.Targets.{target_in, target_places}
 use Rattle.misp_edit.proofs.TargetLemmas.{found_is, target_is}

@@ -1,5 +1,5 @@
 use Rattle.std.proofs.Common.{ap, sym, ◌∙◌, subst}
-use Rattle.misp_rules.proofs.Prelude.{IsRow, IsStamp, is_too_long}
+use Rattle.misp_model.proofs.Prelude.{IsRow, IsStamp, is_too_long}
 use Rattle.misp_edit.proofs.EditedRows.{attribute_row}
 use Rattle.misp_edit.proofs.attribute_editing.edited_row.Goals as goal
 

@@ -1,7 +1,7 @@
 use Rattle.std.proofs.Common.{subst, ap, ◌∙◌}
 use Rattle.std.proofs.lemmas.Result.{IfErr-weaker}
 use Rattle.misp_elem.specs.Prelude.{IsRow, IsStamp}
-use Rattle.misp_rules.proofs.Prelude.{is_too_long}
+use Rattle.misp_model.proofs.Prelude.{is_too_long}
 use Rattle.misp_edit.proofs.RenewedRows.{deleted_row}
 use Rattle.misp_edit.proofs.ShortRows.{deleted_short}
 use Rattle.misp_edit.proofs.LimitLemmas.{full_memory}

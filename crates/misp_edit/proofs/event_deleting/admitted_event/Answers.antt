@@ -1,5 +1,5 @@
 use Rattle.std.proofs.Common.{ap, ◌∙◌, Option, None}
-use Rattle.misp_rules.specs.Prelude.{Row, Rule, first_rule}
+use Rattle.misp_model.specs.Prelude.{Row, Rule, first_rule}
 use Rattle.misp_edit.specs.Changing.{event_deleting, late_rules}
 use Rattle.misp_copies.proofs.Barred.{or_first, or_second}
 use Rattle.misp_edit.proofs.RowEdits.{lacking_names}

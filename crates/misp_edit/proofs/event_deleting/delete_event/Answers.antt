@@ -1,8 +1,8 @@
 use Rattle.std.proofs.Common.{ap, sym, ◌∙◌, [], Vec, Global, option_copied, None}
 use Rattle.std.proofs.lemmas.Result.{IfErr-weaker, IfOk-weaker}
 use Rattle.misp_elem.specs.declared.row.Row.{Row as RowOf}
-use Rattle.misp_rules.specs.Prelude.{Element, Place, change_rules}
-use Rattle.misp_rules.specs.declared.change.Change.TheVariants.{DeleteEvent}
+use Rattle.misp_model.specs.Prelude.{Element, Place, change_rules}
+use Rattle.misp_model.specs.declared.change.Change.TheVariants.{DeleteEvent}
 use Rattle.misp_copies.specs.Copies.{is_event_key}
 use Rattle.misp_copies.specs.Scenes.{scene_for}
 use Rattle.misp_copies.proofs.Barred.{full_names}

@@ -1,7 +1,7 @@
 use Rattle.std.proofs.Common.{ap, sym, ◌∙◌, subst, [], Vec, Global, option_copied}
 use Rattle.std.proofs.lemmas.Result.{IfErr-weaker, IfOk-weaker}
 use Rattle.misp_elem.specs.declared.row.Row.{Row as RowOf}
-use Rattle.misp_rules.specs.Prelude.{Element, Place}
+use Rattle.misp_model.specs.Prelude.{Element, Place}
 use Rattle.misp_copies.specs.Copies.{is_event_key}
 use Rattle.misp_copies.specs.Barring.{Names}
 use Rattle.misp_copies.specs.Scenes.{scene_for}

@@ -2,7 +2,7 @@ use Rattle.std.proofs.Common.{ap, sym, ◌∙◌, subst, [], Vec, Global, option
 use Rattle.std.proofs.lemmas.Result.{IfErr-weaker, IfOk-weaker}
 use Rattle.misp_elem.specs.declared.row.Row.{Row as RowOf}
 use Rattle.misp_elem.specs.Row.{barred_labels}
-use Rattle.misp_rules.specs.Prelude.{Element, Place}
+use Rattle.misp_model.specs.Prelude.{Element, Place}
 use Rattle.misp_copies.specs.Barring.{Names}
 use Rattle.misp_copies.specs.Scenes.{scene_for}
 use Rattle.misp_copies.proofs.Barred.{full_names}

@@ -1,8 +1,8 @@
 use Rattle.std.proofs.Common.{ap, sym, ◌∙◌, [], Vec, Global, option_copied}
 use Rattle.std.proofs.lemmas.Result.{IfErr-weaker, IfOk-weaker}
 use Rattle.misp_elem.specs.declared.row.Row.{Row as RowOf}
-use Rattle.misp_rules.specs.Prelude.{change_rules}
-use Rattle.misp_rules.specs.declared.change.Change.TheVariants.{DeleteReference}
+use Rattle.misp_model.specs.Prelude.{change_rules}
+use Rattle.misp_model.specs.declared.change.Change.TheVariants.{DeleteReference}
 use Rattle.misp_copies.specs.Scenes.{scene_for}
 use Rattle.misp_edit.proofs.OneRow.{one_refused, plain_absent, plain_written}
 use Rattle.misp_edit.proofs.LimitLemmas.{is_reference_deletion, memory_names, memory_refuses}

@@ -1,5 +1,5 @@
 use Rattle.std.proofs.Common.{◌∙◌, sym, Option}
-use Rattle.misp_rules.proofs.Prelude.{ReferenceDraft, Row, are_rows_push}
+use Rattle.misp_model.proofs.Prelude.{ReferenceDraft, Row, are_rows_push}
 use Rattle.misp_edit.specs.Targets.{target_in}
 use Rattle.misp_edit.specs.Rows.{row_with_target}
 use Rattle.misp_edit.proofs.ListLemmas.{filter_map_push_some, filter_map_push_none}

@@ -1,7 +1,7 @@
 use Rattle.std.proofs.Common.{ap, sym, ◌∙◌, [], Vec, Global, option_copied, None}
 use Rattle.std.proofs.lemmas.Result.{IfErr-weaker, IfOk-weaker}
 use Rattle.misp_elem.specs.declared.row.Row.{Row as RowOf}
-use Rattle.misp_rules.specs.Prelude.{at_tags, tagged}
+use Rattle.misp_model.specs.Prelude.{at_tags, tagged}
 use Rattle.misp_copies.specs.Scenes.{scene_for}
 use Rattle.misp_copies.proofs.Barred.{full_names}
 use Rattle.misp_edit.proofs.OneRow.{edit_absent, edit_full, edit_written, one_refused}

@@ -2,7 +2,7 @@ use Rattle.std.proofs.Common.{subst, [], ◌∷◌, ap, ◌∙◌, Vec, Global}
 use Rattle.std.proofs.lemmas.Result.{IfErr-weaker, IfOk-weaker}
 use Rattle.misp_elem.specs.declared.row.Row.{Row as RowOf}
 use Rattle.misp_elem.specs.Prelude.{IsRow, IsStamp}
-use Rattle.misp_rules.proofs.Prelude.{is_too_long}
+use Rattle.misp_model.proofs.Prelude.{is_too_long}
 use Rattle.misp_edit.proofs.TaggedRows.{untagged_row}
 use Rattle.misp_copies.specs.Renewing.{renewed}
 use Rattle.misp_edit.proofs.ShortRows.{untagged_short}

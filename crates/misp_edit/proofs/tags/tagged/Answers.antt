@@ -2,7 +2,7 @@ use Rattle.std.proofs.Common.{◌≡◌, ap, ◌∙◌, not, arith}
 use Rattle.std.specs.List.{insert, position_or_len}
 use Rattle.std.proofs.lemmas.List.Sums.{prefix_len-le-length}
 use Rattle.misp_lists.specs.Order.{is_less}
-use Rattle.misp_rules.specs.Prelude.{Tag, tagged, untagged}
+use Rattle.misp_model.specs.Prelude.{Tag, tagged, untagged}
 use Rattle.misp_edit.proofs.TagPlaces.{put_at}
 use Rattle.misp_edit.proofs.tags.tagged.Goals as goal
 

@@ -1,6 +1,6 @@
 use Rattle.std.proofs.Common.{◌∙◌, ◌++◌, ◌∷◌, [], ap, sym, map, take, subst}
 use Rattle.std.proofs.lemmas.List.{map_more}
-use Rattle.misp_rules.specs.Prelude.{Draft, Place}
+use Rattle.misp_model.specs.Prelude.{Draft, Place}
 use Rattle.misp_edit.specs.Targets.{AreTargets}
 use Rattle.misp_edit.proofs.TargetLemmas.{targets_push}
 use Rattle.misp_edit.proofs.targets.of_parts.Goals as goal

@@ -1,5 +1,5 @@
 use Rattle.std.proofs.Common.{◌∙◌, ◌+◌, ◌++◌, List, take, sym, subst, filter_map, nat_cmp, Option}
-use Rattle.misp_rules.specs.Prelude.{Place, Row, contains}
+use Rattle.misp_model.specs.Prelude.{Place, Row, contains}
 use Rattle.misp_edit.specs.Targets.{AreTargets, kept_place}
 use Rattle.misp_edit.proofs.ListLemmas.{filter_map_some, filter_map_none}
 use Rattle.misp_edit.proofs.TargetLemmas.{targets_push}

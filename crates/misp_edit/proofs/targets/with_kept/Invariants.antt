@@ -1,5 +1,5 @@
 use Rattle.std.proofs.Common.{List, ◌++◌, take, filter_map, nat_cmp}
-use Rattle.misp_rules.specs.Prelude.{Place, contains}
+use Rattle.misp_model.specs.Prelude.{Place, contains}
 use Rattle.misp_edit.specs.Targets.{AreTargets, kept_place}
 use Rattle.misp_edit.proofs.targets.with_kept.Given as goal
 

@@ -1,6 +1,6 @@
 -- The laws are lemmas of proofs/Numbers.antt and proofs/NumberedWrites.antt.
 use Rattle.std.proofs.Common.{◌∙◌, sym}
-use Rattle.misp_rules.proofs.Numbers.{accepted_alike, rules_alike}
+use Rattle.misp_model.proofs.Numbers.{accepted_alike, rules_alike}
 use Rattle.misp_history.proofs.NumberedWrites.{answer_alike, answer_as, brings_alike, brings_as}
 use Rattle.misp_history.proofs.laws.a_partner_counts_for_pulls_alone.Goals as goal
 

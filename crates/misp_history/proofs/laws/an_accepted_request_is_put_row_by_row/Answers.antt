@@ -1,7 +1,7 @@
 -- The laws are lemmas of proofs/Puts.antt and proofs/Elsewhere.antt, in the surroundings of an act.
 use Rattle.std.proofs.Common.{refl}
-use Rattle.misp_rules.specs.Answers.{brings}
-use Rattle.misp_rules.proofs.Owners.{brings_here}
+use Rattle.misp_model.specs.Answers.{brings}
+use Rattle.misp_model.proofs.Owners.{brings_here}
 use Rattle.misp_history.specs.Acts.{scene, known_at}
 use Rattle.misp_history.proofs.Elsewhere.{tables_elsewhere}
 use Rattle.misp_history.proofs.Puts.{put_ask}

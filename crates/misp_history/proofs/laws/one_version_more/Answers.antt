@@ -1,5 +1,5 @@
 -- The laws are lemmas of proofs/Adding.antt and proofs/Putting.antt.
-use Rattle.misp_rules.proofs.Fresh.{not_handed_in}
+use Rattle.misp_model.proofs.Fresh.{not_handed_in}
 use Rattle.misp_history.proofs.Adding.{row_of_fresh}
 use Rattle.misp_history.proofs.Putting.{tables_more}
 use Rattle.misp_history.proofs.laws.one_version_more.Goals as goal

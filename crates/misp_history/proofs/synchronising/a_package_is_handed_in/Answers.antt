@@ -1,6 +1,6 @@
 -- The laws are lemmas of proofs/HandedIn.antt, in the surroundings of an act.
 use Rattle.std.proofs.Common.{ap}
-use Rattle.misp_rules.specs.Answers.{Taken, brings, taken_rows, newer, ok_answer}
+use Rattle.misp_model.specs.Answers.{Taken, brings, taken_rows, newer, ok_answer}
 use Rattle.misp_history.specs.Acts.{scene, known_at}
 use Rattle.misp_history.proofs.HandedIn.{handed_merged, handed_elsewhere, handed_taken}
 use Rattle.misp_history.proofs.synchronising.a_package_is_handed_in.Goals as goal

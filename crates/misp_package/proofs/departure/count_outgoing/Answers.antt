@@ -1,6 +1,6 @@
 use Rattle.std.proofs.Common.{◌≡◌, List, ◌∷◌, ap, length, map, sym, ◌∙◌}
 use Rattle.std.proofs.lemmas.List.{length-map}
-use Rattle.misp_rules.specs.Prelude.{Row}
+use Rattle.misp_model.specs.Prelude.{Row}
 use Rattle.misp_history.specs.Merging.{cut, passing_rows}
 use Rattle.misp_package.specs.Passing.{route_of}
 use Rattle.misp_package.proofs.Cutting.{cut_map}

@@ -1,5 +1,5 @@
 use Rattle.std.proofs.Common.{◌≡◌, ap, sym, ◌∙◌, ◌∷◌, [], List, map, length, subst, option_map}
-use Rattle.misp_rules.specs.Prelude.{AllByRecursion, Row}
+use Rattle.misp_model.specs.Prelude.{AllByRecursion, Row}
 use Rattle.misp_lists.specs.Order.{sorted_by}
 use Rattle.misp_history.specs.Merging.{passing_rows}
 use Rattle.misp_package.specs.Passing.{route_of}

@@ -1,6 +1,6 @@
 use Rattle.std.proofs.Common.{◌∙◌, sym, Bor}
 use Rattle.std.proofs.lemmas.List.Folds.{list_all-map}
-use Rattle.misp_rules.proofs.Prelude.{Row, false≢true}
+use Rattle.misp_model.proofs.Prelude.{Row, false≢true}
 use Rattle.misp_package.specs.Packing.{is_packable}
 use Rattle.misp_package.proofs.fitting.are_packable.Goals as goal
 

@@ -1,6 +1,6 @@
 use Rattle.std.proofs.Common.{is_lt, rules, Bor}
 use Rattle.std.proofs.lemmas.List.Sorted.{answers_always}
-use Rattle.misp_rules.specs.Prelude.{Row}
+use Rattle.misp_model.specs.Prelude.{Row}
 use Rattle.misp_package.specs.Packing.{key_order}
 use Rattle.misp_package.proofs.KeyOrders.{ascend_where}
 use Rattle.misp_package.proofs.fitting.ascend.Goals as goal

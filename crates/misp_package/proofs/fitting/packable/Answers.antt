@@ -1,5 +1,5 @@
 use Rattle.std.proofs.Common.{map, ap, sym, subst, ◌∙◌, List, Bor}
-use Rattle.misp_rules.proofs.Prelude.{Row, false≢true}
+use Rattle.misp_model.proofs.Prelude.{Row, false≢true}
 use Rattle.misp_package.specs.Packing.{ArePackable, IsPacking}
 use Rattle.misp_package.proofs.KeyOrders.{ascending_by_keys}
 use Rattle.misp_package.proofs.fitting.packable.Goals as goal

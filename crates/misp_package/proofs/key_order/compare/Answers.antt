@@ -1,5 +1,5 @@
 use Rattle.std.proofs.Common.{subst, ◌∙◌, nat_cmp}
-use Rattle.misp_rules.proofs.Prelude.{IsRow, slice_cmp}
+use Rattle.misp_model.proofs.Prelude.{IsRow, slice_cmp}
 use Rattle.misp_copies.proofs.KeyOrder.{in_numbers}
 use Rattle.misp_package.specs.Packing.{key_order}
 use Rattle.misp_elem.specs.Spelling as spelling

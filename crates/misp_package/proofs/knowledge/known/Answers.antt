@@ -1,5 +1,5 @@
 use Rattle.std.proofs.Common.{ap, sym, ◌∙◌, map}
-use Rattle.misp_rules.proofs.Prelude.{map-append}
+use Rattle.misp_model.proofs.Prelude.{map-append}
 use Rattle.misp_copies.proofs.RowLists.{rows_more}
 use Rattle.misp_package.specs.Knowledge.{is_known_in}
 use Rattle.misp_package.proofs.Kept.{kept_more, kept_same}

@@ -1,5 +1,5 @@
 use Rattle.std.proofs.Common.{◌≡◌, take, map, filter}
-use Rattle.misp_rules.proofs.Prelude.{AreRows}
+use Rattle.misp_model.proofs.Prelude.{AreRows}
 use Rattle.misp_package.specs.Knowledge.{is_known_in}
 use Rattle.misp_package.proofs.knowledge.known.Given as goal
 

@@ -1,5 +1,5 @@
 use Rattle.std.proofs.Common.{◌∙◌, map}
-use Rattle.misp_rules.proofs.Prelude.{and_parts, list_all}
+use Rattle.misp_model.proofs.Prelude.{and_parts, list_all}
 use Rattle.misp_package.specs.Packing.{is_whole}
 use Rattle.misp_package.proofs.Wired.{wire_more, whole_at, wired_more}
 use Rattle.misp_package.proofs.packing.all_on_wire.Goals as goal

@@ -1,5 +1,5 @@
 use Rattle.std.proofs.Common.{◌≡◌, ◌∷◌, take, map}
-use Rattle.misp_rules.proofs.Prelude.{AreRows}
+use Rattle.misp_model.proofs.Prelude.{AreRows}
 use Rattle.misp_package.specs.Packing.{on_wire}
 use Rattle.misp_package.proofs.packing.all_on_wire.Given as goal
 

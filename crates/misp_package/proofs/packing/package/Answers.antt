@@ -1,5 +1,5 @@
 use Rattle.std.proofs.Common.{◌≡◌, ◌∷◌, ◌∙◌, map, rules, subst, sym}
-use Rattle.misp_rules.proofs.Prelude.{AreRows}
+use Rattle.misp_model.proofs.Prelude.{AreRows}
 use Rattle.misp_package.specs.Packing.{on_wire}
 use Rattle.misp_package.proofs.Packages.{IsWired, part_wired, whole_rows}
 use Rattle.misp_package.proofs.packing.package.Goals as goal

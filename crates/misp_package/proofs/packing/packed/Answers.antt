@@ -1,6 +1,6 @@
 use Rattle.std.proofs.Common.{refl, ap, sym, ◌∙◌, ◌∷◌, ◌+◌, map, length, subst, List, arith, ◌≡◌}
-use Rattle.misp_rules.proofs.Prelude.{Row, map-append}
-use Rattle.misp_rules.specs.declared.package.PackageFields.{PackageFields as Package}
+use Rattle.misp_model.proofs.Prelude.{Row, map-append}
+use Rattle.misp_model.specs.declared.package.PackageFields.{PackageFields as Package}
 use Rattle.misp_package.specs.Packing.{AreNumberedFrom, IsPart, on_wire}
 use Rattle.misp_package.proofs.Wired.{count_done, numbered_more, part_at, rows_more}
 use Rattle.misp_package.proofs.packing.packed.Goals as goal

@@ -1,5 +1,5 @@
 use Rattle.std.proofs.Common.{ap, ◌∙◌, ◌++◌, ◌+◌, map, drop, arith}
-use Rattle.misp_rules.proofs.Prelude.{map-append}
+use Rattle.misp_model.proofs.Prelude.{map-append}
 use Rattle.misp_history.specs.Merging.{cut}
 use Rattle.misp_package.proofs.Cutting.{next_part, last_part}
 use Rattle.misp_package.proofs.packing.parts_of.Goals as goal

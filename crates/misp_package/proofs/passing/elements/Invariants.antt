@@ -1,5 +1,5 @@
 use Rattle.std.proofs.Common.{◌≡◌, ◌&&◌, not, take, map, filter}
-use Rattle.misp_rules.specs.Prelude.{is_statement}
+use Rattle.misp_model.specs.Prelude.{is_statement}
 use Rattle.misp_package.proofs.passing.elements.Given as goal
 
 abbrev pub invariant-loop-row : goal.invariant-loop-row

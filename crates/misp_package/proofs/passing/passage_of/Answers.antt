@@ -1,5 +1,5 @@
 use Rattle.std.proofs.Common.{map, ap, subst, sym, ◌∙◌, IsPermutation}
-use Rattle.misp_rules.proofs.Prelude.{any_map, is_statement}
+use Rattle.misp_model.proofs.Prelude.{any_map, is_statement}
 use Rattle.misp_package.specs.Passing.{route_of}
 use Rattle.misp_package.proofs.AskedOnce.{elements_are}
 use Rattle.misp_package.proofs.passing.passage_of.Goals as goal

@@ -1,5 +1,5 @@
 use Rattle.std.proofs.Common.{map, filter, not, ap, ◌||◌, ◌∙◌, List, Bor, subst}
-use Rattle.misp_rules.specs.Prelude.{Row, same_org}
+use Rattle.misp_model.specs.Prelude.{Row, same_org}
 use Rattle.misp_copies.specs.Grants.{granted_in}
 use Rattle.misp_package.specs.Knowledge.{granted_of_known, granted_to, is_known_in}
 use Rattle.misp_package.specs.Passing.{IsPassage, goes_on, route_of}

@@ -1,6 +1,6 @@
 use Rattle.std.proofs.Common.{ap, sym, ◌∙◌, ◌∷◌, ◌+◌, List, Bor, drop, map, filter, option_copied}
 use Rattle.std.proofs.lemmas.List.{at_drop_all, drop_more}
-use Rattle.misp_rules.specs.Prelude.{Row, first_of_all}
+use Rattle.misp_model.specs.Prelude.{Row, first_of_all}
 use Rattle.misp_package.specs.Passing.{is_candidate, route_of}
 use Rattle.misp_package.proofs.Firsts.{best_more, best_all, with_best}
 use Rattle.misp_package.proofs.sending.sent_row.Goals as goal

@@ -1,5 +1,5 @@
 use Rattle.std.proofs.Common.{◌≡◌, drop, map, filter, option_copied}
-use Rattle.misp_rules.specs.View.{first_of_all}
+use Rattle.misp_model.specs.View.{first_of_all}
 use Rattle.misp_package.specs.Passing.{is_candidate, route_of}
 use Rattle.misp_package.proofs.Firsts.{with_best}
 use Rattle.misp_package.proofs.sending.sent_row.Given as goal

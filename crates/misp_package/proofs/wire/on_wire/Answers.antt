@@ -1,5 +1,5 @@
 use Rattle.std.proofs.Common.{subst, sym}
-use Rattle.misp_rules.proofs.Prelude.{IsRow}
+use Rattle.misp_model.proofs.Prelude.{IsRow}
 use Rattle.misp_package.specs.Packing.{on_wire}
 use Rattle.misp_package.proofs.Wired.{wired_row}
 use Rattle.misp_package.proofs.wire.on_wire.Goals as goal

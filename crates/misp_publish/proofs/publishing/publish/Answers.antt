@@ -1,6 +1,6 @@
 use Rattle.std.proofs.Common.{refl, sym, [], None}
-use Rattle.misp_rules.proofs.Prelude.{event_key, own_row}
-use Rattle.misp_rules.specs.Scene.{Scene}
+use Rattle.misp_model.proofs.Prelude.{event_key, own_row}
+use Rattle.misp_model.specs.Scene.{Scene}
 use Rattle.misp_copies.specs.Scenes.{scene_for}
 use Rattle.misp_copies.specs.Barring.{rule_of}
 use Rattle.misp_publish.proofs.PublishLemmas.{own_there, publish_refused, publish_late, publish_free}

@@ -1,5 +1,5 @@
 use Rattle.std.proofs.Common.{◌≡◌, ap, sym, ◌∙◌, is_some, subst, Some, IfOk, IfErr, true}
-use Rattle.misp_rules.proofs.Prelude.{EventId, Scene, false≢true, event_key, own_row}
+use Rattle.misp_model.proofs.Prelude.{EventId, Scene, false≢true, event_key, own_row}
 use Rattle.misp_history.proofs.Prelude.{is_at_limit}
 use Rattle.misp_copies.specs.Copies.{AreOf}
 use Rattle.misp_publish.specs.Release.{Publishes}

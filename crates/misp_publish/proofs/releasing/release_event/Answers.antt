@@ -1,6 +1,6 @@
 use Rattle.std.proofs.Common.{◌++◌, ◌∷◌, [], List, ap, sym, ◌∙◌, map, filter, eqb, true}
 use Rattle.misp_ids.specs.Stamp.{next_stamp as next_of}
-use Rattle.misp_rules.proofs.Prelude.{Row}
+use Rattle.misp_model.proofs.Prelude.{Row}
 use Rattle.misp_copies.proofs.Stamps.{next_is, next_none}
 use Rattle.misp_publish.specs.Release.{at_stamp, cleared_row, is_released}
 use Rattle.misp_publish.proofs.ReleaseLemmas.{publishes, limit_is}

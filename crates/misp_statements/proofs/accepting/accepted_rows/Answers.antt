@@ -1,7 +1,7 @@
 use Rattle.std.proofs.Common.{IfSome, subst, sym, true}
 use Rattle.misp_elem.specs.Contents.{IsProposalBody}
 use Rattle.misp_elem.specs.Row.{may_remove}
-use Rattle.misp_rules.specs.Prelude.{Proposal}
+use Rattle.misp_model.specs.Prelude.{Proposal}
 use Rattle.misp_statements.proofs.AcceptedRows.{new_removes}
 use Rattle.misp_statements.proofs.accepting.accepted_rows.Goals as goal
 

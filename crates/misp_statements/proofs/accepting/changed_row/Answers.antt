@@ -1,6 +1,6 @@
 use Rattle.std.proofs.Common.{ap, sym, ◌∙◌, subst}
 use Rattle.misp_elem.specs.Prelude.{IsRow, IsStamp}
-use Rattle.misp_rules.specs.Prelude.{is_too_long}
+use Rattle.misp_model.specs.Prelude.{is_too_long}
 use Rattle.misp_statements.proofs.AcceptedRows.{accepted_row}
 use Rattle.misp_statements.proofs.accepting.changed_row.Goals as goal
 

@@ -1,5 +1,5 @@
 use Rattle.std.proofs.Common.{Bool, Option, ap, ◌∙◌}
-use Rattle.misp_rules.specs.Prelude.{Rule, event_key, granted_somewhere, has_copy, has_home}
+use Rattle.misp_model.specs.Prelude.{Rule, event_key, granted_somewhere, has_copy, has_home}
 use Rattle.misp_copies.specs.Barring.{barring}
 use Rattle.misp_statements.specs.Judging.{ruling}
 use Rattle.misp_copies.proofs.Barred.{or_first, or_second}

@@ -1,5 +1,5 @@
 use Rattle.std.proofs.Common.{refl, ap, sym, ◌∙◌, Option, Bool, true, false, eqb}
-use Rattle.misp_rules.specs.Prelude.{Row, last_stamp, row_passes}
+use Rattle.misp_model.specs.Prelude.{Row, last_stamp, row_passes}
 use Rattle.misp_copies.specs.Barring.{rule_of}
 use Rattle.misp_statements.proofs.Judged.{late_is}
 use Rattle.misp_statements.proofs.judging.admitted_row.Goals as goal

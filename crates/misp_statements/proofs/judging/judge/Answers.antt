@@ -1,5 +1,5 @@
 use Rattle.std.proofs.Common.{[], ◌∷◌, ap, eqb, ◌∙◌}
-use Rattle.misp_rules.specs.Prelude.{Row, last_stamp, row_passes}
+use Rattle.misp_model.specs.Prelude.{Row, last_stamp, row_passes}
 use Rattle.misp_copies.specs.Scenes.{scene_for}
 use Rattle.misp_statements.proofs.Judged.{full_uuid, judge_full, judge_new, judge_refused, judge_saves, judge_stamp}
 use Rattle.misp_statements.proofs.judging.judge.Goals as goal

@@ -1,7 +1,7 @@
 use Rattle.std.proofs.Common.{refl, ap, ◌∙◌}
-use Rattle.misp_rules.proofs.Prelude.{is_row_of, list_any}
-use Rattle.misp_rules.specs.Prelude.{holds_tombstone, sight_rules, sighting_key}
-use Rattle.misp_rules.specs.Scene as rule
+use Rattle.misp_model.proofs.Prelude.{is_row_of, list_any}
+use Rattle.misp_model.specs.Prelude.{holds_tombstone, sight_rules, sighting_key}
+use Rattle.misp_model.specs.Scene as rule
 use Rattle.misp_copies.specs.Barring.{rule_of}
 use Rattle.misp_statements.proofs.StatementLemmas.{same_rules}
 use Rattle.misp_statements.proofs.sighting.may_sight.Goals as goal

@@ -1,6 +1,6 @@
 use Rattle.std.proofs.Common.{ap, subst, ◌∙◌, [], ◌∷◌}
-use Rattle.misp_rules.specs.Prelude.{Row, Scene, ask_rules, sight_rules}
-use Rattle.misp_rules.specs.declared.ask.Ask.TheVariants.{Sight}
+use Rattle.misp_model.specs.Prelude.{Row, Scene, ask_rules, sight_rules}
+use Rattle.misp_model.specs.declared.ask.Ask.TheVariants.{Sight}
 use Rattle.misp_copies.specs.Barring.{NamesUuid, Refuses}
 use Rattle.misp_copies.specs.Scenes.{scene_for}
 use Rattle.misp_statements.specs.Saving.{Saves}

@@ -1,5 +1,5 @@
 use Rattle.std.proofs.Common.{◌∙◌}
-use Rattle.misp_rules.specs.Scene.{sees_live}
+use Rattle.misp_model.specs.Scene.{sees_live}
 use Rattle.misp_statements.proofs.TargetLemmas.{seen_live_is}
 use Rattle.misp_statements.proofs.targets.sees_live.Goals as goal
 

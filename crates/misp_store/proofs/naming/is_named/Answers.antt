@@ -1,7 +1,7 @@
 use Rattle.std.proofs.Common.{◌≡◌, ◌∙◌, ap, arith, bytes_eq, drop, eqb-true, length, take}
 use Rattle.misp_lists.proofs.Prelude.{false_from_ne_true}
 use Rattle.misp_elem.specs.Spelling.{key}
-use Rattle.misp_rules.specs.Machine.{name_bytes}
+use Rattle.misp_model.specs.Machine.{name_bytes}
 use Rattle.misp_store.proofs.RowNames.{after_first, name_long, named, other_long}
 use Rattle.misp_store.proofs.naming.is_named.Goals as goal
 

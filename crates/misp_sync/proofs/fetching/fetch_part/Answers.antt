@@ -1,5 +1,5 @@
 -- What is shown of what is fetched.
-use Rattle.misp_rules.specs.declared.package.PackageFields.{PackageFields}
+use Rattle.misp_model.specs.declared.package.PackageFields.{PackageFields}
 use Rattle.misp_sync.specs.Replied.{package_in}
 use Rattle.misp_sync.proofs.Comings.{fetched_err}
 use Rattle.misp_sync.proofs.WireFaults.{link_told}

@@ -1,6 +1,6 @@
 use Rattle.std.proofs.Common.{length, ◌<◌, ◌^◌, arith}
-use Rattle.misp_rules.specs.Package.{IsPackage}
-use Rattle.misp_rules.specs.declared.package.PackageFields.{PackageFields}
+use Rattle.misp_model.specs.Package.{IsPackage}
+use Rattle.misp_model.specs.declared.package.PackageFields.{PackageFields}
 use Rattle.misp_sync.specs.Replied.{IsBrought, package_in}
 use Rattle.misp_sync.specs.Serving.{IsAnswered}
 use Rattle.misp_sync.specs.Telling.{part_told}

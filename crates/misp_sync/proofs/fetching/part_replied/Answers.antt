@@ -1,5 +1,5 @@
 use Rattle.std.proofs.Common.{ℕ, Vec, Global}
-use Rattle.misp_rules.specs.declared.package.PackageFields.{PackageFields}
+use Rattle.misp_model.specs.declared.package.PackageFields.{PackageFields}
 use Rattle.misp_sync.specs.Replied.{package_in}
 use Rattle.misp_sync.proofs.Comings.{body_faulty, body_read}
 use Rattle.misp_sync.proofs.ReadReplies.{read_err, read_ok}

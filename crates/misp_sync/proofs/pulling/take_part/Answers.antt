@@ -1,8 +1,8 @@
 -- What is shown of the taking of a package.
 use Rattle.std.proofs.Common.{[], ◌∷◌, Ok, Err, refl, sym, subst, ◌∙◌}
 use Rattle.misp_package.specs.declared.landing.Landing.{Landing}
-use Rattle.misp_rules.specs.Package.{IsPackage}
-use Rattle.misp_rules.specs.declared.package.PackageFields.{PackageFields as Package}
+use Rattle.misp_model.specs.Package.{IsPackage}
+use Rattle.misp_model.specs.declared.package.PackageFields.{PackageFields as Package}
 use Rattle.misp_core.specs.Prelude.{Refusal}
 use Rattle.misp_sync.specs.Steps.{stop_of_keeper}
 use Rattle.misp_sync.specs.Serving.{Meet}

@@ -1,5 +1,5 @@
 use Rattle.std.proofs.Common.{refl, sym, option_copied}
-use Rattle.misp_rules.specs.View.{chosen, first_of_all}
+use Rattle.misp_model.specs.View.{chosen, first_of_all}
 use Rattle.misp_view.specs.View.{is_granted_itself}
 use Rattle.misp_view.proofs.Choosing.{best_more, best_all}
 use Rattle.misp_view.proofs.choice.chosen_row.Goals as goal

@@ -1,5 +1,5 @@
 use Rattle.std.proofs.Common.{ap, sym, ◌∙◌, map, subst, List, Bor, Result, Ok, Err, IfOk, filter}
-use Rattle.misp_rules.specs.Prelude.{Row, in_order}
+use Rattle.misp_model.specs.Prelude.{Row, in_order}
 use Rattle.misp_copies.specs.Keys.{is_about}
 use Rattle.misp_copies.specs.CopyView.{IsCopyView}
 use Rattle.misp_view.specs.Order.{goes_before}

@@ -1,5 +1,5 @@
 use Rattle.std.proofs.Common.{ap, ◌∙◌, filter}
-use Rattle.misp_rules.specs.Prelude.{Row}
+use Rattle.misp_model.specs.Prelude.{Row}
 use Rattle.misp_copies.specs.Keys.{is_about}
 use Rattle.misp_view.proofs.form.form_with.Goals as goal
 

@@ -1,7 +1,7 @@
 use Rattle.std.proofs.Common.{◌≡◌, ap, sym, ◌∙◌, subst, Some, None, option_copied}
 use Rattle.misp_elem.specs.Visible.{IsWhole}
-use Rattle.misp_rules.specs.Shown.{event_row, shown}
-use Rattle.misp_rules.proofs.KnownShown.{shown_known}
+use Rattle.misp_model.specs.Shown.{event_row, shown}
+use Rattle.misp_model.proofs.KnownShown.{shown_known}
 use Rattle.misp_view.specs.View.{scene_of}
 use Rattle.misp_view.proofs.Forming.{shown_some, shown_none}
 use Rattle.misp_view.proofs.Wholeness.{whole_is}

@@ -1,5 +1,5 @@
 use Rattle.std.proofs.Common.{◌≡◌, take, filter}
-use Rattle.misp_rules.specs.Answers.{concerns}
+use Rattle.misp_model.specs.Answers.{concerns}
 use Rattle.misp_view.proofs.listing.concerning.Given as goal
 
 abbrev pub invariant-loop-group : goal.invariant-loop-group

@@ -1,6 +1,6 @@
 use Rattle.std.proofs.Common.{rules, ◌∙◌, sym, ap, subst, map, Bor, is_lt}
 use Rattle.std.proofs.lemmas.List.Sorted.{IsPartitionPoint-from_clause}
-use Rattle.misp_rules.specs.Prelude.{Row, list_any}
+use Rattle.misp_model.specs.Prelude.{Row, list_any}
 use Rattle.misp_copies.specs.Keys.{key_cmp}
 use Rattle.misp_copies.specs.StatementsByKey.{AreByKey, is_lesser}
 use Rattle.misp_copies.proofs.LeastOwners.{in_front, first_tells, none_tells}

@@ -1,5 +1,5 @@
 use Rattle.std.proofs.Common.{arith, sym, subst, Err}
-use Rattle.misp_rules.specs.Permission.{no_permission}
+use Rattle.misp_model.specs.Permission.{no_permission}
 use Rattle.misp_core.specs.Prelude.{Plans, host_of, refused}
 use Rattle.misp_core.proofs.Answered.{barred_planned, just_barred, not_both}
 use Rattle.misp_core.proofs.Carried.{asks_none}

@@ -1,6 +1,6 @@
 use Rattle.std.proofs.Common.{◌+◌, ◌≤◌, arith, codes, le-leb}
 use Rattle.misp_elem.specs.Prelude.{IsBetween, text_limit}
-use Rattle.misp_rules.specs.Edit.{given_size, pair_size}
+use Rattle.misp_model.specs.Edit.{given_size, pair_size}
 use Rattle.misp_format.specs.Prelude.{body_of, category_of}
 use Rattle.misp_format.proofs.Fitting.{passed_limit}
 use Rattle.misp_format.proofs.Kept.{category_ok}

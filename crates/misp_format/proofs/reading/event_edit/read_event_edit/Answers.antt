@@ -1,6 +1,6 @@
 use Rattle.std.proofs.Common.{◌≤◌, codes}
 use Rattle.misp_elem.specs.Prelude.{IsBetween, text_limit}
-use Rattle.misp_rules.specs.Edit.{given_size}
+use Rattle.misp_model.specs.Edit.{given_size}
 use Rattle.misp_format.specs.Prelude.{body_of}
 use Rattle.misp_format.proofs.Fitting.{passed_limit, date_fits}
 use Rattle.misp_format.proofs.Kept.{number_ok}

@@ -1,5 +1,5 @@
 use Rattle.std.proofs.Common.{sym, subst, take_all}
-use Rattle.misp_rules.specs.Machine.{put_all}
+use Rattle.misp_model.specs.Machine.{put_all}
 use Rattle.misp_package.specs.Landing.{IsLanding}
 use Rattle.misp_package.proofs.PutRows.{put_more}
 use Rattle.misp_package.proofs.landing.Landing.put.Goals as goal

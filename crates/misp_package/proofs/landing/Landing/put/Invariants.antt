@@ -1,7 +1,7 @@
 use Rattle.std.proofs.Common.{List, take}
 use Rattle.misp_ids.specs.Same.{Inst}
-use Rattle.misp_rules.specs.Prelude.{EventId, OrgId, Row}
-use Rattle.misp_rules.specs.Machine.{put_all}
+use Rattle.misp_model.specs.Prelude.{EventId, OrgId, Row}
+use Rattle.misp_model.specs.Machine.{put_all}
 use Rattle.misp_package.specs.Landing.{IsLanding}
 use Rattle.misp_package.proofs.landing.Landing.put.Given as goal
 

@@ -1,5 +1,5 @@
 use Rattle.std.proofs.Common.{ap, subst, ◌∙◌}
-use Rattle.misp_rules.specs.Package.{IsPackage}
+use Rattle.misp_model.specs.Package.{IsPackage}
 use Rattle.misp_package.specs.Landing.{taken_by}
 use Rattle.misp_package.proofs.Taking.{are_carried, taken_of}
 use Rattle.misp_package.proofs.landing.Landing.taken.Goals as goal

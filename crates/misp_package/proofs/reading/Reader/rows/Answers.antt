@@ -1,6 +1,6 @@
 use Rattle.std.proofs.Common.{None, ap}
 use Rattle.std.proofs.lemmas.Result.{err_from_is_err_and}
-use Rattle.misp_rules.specs.Prelude.{Row}
+use Rattle.misp_model.specs.Prelude.{Row}
 use Rattle.misp_package.specs.PackageReading.{rows_after}
 use Rattle.misp_package.proofs.RowLoop.{goes_on, is_done, stops_at}
 use Rattle.misp_package.proofs.reading.Reader.rows.Goals as goal

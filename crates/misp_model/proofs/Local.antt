@@ -1,0 +1,54 @@
+-- What is asked of one event looks at that event's rows alone: the lemmas on kept rows, with the event's keys as the kept ones.
+use Rattle.std.proofs.Common.{◌≡◌, true, refl, ap, ◌∙◌, List, ℕ, eqb, ◌&&◌, ◌||◌}
+use Rattle.std.proofs.lemmas.Bool.{and_from, and_parts}
+use Rattle.misp_lists.proofs.Lists.{any_cut}
+use Rattle.misp_elem.proofs.Same.{of_event}
+use Rattle.misp_model.specs.Prelude.{Element, EventId, Group, Inst, IsClosed, Key, OrgId, Place, Proposal, Reference, Row, Scene, Sighting, Verdict, above, cut_rows, event_of, granted, is_proposal_of, is_taken, list_all, parents}
+use Rattle.misp_model.specs.Prelude.{same_event, same_org, takes_uuid, up_to}
+use Rattle.misp_model.proofs.Knowing.{granted_cut}
+use Rattle.misp_model.proofs.Scenes.{cut_scene}
+
+above_of : (e f : EventId) (p : Place) → same_event f e ≡ true → list_all (of_event e) (above f p) ≡ true
+unfolding of_event event_of above
+above_of e f Place.Event h = refl
+above_of e f (Place.Object x) h = and_from _ _ h refl
+above_of e f (Place.Attribute x) h = and_from _ _ h refl
+above_of e f (Place.ObjectAttribute x a) h = and_from _ _ h (and_from _ _ h refl)
+
+up_to_of : (e f : EventId) (p : Place) → same_event f e ≡ true → list_all (of_event e) (up_to f p) ≡ true
+unfolding of_event event_of above up_to
+up_to_of e f Place.Event h = and_from _ _ h refl
+up_to_of e f (Place.Object x) h = and_from _ _ h (and_from _ _ h refl)
+up_to_of e f (Place.Attribute x) h = and_from _ _ h (and_from _ _ h refl)
+up_to_of e f (Place.ObjectAttribute x a) h = and_from _ _ h (and_from _ _ h (and_from _ _ h refl))
+
+parents_of : (e : EventId) (k : Key) → of_event e k ≡ true → list_all (of_event e) (parents k) ≡ true
+unfolding of_event event_of parents
+parents_of e (Element f p) h = above_of e f p h
+parents_of e (Reference f x t u) h = and_from _ _ h (up_to_of e f t h)
+parents_of e (Proposal f n) h = up_to_of e f n.target h
+parents_of e (Verdict f n i o) h = up_to_of e f n.target h
+parents_of e (Sighting f t i o u) h = up_to_of e f t h
+
+proposal_of_event : (e : EventId) (k p : Key) → of_event e k ≡ true → is_proposal_of k p → of_event e p ≡ true
+unfolding of_event event_of is_proposal_of
+proposal_of_event e (Verdict f n i o) p h q = ap (λ x. same_event (event_of x) e) q ∙ h
+proposal_of_event e (Element f x) p h q = absurd q
+proposal_of_event e (Reference f x t u) p h q = absurd q
+proposal_of_event e (Proposal f n) p h q = absurd q
+proposal_of_event e (Sighting f t i o u) p h q = absurd q
+
+pub event_is_closed : (e : EventId) → IsClosed (of_event e)
+event_is_closed e = record { above = parents_of e; proposals = proposal_of_event e }
+
+-- whether a row is granted is seen in the rows of its event
+pub granted_here : (e : EventId) (rows : List Row) (groups : List Group) (i : Inst) (o : OrgId) (row : Row) → of_event e row.key ≡ true →
+    granted (cut_rows (of_event e) rows) groups i o row ≡ granted rows groups i o row
+granted_here e rows groups i o row h = granted_cut (of_event e) (event_is_closed e) rows groups i o row h
+
+-- and so is whether a uuid is taken
+pub is_taken_here : (e : EventId) (s : Scene) (u : ℕ) → is_taken (cut_scene (of_event e) s) e u ≡ is_taken s e u
+unfolding is_taken cut_scene cut_rows of_event
+is_taken_here e s u =
+    ap (λ b. eqb e.0.0 u || b) (any_cut (λ (row : Row). same_org row.owner s.by && (same_event (event_of row.key) e && takes_uuid u row.key)) (λ row. same_event (event_of row.key) e)
+    (λ row h. (and_parts _ _ (and_parts _ _ h).1).0) s.rows)
