@@ -1,9 +1,9 @@
 -- What a body brings is built.
-use Rattle.std.proofs.Common.{◌≡◌, ℕ, List, codes, Option, Some, None, Ok, refl}
+use Rattle.std.proofs.Common.{◌≡◌, ℕ, Bool, true, false, List, codes, Option, Some, None, Ok, refl}
 use Rattle.misp_lists.proofs.Readings.{bind_keeps, ok_keeps}
 use Rattle.misp_elem.specs.Draft.{SubmissionFields}
 use Rattle.misp_elem.specs.Prelude.{ElemId, IsUid}
-use Rattle.misp_format.specs.Prelude.{◌>>=◌, Data, Reading, attributes_at, event_at, json_in, made_uid, none_from, objects_at, uuid_of}
+use Rattle.misp_format.specs.Prelude.{◌>>=◌, Data, Reading, attributes_at, event_at, group_in_text, json_in, made_uid, none_from, objects_at, uuid_of}
 use Rattle.misp_format.specs.Rows.{row, body_at}
 use Rattle.misp_format.specs.Tables.{event_itself_at, unwrapped, parts_at, elements_at, tag_body_at}
 use Rattle.misp_format.specs.Edits.{event_edit_at, attribute_edit_at, object_edit_at}
@@ -17,7 +17,7 @@ use Rattle.misp_core.specs.Prelude.{Ask, EventId, Group, View}
 use Rattle.misp_api.specs.GroupList.{groups_in}
 use Rattle.misp_api.specs.declared.command.Command.{Command}
 use Rattle.misp_api.specs.declared.route.Route.{Route}
-use Rattle.misp_api.specs.Request.{ask_command, command_of, formed, groups_command, event_in, event_edit_in, attribute_edit_in, object_edit_in, parts_in, tag_in, untag_in, proposal_in, judgement_in, sighting_in, package_in}
+use Rattle.misp_api.specs.Request.{ask_command, command_of, formed, groups_command, share_command, event_in, event_edit_in, attribute_edit_in, object_edit_in, parts_in, tag_in, untag_in, proposal_in, judgement_in, sighting_in, package_in}
 use Rattle.misp_api.specs.Request as request
 use Rattle.misp_api.proofs.Handed.{package_built}
 
@@ -43,36 +43,39 @@ made_built : {A : Type 0} (ask : A → Ask) (at : Data → Reading A) → ((d : 
     → json_in body >>= (λ d. request.ask_from ask (at d)) ≡ Ok a → IsBuilt a
 made_built ask at each body = bind_keeps IsBuilt (json_in body) _ (λ d is. bind_keeps IsBuilt (at d) _ (λ x found. ok_keeps IsBuilt _ (each d x found)))
 
--- what holds of each ask that is built, of each that is read where those that are read are built, and of groups that
--- are read, holds of every request
+-- what holds of each ask that is built, of each that is read where those that are read are built, of groups that are
+-- read, and of a group that is read, holds of every request
 pub command_is : (P : request.Reading Command → Type 0) → ((ask : Ask) → IsBuilt ask → P (Ok (Command.Asks ask)))
     → ((read : Reading Ask) → ((ask : Ask) → read ≡ Ok ask → IsBuilt ask) → P (formed (ask_command read)))
-    → ((read : Reading (List Group)) → P (formed (groups_command read))) → (route : Route) (body : List ℕ) (word : ℕ) → P (command_of route body word)
+    → ((read : Reading (List Group)) → P (formed (groups_command read)))
+    → ((add : Bool) (read : Reading Group) → P (formed (share_command add read))) → (route : Route) (body : List ℕ) (word : ℕ) → P (command_of route body word)
 unfolding command_of
-command_is P said read take Route.AddEvent body word = read (event_in body word) (made_built (λ b. Ask.Change (Change.AddEvent b)) (event_at word) (event_is_added word) body)
-command_is P said read take (Route.ViewEvent event owner) body word = said (View event owner) tt
-command_is P said read take (Route.EditEvent event) body word = read (event_edit_in event body) (made_built (λ edit. Ask.Change (Change.EditEvent event edit)) event_edit_at (λ d x h. tt) body)
-command_is P said read take (Route.DeleteEvent event) body word = said (Ask.Change (Change.DeleteEvent event)) tt
-command_is P said read take (Route.Publish event) body word = said (Ask.Change (Change.Publish event)) tt
-command_is P said read take (Route.AddAttributes event object) body word =
+command_is P said read take share Route.AddEvent body word = read (event_in body word) (made_built (λ b. Ask.Change (Change.AddEvent b)) (event_at word) (event_is_added word) body)
+command_is P said read take share (Route.ViewEvent event owner) body word = said (View event owner) tt
+command_is P said read take share (Route.EditEvent event) body word = read (event_edit_in event body) (made_built (λ edit. Ask.Change (Change.EditEvent event edit)) event_edit_at (λ d x h. tt) body)
+command_is P said read take share (Route.DeleteEvent event) body word = said (Ask.Change (Change.DeleteEvent event)) tt
+command_is P said read take share (Route.Publish event) body word = said (Ask.Change (Change.Publish event)) tt
+command_is P said read take share (Route.AddAttributes event object) body word =
     read (parts_in event object PartForm.Attributes body word) (made_built (λ b. Ask.Change (Change.AddParts event b)) (parts_at event object PartForm.Attributes word) (λ d x h. tt) body)
-command_is P said read take (Route.EditAttribute event place) body word = read (attribute_edit_in event place body) (made_built (λ edit. Ask.Change (Change.EditAttribute event place edit)) attribute_edit_at (λ d x h. tt) body)
-command_is P said read take (Route.DeleteAttribute event place) body word = said (Ask.Change (Change.Delete event place)) tt
-command_is P said read take (Route.AddObject event) body word =
+command_is P said read take share (Route.EditAttribute event place) body word = read (attribute_edit_in event place body) (made_built (λ edit. Ask.Change (Change.EditAttribute event place edit)) attribute_edit_at (λ d x h. tt) body)
+command_is P said read take share (Route.DeleteAttribute event place) body word = said (Ask.Change (Change.Delete event place)) tt
+command_is P said read take share (Route.AddObject event) body word =
     read (parts_in event None PartForm.Object body word) (made_built (λ b. Ask.Change (Change.AddParts event b)) (parts_at event None PartForm.Object word) (λ d x h. tt) body)
-command_is P said read take (Route.EditObject event object) body word = read (object_edit_in event object body) (made_built (λ edit. Ask.Change (Change.EditObject event object edit)) object_edit_at (λ d x h. tt) body)
-command_is P said read take (Route.DeleteObject event object) body word = said (Ask.Change (Change.Delete event (Place.Object object))) tt
-command_is P said read take (Route.AddReference event object) body word =
+command_is P said read take share (Route.EditObject event object) body word = read (object_edit_in event object body) (made_built (λ edit. Ask.Change (Change.EditObject event object edit)) object_edit_at (λ d x h. tt) body)
+command_is P said read take share (Route.DeleteObject event object) body word = said (Ask.Change (Change.Delete event (Place.Object object))) tt
+command_is P said read take share (Route.AddReference event object) body word =
     read (parts_in event (Some object) PartForm.Reference body word) (made_built (λ b. Ask.Change (Change.AddParts event b)) (parts_at event (Some object) PartForm.Reference word) (λ d x h. tt) body)
-command_is P said read take (Route.DeleteReference event object reference) body word = said (Ask.Change (Change.DeleteReference event object reference)) tt
-command_is P said read take (Route.Tag event place) body word = read (tag_in event place body) (made_built (λ tag. Ask.Change (Change.Tag event place tag)) tag_body_at (λ d x h. tt) body)
-command_is P said read take (Route.Untag event place) body word = read (untag_in event place body) (made_built (λ tag. Ask.Change (Change.Untag event place tag.name)) tag_body_at (λ d x h. tt) body)
-command_is P said read take (Route.Propose event target) body word = read (proposal_in event target body word) (made_built Ask.Propose (proposal_at event target word) (λ d x h. tt) body)
-command_is P said read take (Route.Judge event accept) body word = read (judgement_in event accept body) (made_built (λ name. Ask.Judge event name accept) judgement_at (λ d x h. tt) body)
-command_is P said read take (Route.Sight event target) body word = read (sighting_in event target body word) (made_built (Ask.Sight event target) (sighting_at word) (λ d x h. tt) body)
-command_is P said read take Route.TakePart body word = read (package_in body) (package_built body)
-command_is P said read take Route.TakeGroups body word = take (groups_in body)
-command_is P said read take Route.Groups body word = said Ask.Groups tt
-command_is P said read take Route.SyncGroups body word = said Ask.SyncGroups tt
-command_is P said read take Route.SyncEvents body word = said Ask.SyncEvents tt
-command_is P said read take (Route.SyncPart event part) body word = said (Ask.SyncPart event part) tt
+command_is P said read take share (Route.DeleteReference event object reference) body word = said (Ask.Change (Change.DeleteReference event object reference)) tt
+command_is P said read take share (Route.Tag event place) body word = read (tag_in event place body) (made_built (λ tag. Ask.Change (Change.Tag event place tag)) tag_body_at (λ d x h. tt) body)
+command_is P said read take share (Route.Untag event place) body word = read (untag_in event place body) (made_built (λ tag. Ask.Change (Change.Untag event place tag.name)) tag_body_at (λ d x h. tt) body)
+command_is P said read take share (Route.Propose event target) body word = read (proposal_in event target body word) (made_built Ask.Propose (proposal_at event target word) (λ d x h. tt) body)
+command_is P said read take share (Route.Judge event accept) body word = read (judgement_in event accept body) (made_built (λ name. Ask.Judge event name accept) judgement_at (λ d x h. tt) body)
+command_is P said read take share (Route.Sight event target) body word = read (sighting_in event target body word) (made_built (Ask.Sight event target) (sighting_at word) (λ d x h. tt) body)
+command_is P said read take share Route.TakePart body word = read (package_in body) (package_built body)
+command_is P said read take share Route.TakeGroups body word = take (groups_in body)
+command_is P said read take share Route.AddGroup body word = share true (group_in_text body)
+command_is P said read take share Route.EditGroup body word = share false (group_in_text body)
+command_is P said read take share Route.Groups body word = said Ask.Groups tt
+command_is P said read take share Route.SyncGroups body word = said Ask.SyncGroups tt
+command_is P said read take share Route.SyncEvents body word = said Ask.SyncEvents tt
+command_is P said read take share (Route.SyncPart event part) body word = said (Ask.SyncPart event part) tt

@@ -3,7 +3,7 @@ use Rattle.std.proofs.Common.{◌≡◌, ℕ, Bool, true, false, List, refl, sub
 use Rattle.misp_core.specs.Answers.{IsBuilt}
 use Rattle.misp_api.specs.Commands.{AsksBuilt}
 use Rattle.misp_api.specs.Prelude.{Admin, Ask, Caller, Command, Commanded, FormatFault, Group, Reading, RequestData, Route, RuleName, barred, caller_in, command_of, form_of, formed, is_allowed, read_of}
-use Rattle.misp_api.specs.Request.{ask_command, groups_command}
+use Rattle.misp_api.specs.Request.{ask_command, groups_command, share_command}
 use Rattle.misp_api.specs.Prelude.{route_of}
 use Rattle.misp_api.specs.Answering.{by_body, by_route, permitted}
 use Rattle.misp_api.proofs.Built.{command_is}
@@ -32,8 +32,15 @@ groups_built (Err (FormatFault.BadField path need)) = tt
 groups_built (Err (FormatFault.BinaryType path)) = tt
 groups_built (Err FormatFault.NoMemory) = tt
 
+share_built : (add : Bool) (read : Result Group FormatFault) → BuiltCommand (formed (share_command add read))
+share_built add (Ok g) = tt
+share_built add (Err FormatFault.NoJson) = tt
+share_built add (Err (FormatFault.BadField path need)) = tt
+share_built add (Err (FormatFault.BinaryType path)) = tt
+share_built add (Err FormatFault.NoMemory) = tt
+
 command_built : (route : Route) (body : List ℕ) (word : ℕ) → BuiltCommand (command_of route body word)
-command_built = command_is BuiltCommand (λ ask built. built) asked_built groups_built
+command_built = command_is BuiltCommand (λ ask built. built) asked_built groups_built share_built
 
 -- what a request asks is built
 pub asks_built : (route : Route) (body : List ℕ) (word : ℕ) (command : Command) → command_of route body word ≡ Ok command → AsksBuilt command

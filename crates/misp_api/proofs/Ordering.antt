@@ -10,15 +10,21 @@ use Rattle.misp_core.specs.Prelude.{Admin, Ask, Asked, Caller, Did, Effect, Even
 use Rattle.misp_core.specs.Prelude.{option_map_or, reach_of, refused, reply_in, rule_number, scene_at, seeing, seen_in, stop_in}
 use Rattle.misp_core.specs.Answers.{reply_of}
 use Rattle.misp_core.specs.Saving.{IsOfEvent}
+use Rattle.misp_core.specs.Administering.{effect_by}
+use Rattle.misp_ids.specs.Same.{same_org}
+use Rattle.misp_ids.specs.Moments.{last_stamp}
+use Rattle.misp_ids.specs.declared.uid.GroupId.{GroupId}
+use Rattle.misp_groups.specs.Audience.{is_known_group, known_group}
+use Rattle.misp_groups.specs.Groups.{why_kept, why_not}
 use Rattle.misp_core.proofs.Decisions.{of_event}
 use Rattle.misp_core.specs.Effects.{telling}
 use Rattle.misp_api.specs.Commands.{AsksBuilt}
 use Rattle.misp_api.specs.Prelude.{AskFault, Command, Commanded, Gives, Reading, Reply, RequestData, Route, barred, caller_in, command_effect, command_of, commanded, fault_reply, formed, is_allowed, read_of, route_of}
-use Rattle.misp_api.specs.Request.{ask_command, groups_command}
+use Rattle.misp_api.specs.Request.{ask_command, groups_command, share_command}
 use Rattle.misp_api.specs.Route.{method_of, by_method}
 use Rattle.misp_api.proofs.Built.{command_is}
 use Rattle.misp_api.specs.Answering.{by_body, by_key, by_route}
-use Rattle.misp_api.specs.Order.{Ground, first_ground, rule_of, IsInOrder, command_grounds, ground_of, row_grounds, grounds, route_asked, is_refused_by, asked_grounds, order}
+use Rattle.misp_api.specs.Order.{Ground, first_ground, rule_of, IsInOrder, command_grounds, sharing_grounds, is_carried, is_last, ground_of, row_grounds, grounds, route_asked, is_refused_by, asked_grounds, order}
 use Rattle.misp_effects.specs.Effect as effects
 use Rattle.misp_model.specs.Scene as asking
 use Rattle.misp_model.specs.Answers as model
@@ -80,11 +86,42 @@ unfolding first_ground
 by_rows host now it groups (Err name) built = refl
 by_rows host now it groups (Ok rows) built = in_scene host.admin (seeing (scene_at host now it.0 groups) rows) it.1 built
 
+-- of a group that is added, and of one that is edited
+added_first : (mine known : Bool) → (if not mine then Some RuleName.NotCreator else if known then Some RuleName.GroupExists else None)
+    ≡ first_ground ((not mine, RuleName.NotCreator) ∷ (known, RuleName.GroupExists) ∷ [])
+unfolding first_ground
+added_first false known = refl
+added_first true true = refl
+added_first true false = refl
+
+kept_first : (carried last : Bool) → (if carried then Some RuleName.LockedGroup else if last then Some RuleName.TimeLimit else None)
+    ≡ first_ground ((false, RuleName.NotCreator) ∷ (false, RuleName.NoGroup) ∷ (carried, RuleName.LockedGroup) ∷ (last, RuleName.TimeLimit) ∷ [])
+unfolding first_ground
+kept_first true last = refl
+kept_first false true = refl
+kept_first false false = refl
+
+edited_first : (mine : Bool) (held : Option Group) → (if not mine then Some RuleName.NotCreator else why_kept held)
+    ≡ first_ground ((not mine, RuleName.NotCreator) ∷ (not (is_some held), RuleName.NoGroup) ∷ (is_carried held, RuleName.LockedGroup) ∷ (is_last held, RuleName.TimeLimit) ∷ [])
+unfolding first_ground
+edited_first false held = refl
+edited_first true None = refl
+edited_first true (Some g) = kept_first g.carried (g.modified == last_stamp)
+
+why_first : (add : Bool) (groups : List Group) (by : OrgId) (id : GroupId) → why_not add groups by id ≡ first_ground (sharing_grounds add groups by id)
+why_first true groups by id = added_first (same_org by id.creator) (is_known_group groups id)
+why_first false groups by id = edited_first (same_org by id.creator) (known_group groups id)
+
+of_rule : (why : Option RuleName) (g : Group) → rule_of (effect_by why g).reply ≡ why
+of_rule None g = refl
+of_rule (Some rule) g = refl
+
 by_command : (host : Host) (now : ℕ) (caller : Caller) (command : Command) (seen : Seen) → AsksBuilt command
     → rule_of (command_effect host now caller command seen).reply ≡ first_ground (command_grounds host now caller command seen)
 unfolding first_ground
 by_command host now caller (Command.Asks ask) seen built = by_rows host now (caller, ask) seen.groups (seen.rows (reach_of caller.org ask)) built
 by_command host now caller (Command.TakesGroups groups) seen built = refl
+by_command host now caller (Command.Shares add g) seen built = of_rule (why_not add seen.groups caller.org g.id) _ ∙ why_first add seen.groups caller.org g.id
 
 -- by whether the role permits it
 by_role : (host : Host) (now : ℕ) (it : Commanded) (may : Bool) (seen : Seen) → AsksBuilt it.1
@@ -127,7 +164,7 @@ formed_named (Err (FormatFault.BinaryType path)) = λ went. refl
 formed_named (Err FormatFault.NoMemory) = λ went. absurd cc
 
 command_named : (route : Route) (body : List ℕ) (word : ℕ) → IsNamed (command_of route body word)
-command_named = command_is IsNamed (λ ask built. tt) (λ read built. formed_named (ask_command read)) (λ read. formed_named (groups_command read))
+command_named = command_is IsNamed (λ ask built. tt) (λ read built. formed_named (ask_command read)) (λ read. formed_named (groups_command read)) (λ add read. formed_named (share_command add read))
 
 -- ---- from the path on
 

@@ -48,6 +48,7 @@ over_none host now it groups (Err name) is = refl
 command_none : (host : Host) (now : ℕ) (caller : Caller) (command : Command) (seen : Seen) → is_pulling command ≡ true → (command_effect host now caller command seen).batches ≡ []
 command_none host now caller (Command.Asks ask) seen is = over_none host now (caller, ask) seen.groups (seen.rows (reach_of caller.org ask)) is
 command_none host now caller (Command.TakesGroups groups) seen is = absurd cc
+command_none host now caller (Command.Shares add g) seen is = absurd cc
 
 replied_none : (host : Host) (now : ℕ) (form : Reading Commanded) (seen : Seen) → IsPull form → (replied host now form seen).batches ≡ []
 replied_none host now (Ok it) seen is = command_none host now it.0 it.1 seen is

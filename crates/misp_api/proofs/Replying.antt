@@ -6,7 +6,7 @@ use Rattle.misp_effects.specs.Effect.{Stopped}
 use Rattle.misp_core.specs.Prelude.{Did, Refusal, bare, host_of, refused}
 use Rattle.misp_api.specs.Prelude.{Admin, AskFault, Caller, Command, Commanded, Effect, FormatFault, Gives, Held, Host, Reading, Reply, RequestData, Route, RuleName, Standing, Stop, barred, command_of}
 use Rattle.misp_api.specs.Prelude.{by_keeper, caller_in, command_effect, commanded, fault_reply, form_of, formed, is_allowed, read_of, replied, route_of, seen_in, stop_in}
-use Rattle.misp_api.specs.Request.{ask_command, groups_command}
+use Rattle.misp_api.specs.Request.{ask_command, groups_command, share_command}
 use Rattle.misp_api.specs.Route.{method_of, route_at, by_method}
 use Rattle.misp_api.proofs.Built.{command_is}
 use Rattle.misp_api.proofs.Forms.{allowed}
@@ -44,7 +44,7 @@ formed_by_form (Err (FormatFault.BinaryType path)) = inl refl
 formed_by_form (Err FormatFault.NoMemory) = inr refl
 
 command_by_form : (route : Route) (body : List ℕ) (word : ℕ) → ByForm (command_of route body word)
-command_by_form = command_is ByForm (λ ask built. tt) (λ read built. formed_by_form (ask_command read)) (λ read. formed_by_form (groups_command read))
+command_by_form = command_is ByForm (λ ask built. tt) (λ read built. formed_by_form (ask_command read)) (λ read. formed_by_form (groups_command read)) (λ add read. formed_by_form (share_command add read))
 
 body_by_form : (caller : Caller) (read : Reading Command) → ByForm read → ByForm (by_body caller read)
 body_by_form caller (Ok command) formed = tt

@@ -5,7 +5,7 @@ use Rattle.misp_orgs.specs.declared.role.Perm.{Perm}
 use Rattle.misp_model.specs.Machine.{pulls}
 use Rattle.misp_model.specs.Permission.{permission_of, no_permission}
 use Rattle.misp_core.specs.HandedGroups.{groups_put}
-use Rattle.misp_core.specs.Prelude.{Caller, Effect, Host, IsBuilt, Refusal, Seen, asked_where, refused}
+use Rattle.misp_core.specs.Prelude.{Caller, Effect, Host, IsBuilt, Refusal, Seen, administered, asked_where, refused}
 use Rattle.misp_core.specs.Taking.{groups_taken}
 use Rattle.misp_core.specs.declared.reply.Reply.{Reply}
 use Rattle.misp_api.specs.declared.command.Command.{Command}
@@ -18,6 +18,7 @@ Commanded = Caller × Command
 abbrev pub AsksBuilt : Command → Type 0
 AsksBuilt (Command.Asks ask) = IsBuilt ask
 AsksBuilt (Command.TakesGroups groups) = Unit {0}
+AsksBuilt (Command.Shares add g) = Unit {0}
 
 -- ---- roles
 
@@ -25,6 +26,7 @@ AsksBuilt (Command.TakesGroups groups) = Unit {0}
 abbrev pub permission_needed : Command → Perm
 permission_needed (Command.Asks ask) = permission_of ask
 permission_needed (Command.TakesGroups groups) = Perm.Sync
+permission_needed (Command.Shares add g) = Perm.Group
 
 -- the role of its caller permits it
 abbrev pub is_allowed : Commanded → Bool
@@ -40,14 +42,18 @@ barred command = no_permission (permission_needed command)
 abbrev pub is_pulling : Command → Bool
 is_pulling (Command.Asks ask) = pulls ask
 is_pulling (Command.TakesGroups groups) = false
+is_pulling (Command.Shares add g) = false
 
 -- ---- what commands come to
 
--- what a command of this caller comes to, where this is seen: of groups those are put that are taken
+-- what a command of this caller comes to, where this is seen: of groups that are handed in those are
+-- put that are taken, and one that is added or edited is administered by the caller's organisation
 abbrev pub command_effect : Host → ℕ → Caller → Command → Seen → Effect Reply
 command_effect host now caller (Command.Asks ask) seen = asked_where host now (caller, ask) seen
 command_effect host now caller (Command.TakesGroups coming) seen =
     groups_put (groups_taken seen.groups coming)
+command_effect host now caller (Command.Shares add g) seen =
+    administered now caller.org add g seen.groups
 
 -- the same, where the role of the caller must permit it
 abbrev pub commanded : Host → ℕ → Commanded → Seen → Effect Reply

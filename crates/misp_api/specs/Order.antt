@@ -1,5 +1,10 @@
 -- The one order of refusals: each rule in its place, with whether it refuses the request.
-use Rattle.std.specs.Prelude.{◌≡◌, ℕ, ◌==◌, Bool, true, false, not, bytes_eq, is_some, List, [], ◌∷◌, map, find, Option, None, Some, Result, Ok, Err, option_map}
+use Rattle.std.specs.Prelude.{◌≡◌, ℕ, ◌==◌, Bool, true, false, not, bytes_eq, is_some, List, [], ◌∷◌, map, find, Option, None, Some, Result, Ok, Err, option_map, if◌then◌else◌}
+use Rattle.misp_ids.specs.Same.{same_org}
+use Rattle.misp_ids.specs.Moments.{last_stamp}
+use Rattle.misp_ids.specs.declared.uid.GroupId.{GroupId}
+use Rattle.misp_ids.specs.declared.uid.OrgId.{OrgId}
+use Rattle.misp_groups.specs.Audience.{is_known_group, known_group}
 use Rattle.misp_model.specs.Scene.{Rule}
 use Rattle.misp_edit.specs.Refusals.{named}
 use Rattle.misp_core.specs.Prelude.{Asked, Group, Held, Host, Row, RuleName, Seen, ask_rules, option_map_or, reach_of, rule_number, scene_at, seeing, seen_in, stop_in}
@@ -37,11 +42,41 @@ row_grounds host now it groups (Ok rows) =
     map ground_of (ask_rules (seeing (scene_at host now it.0 groups) rows) it.1)
 row_grounds host now it groups (Err name) = (true, RuleName.BadRow) ∷ []
 
--- the same for what is asked; groups that are handed in are refused by none of these
+-- the rules against adding a group: the caller is not its creator, or its name is known
+abbrev pub adding_grounds : List Group → OrgId → GroupId → List Ground
+adding_grounds groups by id =
+    (not (same_org by id.creator), RuleName.NotCreator)
+    ∷ (is_known_group groups id, RuleName.GroupExists) ∷ []
+
+-- a group came by a synchronisation
+abbrev pub is_carried : Option Group → Bool
+is_carried held = option_map_or (λ g. g.carried) held false
+
+-- it has the last stamp
+abbrev pub is_last : Option Group → Bool
+is_last held = option_map_or (λ g. g.modified == last_stamp) held false
+
+-- the rules against editing the group of a name: the caller is not its creator, or no group of the
+-- name is known, or the one that is came by a synchronisation or has the last stamp
+abbrev pub editing_grounds : List Group → OrgId → GroupId → List Ground
+editing_grounds groups by id =
+    (not (same_org by id.creator), RuleName.NotCreator)
+    ∷ (not (is_some (known_group groups id)), RuleName.NoGroup)
+    ∷ (is_carried (known_group groups id), RuleName.LockedGroup)
+    ∷ (is_last (known_group groups id), RuleName.TimeLimit) ∷ []
+
+abbrev pub sharing_grounds : Bool → List Group → OrgId → GroupId → List Ground
+sharing_grounds add groups by id =
+    if add then adding_grounds groups by id else editing_grounds groups by id
+
+-- the same for what is asked, and for a group that is added or edited; groups that are handed in are
+-- refused by none of these
 abbrev pub command_grounds : Host → ℕ → Caller → Command → Seen → List Ground
 command_grounds host now caller (Command.Asks ask) seen =
     row_grounds host now (caller, ask) seen.groups (seen.rows (reach_of caller.org ask))
 command_grounds host now caller (Command.TakesGroups groups) seen = []
+command_grounds host now caller (Command.Shares add g) seen =
+    sharing_grounds add seen.groups caller.org g.id
 
 -- of a command, where this is seen: first the role of the caller must permit it
 abbrev pub grounds : Host → ℕ → Commanded → Seen → List Ground

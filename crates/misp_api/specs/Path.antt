@@ -47,6 +47,8 @@ paths =
     ∷ (codes "/sightings/add/{event}/{attribute}", PathKind.Sight)
     ∷ (codes "/sightings/add/{event}/{object}/{attribute}", PathKind.Sight)
     ∷ (codes "/sharing_groups/index", PathKind.Groups)
+    ∷ (codes "/sharing_groups/add", PathKind.AddGroup)
+    ∷ (codes "/sharing_groups/edit", PathKind.EditGroup)
     ∷ (codes "/sync/groups", PathKind.SyncGroups)
     ∷ (codes "/sync/events", PathKind.SyncEvents)
     ∷ (codes "/sync/part/{event}/{part}", PathKind.SyncPart)

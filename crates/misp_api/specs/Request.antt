@@ -1,11 +1,11 @@
 -- What a request is and asks, or the rule that its form breaks.
-use Rattle.std.specs.Prelude.{◌≡◌, ℕ, Bool, nat_lt, List, ◌∷◌, ◌++◌, codes, Option, Some, None, Result, Ok, Err, if◌then◌else◌}
+use Rattle.std.specs.Prelude.{◌≡◌, ℕ, Bool, true, false, nat_lt, List, ◌∷◌, ◌++◌, codes, Option, Some, None, Result, Ok, Err, if◌then◌else◌}
 use Rattle.std.specs.List.{list_all}
 use Rattle.misp_fields.specs.Needs.{need_words}
 use Rattle.misp_elem.specs.Prelude.{ElemId}
 use Rattle.misp_elem.specs.declared.key.Place.{Place}
 use Rattle.misp_http.specs.declared.request.Request.{Request}
-use Rattle.misp_format.specs.Prelude.{◌>>=◌, Need, event_at, json_in}
+use Rattle.misp_format.specs.Prelude.{◌>>=◌, Need, event_at, group_in_text, json_in}
 use Rattle.misp_format.specs.Edits.{event_edit_at, attribute_edit_at, object_edit_at}
 use Rattle.misp_format.specs.Statements.{proposal_at, judgement_at, sighting_at}
 use Rattle.misp_format.specs.Tables.{parts_at, tag_body_at}
@@ -142,6 +142,10 @@ ask_command read = read >>= λ ask. Ok (Command.Asks ask)
 abbrev pub groups_command : rows.Reading (List Group) → rows.Reading Command
 groups_command read = read >>= λ groups. Ok (Command.TakesGroups groups)
 
+-- the adding or editing of the group that was read
+abbrev pub share_command : Bool → rows.Reading Group → rows.Reading Command
+share_command add read = read >>= λ g. Ok (Command.Shares add g)
+
 -- ---- what a request is, by its route
 
 -- the ask of a request whose path says all of it
@@ -160,7 +164,8 @@ path_ask Route.SyncEvents = Some Ask.SyncEvents
 path_ask (Route.SyncPart event part) = Some (Ask.SyncPart event part)
 path_ask route = None
 
--- what the body of another request is: the ask of its route, or groups that are handed in
+-- what the body of another request is: the ask of its route, a group that is added or edited, or
+-- groups that are handed in
 abbrev pub body_command : Route → List ℕ → ℕ → rows.Reading Command
 body_command Route.AddEvent body word = ask_command (event_in body word)
 body_command (Route.EditEvent event) body word = ask_command (event_edit_in event body)
@@ -182,6 +187,8 @@ body_command (Route.Judge event accept) body word = ask_command (judgement_in ev
 body_command (Route.Sight event target) body word =
     ask_command (sighting_in event target body word)
 body_command Route.TakePart body word = ask_command (package_in body)
+body_command Route.AddGroup body word = share_command true (group_in_text body)
+body_command Route.EditGroup body word = share_command false (group_in_text body)
 body_command route body word = groups_command (groups_in body)
 
 -- the ask of the path, or what was read of the body

@@ -101,6 +101,8 @@ element_route kind ids = None
 abbrev pub route_with : PathKind → PathIds → Option Route
 route_with PathKind.AddEvent ids = alone Route.AddEvent ids
 route_with PathKind.Groups ids = alone Route.Groups ids
+route_with PathKind.AddGroup ids = alone Route.AddGroup ids
+route_with PathKind.EditGroup ids = alone Route.EditGroup ids
 route_with PathKind.SyncGroups ids = alone Route.SyncGroups ids
 route_with PathKind.SyncEvents ids = alone Route.SyncEvents ids
 route_with PathKind.TakePart ids = alone Route.TakePart ids

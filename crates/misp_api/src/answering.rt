@@ -88,6 +88,9 @@ fn plan<K: Keeper>(
         Command::TakesGroups(groups) => {
             instance.plan_handed_groups(alloc, caller, groups.into_vec())
         }
+        Command::Shares { add, group } => {
+            instance.plan_shared_group(alloc, now, caller, add, group)
+        }
     }
 }
 

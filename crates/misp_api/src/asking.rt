@@ -2,13 +2,14 @@
 
 ghost use Rattle.std.specs.Prelude.{◌≡◌, true, IfOk};
 ghost use Rattle.misp_elem.specs.declared.key.Place.TheVariants as places;
+ghost use Rattle.misp_format.specs.Prelude.{group_in_text};
 ghost use Rattle.misp_format.specs.Rows as rows;
 ghost use Rattle.misp_format.specs.Tables.{is_form_for};
 ghost use Rattle.misp_model.specs.declared.ask.Ask.TheVariants as asks;
 ghost use Rattle.misp_model.specs.declared.change.Change.TheVariants as changes;
 ghost use Rattle.misp_api.specs.Commands.{AsksBuilt};
 ghost use Rattle.misp_api.specs.GroupList.{groups_in};
-ghost use Rattle.misp_api.specs.Request.{Gives, ask_command, groups_command, path_ask, body_command, event_in, event_edit_in, attribute_edit_in, object_edit_in, parts_in, tag_in, untag_in, proposal_in, judgement_in, sighting_in, package_in, command_of};
+ghost use Rattle.misp_api.specs.Request.{Gives, ask_command, groups_command, share_command, path_ask, body_command, event_in, event_edit_in, attribute_edit_in, object_edit_in, parts_in, tag_in, untag_in, proposal_in, judgement_in, sighting_in, package_in, command_of};
 
 use crate::command::Command;
 use crate::group_list::read_groups;
@@ -17,12 +18,13 @@ use crate::route::Route;
 use misp_elem::{DecodeFault, Place};
 use misp_fields::Need;
 use misp_format::{
-    FormatFault, PartForm, read_attribute_edit, read_event, read_event_edit, read_json,
-    read_judgement, read_object_edit, read_parts, read_proposal, read_sighting, read_tag,
+    FormatFault, PartForm, read_attribute_edit, read_event, read_event_edit, read_group_text,
+    read_json, read_judgement, read_object_edit, read_parts, read_proposal, read_sighting,
+    read_tag,
 };
 use misp_ids::{ElemId, EventId, Items, Text};
-use misp_package::read_package;
 use misp_model::{Ask, AttributePlace, Change, ElementPlace, NewTag, Parts, TaggedPlace};
+use misp_package::read_package;
 use std::alloc::Global;
 
 // The addition of the event that a body is.
@@ -188,6 +190,14 @@ fn groups_command(alloc: Global, body: &[u8]) -> Result<Command, FormatFault>
     Ok(Command::TakesGroups(Items::of(groups)))
 }
 
+// The adding or editing of the group that a body is.
+fn share_command(alloc: Global, add: bool, body: &[u8]) -> Result<Command, FormatFault>
+    ensures { rows.Gives result (share_command add (group_in_text body.now)) }
+{
+    let group = read_group_text(alloc, body)?;
+    Ok(Command::Shares { add, group })
+}
+
 // The place of an attribute as that of an element.
 fn element_place(place: &AttributePlace) -> ElementPlace
     ensures { result ≡ place.now }
@@ -277,6 +287,8 @@ fn body_command(
         Route::Judge(event, accept) => judgement_in(alloc, event, accept, body),
         Route::Sight(event, target) => sighting_in(alloc, event, target, body, word),
         Route::TakePart => package_in(alloc, body),
+        Route::AddGroup => share_command(alloc, true, body),
+        Route::EditGroup => share_command(alloc, false, body),
         _ => groups_command(alloc, body),
     }
 }

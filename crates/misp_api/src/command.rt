@@ -10,4 +10,6 @@ pub enum Command {
     Asks(Ask),
     /// Takes what is new of groups that are handed in.
     TakesGroups(Items<Group>),
+    /// Adds a group, or edits the one of its name.
+    Shares { add: bool, group: Group },
 }

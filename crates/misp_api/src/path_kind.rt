@@ -23,6 +23,8 @@ pub enum PathKind {
     Discard,
     Sight,
     Groups,
+    AddGroup,
+    EditGroup,
     SyncGroups,
     SyncEvents,
     SyncPart,
@@ -31,7 +33,7 @@ pub enum PathKind {
 
 /// The patterns of paths, each with what it is for. A name in braces is an identifier, or the number
 /// of a part.
-pub(crate) const PATHS: [(&str, PathKind); 35] = [
+pub(crate) const PATHS: [(&str, PathKind); 37] = [
     ("/events/view/{event}", PathKind::ViewEvent),
     ("/events/view/{event}/{owner}", PathKind::ViewEvent),
     ("/events/add", PathKind::AddEvent),
@@ -87,6 +89,8 @@ pub(crate) const PATHS: [(&str, PathKind); 35] = [
         PathKind::Sight,
     ),
     ("/sharing_groups/index", PathKind::Groups),
+    ("/sharing_groups/add", PathKind::AddGroup),
+    ("/sharing_groups/edit", PathKind::EditGroup),
     ("/sync/groups", PathKind::SyncGroups),
     ("/sync/events", PathKind::SyncEvents),
     ("/sync/part/{event}/{part}", PathKind::SyncPart),

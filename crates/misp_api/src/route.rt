@@ -40,6 +40,10 @@ pub enum Route {
     Sight(EventId, AttributePlace),
     /// The groups that concern who asks.
     Groups,
+    /// A group that is added.
+    AddGroup,
+    /// A group as it is from then on.
+    EditGroup,
     /// The groups that a pull brings.
     SyncGroups,
     /// The events of which a pull brings something.
@@ -196,6 +200,8 @@ fn route_with(kind: PathKind, ids: PathIds) -> Option<Route>
     match kind {
         PathKind::AddEvent => alone(Route::AddEvent, ids),
         PathKind::Groups => alone(Route::Groups, ids),
+        PathKind::AddGroup => alone(Route::AddGroup, ids),
+        PathKind::EditGroup => alone(Route::EditGroup, ids),
         PathKind::SyncGroups => alone(Route::SyncGroups, ids),
         PathKind::SyncEvents => alone(Route::SyncEvents, ids),
         PathKind::TakePart => alone(Route::TakePart, ids),

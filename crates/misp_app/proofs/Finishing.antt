@@ -1,12 +1,15 @@
 -- Over keepers that hold nothing, where nothing fails, a command stops only where memory runs out.
-use Rattle.std.proofs.Common.{◌≡◌, ℕ, zero, suc, List, [], ◌∷◌, ◌<◌, ◌≤◌, true, nat_lt, length, take, Option, Some, None, refl, sym, ◌∙◌, subst, inl, inr, arith, IfSome, Ok, Err}
+use Rattle.std.proofs.Common.{◌≡◌, ℕ, zero, suc, List, [], ◌∷◌, ◌<◌, ◌≤◌, true, nat_lt, length, take, Option, Some, None, refl, sym, ◌∙◌, ap, subst, inl, inr, arith, IfSome, Ok, Err, option_map}
 use Rattle.std.proofs.lemmas.Bool.{cases_Bool}
 use Rattle.std.proofs.lemmas.Bool.Decides.{nat_tests}
 use Rattle.misp_script.specs.Faults.{Reading}
 use Rattle.misp_effects.specs.KeeperStates.{OneFailed}
 use Rattle.misp_effects.proofs.KeeperStates.{one_of_all}
+use Rattle.misp_store.specs.Renewing.{renewed}
 use Rattle.misp_store.specs.Sharing.{may_be_unsound}
-use Rattle.misp_net.specs.Prelude.{Description, KeeperState, nothing_held}
+use Rattle.misp_net.specs.History.{empty_tables}
+use Rattle.misp_net.specs.Opening.{opened_state, opened_states}
+use Rattle.misp_net.specs.Prelude.{Description, Host, KeeperState, Tell, nothing_held}
 use Rattle.misp_net.proofs.Openings.{nothing_is_sound}
 use Rattle.misp_words.specs.Words.{CommandData, Net, Check, Serve, Sync}
 use Rattle.misp_app.specs.Causes.{Faults, HasCauses, IsFaultless}
@@ -15,7 +18,7 @@ use Rattle.misp_app.specs.Status.{EndsAs, Finishes}
 use Rattle.misp_app.specs.Limits.{source_limit}
 use Rattle.misp_app.specs.Source.{described, status_of, status_over, IsUnsound, HasFailed, HoldNothing}
 
--- who holds nothing holds no row of the administration that is none
+-- who holds nothing holds no row that is none
 none_unsound : (old : List KeeperState) (n : ℕ) → HoldNothing old → may_be_unsound (take n old) ≡ true → ⊥
 none_unsound [] zero empty bad = cc
 none_unsound [] (suc n) empty bad = cc
@@ -24,6 +27,17 @@ none_unsound (s ∷ old) (suc n) empty bad =
     let first : s.held ≡ Some nothing_held = cc in
     let rest : HoldNothing old = cc in
     none_unsound old n rest (rw (first, nothing_is_sound) at bad)
+
+-- over such keepers instances open with nothing
+pub opens_empty : (hosts : List Host) (old : List KeeperState) → HoldNothing old → length hosts ≤ length old → Tell (opened_states (take (length hosts) old)) (empty_tables hosts)
+unfolding nothing_held renewed
+opens_empty [] old empty enough = refl
+opens_empty (host ∷ hosts) [] empty enough = absurd (omega (arith, enough))
+opens_empty (host ∷ hosts) (s ∷ old) empty enough =
+    let first : s.held ≡ Some nothing_held = cc in
+    let rest : HoldNothing old = cc in
+    let opened : (opened_state s).held ≡ Some nothing_held = ap (option_map renewed) first in
+    rw (opened, opens_empty hosts old rest (omega (arith, enough))) refl
 
 unsound_none : (read : Reading Description) (old : List KeeperState) → HoldNothing old → IsUnsound read old → ⊥
 unsound_none (Ok net) old empty bad = none_unsound old (length net.instances) empty bad

@@ -7,6 +7,7 @@ use Rattle.misp_core.specs.Prelude.{Host, KeeperState, Standing}
 use Rattle.misp_script.specs.Faults.{Reading}
 use Rattle.misp_net.specs.Prelude.{Description}
 use Rattle.misp_net.specs.declared.places.NetFault.{NetFault}
+use Rattle.misp_net.proofs.Openings.{kept_or_opened}
 use Rattle.misp_app.specs.Ends.{IsReadEnd}
 use Rattle.misp_app.specs.Hosting.{HasLinesServed, HasServed, IsReady}
 use Rattle.misp_app.specs.Source.{described, host_named}
@@ -38,7 +39,8 @@ module _ (time count word : ℕ) (back coming : List Connection) (now next : Opt
         end = i;
         how = Err faults.OutOfMemory;
         host_is = refl;
-        opened = kept;
+        begun = kept_or_opened _ _ kept;
+        opened = λ more. absurd (more refl);
         closed = refl;
         sound = λ more. absurd (more refl);
         how_is = refl;
@@ -95,6 +97,14 @@ pub words_read : (o : Option CommandData) (asked : ServeData) (command : Command
 words_read o asked command words is read kind =
     let told : Some (Serve asked) ≡ Some (command_data command) = sym is ∙ read in
     let known : command_data command ≡ Serve (serve_data words) = ap command_data kind in
+    cc
+
+-- they are not those of a check
+pub serves_unchecked : (o : Option CommandData) (command : Command) (words : ServeWords) → o ≡ Some (command_data command) → command ≡ Command.Serve words → o ≡ Some Check → ⊥
+serves_unchecked o command words read kind check =
+    let told : Some Check ≡ Some (command_data command) = sym check ∙ read in
+    let known : command_data command ≡ Serve (serve_data words) = ap command_data kind in
+    let no_ : Check ≡ Serve (serve_data words) = cc in
     cc
 
 -- and there is a keeper for it

@@ -1,16 +1,17 @@
 -- A script that was run, or not to its end.
-use Rattle.std.proofs.Common.{◌≡◌, ℕ, List, length, take, true, sym, subst, Option, Some, None, Ok, Err, IfOk, IfSome}
+use Rattle.std.proofs.Common.{◌≡◌, ℕ, List, length, take, true, inl, inr, refl, sym, subst, Option, Some, None, Ok, Err, IfOk, IfSome}
 use Rattle.misp_script.specs.Directory.{directory_of}
 use Rattle.misp_script.specs.Faults.{Reading}
 use Rattle.misp_script.specs.Source.{script_part}
 use Rattle.misp_effects.proofs.KeeperStates.{all_kept}
 use Rattle.misp_store.specs.Sharing.{may_be_sound}
 use Rattle.misp_net.specs.Carrying.{Carried}
-use Rattle.misp_net.specs.Opening.{IsStoppedBy}
+use Rattle.misp_net.specs.Opening.{IsStoppedBy, opened_states}
 use Rattle.misp_net.specs.Prelude.{AreDistinct, Description, KeeperState, described_hosts, lines_of}
 use Rattle.misp_net.specs.Promise.{IsNetRun}
 use Rattle.misp_net.specs.declared.places.NetFault.{NetFault}
-use Rattle.misp_net.proofs.Scripts.{all_ran, none_ran}
+use Rattle.misp_net.proofs.Openings.{kept_or_opened}
+use Rattle.misp_net.proofs.Scripts.{all_ran}
 use Rattle.misp_app.specs.Ends.{IsPutEnd, IsReadEnd}
 use Rattle.misp_app.specs.Net.{EndsRun}
 use Rattle.misp_app.specs.Source.{described}
@@ -20,11 +21,11 @@ use Rattle.misp_app.specs.declared.status.Status.{Status}
 module _ (net : Description) (script : List ℕ) (old new : List KeeperState) (before after : Carried) (written behind : Option (List ℕ)) where
   -- its lines were run, and written so
   pub ran_ends : (lines : List ℕ) (status : Status) → AreDistinct (described_hosts net) → may_be_sound (take (length net.instances) old) ≡ true
-      → IsNetRun (described_hosts net) (lines_of (directory_of net) script) (take (length net.instances) old) (take (length net.instances) new) before after lines
+      → IsNetRun (described_hosts net) (lines_of (directory_of net) script) (opened_states (take (length net.instances) old)) (take (length net.instances) new) before after lines
       → IsPutEnd status → (Writes status → Wrote status written behind lines) → EndsRun status net script old new before after written behind
   ran_ends lines Status.Done distinct sound ran end wrote = record { lines = lines; distinct = distinct; sound = sound; ran = ran; written = wrote tt }
   ran_ends lines Status.WriteFault distinct sound ran end wrote = record { lines = lines; distinct = distinct; sound = sound; ran = ran; written = wrote tt }
-  ran_ends lines Status.OutOfMemory distinct sound ran end wrote = all_ran _ _ _ _ before after lines ran.run
+  ran_ends lines Status.OutOfMemory distinct sound ran end wrote = inr (all_ran _ _ _ _ before after lines ran.run)
   ran_ends lines Status.Stopped distinct sound ran end wrote = tt
   ran_ends lines Status.Usage distinct sound ran end wrote = tt
   ran_ends lines Status.ReadFault distinct sound ran end wrote = tt
@@ -47,7 +48,7 @@ module _ (net : Description) (script : List ℕ) (old new : List KeeperState) (b
 
 module _ (old : List KeeperState) (carry : Carried) (written behind : Option (List ℕ)) where
   none_ends : (net : Description) (script : List ℕ) → EndsRun Status.OutOfMemory net script old old carry carry written behind
-  none_ends net script = none_ran _ _ _ _ carry.passed (all_kept (take (length net.instances) old))
+  none_ends net script = inl (kept_or_opened _ _ (all_kept (take (length net.instances) old)), refl)
 
   -- memory ran out while it was described
   pub undescribed : (read : Reading Description) (script : List ℕ) → IfOk read (λ net. EndsRun Status.OutOfMemory net script old old carry carry written behind)

@@ -11,7 +11,7 @@ use Rattle.misp_sync.specs.declared.reply.SyncReply.{SyncReply}
 use Rattle.misp_net.specs.Hosts.{nobody}
 use Rattle.misp_net.specs.Prelude.{Description, described_host, described_hosts, host_at}
 use Rattle.misp_net.specs.declared.places.NetFault.{NetFault}
-use Rattle.misp_words.specs.Words.{CommandData, Sync, SyncData, command_data, sync_data}
+use Rattle.misp_words.specs.Words.{Check, CommandData, Sync, SyncData, command_data, sync_data}
 use Rattle.misp_words.specs.declared.command.Command.{Command}
 use Rattle.misp_words.specs.declared.command.SyncWords.{SyncWords}
 use Rattle.misp_app.specs.Ends.{IsReadEnd}
@@ -89,4 +89,12 @@ pub sync_read : (o : Option CommandData) (asked : SyncData) (command : Command) 
 sync_read o asked command words is read kind =
     let told : Some (Sync asked) ≡ Some (command_data command) = sym is ∙ read in
     let known : command_data command ≡ Sync (sync_data words) = ap command_data kind in
+    cc
+
+-- they are not those of a check
+pub syncs_unchecked : (o : Option CommandData) (command : Command) (words : SyncWords) → o ≡ Some (command_data command) → command ≡ Command.Sync words → o ≡ Some Check → ⊥
+syncs_unchecked o command words read kind check =
+    let told : Some Check ≡ Some (command_data command) = sym check ∙ read in
+    let known : command_data command ≡ Sync (sync_data words) = ap command_data kind in
+    let no_ : Check ≡ Sync (sync_data words) = cc in
     cc

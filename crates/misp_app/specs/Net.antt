@@ -5,7 +5,8 @@ use Rattle.misp_http.specs.Streams.{AppendsSome}
 use Rattle.misp_script.specs.Directory.{directory_of}
 use Rattle.misp_store.specs.Sharing.{may_be_sound}
 use Rattle.misp_net.specs.Carrying.{Carried}
-use Rattle.misp_net.specs.Prelude.{AreDistinct, Description, IsCut, KeeperState, described_hosts, lines_of}
+use Rattle.misp_net.specs.Opening.{IsCutShort, opened_states}
+use Rattle.misp_net.specs.Prelude.{AreDistinct, Description, KeeperState, described_hosts, lines_of}
 use Rattle.misp_net.specs.Promise.{IsNetRun}
 use Rattle.misp_app.specs.declared.status.Status.{Status}
 use Rattle.misp_app.specs.declared.status.Status.TheVariants.{Done, WriteFault, OutOfMemory}
@@ -15,14 +16,15 @@ pub record HasRun (net : Description) (script : List ℕ) (old new : List Keeper
     (before after : Carried) (Writes : List ℕ → Type 0) : Type 0 where
   pub lines : List ℕ
   pub distinct : AreDistinct (described_hosts net)
-  -- every row of the administration that the keepers tell is a group
+  -- every row that the keepers tell decodes
   pub sound : may_be_sound (take (length net.instances) old) ≡ true
   pub ran : IsNetRun (described_hosts net) (lines_of (directory_of net) script)
-      (take (length net.instances) old) (take (length net.instances) new) before after lines
+      (opened_states (take (length net.instances) old)) (take (length net.instances) new)
+      before after lines
   pub written : Writes lines
 
 -- By how it ended: it was run, and all lines are written, or some of them where the sink failed; or
--- memory ran out, some first lines were run, and none is written.
+-- memory ran out, some first lines were run or none, and none is written.
 abbrev pub EndsRun : Status → Description → List ℕ → List KeeperState → List KeeperState
     → Carried → Carried → Option (List ℕ) → Option (List ℕ) → Type 0
 EndsRun Done net script old new before after written behind =
@@ -30,7 +32,7 @@ EndsRun Done net script old new before after written behind =
 EndsRun WriteFault net script old new before after written behind =
     HasRun net script old new before after (AppendsSome written behind)
 EndsRun OutOfMemory net script old new before after written behind =
-    IsCut (described_hosts net) (lines_of (directory_of net) script)
+    IsCutShort (described_hosts net) (lines_of (directory_of net) script)
     (take (length net.instances) old) (take (length net.instances) new)
     before.passed after.passed
 EndsRun status net script old new before after written behind = Unit {0}

@@ -53,7 +53,7 @@ IsTold (Err (DescFault.Bad path need)) Writes = Writes (fault_line path need)
 IsTold (Err DescFault.NoMemory) Writes = ⊥
 
 -- the source describes a network, and as far as the keepers of its instances tell, one of them
--- holds a row of the administration that is none
+-- holds a row that is none
 abbrev pub IsUnsound : Reading Description → List KeeperState → Type 0
 IsUnsound (Ok net) old = may_be_unsound (take (length net.instances) old) ≡ true
 IsUnsound (Err fault) old = ⊥

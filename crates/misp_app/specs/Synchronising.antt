@@ -1,7 +1,7 @@
 -- A synchronisation of an instance over one of its links, and the line that tells it.
 use Rattle.std.specs.Prelude.{◌≡◌, ◌⊎◌, ℕ, true, List, [], ◌∷◌, slice_get, Option, Some, None, IfSome}
 use Rattle.std.specs.Option.{option_map_or}
-use Rattle.misp_ids.specs.declared.label.Way.{Way}
+use Rattle.misp_ids.specs.declared.label.Direction.{Direction}
 use Rattle.misp_orgs.specs.Admin.{link_of}
 use Rattle.misp_orgs.specs.declared.link.Link.{Link}
 use Rattle.misp_outside.specs.Causes.{HasCause}
@@ -19,6 +19,7 @@ use Rattle.misp_sync.specs.Pulled.{bar_of, stop_in}
 use Rattle.misp_sync.specs.PushTrail.{IsPushTrailOver}
 use Rattle.misp_sync.specs.Trail.{GrowsBy, IsTrailOver}
 use Rattle.misp_sync.specs.declared.reply.SyncReply.{SyncReply}
+use Rattle.misp_net.specs.Opening.{opened_states}
 use Rattle.misp_net.specs.Prelude.{Description}
 use Rattle.misp_net.specs.Running.{state_of}
 use Rattle.misp_net.specs.SyncText.{synced_line}
@@ -58,9 +59,9 @@ abbrev pub dialled : Option (List Asked) → ℕ → Dialled
 dialled asks faults = record { asks = asks; faults = faults }
 
 -- the requests of a pull or of a push over a link, with their replies
-abbrev pub IsTrailOf : Way → Option Link → Standing → SyncReply → List (List ℕ) → Type 0
-IsTrailOf Way.Pull link here reply = IsTrailOver link None reply
-IsTrailOf Way.Push link here reply = IsPushTrailOver link here None reply
+abbrev pub IsTrailOf : Direction → Option Link → Standing → SyncReply → List (List ℕ) → Type 0
+IsTrailOf Direction.Pull link here reply = IsTrailOver link None reply
+IsTrailOf Direction.Push link here reply = IsPushTrailOver link here None reply
 
 -- An instance was synchronised over a link with a peer that is asked at an address, and this was
 -- told of it.
@@ -72,13 +73,13 @@ pub record SyncsOver (words : SyncData) (address : List ℕ) (start end : Standi
   -- What was asked and answered are the stated requests and their replies, from the first on, and
   -- all of them where it is done. All of them went to the address, whatever was asked before.
   pub trail : GrowsBy (trail_to address before.asks) (trail_to address after.asks)
-      (IsTrailOf words.way (link_of start.admin.links words.link) start reply)
+      (IsTrailOf words.direction (link_of start.admin.links words.link) start reply)
   -- what is held after a pull, and counted, is what these replies bring
-  pub came : words.way ≡ Way.Pull → GrowsBy (trail_to address before.asks)
+  pub came : words.direction ≡ Direction.Pull → GrowsBy (trail_to address before.asks)
       (trail_to address after.asks) (IsCameOver (link_of start.admin.links words.link)
       start.name start.held end.held reply)
   -- what is held where a push begins stays
-  pub own : words.way ≡ Way.Push → end.held ≡ start.held
+  pub own : words.direction ≡ Direction.Push → end.held ≡ start.held
   -- rule 26 only where the count of the keeper rose
   pub cause : HasCause start.faults end.faults (stop_in reply ≡ Some (stops.Keeper Here))
   -- rule 25 only where that of the dial did
@@ -87,13 +88,13 @@ pub record SyncsOver (words : SyncData) (address : List ℕ) (start end : Standi
   pub admin : end.admin ≡ start.admin
 
 -- An instance of this host was opened over the keeper, and synchronised. Then its keeper was put
--- back. It is opened only where every row of the administration that the keeper tells is a group.
+-- back. It is opened only where every row that the keeper tells decodes.
 pub record Synchronised (host : Host) (words : SyncData) (address : List ℕ)
     (old new : List KeeperState) (before after : Dialled) (reply : SyncReply) : Type 0 where
   pub start : Standing
   pub end : Standing
   pub host_is : host_of start ≡ host
-  pub opened : AreKept old (state_of start ∷ [])
+  pub opened : AreKept (opened_states old) (state_of start ∷ [])
   pub closed : new ≡ state_of end ∷ []
   pub sound : may_be_sound old ≡ true
   pub syncs : SyncsOver words address start end before after reply

@@ -6,8 +6,8 @@ ghost use Rattle.misp_ids.specs.Moments.{last_stamp};
 ghost use Rattle.misp_outside.specs.Causes.{Rose, StaysUnless};
 ghost use Rattle.misp_outside.specs.Wires.{Connection};
 ghost use Rattle.misp_script.specs.Source.{script_part};
-ghost use Rattle.misp_effects.specs.KeeperStates.{told};
 ghost use Rattle.misp_net.specs.Carrying.{carried};
+ghost use Rattle.misp_net.specs.Opening.{AreKeptOrOpened};
 ghost use Rattle.misp_words.specs.Words.{ServeData, SyncData, Net, Check, Serve, Sync, command_of};
 ghost use Rattle.misp_app.specs.Causes.{faults, HasCauses, IsFaultless, LeavesAlone};
 ghost use Rattle.misp_app.specs.Checking.{ok_line, EndsCheck};
@@ -112,12 +112,12 @@ pub fn run<S: Source, W: Sink, K: Keeper, C: Carry, D: Door, L: Dial, T: Clock>(
         (C.faults carry.new) (L.faults dial.new)) result }
 
     // What has no lines writes nothing. Where the instances do not open, each keeper holds what it
-    // held. What a command has no use for is as it was.
+    // held, or that in its newest form. What a command has no use for is as it was.
     ensures silent { WritesNothing (command_of words.now) result →
         W.written sink.new ≡ W.written sink.old }
     ensures unopened { IsUnopened result →
         (command_of words.now ≢ Some Check)
-        × (told (map K.state keepers.new.items) ≡ told (map K.state keepers.old.items)) }
+        × AreKeptOrOpened (map K.state keepers.old.items) (map K.state keepers.new.items) }
     ensures alone { LeavesAlone K.state (command_of words.now) (S.left source.old)
         keepers.old.items keepers.new.items carry.old carry.new door.old door.new
         dial.old dial.new clock.old clock.new result }
@@ -170,7 +170,7 @@ fn run_command<S: Source, W: Sink, K: Keeper, C: Carry, D: Door, L: Dial, T: Clo
         (λ left. IsUnsound (described left) (map K.state keepers.old.items)) }
     ensures unopened { IsUnopened result →
         (command_of words.now ≢ Some Check)
-        × (told (map K.state keepers.new.items) ≡ told (map K.state keepers.old.items)) }
+        × AreKeptOrOpened (map K.state keepers.old.items) (map K.state keepers.new.items) }
     ensures checked { command_of words.now ≡ Some Check →
         result ≡ Status.Done → Appends (W.written sink.old) (W.written sink.new) ok_line }
     ensures partly_checked { command_of words.now ≡ Some Check →
@@ -259,7 +259,7 @@ fn run_source<W: Sink, K: Keeper, C: Carry>(
     ensures bad_row { result ≡ Status.BadRow →
         IsUnsound (described bytes.now) (map K.state keepers.old.items) }
     ensures unopened { IsUnopened result →
-        told (map K.state keepers.new.items) ≡ told (map K.state keepers.old.items) }
+        AreKeptOrOpened (map K.state keepers.old.items) (map K.state keepers.new.items) }
     ensures told { TellsFault result → IsTold (described bytes.now)
         (Wrote result (W.written sink.old) (W.written sink.new)) }
     ensures places { vec_len keepers.new ≡ vec_len keepers.old }

@@ -3,7 +3,7 @@
 ghost use Rattle.std.specs.Prelude.{◌≡◌, ◌<◌, ℕ, List, Some, IsSome, option_map, IfOk, IfSome, length, map, take, drop, vec_len, true};
 ghost use Rattle.misp_outside.specs.Causes.{Rose};
 ghost use Rattle.misp_outside.specs.Wires.{Connection};
-ghost use Rattle.misp_effects.specs.KeeperStates.{OneFailed, told};
+ghost use Rattle.misp_effects.specs.KeeperStates.{AreKept, OneFailed};
 ghost use Rattle.misp_store.specs.Sharing.{may_be_unsound};
 ghost use Rattle.misp_net.specs.Hosts.{described_host};
 ghost use Rattle.misp_app.specs.Ends.{IsHostEnd, IsNetServed, IsSourceServed};
@@ -75,8 +75,8 @@ fn serve_entry<K: Keeper, D: Door, W: Sink, T: Clock>(
         (take 1 (map K.state keepers.old.items)) (take 1 (map K.state keepers.new.items)) }
     ensures bad_row { result ≡ Status.BadRow →
         may_be_unsound (take 1 (map K.state keepers.old.items)) ≡ true }
-    ensures unopened { IsUnopened result → told (take 1 (map K.state keepers.new.items))
-        ≡ told (take 1 (map K.state keepers.old.items)) }
+    ensures unopened { IsUnopened result → AreKept
+        (take 1 (map K.state keepers.old.items)) (take 1 (map K.state keepers.new.items)) }
     ensures others { drop 1 (map K.state keepers.new.items)
         ≡ drop 1 (map K.state keepers.old.items) }
     ensures places { vec_len keepers.new ≡ vec_len keepers.old }
@@ -125,7 +125,7 @@ fn serve_net<K: Keeper, D: Door, W: Sink, T: Clock>(
     ensures bad_row { result ≡ Status.BadRow → may_be_unsound
         (take (length net.instances) (map K.state keepers.old.items)) ≡ true }
     ensures unopened { IsUnopened result →
-        told (map K.state keepers.new.items) ≡ told (map K.state keepers.old.items) }
+        AreKept (map K.state keepers.old.items) (map K.state keepers.new.items) }
     ensures others { drop (length net.instances) (map K.state keepers.new.items)
         ≡ drop (length net.instances) (map K.state keepers.old.items) }
     ensures places { vec_len keepers.new ≡ vec_len keepers.old }
@@ -171,7 +171,7 @@ pub(crate) fn serve_source<K: Keeper, D: Door, W: Sink, T: Clock>(
     ensures bad_row { result ≡ Status.BadRow →
         IsUnsound (described bytes.now) (map K.state keepers.old.items) }
     ensures unopened { IsUnopened result →
-        told (map K.state keepers.new.items) ≡ told (map K.state keepers.old.items) }
+        AreKept (map K.state keepers.old.items) (map K.state keepers.new.items) }
     ensures others { OthersStay (described bytes.now)
         (map K.state keepers.old.items) (map K.state keepers.new.items) }
     ensures places { vec_len keepers.new ≡ vec_len keepers.old }

@@ -6,12 +6,14 @@ mod checking;
 mod entry;
 mod fault;
 mod hosting;
+mod laws;
 mod reading;
 mod serving;
 mod status;
 mod synchronising;
 
 pub use entry::run;
+pub use laws::instances_over_empty_keepers_open_with_nothing;
 pub use status::Status;
 
 /// The most bytes that a source may have.

@@ -2,7 +2,7 @@
 
 ghost use Rattle.std.specs.Prelude.{◌≡◌, ◌≤◌, ◌<◌, IfOk, IfSome, IsSome, option_map, length, map, take, drop, vec_len, true};
 ghost use Rattle.misp_outside.specs.Causes.{Rose};
-ghost use Rattle.misp_effects.specs.KeeperStates.{OneFailed, told};
+ghost use Rattle.misp_effects.specs.KeeperStates.{AreKept, OneFailed};
 ghost use Rattle.misp_script.specs.Directory.{directory_of};
 ghost use Rattle.misp_store.specs.Sharing.{may_be_unsound};
 ghost use Rattle.misp_net.specs.Hosts.{described_host};
@@ -16,7 +16,7 @@ ghost use Rattle.misp_words.specs.Words.{Sync, sync_data};
 use crate::Status;
 use crate::fault::{put, tell_fault};
 use misp_core::Instance;
-use misp_ids::{InstId, NoMemory, Text, Way};
+use misp_ids::{Direction, InstId, NoMemory, Text};
 use misp_net::{close_first, open_first, put_synced_line};
 use misp_outside::{Dial, Keeper, Sink};
 use misp_script::{DescFault, Description, Directory, Entry, read_description, split_source};
@@ -98,9 +98,9 @@ fn sync_over<K: Keeper, L: Dial>(
         (dialled (L.asks dial.old) (L.faults dial.old))
         (dialled (L.asks dial.new) (L.faults dial.new)) result }
 {
-    match words.way {
-        Way::Pull => pull_from(alloc, instance, &words.link, dial, address),
-        Way::Push => push_to(alloc, instance, &words.link, dial, address),
+    match words.direction {
+        Direction::Pull => pull_from(alloc, instance, &words.link, dial, address),
+        Direction::Push => push_to(alloc, instance, &words.link, dial, address),
     }
 }
 
@@ -155,8 +155,8 @@ fn sync_entry<K: Keeper, L: Dial, W: Sink>(
         (take 1 (map K.state keepers.old.items)) (take 1 (map K.state keepers.new.items)) }
     ensures bad_row { result ≡ Status.BadRow →
         may_be_unsound (take 1 (map K.state keepers.old.items)) ≡ true }
-    ensures unopened { IsUnopened result → told (take 1 (map K.state keepers.new.items))
-        ≡ told (take 1 (map K.state keepers.old.items)) }
+    ensures unopened { IsUnopened result → AreKept
+        (take 1 (map K.state keepers.old.items)) (take 1 (map K.state keepers.new.items)) }
     ensures unasked { IsUnopened result → dial.new ≡ dial.old }
     ensures later { L.faults dial.old ≤ L.faults dial.new }
     ensures others { drop 1 (map K.state keepers.new.items)
@@ -205,7 +205,7 @@ fn sync_net<K: Keeper, L: Dial, W: Sink>(
     ensures bad_row { result ≡ Status.BadRow → may_be_unsound
         (take (length net.instances) (map K.state keepers.old.items)) ≡ true }
     ensures unopened { IsUnopened result →
-        told (map K.state keepers.new.items) ≡ told (map K.state keepers.old.items) }
+        AreKept (map K.state keepers.old.items) (map K.state keepers.new.items) }
     ensures unasked { IsUnasked result → dial.new ≡ dial.old }
     ensures later { L.faults dial.old ≤ L.faults dial.new }
     ensures others { drop (length net.instances) (map K.state keepers.new.items)
@@ -258,7 +258,7 @@ pub(crate) fn sync_source<K: Keeper, L: Dial, W: Sink>(
     ensures bad_row { result ≡ Status.BadRow →
         IsUnsound (described bytes.now) (map K.state keepers.old.items) }
     ensures unopened { IsUnopened result →
-        told (map K.state keepers.new.items) ≡ told (map K.state keepers.old.items) }
+        AreKept (map K.state keepers.old.items) (map K.state keepers.new.items) }
     ensures unasked { IsUnasked result → dial.new ≡ dial.old }
     ensures later { L.faults dial.old ≤ L.faults dial.new }
     ensures others { OthersStay (described bytes.now)

@@ -1,7 +1,7 @@
 -- Texts that fit where there is room for them, and an attribute whose parts together are not too long.
 use Rattle.std.proofs.Common.{◌≡◌, ℕ, ◌+◌, ◌-◌, ◌≤◌, List, [], ◌∷◌, length, Bool, true, false, refl, sym, ◌∙◌, arith, min, ◌&&◌, nat_le, sum_by, ltb-false}
 use Rattle.std.proofs.lemmas.List.Sums.{sum_by-cons}
-use Rattle.misp_elem.specs.Prelude.{AreTags, AreTagsAfter, IsAttributeBody, IsBetween, IsTagName, IsText, IsValue, is_after, is_kept, is_text, is_utf8, text_limit, text_size}
+use Rattle.misp_elem.specs.Prelude.{AreTags, AreTagsAfter, IsAttributeBody, IsBetween, IsOptionalMoment, IsTagName, IsText, IsValue, earliest, is_after, is_kept, is_text, is_utf8, text_limit, text_size}
 use Rattle.misp_elem.specs.declared.content.AttributeBody.{AttributeBody}
 use Rattle.misp_elem.specs.Fields.{tags_size}
 use Rattle.misp_model.proofs.Prelude.{Content, Tag, and_from, and_parts, false≢true, is_too_long, nat_tests}
@@ -48,12 +48,14 @@ unfolding tags_size
 fit_tags old room ts a k = (a.0, fit_after old room [] ts a.1 k)
 
 -- the parts of an attribute, where together they are not too long
-pub attribute_fits : (b : AttributeBody) (m n old : ℕ) → IsText 1 100 b.kind → IsBetween 0 15 b.category → IsText 0 m b.comment → IsValue n b.kind b.value → AreTags old b.tags →
-    is_too_long (Content.Attribute b) ≡ false → IsAttributeBody b
+pub attribute_fits : (b : AttributeBody) (m n old most : ℕ) → IsText 1 100 b.kind → IsBetween 0 15 b.category → IsText 0 m b.comment → IsValue n b.kind b.value → AreTags old b.tags →
+    IsText 0 most b.object_relation → IsOptionalMoment 0 b.first_seen × IsOptionalMoment (earliest b.first_seen) b.last_seen → is_too_long (Content.Attribute b) ≡ false → IsAttributeBody b
 unfolding is_too_long text_size
-attribute_fits b m n old kind category comment value tags h =
-    let size : length b.kind + length b.comment + length b.value + tags_size b.tags ≤ 16384 = ltb-false 16384 (length b.kind + length b.comment + length b.value + tags_size b.tags) h in
+attribute_fits b m n old most kind category comment value tags relation seen h =
+    let size : length b.kind + length b.comment + length b.value + tags_size b.tags + length b.object_relation ≤ 16384 = ltb-false 16384 (length b.kind + length b.comment + length b.value + tags_size b.tags + length b.object_relation) h in
     let room : ℕ = text_limit - length b.kind in
     let short : IsText 0 room b.comment = fit_text 0 m room b.comment comment (omega arith) in
     let kept : IsValue (room - length b.comment) b.kind b.value = fit_value n (room - length b.comment) b.kind b.value value (omega arith) in
-    (kind, (category, (tt, (short, (tt, (kept, fit_tags old (room - length b.comment - length b.value) b.tags tags (omega arith)))))))
+    let tagged : AreTags (room - length b.comment - length b.value) b.tags = fit_tags old (room - length b.comment - length b.value) b.tags tags (omega arith) in
+    let part : IsText 0 (room - length b.comment - length b.value - tags_size b.tags) b.object_relation = fit_text 0 most (room - length b.comment - length b.value - tags_size b.tags) b.object_relation relation (omega arith) in
+    (kind, (category, (tt, (short, (tt, (kept, (tagged, (part, seen))))))))

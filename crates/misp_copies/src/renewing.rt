@@ -48,7 +48,8 @@ fn size(content: &Content) -> usize
         Content::Attribute(body) => len(&body.kind)
             .saturating_add(len(&body.comment))
             .saturating_add(len(&body.value))
-            .saturating_add(tags_size(body.tags.as_slice())),
+            .saturating_add(tags_size(body.tags.as_slice()))
+            .saturating_add(len(&body.object_relation)),
         Content::Reference(body) => len(&body.relationship_type).saturating_add(len(&body.comment)),
         Content::Proposal(body) => len(&body.kind)
             .saturating_add(len(&body.comment))

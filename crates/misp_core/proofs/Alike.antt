@@ -5,11 +5,12 @@ use Rattle.misp_effects.specs.Effect.{effect}
 use Rattle.misp_model.proofs.Prelude.{event_rows, length-map, map-map, ok_answer, uid}
 use Rattle.misp_model.specs.Answers.{concerning}
 use Rattle.misp_model.specs.Pulling.{pulled_groups}
+use Rattle.misp_model.specs.Scene.{Partner}
 use Rattle.misp_model.specs.Machine.{event_asked, event_changed, hands_in, pulls}
 use Rattle.misp_model.specs.Numbers.{scene_as, version_as, versions_as, reply_as}
 use Rattle.misp_model.proofs.OneEventChanges.{ask_of_event}
 use Rattle.misp_model.proofs.Numbers.{accepted_alike, accepted_as}
-use Rattle.misp_history.proofs.Prelude.{AddEvent, AreRows, Ask, EventId, Inst, OrgId, Row, Scene, Version, View, answer, ask_rules, brings, fresh_row, is_accepted, same_event}
+use Rattle.misp_history.proofs.Prelude.{AddEvent, AreRows, Ask, EventId, OrgId, Row, Scene, Version, View, answer, ask_rules, brings, fresh_row, is_accepted, same_event}
 use Rattle.misp_history.proofs.NumberedWrites.{answer_alike, answer_as, fresh_alike, fresh_as}
 use Rattle.misp_edit.proofs.RuleLemmas.{refusal_alike, refusal_as}
 use Rattle.misp_edit.proofs.OwnCopy.{named_rows, IsAlike, add_named}
@@ -122,7 +123,7 @@ asked_as n s admin ask = plain_as n s admin ask refl
 
 -- ---- the partner of the caller's key
 
-module _ (n : ℕ) (partner : Option Inst) (s : Scene) (admin : Admin) (ask : Ask) (plain : pulls ask ≡ false) where
+module _ (n : ℕ) (partner : Option Partner) (s : Scene) (admin : Admin) (ask : Ask) (plain : pulls ask ≡ false) where
   abbrev partnered : Scene
   partnered = record s { act = n; partner = partner }
 
@@ -139,7 +140,7 @@ module _ (n : ℕ) (partner : Option Inst) (s : Scene) (admin : Admin) (ask : As
       (row_batches (cond (accepted_alike n partner s ask plain i) ((fresh_brought partnered ask alone ∙ fresh_alike n partner s ask ∙ sym (fresh_brought s ask alone)) i) []))
 
 -- what is asked comes to the same with another partner
-pub partner_asked : (partner : Option Inst) (s : Scene) (admin : Admin) (ask : Ask) → pulls ask ≡ false → asked admin (record s { partner = partner }) ask ≡ asked admin s ask
+pub partner_asked : (partner : Option Partner) (s : Scene) (admin : Admin) (ask : Ask) → pulls ask ≡ false → asked admin (record s { partner = partner }) ask ≡ asked admin s ask
 unfolding hands_in
 partner_asked partner s admin (Ask.TakePart p) plain = handed_alike admin (record s { partner = partner }) s p refl refl refl refl
 partner_asked partner s admin ask plain = plain_by s.act partner s admin ask plain refl

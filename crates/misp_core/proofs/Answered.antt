@@ -8,6 +8,7 @@ use Rattle.misp_core.specs.Prelude.{Ask, Asked, Effect, Group, Held, Host, IsPla
 use Rattle.misp_core.specs.Prelude.{Scene, seen_in}
 use Rattle.misp_core.specs.Answers.{bad_row, bare_scene}
 use Rattle.misp_core.specs.Effects.{asked, by_keeper}
+use Rattle.misp_core.specs.Partners.{partner_of}
 use Rattle.misp_core.specs.Planning.{IsBarred, stop_planned}
 use Rattle.misp_core.specs.Handing.{IsUnread, TellsFault}
 use Rattle.misp_core.specs.declared.planning.NoPlan.{NoPlan}
@@ -46,7 +47,7 @@ module _ (host : Host) (now : ℕ) (it : Asked) where
       → Plans planned (asked host.admin (seeing (scene_at host now it.0 groups) rows) it.1)
   with_partner groups rows planned true is plans = plans
   with_partner groups rows planned false is plans =
-      subst (λ (e : Effect Reply). Plans planned e) (sym (partner_asked it.0.partner (seeing (bare_scene host now it.0 groups) rows) host.admin it.1 is)) plans
+      subst (λ (e : Effect Reply). Plans planned e) (sym (partner_asked (partner_of it.0) (seeing (bare_scene host now it.0 groups) rows) host.admin it.1 is)) plans
 
   -- what is permitted is planned over the rows that it reads, with the groups that are held
   pub planned_over : (groups : List Group) (rows : List Row) (planned : Result Plan NoPlan) (held : Held) → is_permitted it.0 it.1 ≡ true → HoldsGroups (Some held) groups

@@ -3,7 +3,7 @@ use Rattle.std.proofs.Common.{◌≡◌, false, true, List, [], ◌∷◌, refl,
 use Rattle.misp_effects.specs.Prelude.{AdminRow, put_admins, put_groups, with_batch}
 use Rattle.misp_effects.specs.Effect.{effect}
 use Rattle.misp_store.specs.Prelude.{AllByRecursion, AreRows, Batch, Effect, Group, Held, Here, IsGroup, KeeperFault, Stop, groups_in, spelled}
-use Rattle.misp_store.specs.Sharing.{HoldsGroups, group_row, is_sound, AreStorable}
+use Rattle.misp_store.specs.Sharing.{HoldsGroups, group_row, has_groups_alone, AreStorable}
 use Rattle.misp_store.proofs.GroupRows.{group_put}
 use Rattle.misp_core.specs.Prelude.{Answer, AreReadable, Did, IsPlanned, Plan, Plans, Reply, left, put_batches, refused_by}
 use Rattle.misp_core.specs.Effects.{by_keeper, rule_of_stop}
@@ -106,6 +106,6 @@ still_beside (Err stop) put old new groups kept are is same none none_ holds =
     subst (λ (h : Option Held). HoldsGroups h kept) (sym none) (subst (HoldsGroups old) (sym none_) holds)
 
 -- where the groups are known that are held, every row of the administration is one
-pub sound_held : (held : Option Held) (known : List Group) → HoldsGroups held known → IfSome held (λ h. is_sound h ≡ true)
+pub sound_held : (held : Option Held) (known : List Group) → HoldsGroups held known → IfSome held (λ h. has_groups_alone h ≡ true)
 sound_held None known holds = tt
 sound_held (Some held) known holds = rw holds refl

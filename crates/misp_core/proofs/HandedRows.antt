@@ -3,6 +3,7 @@ use Rattle.std.proofs.Common.{◌≡◌, ℕ, List, [], ◌∷◌, Bool, true, f
 use Rattle.std.specs.List.Sorted.{IsStrictlySortedBy}
 use Rattle.misp_lists.proofs.Prelude.{bytes_eq-Decides, is_eq-slice_cmp}
 use Rattle.misp_elem.specs.Spelling.{key}
+use Rattle.misp_levels.specs.Levels.{lowering}
 use Rattle.misp_model.specs.Answers.{newer, taken_rows}
 use Rattle.misp_model.specs.Package.{IsPackage, is_packed}
 use Rattle.misp_model.specs.declared.package.PackageFields.{PackageFields as Package}
@@ -23,7 +24,7 @@ module _ (n : ℕ) (i : Inst) (w : OrgId) (rows : List Row) (groups : List Group
   comes = handed_in n i w
 
   welcome_is : (row : Row) → is_welcome rows groups (comes row) ≡ is_welcome_row i rows groups (handed w row)
-  unfolding is_welcome is_welcome_row handed handed_in label_now
+  unfolding is_welcome is_welcome_row handed handed_in label_now lowering
   welcome_is row =
       ap (λ label. not (has_gone rows w (event_of row.key)) && (not (has_home rows w (event_of row.key)) || is_statement row.key) && not (is_made_at i row.key) && label_is_known groups label)
       (down_none row.label)

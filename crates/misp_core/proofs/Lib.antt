@@ -17,5 +17,6 @@ pub mod TakenRows
 pub mod Listed
 pub mod TakenGroups
 pub mod HandedGroups
+pub mod SharedGroups
 pub mod Arriving
 pub mod Sending

@@ -8,8 +8,9 @@ use Rattle.misp_model.specs.Machine.{event_number, event_rows, seeing}
 use Rattle.misp_model.specs.Package.{nobody}
 use Rattle.misp_model.specs.Packing.{packages}
 use Rattle.misp_model.specs.Pulling.{arriving_by, pull_route, pulled_events, pulled_part, pulled_rows}
+use Rattle.misp_model.specs.Scene.{Partner}
 use Rattle.misp_model.specs.declared.package.PackageFields.{PackageFields as Package}
-use Rattle.misp_model.proofs.Prelude.{EventId, Inst, IsDistinct, IsTable, Row, Scene, event_of, list_all, same_event, same_org}
+use Rattle.misp_model.proofs.Prelude.{EventId, IsDistinct, IsTable, Row, Scene, event_of, list_all, same_event, same_org}
 use Rattle.misp_history.specs.Merging.{arriving_rows, passing_rows}
 use Rattle.misp_history.proofs.Moving.{arriving_here}
 use Rattle.misp_package.specs.Packing.{AreNumbered, AreNumberedFrom}
@@ -23,11 +24,11 @@ use Rattle.misp_core.proofs.PulledEvents.{events_counted}
 -- ---- what arrives at the partner
 
 module _ (s : Scene) where
-  abbrev scene_of : Option Inst → Scene
+  abbrev scene_of : Option Partner → Scene
   scene_of partner = record s { partner = partner }
 
   -- what a pull by a partner brings of rows
-  pub pulled_by : (partner : Inst) → s.partner ≡ Some partner → (rows : List Row) → pulled_rows (seeing s rows) ≡ arriving_rows rows s.groups (pull_route s partner)
+  pub pulled_by : (partner : Partner) → s.partner ≡ Some partner → (rows : List Row) → pulled_rows (seeing s rows) ≡ arriving_rows rows s.groups (pull_route s partner)
   unfolding pulled_rows arriving_rows passing_rows
   pulled_by partner e rows = λ i. elim (e i) as (λ x. List Row) [ None ↦ [] | Some p ↦ arriving_by (seeing s rows) (pull_route s p) ]
 
@@ -36,7 +37,7 @@ module _ (s : Scene) where
   unfolding pulled_rows
   pulled_none e rows = λ i. elim (e i) as (λ x. List Row) [ None ↦ [] | Some p ↦ arriving_by (seeing s rows) (pull_route s p) ]
 
-  by_partner : {P : Type 0} → (o : Option Inst) → s.partner ≡ o → (s.partner ≡ None → P) → ((p : Inst) → s.partner ≡ Some p → P) → P
+  by_partner : {P : Type 0} → (o : Option Partner) → s.partner ≡ o → (s.partner ≡ None → P) → ((p : Partner) → s.partner ≡ Some p → P) → P
   by_partner None e f g = f e
   by_partner (Some p) e f g = g p e
 

@@ -12,31 +12,10 @@ use Rattle.misp_model.proofs.Prelude.{AreRows, EventId, IsRow, Row, and_parts, b
 use Rattle.misp_model.specs.Machine.{event_number}
 use Rattle.misp_store.specs.Raw.{onto, raw_row, row_in, row_read, rows_in, stands_under}
 use Rattle.misp_store.proofs.HeldRows.{rows_again, rows_filtered}
+use Rattle.misp_store.proofs.OwnNames.{event_under, name_under}
 use Rattle.misp_store.proofs.TableRows.{onto_parts}
 
 -- ---- rows that are read
-
-read_under : (raw : RawRow) (read : Result Row ℕ) (s : Row) → row_read raw read ≡ Some s → stands_under raw s ≡ true
-read_under raw (Err left) s e = absurd cc
-read_under raw (Ok x) s e = one (stands_under raw x) refl e
-  where
-    one : (b : Bool) → stands_under raw x ≡ b → cond b (Some x) None ≡ Some s → stands_under raw s ≡ true
-    one true k f = let same : x ≡ s = cc in subst (λ r. stands_under raw r ≡ true) same k
-    one false k f = absurd cc
-
--- it is held under its own event and name
-under_own : (raw : RawRow) (s : Row) → row_in raw ≡ Some s → stands_under raw s ≡ true
-unfolding row_in
-under_own raw s e = read_under raw (row_of raw.bytes) s e
-
-module _ (raw : RawRow) (s : Row) (read : row_in raw ≡ Some s) where
-  event_under : event_of s.key ≡ raw.event
-  unfolding stands_under
-  event_under = same_event-sound (event_of s.key) raw.event (and_parts _ _ (under_own raw s read)).0
-
-  name_under : raw.name ≡ name_bytes s
-  unfolding stands_under
-  name_under = (bytes_eq-Decides raw.name (name_bytes s)).0 (and_parts _ _ (under_own raw s read)).1
 
 row_there : (r : Row) → IsRow r → row_in (raw_row r) ≡ Some r
 unfolding rows_in

@@ -16,6 +16,7 @@ use Rattle.misp_view.specs.Naming.{group_names}
 use Rattle.misp_edit.specs.Refusals.{refusal_of}
 use Rattle.misp_store.specs.Prelude.{Admin, Refusal, RuleName, reach_of}
 use Rattle.misp_store.specs.declared.reach.Reach.{Reach}
+use Rattle.misp_core.specs.Partners.{partner_of}
 use Rattle.misp_core.specs.Standing.{Host}
 use Rattle.misp_core.specs.declared.reply.Answer.{Answer}
 use Rattle.misp_core.specs.declared.reply.EventParts.{EventParts}
@@ -54,7 +55,7 @@ bare_scene host now caller groups =
 -- the same with the partner of the caller's key
 abbrev pub scene_at : Host → ℕ → Caller → List Group → Scene
 scene_at host now caller groups =
-    record (bare_scene host now caller groups) { partner = caller.partner }
+    record (bare_scene host now caller groups) { partner = partner_of caller }
 
 -- ---- refusals
 

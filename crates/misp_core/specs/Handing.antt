@@ -7,6 +7,7 @@ use Rattle.misp_core.specs.Prelude.{Effect, Host, Plans, Reply, Row, Scene, refu
 use Rattle.misp_core.specs.declared.planning.NoPlan.{NoPlan}
 use Rattle.misp_core.specs.declared.site.Site.{Site}
 use Rattle.misp_core.specs.Answers.{bad_row, bare_scene}
+use Rattle.misp_core.specs.Partners.{partner_of}
 
 -- the scene over these rows, which its caller knows
 abbrev pub knowing : Scene → List Row → Scene
@@ -22,7 +23,7 @@ scene_in s = bare_scene (host_at s) s.moment s.caller.now s.groups.now
 
 -- the same with the partner of the caller's key, at which what a pull asks looks
 abbrev pub pull_scene : Site → Scene
-pull_scene s = record (scene_in s) { partner = s.caller.now.partner }
+pull_scene s = record (scene_in s) { partner = partner_of s.caller.now }
 
 -- the scene for an ask
 abbrev pub scene_for : Site → Ask → Scene

@@ -7,6 +7,7 @@ use Rattle.misp_history.specs.History.{tables}
 use Rattle.misp_store.specs.Prelude.{Admin, AllByRecursion, AreRows, Group, Held, IsGroup, groups_in}
 use Rattle.misp_store.specs.Raw.{raw_row}
 use Rattle.misp_core.specs.Answers.{Asked, name_in}
+use Rattle.misp_core.specs.Partners.{partner_of}
 use Rattle.misp_core.specs.Standing.{Host}
 use Rattle.misp_history.specs.Acts as model
 
@@ -14,7 +15,7 @@ use Rattle.misp_history.specs.Acts as model
 -- the partner of the key
 abbrev pub caller_at : Admin → Caller → model.Caller
 caller_at admin caller =
-    record { org = caller.org; name = name_in admin caller.org; partner = caller.partner }
+    record { org = caller.org; name = name_in admin caller.org; partner = partner_of caller }
 
 -- a request there, as an act
 abbrev pub act_at : Host → ℕ → Asked → model.Act

@@ -8,11 +8,13 @@ pub mod HandedGroups
 pub mod Handing
 pub mod Keeping
 pub mod KeptLanding
+pub mod Partners
 pub mod Planning
 pub mod Prelude
 pub mod Pulling
 pub mod Saving
 pub mod Sending
+pub mod Sharing
 pub mod Sound
 pub mod Standing
 pub mod Taking

@@ -4,7 +4,7 @@ use Rattle.misp_ids.specs.declared.label.Way.{Way}
 use Rattle.misp_lists.specs.Order.{in_order}
 use Rattle.misp_model.specs.Machine.{event_rows}
 use Rattle.misp_model.specs.Packing.{is_own, packages}
-use Rattle.misp_model.specs.Passing.{Route, route_to}
+use Rattle.misp_model.specs.Passing.{route_to}
 use Rattle.misp_model.specs.Prelude.{event_of, stands_before}
 use Rattle.misp_model.specs.declared.package.PackageFields.{PackageFields as Package}
 use Rattle.misp_history.specs.Merging.{arriving_rows}
@@ -34,20 +34,19 @@ all_numbered events = flat_map (λ e. numbered e.0 e.1) events
 
 -- ---- a push
 
--- the route of a push from here, for an organisation to an instance
-abbrev pub push_route : Inst → OrgId → Inst → Route
-push_route here org dest = route_to Way.Push here org dest
-
--- of these rows those that the organisation knows and that pass, as they arrive
-abbrev pub rows_pushed : Inst → List Group → OrgId → Inst → List Row → List Row
-rows_pushed here groups org dest rows = arriving_rows rows groups (push_route here org dest)
+-- of these rows those that the organisation knows and that pass on the way from here to the
+-- instance, as they arrive
+abbrev pub rows_pushed : Way → Inst → List Group → OrgId → Inst → List Row → List Row
+rows_pushed way here groups org dest rows =
+    arriving_rows rows groups (route_to way here org dest)
 
 -- the events of which something arrives, in their order, each with its packages
-abbrev pub events_pushed : Inst → List Group → OrgId → Inst → List Row
+abbrev pub events_pushed : Way → Inst → List Group → OrgId → Inst → List Row
     → List (EventId × List (List Row))
-events_pushed here groups org dest rows = events_packed (rows_pushed here groups org dest rows)
+events_pushed way here groups org dest rows =
+    events_packed (rows_pushed way here groups org dest rows)
 
 -- all packages that are sent, in the order of events and numbers
-abbrev pub packages_pushed : Inst → List Group → OrgId → Inst → List Row → List Package
-packages_pushed here groups org dest rows =
-    all_numbered (events_pushed here groups org dest rows)
+abbrev pub packages_pushed : Way → Inst → List Group → OrgId → Inst → List Row → List Package
+packages_pushed way here groups org dest rows =
+    all_numbered (events_pushed way here groups org dest rows)

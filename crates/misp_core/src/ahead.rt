@@ -4,8 +4,8 @@ ghost use Rattle.std.specs.Prelude.{◌≡◌, None, Some, true, get_or, map, se
 ghost use Rattle.misp_core.specs.Ahead.{IsKeptFor, IsLeftOf, kept_part};
 
 use misp_ids::{EventId, InstId, NoMemory};
-use misp_orgs::Caller;
 use misp_model::{Ask, Package};
+use misp_orgs::Caller;
 use std::alloc::Global;
 use std::mem;
 
@@ -72,11 +72,14 @@ fn is_partner(a: Option<InstId>, b: Option<InstId>) -> bool
     }
 }
 
-// Both ask alike: for one organisation, in one role and through one instance.
+// Both ask alike: for one organisation, in one role, and through one instance on one way.
 fn is_caller(a: &Caller, b: &Caller) -> bool
     ensures { result ≡ true → a.now ≡ b.now }
 {
-    a.org == b.org && a.role == b.role && is_partner(a.partner, b.partner)
+    a.org == b.org
+        && a.role == b.role
+        && is_partner(a.partner, b.partner)
+        && a.internal == b.internal
 }
 
 // They are kept for this caller, and are of this event.

@@ -12,8 +12,8 @@ ghost use Rattle.misp_core.specs.declared.reply.Reply.{Reply as Answered};
 use crate::planning::NoPlan;
 use misp_elem::NoMemory;
 use misp_ids::{Refusal, RuleName, Text};
-use misp_orgs::Perm;
 use misp_model::no_permission;
+use misp_orgs::Perm;
 use misp_store::LoadFault;
 use std::alloc::Global;
 

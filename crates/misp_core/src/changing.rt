@@ -31,8 +31,8 @@ use misp_edit::{
 };
 use misp_elem::{NoMemory, Row, Submission};
 use misp_ids::EventId;
-use misp_publish::publish;
 use misp_model::{Change, Parts};
+use misp_publish::publish;
 use std::alloc::Global;
 
 // What is planned for a change of this event whose rows are made, or which a fault refuses.

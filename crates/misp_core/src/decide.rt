@@ -26,9 +26,9 @@ use crate::stating::{plan_judgement, plan_proposal, plan_sighting};
 use misp_elem::{NoMemory, Row, VisibleEvent};
 use misp_groups::Groups;
 use misp_ids::{EventId, Items, OrgId, Refusal, RuleName};
+use misp_model::{Ask, Change};
 use misp_orgs::Admin;
 use misp_package::Landing;
-use misp_model::{Ask, Change};
 use misp_view::{concerning, group_names, shown};
 use std::alloc::Global;
 

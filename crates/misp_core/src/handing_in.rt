@@ -25,9 +25,9 @@ use crate::site::{Site, asker};
 use crate::taking_groups::{groups_alone, taken_of};
 use misp_elem::{NoMemory, Row};
 use misp_groups::{Group, Groups};
+use misp_model::{Ask, Package};
 use misp_orgs::{Caller, Perm, may};
 use misp_package::Landing;
-use misp_model::{Ask, Package};
 use std::alloc::Global;
 
 // The rows of the package that its caller takes, where this is what it has of the event.

@@ -4,7 +4,8 @@ ghost use Rattle.std.specs.Prelude.{◌≡◌, ◌≤◌, false, true, Err, filt
 ghost use Rattle.std.specs.List.{AllByRecursion};
 ghost use Rattle.misp_outside.specs.Causes.{HasCause, StaysUnless};
 ghost use Rattle.misp_outside.specs.Held.{with_batch};
-ghost use Rattle.misp_store.specs.Sharing.{groups_in, groups_of, is_sound, AreStorable};
+ghost use Rattle.misp_store.specs.Sharing.{groups_of, has_groups_alone, AreStorable};
+ghost use Rattle.misp_store.specs.Renewing.{opened, renewed};
 ghost use Rattle.misp_store.specs.Batches.{spelled};
 ghost use Rattle.misp_store.specs.Seen.{seen_in};
 ghost use Rattle.misp_core.specs.Answers.{IsBuilt};
@@ -38,20 +39,21 @@ use crate::ahead::Ahead;
 use crate::answering::forbidden;
 use crate::handing_in::plan_groups;
 use crate::kept_landing::settle_beside;
+use crate::opening::load_whole;
 use crate::planning::{Batch, NoPlan, Plan};
 use crate::pulling::carrying;
-use crate::pushing::{load_outgoing, way_from};
+use crate::pushing::{load_outgoing, via_from};
 use crate::reading::plan_permitted;
 use crate::site::Site;
 use crate::taking::{Landed, load_landing, take_package};
 use crate::taking_groups::take_groups;
 use misp_groups::{Group, Groups};
-use misp_ids::{ApiKey, EventId, InstId, NoMemory, OrgId, Stamp};
+use misp_ids::{ApiKey, EventId, InstId, NoMemory, OrgId, Stamp, Way};
+use misp_model::{Ask, Package, permission_for};
 use misp_orgs::{Admin, Caller, Link, may};
 use misp_outside::{Keeper, KeeperFault};
 use misp_package::Landing;
-use misp_model::{Ask, Package, permission_for};
-use misp_store::{LoadFault, load_groups};
+use misp_store::LoadFault;
 use std::alloc::Global;
 use std::marker::Model;
 
@@ -88,8 +90,9 @@ impl<K: Keeper> Model for Instance<K> {
 }
 
 impl<K: Keeper> Instance<K> {
-    /// An instance of this name and administration over a keeper, of which it reads the groups. A
-    /// keeper over which none is opened comes back.
+    /// An instance of this name and administration over a keeper, of which it reads the groups and
+    /// every row, and puts the rows of the first form anew in the second. A keeper over which none is
+    /// opened comes back as it was.
     pub fn open(
         alloc: Global,
         name: InstId,
@@ -97,20 +100,25 @@ impl<K: Keeper> Instance<K> {
         keeper: K,
     ) -> Result<Instance<K>, (LoadFault, K)>
         ensures ok { IfOk result (λ instance.
-            instance ≡ standing name admin (K.state keeper).held instance.faults) }
-        ensures groups { OnOk result
-            (IfSome (K.state keeper).held (λ held. IsOk (groups_in held.admin))) }
+            instance ≡ standing name admin (option_map renewed (K.state keeper).held)
+            instance.faults) }
+
+        // All that is held decodes.
+        ensures read { OnOk result
+            (IfSome (K.state keeper).held (λ held. IsOk (opened held))) }
         ensures count { IfOk result (λ instance. (K.state keeper).faults ≤ instance.faults) }
         ensures back { IfErr result (λ e. (K.state e.1).held ≡ (K.state keeper).held) }
+
+        // It names the first row that does not decode.
         ensures bad { IfErr result (λ e.
-            IfSome (K.state keeper).held (λ held. NamesFault (groups_in held.admin) e.0)) }
+            IfSome (K.state keeper).held (λ held. NamesFault (opened held) e.0)) }
         ensures cause { IfErr result (λ e.
             HasCause (K.state keeper).faults (K.state e.1).faults (e.0 ≡ faults.KeeperFault)) }
         ensures stays { IfErr result (λ e. StaysUnless (K.state keeper).faults
             (K.state e.1).faults (e.0 ≡ faults.KeeperFault)) }
     {
         let mut keeper = keeper;
-        match load_groups(&mut keeper, alloc) {
+        match load_whole(&mut keeper, alloc) {
             Ok(groups) => Ok(Instance {
                 name,
                 admin,
@@ -147,7 +155,7 @@ impl<K: Keeper> Instance<K> {
 
     /// Shows what holds of every instance: the rows of its administration are groups.
     pub fn holds_groups_alone(&self)
-        ensures { IfSome self.now.held (λ held. is_sound held ≡ true) }
+        ensures { IfSome self.now.held (λ held. has_groups_alone held ≡ true) }
     {
         let _groups = &self.groups;
     }
@@ -377,18 +385,19 @@ impl<K: Keeper> Instance<K> {
         carrying(alloc, &self.groups, org, dest)
     }
 
-    /// The packages of all that passes by a push to an instance for an organisation, event after
+    /// The packages of all that passes on this way to an instance for an organisation, event after
     /// event. All rows are read once.
     pub fn pushed_packages(
         &mut self,
         alloc: Global,
+        way: Way,
         org: &OrgId,
         dest: &InstId,
     ) -> Result<Vec<Package>, LoadFault>
         // They are those of all rows that are held, and all of these decode.
         ensures packed { IfOk result (λ all. IfSome self.old.held (λ held.
             (rows : List RowFields) → (seen_in held).rows reach.All ≡ Ok rows → all.items
-            ≡ packages_pushed self.old.name (groups_of held) org.now dest.now rows)) }
+            ≡ packages_pushed way self.old.name (groups_of held) org.now dest.now rows)) }
         ensures read { OnOk result
             (IfSome self.old.held (λ held. IsOk ((seen_in held).rows reach.All))) }
         ensures each { IfOk result (λ all. AllByRecursion IsPackage all.items) }
@@ -404,7 +413,7 @@ impl<K: Keeper> Instance<K> {
         ensures name { self.new.name ≡ self.old.name }
         ensures admin { self.new.admin ≡ self.old.admin }
     {
-        let via = way_from(&self.name, &self.groups, org, dest);
+        let via = via_from(way, &self.name, &self.groups, org, dest);
         load_outgoing(&mut self.keeper, alloc, &via)
     }
 }

@@ -19,10 +19,10 @@ use crate::settling::settle;
 use misp_elem::Row;
 use misp_groups::Groups;
 use misp_ids::{EventId, InstId, NoMemory, OrgId};
+use misp_model::Package;
 use misp_orgs::Caller;
 use misp_outside::{Keeper, KeeperFault};
 use misp_package::Landing;
-use misp_model::Package;
 use std::alloc::Global;
 
 // Shows what holds of all that is read: they are rows.

@@ -18,6 +18,7 @@ ghost use Rattle.misp_core.specs.Ahead.{StaysOrIsPacked, kept_part};
 ghost use Rattle.misp_core.specs.Answers.{event_parts};
 ghost use Rattle.misp_core.specs.Effects.{asked, by_keeper};
 ghost use Rattle.misp_core.specs.Handing.{knowing, pull_scene};
+ghost use Rattle.misp_core.specs.Partners.{partner_at};
 ghost use Rattle.misp_core.specs.Planning.{Plans, stop_planned};
 ghost use Rattle.misp_core.specs.Pulling.{IsByEvent, IsCountOf, Rises, carries_to, parts_where};
 ghost use Rattle.misp_core.specs.Sound.{AreListed, IsSoundAnswer};
@@ -27,12 +28,12 @@ use crate::ahead::Ahead;
 use crate::by_event::{by_event, event_at, events_of, of_event, part};
 use crate::planning::{NoPlan, Plan, told};
 use crate::reply::{Answer, EventParts};
-use crate::site::{Site, asker, partner};
+use crate::site::{Site, asker, partner, pull_way};
 use misp_elem::{NoMemory, Row};
 use misp_groups::{Group, Groups, carries};
-use misp_ids::{EventId, InstId, Items, OrgId, Refusal, RuleName, Way};
-use misp_package::{Via, count_outgoing, outgoing};
+use misp_ids::{EventId, InstId, Items, OrgId, Refusal, RuleName};
 use misp_model::Package;
+use misp_package::{Via, count_outgoing, outgoing};
 use std::alloc::Global;
 
 // The same group once more.
@@ -86,13 +87,14 @@ pub(crate) fn plan_pulled_groups(alloc: Global, site: &Site<'_>) -> Result<Plan,
     Ok(told(Answer::Groups(Items::of(groups))))
 }
 
-// The way of a pull to this instance.
-fn way_to<'a>(site: &Site<'a>, dest: InstId) -> Via<'a>
+// A pull to this instance.
+fn via_to<'a>(site: &Site<'a>, dest: InstId) -> Via<'a>
     ensures groups { result.groups.now ≡ site.now.groups.now }
-    ensures route { route_of result ≡ pull_route (pull_scene site.now) dest }
+    ensures route { route_of result ≡ pull_route (pull_scene site.now)
+        (partner_at site.now.caller.now.internal dest) }
 {
     Via {
-        way: Way::Pull,
+        way: pull_way(site.caller),
         groups: site.groups,
         here: *site.here,
         org: asker(site.caller),
@@ -114,7 +116,7 @@ fn pulled_packages(
     ensures numbered { IfOk result (λ ps. AreNumbered event.now ps.items) }
 {
     match partner(site.caller) {
-        Some(dest) => outgoing(alloc, rows, event, &way_to(site, dest)),
+        Some(dest) => outgoing(alloc, rows, event, &via_to(site, dest)),
         None => Ok(Vec::new(alloc)),
     }
 }
@@ -189,7 +191,7 @@ fn count_pulled(
         ≡ length (packages (pulled_rows (seeing (pull_scene site.now) rows.now)))) }
 {
     match partner(site.caller) {
-        Some(dest) => count_outgoing(alloc, rows, event, &way_to(site, dest)),
+        Some(dest) => count_outgoing(alloc, rows, event, &via_to(site, dest)),
         None => Ok(0),
     }
 }

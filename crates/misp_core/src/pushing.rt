@@ -8,6 +8,7 @@ ghost use Rattle.misp_ids.specs.Same.{same_event};
 ghost use Rattle.misp_outside.specs.Causes.{HasCause, StaysUnless};
 ghost use Rattle.misp_model.specs.Package.{IsPackage};
 ghost use Rattle.misp_model.specs.Packing.{packages};
+ghost use Rattle.misp_model.specs.Passing.{route_to};
 ghost use Rattle.misp_model.specs.View.{IsTable};
 ghost use Rattle.misp_history.specs.Merging.{arriving_rows};
 ghost use Rattle.misp_package.specs.Passing.{route_of};
@@ -16,25 +17,31 @@ ghost use Rattle.misp_store.specs.Seen.{seen_in};
 ghost use Rattle.misp_store.specs.declared.fault.LoadFault.TheVariants as faults;
 ghost use Rattle.misp_store.specs.declared.reach.Reach.TheVariants as reach;
 ghost use Rattle.misp_core.specs.Pulling.{IsByEvent};
-ghost use Rattle.misp_core.specs.Sending.{all_numbered, events_packed, numbered, push_route};
+ghost use Rattle.misp_core.specs.Sending.{all_numbered, events_packed, numbered};
 
 use crate::by_event::{by_event, event_at, events_of, part};
 use misp_elem::{NoMemory, Row};
 use misp_groups::Groups;
 use misp_ids::{EventId, InstId, OrgId, Way};
+use misp_model::Package;
 use misp_outside::Keeper;
 use misp_package::{Via, outgoing};
-use misp_model::Package;
 use misp_store::{LoadFault, Reach, load};
 use std::alloc::Global;
 
-/// The way of a push from here, where these groups are known.
-pub(crate) fn way_from<'a>(here: &InstId, groups: &'a Groups, org: &OrgId, dest: &InstId) -> Via<'a>
+/// A synchronisation on this way from here, where these groups are known.
+pub(crate) fn via_from<'a>(
+    way: Way,
+    here: &InstId,
+    groups: &'a Groups,
+    org: &OrgId,
+    dest: &InstId,
+) -> Via<'a>
     ensures groups { result.groups.now ≡ groups.now }
-    ensures route { route_of result ≡ push_route here.now org.now dest.now }
+    ensures route { route_of result ≡ route_to way here.now org.now dest.now }
 {
     Via {
-        way: Way::Push,
+        way,
         groups,
         here: *here,
         org: *org,

@@ -19,9 +19,9 @@ use crate::handing_in::{is_landed, plan_kept};
 use crate::planning::{NoPlan, Plan};
 use crate::pulling::show_part;
 use crate::site::{Site, asker};
+use misp_model::Ask;
 use misp_outside::Keeper;
 use misp_package::Landing;
-use misp_model::Ask;
 use misp_store::{Reach, load};
 use std::alloc::Global;
 

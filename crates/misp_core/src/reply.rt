@@ -8,8 +8,8 @@ use crate::planning::NoPlan;
 use misp_elem::VisibleEvent;
 use misp_groups::Group;
 use misp_ids::{EventId, Items, Refusal, RuleName, Stamp};
-use misp_outside::KeeperFault;
 use misp_model::Package;
+use misp_outside::KeeperFault;
 use std::alloc::Global;
 
 /// An event of which a pull brings something, with the number of its packages.

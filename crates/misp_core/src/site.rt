@@ -2,11 +2,12 @@
 
 ghost use Rattle.std.specs.Prelude.{◌≡◌, IfOk};
 ghost use Rattle.misp_model.specs.View.{known};
+ghost use Rattle.misp_core.specs.Partners.{pull_way};
 
 use misp_copies::{Viewer, known};
 use misp_elem::{NoMemory, Row};
 use misp_groups::Groups;
-use misp_ids::{InstId, OrgId, Stamp};
+use misp_ids::{InstId, OrgId, Stamp, Way};
 use misp_orgs::{Admin, Caller};
 use std::alloc::Global;
 
@@ -32,6 +33,17 @@ pub(crate) fn partner(caller: &Caller) -> Option<InstId>
     ensures { result ≡ caller.now.partner }
 {
     caller.partner
+}
+
+/// The way of a pull by the key that asks: internal where the key is.
+pub(crate) fn pull_way(caller: &Caller) -> Way
+    ensures { result ≡ pull_way caller.now.internal }
+{
+    if caller.internal {
+        Way::Internal
+    } else {
+        Way::Pull
+    }
 }
 
 /// Who looks, where a request is answered.

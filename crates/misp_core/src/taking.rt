@@ -24,9 +24,9 @@ use crate::settling::settle;
 use misp_elem::Row;
 use misp_groups::Groups;
 use misp_ids::{EventId, InstId, Items, NoMemory, OrgId};
+use misp_model::Package;
 use misp_outside::{Keeper, KeeperFault};
 use misp_package::Landing;
-use misp_model::Package;
 use misp_store::{LoadFault, Reach, load};
 use std::alloc::Global;
 

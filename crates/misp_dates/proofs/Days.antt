@@ -39,7 +39,7 @@ next_month n y m d is last more = record {
   place = omega (arith, signed_arith, is.place, days_from_civil-next_month (pos y) m d is.month.0 (omega (arith, is.day)));
 }
 
-december : (y m d : ℕ) → m ≡ 12 → days_in_month y m ≤ d → d ≤ days_in_month y m → d ≡ 31
+pub december : (y m d : ℕ) → m ≡ 12 → days_in_month y m ≤ d → d ≤ days_in_month y m → d ≡ 31
 december y m d is last within = grind arith
 
 before_the_last : (n y : ℕ) → y ≤ 9999 → n < 2_932_896 → days_from_civil (pos y) 12 31 ≡ pos n → y < 9999
@@ -85,6 +85,10 @@ nth_day-is (suc n) h = next n (nth_day n) (nth_day-is n (omega arith)) (omega ar
 as_jiff : (n : ℕ) (d : Day) → IsNth n d → Date
 as_jiff n d is = record { year = pos d.year; month = d.month; day = d.day; year_in = omega (arith, signed_arith, is.year); month_in = is.month; day_in = is.day }
 
+same_parts : (n : ℕ) (d : Day) → IsNth n d → (e : Date) → epoch_day e ≡ pos n → (e.year ≡ pos d.year) × (e.month ≡ d.month) × (e.day ≡ d.day)
+unfolding as_jiff
+same_parts n d is e place = epoch_day_injective e (as_jiff n d is) (place ∙ sym is.place)
+
 same_text : (n : ℕ) (d : Day) → IsNth n d → (e : Date) → epoch_day e ≡ pos n → jiff_text e ≡ date_text d
 unfolding as_jiff
 same_text n d is e place =
@@ -96,3 +100,17 @@ pub jiff_text-nth_day : (n : ℕ) (e : Date) → epoch_day e ≡ pos n → jiff_
 jiff_text-nth_day n e place =
     let range : n ≤ 2_932_896 = omega (arith, signed_arith, rw place at (epoch_day_range e)) in
     same_text n (nth_day n) (nth_day-is n range) e place
+
+-- and has this year, this month and this day
+pub parts-nth_day : (n : ℕ) (e : Date) → n ≤ 2_932_896 → epoch_day e ≡ pos n
+    → (e.year ≡ pos (nth_day n).year) × (e.month ≡ (nth_day n).month) × (e.day ≡ (nth_day n).day)
+parts-nth_day n e range place = same_parts n (nth_day n) (nth_day-is n range) e place
+
+small_days : (y m : ℕ) → days_in_month y m ≤ 31
+small_days y m = grind arith
+
+small_nth : (n : ℕ) (d : Day) → IsNth n d → (d.year ≤ 9999) × (d.month ≤ 12) × (d.day ≤ 31)
+small_nth n d is = (is.year, is.month.1, omega (arith, is.day.1, small_days d.year d.month))
+
+pub small-nth_day : (n : ℕ) → n ≤ 2_932_896 → ((nth_day n).year ≤ 9999) × ((nth_day n).month ≤ 12) × ((nth_day n).day ≤ 31)
+small-nth_day n range = small_nth n (nth_day n) (nth_day-is n range)

@@ -5,14 +5,14 @@ use Rattle.misp_dates.specs.declared.day.Day.{Day}
 use Rattle.misp_dates.specs.Dates.{days_in_month, are_digits, two_digits, day_in, is_day, is_date, nth_day, date_text, last_second, date_of}
 use Rattle.misp_dates.proofs.Days.{IsNth, nth_day-is}
 
-two_digits-back : (n : ℕ) → two_digits (48 + n / 10) (48 + n % 10) ≡ n
+pub two_digits-back : (n : ℕ) → two_digits (48 + n / 10) (48 + n % 10) ≡ n
 two_digits-back n = omega arith
 
-are_digits-written : (n : ℕ) → n < 100 → are_digits (48 + n / 10) (48 + n % 10) ≡ true
+pub are_digits-written : (n : ℕ) → n < 100 → are_digits (48 + n / 10) (48 + n % 10) ≡ true
 are_digits-written n h = grind (arith, nat_tests)
 
 -- a day whose numbers have so few digits is read from its text
-read_back : (y m d : ℕ) → y < 10_000 → m < 100 → d < 100
+pub read_back : (y m d : ℕ) → y < 10_000 → m < 100 → d < 100
     → day_in (date_text (record { year = y; month = m; day = d })) ≡ Some (record { year = y; month = m; day = d })
 read_back y m d year month day =
     let a = are_digits-written (y / 100) (omega arith) in
@@ -22,10 +22,10 @@ read_back y m d year month day =
     let years : 100 * two_digits (48 + y / 100 / 10) (48 + y / 100 % 10) + two_digits (48 + y % 100 / 10) (48 + y % 100 % 10) ≡ y = omega arith in
     rw (a, b, c, e, years, two_digits-back m, two_digits-back d) refl
 
-days_of_months : (y m d : ℕ) → d ≤ days_in_month y m → d < 100
+pub days_of_months : (y m d : ℕ) → d ≤ days_in_month y m → d < 100
 days_of_months y m d h = grind arith
 
-is_day-nth : (n : ℕ) (d : Day) → IsNth n d → is_day d ≡ true
+pub is_day-nth : (n : ℕ) (d : Day) → IsNth n d → is_day d ≡ true
 is_day-nth n d is = grind (arith, nat_tests, is.month, is.day)
 
 is_date-written : (n : ℕ) (d : Day) → IsNth n d → is_date (date_text d) ≡ true

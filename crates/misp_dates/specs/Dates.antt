@@ -34,6 +34,10 @@ unfoldable pub nth_day : ℕ → Day
 nth_day zero = record { year = 1970; month = 1; day = 1 }
 nth_day (suc n) = day_after (nth_day n)
 
+-- the number of the last day of the year 9999
+abbrev pub last_day : ℕ
+last_day = 2932896
+
 -- ---- texts
 
 -- two decimal digits

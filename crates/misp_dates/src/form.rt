@@ -1,18 +1,18 @@
-//! Which texts are dates.
+//! Digits, and which texts are dates.
 
 ghost use Rattle.std.specs.Prelude.{◌≡◌, ◌<◌, true, IfSome};
 ghost use Rattle.misp_dates.specs.Dates.{is_date, day_in, are_digits, two_digits};
 
 use crate::day::Day;
 
-fn are_digits(tens: u8, ones: u8) -> bool
+pub(crate) fn are_digits(tens: u8, ones: u8) -> bool
     ensures { result ≡ are_digits tens ones }
 {
     tens.is_ascii_digit() && ones.is_ascii_digit()
 }
 
 /// The number that two digits write.
-fn two_digits(tens: u8, ones: u8) -> u8
+pub(crate) fn two_digits(tens: u8, ones: u8) -> u8
     requires { are_digits tens ones ≡ true }
     ensures value { result ≡ two_digits tens ones }
     ensures small { result < 100 }
@@ -21,7 +21,7 @@ fn two_digits(tens: u8, ones: u8) -> u8
 }
 
 /// The day that a text of the form `YYYY-MM-DD` names.
-fn day_in(text: &[u8]) -> Option<Day>
+pub(crate) fn day_in(text: &[u8]) -> Option<Day>
     ensures value { result ≡ day_in text.now }
     ensures small { IfSome result (λ d. (d.year < 10000) × (d.month < 100) × (d.day < 100)) }
 {

@@ -1,36 +1,49 @@
-//! The date of a moment.
+//! Moments.
 
-ghost use Rattle.std.specs.Prelude.{◌≡◌, ◌≤◌, ◌/◌, ℕ, pos, true, IfOk};
-ghost use Rattle.std.specs.String.{string_bytes};
-ghost use Rattle.jiff.specs.Words.{epoch_day};
-ghost use Rattle.misp_dates.specs.Dates.{is_date, last_second, date_of};
+ghost use Rattle.std.specs.Prelude.{◌≡◌, ◌≤◌, if◌then◌else◌, nat_le, Some, None};
 
-use jiff::ToSpan;
-use jiff::civil::{Date, date};
-use std::alloc::{AllocError, Global};
+use std::marker::Model;
 
-/// The day on which a moment lies.
-fn day_of(seconds: u64) -> Date
-    requires { seconds ≤ last_second }
-    ensures { epoch_day result ≡ pos (seconds / 86400) }
-{
-    let days = seconds / 86400;
-    match date(1970, 1, 1).checked_add((days as i64).days()) {
-        Ok(day) => day,
-        Err(_) => unreachable!(),
+/// The greatest moment, the last microsecond of the year 9999.
+pub const LAST_MICROSECOND: u64 = 253_402_300_799_999_999;
+
+/// A moment, in microseconds since 1970, up to the end of the year 9999.
+///
+/// A contract sees it as the number.
+#[derive(Clone, Copy, PartialEq, Eq, PartialOrd, Ord)]
+pub struct Moment {
+    microseconds: u64,
+}
+
+impl Model for Moment {
+    ghost use Rattle.std.specs.Prelude.{ℕ, ◌≤◌};
+
+    ghost Value = { ℕ };
+
+    ghost view = { λ m. m.microseconds };
+
+    ghost invariant = { λ m. m.microseconds ≤ 253402300799999999 };
+
+    ghost inverse = { λ n. record { microseconds = n } };
+}
+
+impl Moment {
+    /// The moment so many microseconds after 1970 begins, if it is no later than the last.
+    pub fn new(n: u64) -> Option<Moment>
+        ensures { result ≡ (if nat_le n LAST_MICROSECOND then Some n else None) }
+    {
+        if n <= LAST_MICROSECOND {
+            Some(Moment { microseconds: n })
+        } else {
+            None
+        }
+    }
+
+    /// The microseconds since 1970.
+    pub fn get(&self) -> u64
+        ensures value { result ≡ self.now }
+        ensures in_range { result ≤ LAST_MICROSECOND }
+    {
+        self.microseconds
     }
 }
-
-/// The date in UTC, as `YYYY-MM-DD`, so many seconds after the beginning of 1970.
-pub fn date_of(alloc: Global, seconds: u64) -> Result<String, AllocError>
-    requires { seconds ≤ last_second }
-    ensures date { IfOk result (λ date. string_bytes date ≡ date_of seconds) }
-{
-    let day = day_of(seconds);
-    Ok(format!(in alloc; "{day}")?)
-}
-
-/// The date of each moment is a date of the calendar.
-pub fn the_date_of_a_moment_is_a_date()
-    ensures is_date { (now : ℕ) → now ≤ last_second → is_date (date_of now) ≡ true }
-{}

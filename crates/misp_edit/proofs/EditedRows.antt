@@ -1,6 +1,6 @@
 -- What an edit makes of the row of an attribute or an object is a row, where its texts are not too long.
 use Rattle.std.proofs.Common.{◌≡◌, ℕ, ◌+◌, ◌-◌, ◌≤◌, List, [], ◌∷◌, length, Bool, true, false, refl, ap, sym, subst, ◌∙◌, arith, eqb, ◌||◌, not, ◌==◌, Option, Some, None, ltb-false}
-use Rattle.misp_elem.specs.Prelude.{IsAttributeBody, IsBetween, IsLabel, IsLabelBut, IsText, barred_labels, text_limit, text_size}
+use Rattle.misp_elem.specs.Prelude.{IsAttributeBody, IsBetween, IsLabel, IsLabelBut, IsOptionalMoment, IsText, barred_labels, earliest, text_limit, text_size}
 use Rattle.misp_elem.specs.declared.content.AttributeBody.{AttributeBody}
 use Rattle.misp_elem.specs.declared.content.ObjectBody.{ObjectBody}
 use Rattle.misp_elem.specs.Contents.{IsObjectBody}
@@ -8,8 +8,9 @@ use Rattle.misp_model.proofs.Prelude.{Content, Element, IsContent, IsRow, IsStam
 use Rattle.misp_model.proofs.Prelude.{given, is_gone, is_statement, is_too_long, label_kind, last_stamp, may_remove}
 use Rattle.misp_model.specs.declared.edit.AttributeEditFields.{AttributeEditFields as AttributeEdit}
 use Rattle.misp_model.specs.declared.edit.ObjectEditFields.{ObjectEditFields as ObjectEdit}
+use Rattle.misp_model.specs.declared.edit.Seen.{Seen}
 use Rattle.misp_model.specs.Edits.{at_object, edited_object}
-use Rattle.misp_model.specs.Edit.{IsGiven, IsKindValue, IsAttributeEdit, IsObjectEdit}
+use Rattle.misp_model.specs.Edit.{IsGiven, IsKindValue, IsSeen, IsAttributeEdit, IsObjectEdit}
 use Rattle.misp_copies.specs.Renewing.{renewed}
 use Rattle.misp_copies.proofs.FittingTexts.{attribute_fits, fit_text}
 use Rattle.misp_copies.proofs.RenewedRows.{later_stamp}
@@ -23,28 +24,37 @@ given_holds P (Some y) x g h = g
 -- the attribute after an edit
 module _ (e : AttributeEdit) (b : AttributeBody) (ok : IsAttributeEdit e) (is : IsAttributeBody b) where
   -- the attribute with these
-  abbrev with_these : Option (List ℕ × List ℕ) → Option (List ℕ) → AttributeBody
-  with_these k c = record b {
+  abbrev with_these : Option (List ℕ × List ℕ) → Option (List ℕ) → Option Seen → AttributeBody
+  with_these k c w = record b {
     category = given e.category b.category;
     to_ids = given e.to_ids b.to_ids;
     comment = given c b.comment;
     kind = elim k [ None ↦ b.kind | Some p ↦ p.0 ];
     value = elim k [ None ↦ b.value | Some p ↦ p.1 ];
+    first_seen = elim w [ None ↦ b.first_seen | Some s ↦ s.first ];
+    last_seen = elim w [ None ↦ b.last_seen | Some s ↦ s.last ];
   }
 
   category_is : IsBetween 0 15 (given e.category b.category)
   category_is = given_holds (IsBetween 0 15) e.category b.category ok.1.0 is.1.0
 
-  these_fit : (k : Option (List ℕ × List ℕ)) (c : Option (List ℕ)) → IsGiven IsKindValue k → IsGiven (IsText 0 text_limit) c → is_too_long (Content.Attribute (with_these k c)) ≡ false → IsAttributeBody (with_these k c)
+  abbrev WasSeen : Option ℕ → Option ℕ → Type 0
+  WasSeen first last = IsOptionalMoment 0 first × IsOptionalMoment (earliest first) last
+
+  seen_fits : (w : Option Seen) → IsGiven IsSeen w → WasSeen (elim w [ None ↦ b.first_seen | Some s ↦ s.first ]) (elim w [ None ↦ b.last_seen | Some s ↦ s.last ])
+  seen_fits None g = is.1.1.1.1.1.1.1.1
+  seen_fits (Some s) g = g
+
+  these_fit : (k : Option (List ℕ × List ℕ)) (c : Option (List ℕ)) (w : Option Seen) → IsGiven IsKindValue k → IsGiven (IsText 0 text_limit) c → IsGiven IsSeen w → is_too_long (Content.Attribute (with_these k c w)) ≡ false → IsAttributeBody (with_these k c w)
   unfolding given
-  these_fit None None g d h = attribute_fits (with_these None None) _ _ _ is.0 category_is is.1.1.1.0 is.1.1.1.1.1.0 is.1.1.1.1.1.1 h
-  these_fit None (Some c) g d h = attribute_fits (with_these None (Some c)) _ _ _ is.0 category_is d is.1.1.1.1.1.0 is.1.1.1.1.1.1 h
-  these_fit (Some p) None g d h = attribute_fits (with_these (Some p) None) _ _ _ g.0 category_is is.1.1.1.0 g.1 is.1.1.1.1.1.1 h
-  these_fit (Some p) (Some c) g d h = attribute_fits (with_these (Some p) (Some c)) _ _ _ g.0 category_is d g.1 is.1.1.1.1.1.1 h
+  these_fit None None w g d s h = attribute_fits (with_these None None w) _ _ _ _ is.0 category_is is.1.1.1.0 is.1.1.1.1.1.0 is.1.1.1.1.1.1.0 is.1.1.1.1.1.1.1.0 (seen_fits w s) h
+  these_fit None (Some c) w g d s h = attribute_fits (with_these None (Some c) w) _ _ _ _ is.0 category_is d is.1.1.1.1.1.0 is.1.1.1.1.1.1.0 is.1.1.1.1.1.1.1.0 (seen_fits w s) h
+  these_fit (Some p) None w g d s h = attribute_fits (with_these (Some p) None w) _ _ _ _ g.0 category_is is.1.1.1.0 g.1 is.1.1.1.1.1.1.0 is.1.1.1.1.1.1.1.0 (seen_fits w s) h
+  these_fit (Some p) (Some c) w g d s h = attribute_fits (with_these (Some p) (Some c) w) _ _ _ _ g.0 category_is d g.1 is.1.1.1.1.1.1.0 is.1.1.1.1.1.1.1.0 (seen_fits w s) h
 
   edited_fits : is_too_long (Content.Attribute (edited e b)) ≡ false → IsAttributeBody (edited e b)
   unfolding edited
-  edited_fits h = these_fit e.kind_value e.comment ok.1.1.1.0 ok.1.1.0 h
+  edited_fits h = these_fit e.kind_value e.comment e.seen ok.1.1.1.0 ok.1.1.0 ok.1.1.1.1.0 h
 
 edited_content : (e : AttributeEdit) (may : Bool) (c : Content) → IsAttributeEdit e → IsContent may c → is_too_long (at_attribute (edited e) c) ≡ false → IsContent may (at_attribute (edited e) c)
 unfolding at_attribute

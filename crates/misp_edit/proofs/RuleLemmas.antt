@@ -4,7 +4,8 @@ use Rattle.misp_ids.specs.Uid.{text_of}
 use Rattle.misp_lists.proofs.Lists.{any_found, any_map, find_by}
 use Rattle.misp_ids.specs.declared.refusal.Refusal.{Refusal}
 use Rattle.misp_groups.specs.Prelude.{RuleName, bare}
-use Rattle.misp_model.specs.Prelude.{ElementExists, ElemId, GroupId, GroupNotUsable, Inst, Label, Place, Rule, Scene, Submission, change_rules, clashes, first_rule, has_copy, has_gone, has_unusable, holds_copy}
+use Rattle.misp_model.specs.Scene.{Partner}
+use Rattle.misp_model.specs.Prelude.{ElementExists, ElemId, GroupId, GroupNotUsable, Label, Place, Rule, Scene, Submission, change_rules, clashes, first_rule, has_copy, has_gone, has_unusable, holds_copy}
 use Rattle.misp_model.specs.Prelude.{holds_tombstone, in_order, is_taken, is_usable, list_any, scene_as, target_in_copy}
 use Rattle.misp_model.specs.Adding.{target_of, has_target, are_distinct}
 use Rattle.misp_model.proofs.Numbers.{usable_alike}
@@ -129,7 +130,7 @@ module _ (s : Scene) (b : Submission) where
       refused NoMemory t = tt
 
 -- a refusal depends on neither the number of its act nor the partner of its caller's key
-pub refusal_alike : (n : ℕ) (partner : Option Inst) (s : Scene) (a : Ask) (rule : Rule) → refusal_of (record s { act = n; partner = partner }) a rule ≡ refusal_of s a rule
+pub refusal_alike : (n : ℕ) (partner : Option Partner) (s : Scene) (a : Ask) (rule : Rule) → refusal_of (record s { act = n; partner = partner }) a rule ≡ refusal_of s a rule
 unfolding first_clash read_uuids numbered_uuids is_clash is_taken has_target target_of target_in_copy first_unusable
 refusal_alike n partner s (Ask.Change (AddEvent b)) rule = λ i. record { name = named rule; place = added_place (first_clash s b) (find (λ l. not (usable_alike n partner s l i)) (labels_of b)) rule }
 refusal_alike n partner s (Ask.Change (AddParts e b)) rule = λ i. record { name = named rule; place = added_place (first_clash s b) (find (λ l. not (usable_alike n partner s l i)) (labels_of b)) rule }

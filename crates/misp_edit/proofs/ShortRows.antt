@@ -37,12 +37,15 @@ left_size q (t ∷ ts) = one (q t) (left_size q ts)
 less_long : (old new rest : ℕ) → ltb 16384 (rest + old) ≡ false → new ≤ old → ltb 16384 (rest + new) ≡ false
 less_long old new rest h k = not_longer (rest + new) (let l : rest + old ≤ 16384 = ltb-false 16384 (rest + old) h in omega arith)
 
+less_amid : (old new rest more : ℕ) → ltb 16384 (rest + old + more) ≡ false → new ≤ old → ltb 16384 (rest + new + more) ≡ false
+less_amid old new rest more h k = not_longer (rest + new + more) (let l : rest + old + more ≤ 16384 = ltb-false 16384 (rest + old + more) h in omega arith)
+
 short_untagged : (name : List ℕ) (may : Bool) (c : Content) → IsContent may c → is_too_long (at_tags (untagged name) c) ≡ false
 unfolding at_tags untagged is_too_long text_size
 short_untagged name may (Content.Event b) h =
     less_long (tags_size b.tags) (tags_size (untagged name b.tags)) (length b.info) (short may (Content.Event b) h) (left_size (λ t. not (bytes_eq t.name name)) b.tags)
 short_untagged name may (Content.Attribute b) h =
-    less_long (tags_size b.tags) (tags_size (untagged name b.tags)) (length b.kind + length b.comment + length b.value) (short may (Content.Attribute b) h) (left_size (λ t. not (bytes_eq t.name name)) b.tags)
+    less_amid (tags_size b.tags) (tags_size (untagged name b.tags)) (length b.kind + length b.comment + length b.value) (length b.object_relation) (short may (Content.Attribute b) h) (left_size (λ t. not (bytes_eq t.name name)) b.tags)
 short_untagged name may c h = short may c h
 
 pub untagged_short : (name : List ℕ) (row : Row) → IsRow row → is_too_long (at_tags (untagged name) row.content) ≡ false

@@ -6,7 +6,7 @@ use Rattle.misp_elem.specs.Fields.{is_text, is_after, IsTagName, IsTag, AreTags,
 use Rattle.misp_elem.specs.Contents.{text_size}
 use Rattle.misp_model.proofs.Prelude.{Content, IsContent, IsRow, IsStamp, Row, Tag, and_from, and_parts, at_tags, bytes_eq-Decides, content_kind, false≢true, is_less, is_too_long, last_stamp, less_is, less_or, list_all, may_remove}
 use Rattle.misp_model.proofs.Prelude.{nat_tests, not-true, put, tagged, untagged}
-use Rattle.misp_copies.proofs.FittingTexts.{fit_name, name_size}
+use Rattle.misp_copies.proofs.FittingTexts.{fit_name, fit_text, name_size}
 use Rattle.misp_copies.proofs.RenewedRows.{renewed_row}
 use Rattle.misp_copies.specs.Renewing.{renewed}
 
@@ -124,10 +124,11 @@ module _ (f : List Tag → List Tag) (keeps : (ts : List Tag) → Named [] ts �
       let tags = are_tags room (f b.tags) (keeps b.tags (named room [] b.tags h.1.1.1.1.1.1.1.1.1)) (omega arith) (omega arith) in
       (h.0, (h.1.0, (h.1.1.0, (h.1.1.1.0, (h.1.1.1.1.0, (h.1.1.1.1.1.0, (h.1.1.1.1.1.1.0, (h.1.1.1.1.1.1.1.0, tags))))))))
   tags_content may (Content.Attribute b) h s =
-      let size : length b.kind + length b.comment + length b.value + tags_size (f b.tags) ≤ 16384 = ltb-false 16384 (length b.kind + length b.comment + length b.value + tags_size (f b.tags)) s in
+      let size : length b.kind + length b.comment + length b.value + tags_size (f b.tags) + length b.object_relation ≤ 16384 = ltb-false 16384 (length b.kind + length b.comment + length b.value + tags_size (f b.tags) + length b.object_relation) s in
       let room : ℕ = text_limit - length b.kind - length b.comment - length b.value in
-      let tags = are_tags room (f b.tags) (keeps b.tags (named room [] b.tags h.1.1.1.1.1.1.1)) (omega arith) (omega arith) in
-      (h.0, (h.1.0, (h.1.1.0, (h.1.1.1.0, (h.1.1.1.1.0, (h.1.1.1.1.1.0, tags))))))
+      let tags = are_tags room (f b.tags) (keeps b.tags (named room [] b.tags h.1.1.1.1.1.1.0.1)) (omega arith) (omega arith) in
+      let relation = fit_text 0 (room - tags_size b.tags) (room - tags_size (f b.tags)) b.object_relation h.1.1.1.1.1.1.1.0 (omega arith) in
+      (h.0, (h.1.0, (h.1.1.0, (h.1.1.1.0, (h.1.1.1.1.0, (h.1.1.1.1.1.0, (tags, (relation, h.1.1.1.1.1.1.1.1))))))))
   tags_content may _ h s = h
 
   tags_kind : (c : Content) → content_kind (at_tags f c) ≡ content_kind c

@@ -83,6 +83,10 @@ fn put_attribute(body: &mut AttributeBody, edit: &AttributeEditFields) -> Result
         body.kind = pair.0.clone()?;
         body.value = pair.1.clone()?;
     }
+    if let Some(seen) = edit.seen {
+        body.first_seen = seen.first;
+        body.last_seen = seen.last;
+    }
     Ok(())
 }
 

@@ -1,17 +1,20 @@
 -- What is in a row is read as it is written.
-use Rattle.std.proofs.Common.{ℕ, ◌-◌, ◌<◌, ◌^◌, Bool, true, false, List, ◌∷◌, ◌++◌, [], length, Option, refl, arith, w64}
+use Rattle.std.proofs.Common.{ℕ, ◌-◌, ◌<◌, ◌^◌, Bool, true, false, List, ◌∷◌, ◌++◌, [], length, Option, None, refl, sym, arith, w64}
 use Rattle.std.proofs.lemmas.Bool.{and_parts, and_from}
 use Rattle.misp_lists.proofs.Bytes.{wide64}
-use Rattle.misp_elem.specs.Prelude.{AreTags, IsAttributeBody, IsBetween, IsOptionalUid, IsStamp, IsText, IsUid, IsValue, OrgId, Tag, Uid, is_kept, text_limit}
-use Rattle.misp_elem.specs.Fields.{is_date, IsDate}
+use Rattle.misp_elem.specs.Prelude.{AreTags, Content, IsAttributeBody, IsBetween, IsOptionalUid, IsStamp, IsText, IsUid, IsValue, OrgId, Tag, Uid, is_kept, text_limit}
+use Rattle.misp_elem.specs.Fields.{is_date, IsDate, earliest, tags_size}
+use Rattle.misp_elem.specs.declared.content.AttributeBody.{AttributeBody}
+use Rattle.misp_elem.specs.declared.row.RowForm.{RowForm}
+use Rattle.misp_elem.specs.declared.row.RowForm.TheVariants.{First, Second}
 use Rattle.misp_elem.specs.Contents.{IsEventBody, IsObjectBody, IsReferenceBody, is_removal, IsRemoval, least_kind, IsProposed, IsProposalBody, IsSightingBody}
-use Rattle.misp_elem.specs.Spelling.{uid, text, flag, optional_uid, stamp, tags, event_body, object_body, attribute_body, reference_body, proposal_body, sighting_body}
+use Rattle.misp_elem.specs.Spelling.{IsOfFirstForm, uid, text, flag, optional_uid, stamp, tags, event_body, object_body, attribute_body, reference_body, proposal_body, sighting_body}
 use Rattle.misp_elem.specs.Reading.{number_at, text_at, date_at, value_at}
-use Rattle.misp_elem.specs.ContentReading.{event_body_at, object_body_at, attribute_body_at, reference_body_at, removal_at, proposed_value_at, proposal_body_at, sighting_body_at}
-use Rattle.misp_elem.proofs.Exact.{IsField, IsMade, last, first, whole, tested, under}
+use Rattle.misp_elem.specs.ContentReading.{relation_at, seen_at, event_body_at, object_body_at, attribute_body_at, reference_body_at, removal_at, proposed_value_at, proposal_body_at, sighting_body_at}
+use Rattle.misp_elem.proofs.Exact.{IsField, IsMade, last, first, whole, whole_where, nothing, tested, under}
 use Rattle.misp_elem.proofs.Keys.{org_field}
-use Rattle.misp_elem.proofs.Numbers.{number_field, between_field, stamp_field, text_field, flag_field, optional_field}
-use Rattle.misp_elem.proofs.ShortTexts.{is_text-date}
+use Rattle.misp_elem.proofs.Numbers.{number_field, between_field, stamp_field, text_field, flag_field, optional_field, optional_moment_field}
+use Rattle.misp_elem.proofs.ShortTexts.{is_text-date, no_text}
 use Rattle.misp_elem.proofs.TagFields.{tags_field}
 
 -- ---- fields
@@ -71,14 +74,43 @@ object_field =
     first optional_field (λ template. first version_field (λ version.
     last (λ deleted. record { name = name; meta_category = category; description = description; comment = comment; template_uuid = template; template_version = version; deleted = deleted }) flag_field)))))))
 
-pub attribute_field : IsField IsAttributeBody attribute_body attribute_body_at
-unfolding attribute_body_at
-attribute_field =
-    whole (λ b. (b.kind, (b.category, (b.to_ids, (b.comment, (b.deleted, (b.value, b.tags))))))) IsAttributeBody attribute_body (λ b. refl) (λ b h. h) (λ p h. h) (λ p h. refl)
+-- what the first form spells of an attribute has no part of an object and no moment
+attribute_field_1 : IsField (λ b. IsAttributeBody b × IsOfFirstForm (Content.Attribute b)) (attribute_body First) (attribute_body_at First)
+unfolding attribute_body_at relation_at seen_at
+attribute_field_1 =
+    whole_where (λ b. (b.kind, (b.category, (b.to_ids, (b.comment, (b.deleted, (b.value, (b.tags, tt)))))))) (λ b. IsAttributeBody b × IsOfFirstForm (Content.Attribute b)) (attribute_body First)
+    (λ b h i. record b { object_relation = sym h.1.0 i; first_seen = sym h.1.1.0 i; last_seen = sym h.1.1.1 i })
+    (λ b h. (h.0.0, (h.0.1.0, (h.0.1.1.0, (h.0.1.1.1.0, (h.0.1.1.1.1.0, (h.0.1.1.1.1.1.0, (h.0.1.1.1.1.1.1.0, tt))))))))
+    (λ p h. ((h.0, (h.1.0, (h.1.1.0, (h.1.1.1.0, (h.1.1.1.1.0, (h.1.1.1.1.1.0, (h.1.1.1.1.1.1.0, (no_text (text_limit - length p.0 - length p.1.1.1.0 - length p.1.1.1.1.1.0 - tags_size p.1.1.1.1.1.1.0), (tt, tt))))))))), (refl, (refl, refl))))
+    (λ p h. refl)
     (first (text_field 1 100 (omega arith)) (λ kind. first (between_field 0 15 (omega arith)) (λ category. first flag_field (λ to_ids.
     first (text_field 0 (text_limit - length kind) (omega arith)) (λ comment. first flag_field (λ deleted.
     first (value_field (text_limit - length kind - length comment) kind (omega arith)) (λ value.
-    last (λ ts. record { kind = kind; category = category; to_ids = to_ids; comment = comment; deleted = deleted; value = value; tags = ts }) (tags_field (text_limit - length kind - length comment - length value)))))))))
+    first (tags_field (text_limit - length kind - length comment - length value)) (λ ts.
+    nothing (record { kind = kind; category = category; to_ids = to_ids; comment = comment; deleted = deleted; value = value; tags = ts; object_relation = []; first_seen = None; last_seen = None })))))))))
+
+attribute_field_2 : IsField IsAttributeBody (attribute_body Second) (attribute_body_at Second)
+unfolding attribute_body_at relation_at seen_at
+attribute_field_2 =
+    whole (λ b. (b.kind, (b.category, (b.to_ids, (b.comment, (b.deleted, (b.value, (b.tags, (b.object_relation, (b.first_seen, b.last_seen)))))))))) IsAttributeBody (attribute_body Second)
+    (λ b. refl) (λ b h. h) (λ p h. h) (λ p h. refl)
+    (first (text_field 1 100 (omega arith)) (λ kind. first (between_field 0 15 (omega arith)) (λ category. first flag_field (λ to_ids.
+    first (text_field 0 (text_limit - length kind) (omega arith)) (λ comment. first flag_field (λ deleted.
+    first (value_field (text_limit - length kind - length comment) kind (omega arith)) (λ value.
+    first (tags_field (text_limit - length kind - length comment - length value)) (λ ts.
+    first (text_field 0 (text_limit - length kind - length comment - length value - tags_size ts) (omega arith)) (λ relation.
+    first (optional_moment_field 0) (λ seen.
+    last (λ until. record { kind = kind; category = category; to_ids = to_ids; comment = comment; deleted = deleted; value = value; tags = ts; object_relation = relation; first_seen = seen; last_seen = until })
+    (optional_moment_field (earliest seen))))))))))))
+
+-- this form spells all of an attribute
+abbrev pub IsAllOf : RowForm → AttributeBody → Type 0
+IsAllOf First b = IsOfFirstForm (Content.Attribute b)
+IsAllOf Second b = Unit {0}
+
+pub attribute_field : (form : RowForm) → IsField (λ b. IsAttributeBody b × IsAllOf form b) (attribute_body form) (attribute_body_at form)
+attribute_field First = attribute_field_1
+attribute_field Second = under (λ b. IsAttributeBody b × Unit {0}) (λ b h. (h, tt)) (λ b h. h.0) attribute_field_2
 
 pub reference_field : IsField IsReferenceBody reference_body reference_body_at
 unfolding reference_body_at

@@ -59,33 +59,45 @@ last {A} {B} {Is} {write} {read} make field = record {
   again = λ a rest h. ap (λ r. r >>= λ x. Ok (make x.0, x.1)) (field.again a rest h);
 }
 
--- a field before others
-pub first : {A B C : Type 0} {IsA : A → Type 0} {write_a : A → List ℕ} {read_a : List ℕ → Reading A} {IsB : A → B → Type 0} {write_b : B → List ℕ} {make : A → B → C} {others : A → List ℕ → Reading C}
-    → IsField IsA write_a read_a → ((a : A) → IsMade (IsB a) (make a) write_b (others a))
-    → IsMade (λ (p : A × B). IsA p.0 × IsB p.0 p.1) (λ p. make p.0 p.1) (λ p. write_a p.0 ++ write_b p.1) (λ bytes. read_a bytes >>= λ x. others x.0 x.1)
-first {A} {B} {C} {IsA} {write_a} {read_a} {IsB} {write_b} {make} {others} field rest_made = record {
+-- a field that says how the others are written
+pub told : {A B C : Type 0} {IsA : A → Type 0} {write_a : A → List ℕ} {read_a : List ℕ → Reading A} {IsB : A → B → Type 0} {write_b : A → B → List ℕ} {make : A → B → C} {others : A → List ℕ → Reading C}
+    → IsField IsA write_a read_a → ((a : A) → IsMade (IsB a) (make a) (write_b a) (others a))
+    → IsMade (λ (p : A × B). IsA p.0 × IsB p.0 p.1) (λ p. make p.0 p.1) (λ p. write_a p.0 ++ write_b p.0 p.1) (λ bytes. read_a bytes >>= λ x. others x.0 x.1)
+told {A} {B} {C} {IsA} {write_a} {read_a} {IsB} {write_b} {make} {others} field rest_made = record {
   takes = λ bytes c rest fits e.
       let s = bind_ok (read_a bytes) (λ x. others x.0 x.1) (c, rest) e in
       let t = field.takes bytes s.0.0 s.0.1 fits s.1 in
       let u = (rest_made s.0.0).takes s.0.1 c rest t.1.rest_fits s.2 in
-      ((s.0.0, u.0), u.1, (t.0, u.2), Takes-then bytes (write_a s.0.0) s.0.1 (write_b u.0) rest t.1 u.3);
+      ((s.0.0, u.0), u.1, (t.0, u.2), Takes-then bytes (write_a s.0.0) s.0.1 (write_b s.0.0 u.0) rest t.1 u.3);
   again = λ p rest h.
-      ap (λ bytes. read_a bytes >>= λ x. others x.0 x.1) (append_assoc (write_a p.0) (write_b p.1) rest)
-      ∙ ap (λ r. r >>= λ x. others x.0 x.1) (field.again p.0 (write_b p.1 ++ rest) h.0) ∙ (rest_made p.0).again p.1 rest h.1;
+      ap (λ bytes. read_a bytes >>= λ x. others x.0 x.1) (append_assoc (write_a p.0) (write_b p.0 p.1) rest)
+      ∙ ap (λ r. r >>= λ x. others x.0 x.1) (field.again p.0 (write_b p.0 p.1 ++ rest) h.0) ∙ (rest_made p.0).again p.1 rest h.1;
 }
 
--- parts that a value gives back make a field of it
-pub whole : {A B : Type 0} {IsA : A → Type 0} {make : A → B} {write_a : A → List ℕ} {read : List ℕ → Reading B} (parts : B → A) (Is : B → Type 0) (write : B → List ℕ)
-    → ((b : B) → make (parts b) ≡ b) → ((b : B) → Is b → IsA (parts b)) → ((a : A) → IsA a → Is (make a)) → ((a : A) → IsA a → write (make a) ≡ write_a a)
+-- a field before others
+pub first : {A B C : Type 0} {IsA : A → Type 0} {write_a : A → List ℕ} {read_a : List ℕ → Reading A} {IsB : A → B → Type 0} {write_b : B → List ℕ} {make : A → B → C} {others : A → List ℕ → Reading C}
+    → IsField IsA write_a read_a → ((a : A) → IsMade (IsB a) (make a) write_b (others a))
+    → IsMade (λ (p : A × B). IsA p.0 × IsB p.0 p.1) (λ p. make p.0 p.1) (λ p. write_a p.0 ++ write_b p.1) (λ bytes. read_a bytes >>= λ x. others x.0 x.1)
+first {A} {B} {C} {IsA} {write_a} {read_a} {IsB} {write_b} {make} {others} field rest_made = told {write_b = λ a b. write_b b} field rest_made
+
+-- parts that a value gives back make a field of it; it gives them back where it is one
+pub whole_where : {A B : Type 0} {IsA : A → Type 0} {make : A → B} {write_a : A → List ℕ} {read : List ℕ → Reading B} (parts : B → A) (Is : B → Type 0) (write : B → List ℕ)
+    → ((b : B) → Is b → make (parts b) ≡ b) → ((b : B) → Is b → IsA (parts b)) → ((a : A) → IsA a → Is (make a)) → ((a : A) → IsA a → write (make a) ≡ write_a a)
     → IsMade IsA make write_a read → IsField Is write read
-whole {A} {B} {IsA} {make} {write_a} {read} parts Is write back to_parts from_parts same made = record {
+whole_where {A} {B} {IsA} {make} {write_a} {read} parts Is write back to_parts from_parts same made = record {
   takes = λ bytes b rest fits e.
       let t = made.takes bytes b rest fits e in
       subst (λ (y : B). Is y × Takes bytes (write y) rest) t.1 (from_parts t.0 t.2, subst (λ (text : List ℕ). Takes bytes text rest) (sym (same t.0 t.2)) t.3);
   again = λ b rest h.
-      let text : write b ≡ write_a (parts b) = ap write (sym (back b)) ∙ same (parts b) (to_parts b h) in
-      ap (λ (w : List ℕ). read (w ++ rest)) text ∙ made.again (parts b) rest (to_parts b h) ∙ ap (λ (y : B). Ok (y, rest)) (back b);
+      let text : write b ≡ write_a (parts b) = ap write (sym (back b h)) ∙ same (parts b) (to_parts b h) in
+      ap (λ (w : List ℕ). read (w ++ rest)) text ∙ made.again (parts b) rest (to_parts b h) ∙ ap (λ (y : B). Ok (y, rest)) (back b h);
 }
+
+-- the same of one that always gives them back
+pub whole : {A B : Type 0} {IsA : A → Type 0} {make : A → B} {write_a : A → List ℕ} {read : List ℕ → Reading B} (parts : B → A) (Is : B → Type 0) (write : B → List ℕ)
+    → ((b : B) → make (parts b) ≡ b) → ((b : B) → Is b → IsA (parts b)) → ((a : A) → IsA a → Is (make a)) → ((a : A) → IsA a → write (make a) ≡ write_a a)
+    → IsMade IsA make write_a read → IsField Is write read
+whole parts Is write back to_parts from_parts same made = whole_where parts Is write (λ b h. back b) to_parts from_parts same made
 
 -- a value that a byte in front tells from others
 pub cased : {A B : Type 0} {IsA : A → Type 0} {make : A → B} {write_a : A → List ℕ} {read : List ℕ → Reading B} (Is : B → Type 0) (write : B → List ℕ) (tag kind : ℕ)
@@ -101,6 +113,20 @@ ended_ok : {A : Type 0} (x : A × List ℕ) (a : A) → ended x ≡ Ok a → (x.
 ended_ok x a e =
     let k = keep_ok (eqb (length x.1) 0) (length x.1) x.0 a e in
     (nil_from_length x.1 (eqb-true _ _ k.0), k.1)
+
+-- the same of a value that is made of parts
+pub all_made : {A B : Type 0} {Is : A → Type 0} {make : A → B} {write : A → List ℕ} {read : List ℕ → Reading B} → IsMade Is make write read
+    → (bytes : List ℕ) (b : B) → IsBytes bytes → (read bytes >>= λ x. ended x) ≡ Ok b → (a : A) × (make a ≡ b) × Is a × (bytes ≡ write a)
+all_made {A} {B} {Is} {make} {write} {read} made bytes b fits e =
+    let s = bind_ok (read bytes) (λ x. ended x) b e in
+    let t = made.takes bytes s.0.0 s.0.1 fits s.1 in
+    let nothing = ended_ok s.0 b s.2 in
+    (t.0, t.1 ∙ nothing.1, t.2, t.3.parts ∙ ap (λ (r : List ℕ). write t.0 ++ r) nothing.0 ∙ append-nil (write t.0))
+
+pub made_again : {A B : Type 0} {Is : A → Type 0} {make : A → B} {write : A → List ℕ} {read : List ℕ → Reading B} → IsMade Is make write read
+    → (a : A) → Is a → (read (write a) >>= λ x. ended x) ≡ Ok (make a)
+made_again {A} {B} {Is} {make} {write} {read} made a h =
+    ap (λ bytes. read bytes >>= λ x. ended x) (sym (append-nil (write a))) ∙ ap (λ r. r >>= λ x. ended x) (made.again a [] h)
 
 pub all_takes : {A : Type 0} {Is : A → Type 0} {write : A → List ℕ} {read : List ℕ → Reading A} → IsField Is write read
     → (bytes : List ℕ) (a : A) → IsBytes bytes → (read bytes >>= λ x. ended x) ≡ Ok a → Is a × (bytes ≡ write a)

@@ -2,12 +2,13 @@
 use Rattle.std.proofs.Common.{◌≡◌, ℕ, ◌<◌, ◌≤◌, ◌^◌, Bool, true, false, ◌&&◌, cond, eqb, ltb, leb, List, [], ◌∷◌, ◌++◌, length, take, drop, Option, Some, None, Ok, Err, refl, sym, ap, subst, ◌∙◌, arith, inl, inr, w32, w64, eqb-true}
 use Rattle.std.proofs.Common.{ltb-false, le-ltb, leb-true, le-leb, take_at, drop_at, take-append-drop, length-append, length-take}
 use Rattle.std.specs.Int.{Width, byte_len, from_be_bytes}
-use Rattle.std.proofs.lemmas.Bool.{and_parts}
+use Rattle.std.proofs.lemmas.Bool.{and_parts, and_from}
 use Rattle.misp_ids.specs.declared.stamp.TheConstants.{LAST_SECOND}
+use Rattle.misp_dates.specs.declared.moment.TheConstants.{LAST_MICROSECOND}
 use Rattle.misp_lists.proofs.Bytes.{IsBytes, IsBytes-take, IsBytes-drop, IsWide, wide32, wide64}
-use Rattle.misp_elem.specs.Prelude.{◌>>=◌, IsBetween, IsOptionalUid, IsStamp, IsText, Reading, Uid, between_at, byte_at, is_text, stamp_at, to_be_bytes}
-use Rattle.misp_elem.specs.Spelling.{uid, text, flag, optional_uid, stamp}
-use Rattle.misp_elem.specs.Reading.{number_at, text_of, text_at, flag_of, flag_at, optional_of, optional_at}
+use Rattle.misp_elem.specs.Prelude.{◌>>=◌, IsBetween, IsMoment, IsOptionalMoment, IsOptionalUid, IsStamp, IsText, Reading, Uid, between_at, byte_at, is_text, stamp_at, to_be_bytes}
+use Rattle.misp_elem.specs.Spelling.{uid, text, flag, optional_uid, optional_moment, stamp}
+use Rattle.misp_elem.specs.Reading.{number_at, text_of, text_at, flag_of, flag_at, optional_of, optional_at, moment_at, optional_moment_of, optional_moment_at}
 use Rattle.misp_elem.proofs.Exact.{bind_ok, guard_ok, keep_ok, chosen, ok_is, no_error, Takes, Takes-then, IsField, last, cased, nothing, tested, under}
 use Rattle.misp_elem.proofs.Keys.{byte_field, uid_field}
 
@@ -42,6 +43,14 @@ pub stamp_field : IsField IsStamp stamp stamp_at
 unfolding stamp stamp_at
 stamp_field =
     under IsStamp (λ s h. leb-true s LAST_SECOND h.1) (λ s h. (omega arith, le-leb s LAST_SECOND h)) (tested (λ s. leb s LAST_SECOND) (number_field w64 (2 ^ 64) wide64))
+
+pub moment_field : (least : ℕ) → IsField (IsMoment least) stamp (moment_at least)
+unfolding stamp moment_at
+moment_field least =
+    under (IsMoment least)
+    (λ m h. let q = and_parts (leb least m) (leb m LAST_MICROSECOND) h.1 in (leb-true least m q.0, leb-true m LAST_MICROSECOND q.1))
+    (λ m h. (omega (arith, h.1), and_from _ _ (le-leb least m h.0) (le-leb m LAST_MICROSECOND h.1)))
+    (tested (λ m. leb least m && leb m LAST_MICROSECOND) (number_field w64 (2 ^ 64) wide64))
 
 -- ---- text
 
@@ -111,7 +120,7 @@ pub flag_field : IsField (λ (f : Bool). Unit {0}) flag flag_at
 unfolding flag_at
 flag_field = tagged flag_of flag_each flag_back
 
--- ---- an identifier after a flag
+-- ---- an identifier or a moment after a flag
 
 optional_takes : (bytes : List ℕ) (o : Option Uid) (rest : List ℕ) → IsBytes bytes → optional_at bytes ≡ Ok (o, rest) → IsOptionalUid o × Takes bytes (optional_uid o) rest
 unfolding optional_at
@@ -134,3 +143,27 @@ optional_again (Some u) rest h = ap (λ r. r >>= λ f. optional_of f.0 f.1) (fla
 
 pub optional_field : IsField IsOptionalUid optional_uid optional_at
 optional_field = record { takes = optional_takes; again = optional_again }
+
+moment_takes : (least : ℕ) (bytes : List ℕ) (o : Option ℕ) (rest : List ℕ) → IsBytes bytes → optional_moment_at least bytes ≡ Ok (o, rest)
+    → IsOptionalMoment least o × Takes bytes (optional_moment o) rest
+unfolding optional_moment_at
+moment_takes least bytes o rest fits e =
+    let s = bind_ok (flag_at bytes) (λ f. optional_moment_of least f.0 f.1) (o, rest) e in
+    let t = flag_field.takes bytes s.0.0 s.0.1 fits s.1 in
+    behind s.0.0 s.0.1 t.1 s.2 where
+      behind : (f : Bool) (after : List ℕ) → Takes bytes (flag f) after → optional_moment_of least f after ≡ Ok (o, rest) → IsOptionalMoment least o × Takes bytes (optional_moment o) rest
+      behind false after t e =
+          let made : Option ℕ × List ℕ = (None, after) in
+          subst (λ (x : Option ℕ × List ℕ). IsOptionalMoment least x.0 × Takes bytes (optional_moment x.0) x.1) (ok_is made (o, rest) e) (tt, t)
+      behind true after t e =
+          let u = (last (λ (m : ℕ). Some m) (moment_field least)).takes after o rest t.rest_fits e in
+          subst (λ (x : Option ℕ). IsOptionalMoment least x × Takes bytes (optional_moment x) rest) u.1 (u.2, Takes-then bytes (1 ∷ []) after (stamp u.0) rest t u.3)
+
+moment_again : (least : ℕ) (o : Option ℕ) (rest : List ℕ) → IsOptionalMoment least o → optional_moment_at least (optional_moment o ++ rest) ≡ Ok (o, rest)
+unfolding optional_moment_at
+moment_again least None rest h = ap (λ r. r >>= λ f. optional_moment_of least f.0 f.1) (flag_field.again false rest tt)
+moment_again least (Some m) rest h =
+    ap (λ r. r >>= λ f. optional_moment_of least f.0 f.1) (flag_field.again true (stamp m ++ rest) tt) ∙ (last (λ (m : ℕ). Some m) (moment_field least)).again m rest h
+
+pub optional_moment_field : (least : ℕ) → IsField (IsOptionalMoment least) optional_moment (optional_moment_at least)
+optional_moment_field least = record { takes = moment_takes least; again = moment_again least }

@@ -1,8 +1,8 @@
--- A date is a short text.
-use Rattle.std.proofs.Common.{◌≡◌, ℕ, zero, suc, ◌<◌, ◌^◌, Bool, true, false, cond, List, [], ◌∷◌, length, Some, None, true≢false, refl, sym, arith, option_map, unwrap_or, IsAscii, eqb-true}
+-- Nothing is text, and a date is a short one.
+use Rattle.std.proofs.Common.{◌≡◌, ℕ, zero, suc, ◌<◌, ◌^◌, Bool, true, false, cond, List, [], ◌∷◌, length, Some, None, true≢false, refl, sym, arith, option_map, unwrap_or, IsAscii, eqb-true, leb, le-leb, ◌&&◌}
 use Rattle.std.specs.Char.{is_ascii_digit}
 use Rattle.std.proofs.lemmas.Str.{IsUtf8-from_ascii}
-use Rattle.misp_lists.proofs.Prelude.{AllByRecursion, and_parts, is_utf8, is_utf8-from_IsUtf8, nat_tests}
+use Rattle.misp_lists.proofs.Prelude.{AllByRecursion, and_from, and_parts, is_utf8, is_utf8-from_IsUtf8, nat_tests}
 use Rattle.misp_dates.specs.Dates.{is_day, are_digits, is_date}
 use Rattle.misp_elem.specs.Fields.{is_text}
 use Rattle.misp_elem.proofs.Numbers.{length-text_le}
@@ -17,6 +17,10 @@ IsAscii-from_all (b ∷ bs) h (suc i) = IsAscii-from_all bs h.1 i
 
 is_utf8-from_all : (bs : List ℕ) → AllByRecursion (λ b. b < 128) bs → is_utf8 bs ≡ true
 is_utf8-from_all bs h = is_utf8-from_IsUtf8 bs (IsUtf8-from_ascii bs (IsAscii-from_all bs h))
+
+-- no bytes are text of whatever room
+pub no_text : (room : ℕ) → is_text 0 room [] ≡ true
+no_text room = and_from (leb 0 0 && leb 0 room) (is_utf8 []) (and_from (leb 0 0) (leb 0 room) refl (le-leb 0 room (omega arith))) (is_utf8-from_all [] tt)
 
 digits_small : (tens ones : ℕ) → are_digits tens ones ≡ true → (tens < 128) × (ones < 128)
 digits_small tens ones h = let q = and_parts _ _ h in (digit_small tens q.0, digit_small ones q.1)

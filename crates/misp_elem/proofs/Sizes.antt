@@ -1,5 +1,5 @@
 -- The texts of an element together are no longer than an element's may be.
-use Rattle.std.proofs.Common.{◌≡◌, ℕ, ◌+◌, ◌-◌, ◌≤◌, min, Bool, true, false, ◌&&◌, List, [], ◌∷◌, length, arith, nat_le}
+use Rattle.std.proofs.Common.{◌≡◌, ℕ, ◌-◌, ◌≤◌, min, Bool, true, false, ◌&&◌, List, [], ◌∷◌, length, arith, nat_le}
 use Rattle.std.proofs.lemmas.List.Sums.{sum_by-cons}
 use Rattle.misp_lists.proofs.Prelude.{and_parts, nat_tests}
 use Rattle.misp_elem.specs.Fields.{AreTagsAfter, IsText, is_text, is_after, tags_size, text_limit}
@@ -48,7 +48,8 @@ size_within may (Content.Attribute b) h =
     let kind = most_of 1 100 b.kind h.0 in
     let comment = most_of 0 (text_limit - length b.kind) b.comment h.1.1.1.0 in
     let value = most_of 0 (text_limit - length b.kind - length b.comment) b.value (and_parts _ _ h.1.1.1.1.1.0).0 in
-    let tags = tags_room (text_limit - length b.kind - length b.comment - length b.value) [] b.tags h.1.1.1.1.1.1.1 in
+    let tags = tags_room (text_limit - length b.kind - length b.comment - length b.value) [] b.tags h.1.1.1.1.1.1.0.1 in
+    let relation = most_of 0 (text_limit - length b.kind - length b.comment - length b.value - tags_size b.tags) b.object_relation h.1.1.1.1.1.1.1.0 in
     omega arith
 size_within may (Content.Reference b) h =
     let relationship = most_of 0 text_limit b.relationship_type h.0 in

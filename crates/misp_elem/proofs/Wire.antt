@@ -1,16 +1,16 @@
 -- Each field of a row on the wire is read as it is written.
 use Rattle.std.proofs.Common.{◌≡◌, ℕ, Bool, true, false, cond, eqb, leb, not, ◌&&◌, length, List, [], ◌∷◌, ◌++◌, Ok, Err, refl, sym, ap, subst, ◌∙◌, append_assoc, arith, Option, Some, None, eqb-true, eq-eqb, leb-true}
 use Rattle.misp_lists.proofs.Prelude.{IsBytes, and_parts, false≢true}
-use Rattle.misp_elem.specs.Prelude.{◌>>=◌, Attribute, Content, Element, Event, EventId, IsBetween, IsContentOf, IsKey, IsLabelBut, IsPlaceBut, IsRow, IsStamp, IsUid, KeyForm, Label, Object, ObjectAttribute, OrgId, Place, Proposal}
+use Rattle.misp_elem.specs.Prelude.{◌>>=◌, Attribute, Content, Element, Event, EventId, IsBetween, IsKey, IsLabelBut, IsPlaceBut, IsRow, IsStamp, IsUid, KeyForm, Label, Object, ObjectAttribute, OrgId, Place, Proposal}
 use Rattle.misp_elem.specs.Prelude.{Reference, RowFields, Sighting, Verdict, barred_labels, event_at, event_key, event_of, inst_name, is_after, key, key_at, label_kind, proposal_name}
-use Rattle.misp_elem.specs.Spelling.{uid, place, stamp, label, flags, content, row}
+use Rattle.misp_elem.specs.declared.row.RowForm.TheVariants.{Second}
+use Rattle.misp_elem.specs.Spelling.{uid, place, stamp, label, flags, content_in, fields_in, row}
 use Rattle.misp_elem.specs.WireReading.{IsKeyAfter, IsOnWire, nobody_at, own_event_at, front_at, first_key_at, later_key_at, key_after_at, carried_at, fields_on_wire, row_on_wire, row_of_wire}
 use Rattle.misp_elem.proofs.Exact.{bind_ok, keep_ok, Takes, IsField, IsMade, last, first, whole, itself, tested, under, all_takes, all_again}
 use Rattle.misp_elem.proofs.Keys.{event_field, org_field, place_field, key_field}
 use Rattle.misp_elem.proofs.Numbers.{between_field, stamp_field}
 use Rattle.misp_elem.proofs.Labels.{flags_field, label_field}
-use Rattle.misp_elem.proofs.Contents.{content_field}
-use Rattle.misp_elem.proofs.Rows.{body, form_is_1}
+use Rattle.misp_elem.proofs.Contents.{IsContentIn, all_spelled, content_field}
 
 -- ---- the owner, the event and the flags
 
@@ -144,30 +144,34 @@ wire_made : (e : EventId) (before : Option KeyForm) → IsMade
     × (IsStamp p.1.1.0
     × (IsLabelBut (barred_labels p.1.0) p.1.1.1.0
     × ((Unit {0} × ((not p.1.1.1.1.0.0 && p.1.1.1.1.0.1) ≡ true))
-    × IsContentOf p.1.0 (label_kind p.1.1.1.0) p.1.1.1.1.0 p.1.1.1.1.1)))))
+    × IsContentIn Second p.1.0 (label_kind p.1.1.1.0) p.1.1.1.1.0 p.1.1.1.1.1)))))
     (λ p. record { owner = p.0; key = p.1.0; stamp = p.1.1.0; label = p.1.1.1.0; held = p.1.1.1.1.0.0; carried = p.1.1.1.1.0.1; content = p.1.1.1.1.1 })
-    (λ p. uid p.0.0 ++ (key p.1.0 ++ (stamp p.1.1.0 ++ (label p.1.1.1.0 ++ (flags p.1.1.1.1.0 ++ content p.1.1.1.1.1)))))
+    (λ p. uid p.0.0 ++ (key p.1.0 ++ (stamp p.1.1.0 ++ (label p.1.1.1.0 ++ (flags p.1.1.1.1.0 ++ content_in Second p.1.1.1.1.1)))))
     (fields_on_wire e before)
 unfolding fields_on_wire
 wire_made e before =
     first nobody_field (λ owner. first (key_after_field e before) (λ k. first stamp_field (λ s. first (label_field (barred_labels k)) (λ l. first carried_field (λ f.
-    last (λ c. record { owner = owner; key = k; stamp = s; label = l; held = f.0; carried = f.1; content = c }) (content_field k (label_kind l) f))))))
+    last (λ c. record { owner = owner; key = k; stamp = s; label = l; held = f.0; carried = f.1; content = c }) (content_field Second k (label_kind l) f))))))
 
-wire_field : (e : EventId) (before : Option KeyForm) → IsField (λ r. IsRow r × IsOnWire e before r) body (fields_on_wire e before)
+wire_field : (e : EventId) (before : Option KeyForm) → IsField (λ r. IsRow r × IsOnWire e before r) (fields_in Second) (fields_on_wire e before)
 wire_field e before =
-    whole (λ r. (r.owner, (r.key, (r.stamp, (r.label, ((r.held, r.carried), r.content)))))) (λ r. IsRow r × IsOnWire e before r) body (λ r. refl)
-    (λ r h. ((h.0.0, h.1.0), ((h.0.1.0, h.1.1.0), (h.0.1.1.0, (h.0.1.1.1.0, ((tt, carried_flags r.held r.carried h.1.1.1.0 h.1.1.1.1), h.0.1.1.1.1.1))))))
-    (λ p h. ((h.0.0, (h.1.0.0, (h.1.1.0, (h.1.1.1.0, (tt, h.1.1.1.1.1))))), (h.0.1, (h.1.0.1, flags_carried p.1.1.1.1.0.0 p.1.1.1.1.0.1 h.1.1.1.1.0.1))))
+    whole (λ r. (r.owner, (r.key, (r.stamp, (r.label, ((r.held, r.carried), r.content)))))) (λ r. IsRow r × IsOnWire e before r) (fields_in Second) (λ r. refl)
+    (λ r h. ((h.0.0, h.1.0), ((h.0.1.0, h.1.1.0), (h.0.1.1.0, (h.0.1.1.1.0, ((tt, carried_flags r.held r.carried h.1.1.1.0 h.1.1.1.1), (h.0.1.1.1.1.1, all_spelled r.content)))))))
+    (λ p h. ((h.0.0, (h.1.0.0, (h.1.1.0, (h.1.1.1.0, (tt, h.1.1.1.1.1.0))))), (h.0.1, (h.1.0.1, flags_carried p.1.1.1.1.0.0 p.1.1.1.1.0.1 h.1.1.1.1.0.1))))
     (λ p h. refl) (wire_made e before)
 
+-- the only form is 2
+form_is_2 : (n : ℕ) → IsBetween 2 2 n → n ≡ 2
+form_is_2 n h = let q = and_parts (leb 2 n) (leb n 2) h in omega (arith, leb-true 2 n q.0, leb-true n 2 q.1)
+
 wire_row_made : (e : EventId) (before : Option KeyForm)
-    → IsMade (λ (p : ℕ × RowFields). IsBetween 1 1 p.0 × (IsRow p.1 × IsOnWire e before p.1)) (λ p. p.1) (λ p. (p.0 ∷ []) ++ body p.1) (row_on_wire e before)
+    → IsMade (λ (p : ℕ × RowFields). IsBetween 2 2 p.0 × (IsRow p.1 × IsOnWire e before p.1)) (λ p. p.1) (λ p. (p.0 ∷ []) ++ fields_in Second p.1) (row_on_wire e before)
 unfolding row_on_wire
-wire_row_made e before = first (between_field 1 1 (omega arith)) (λ form. itself (wire_field e before))
+wire_row_made e before = first (between_field 2 2 (omega arith)) (λ form. itself (wire_field e before))
 
 wire_row_field : (e : EventId) (before : Option KeyForm) → IsField (λ r. IsRow r × IsOnWire e before r) row (row_on_wire e before)
 wire_row_field e before =
-    whole (λ r. (1, r)) (λ r. IsRow r × IsOnWire e before r) row (λ r. refl) (λ r h. (refl, h)) (λ p h. h.1) (λ p h. ap (λ (n : ℕ). n ∷ body p.1) (sym (form_is_1 p.0 h.0))) (wire_row_made e before)
+    whole (λ r. (2, r)) (λ r. IsRow r × IsOnWire e before r) row (λ r. refl) (λ r h. (refl, h)) (λ p h. h.1) (λ p h. ap (λ (n : ℕ). n ∷ fields_in Second p.1) (sym (form_is_2 p.0 h.0))) (wire_row_made e before)
 
 pub row_of_wire_takes : (e : EventId) (before : Option KeyForm) (bytes : List ℕ) (r : RowFields) → IsBytes bytes → row_of_wire e before bytes ≡ Ok r
     → (IsRow r × IsOnWire e before r) × (bytes ≡ row r)

@@ -1,5 +1,5 @@
 -- Reading the contents of rows.
-use Rattle.std.specs.Prelude.{ℕ, ◌-◌, List, [], ◌∷◌, length, take, drop, Bool, true, false, zero, suc, Ok, Err, nat_lt, min, ◌==◌, if◌then◌else◌}
+use Rattle.std.specs.Prelude.{ℕ, ◌-◌, Option, None, List, [], ◌∷◌, length, take, drop, Bool, true, false, zero, suc, Ok, Err, nat_lt, min, ◌==◌, if◌then◌else◌}
 use Rattle.std.specs.Int.{w32, w64}
 use Rattle.misp_elem.specs.declared.key.KeyForm.{KeyForm}
 use Rattle.misp_elem.specs.declared.content.Tag.{Tag}
@@ -10,10 +10,12 @@ use Rattle.misp_elem.specs.declared.content.ReferenceBody.{ReferenceBody}
 use Rattle.misp_elem.specs.declared.content.ProposalBody.{ProposalBody}
 use Rattle.misp_elem.specs.declared.content.SightingBody.{SightingBody}
 use Rattle.misp_elem.specs.declared.content.Content.{Content}
-use Rattle.misp_elem.specs.Fields.{text_limit, is_after}
+use Rattle.misp_elem.specs.declared.row.RowForm.{RowForm}
+use Rattle.misp_elem.specs.declared.row.RowForm.TheVariants.{First, Second}
+use Rattle.misp_elem.specs.Fields.{earliest, text_limit, is_after, tags_size}
 use Rattle.misp_elem.specs.Contents.{is_removal, least_kind}
 use Rattle.misp_elem.specs.Row.{fits, may_remove}
-use Rattle.misp_elem.specs.Reading.{Reading, ◌>>=◌, byte_at, org_at, number_at, between_at, stamp_at, text_at, date_at, value_at, flag_at, optional_at}
+use Rattle.misp_elem.specs.Reading.{Reading, ◌>>=◌, byte_at, org_at, number_at, between_at, stamp_at, text_at, date_at, value_at, flag_at, optional_at, optional_moment_at}
 
 unfoldable pub colour_at : List ℕ → Reading (List ℕ)
 colour_at bytes =
@@ -94,8 +96,17 @@ object_body_at bytes = do
     deleted.1,
   )
 
-unfoldable pub attribute_body_at : List ℕ → Reading AttributeBody
-attribute_body_at bytes = do
+-- the part of an object, and a moment, which the first form does not spell
+unfoldable pub relation_at : RowForm → ℕ → List ℕ → Reading (List ℕ)
+relation_at First room bytes = Ok ([], bytes)
+relation_at Second room bytes = text_at 0 room bytes
+
+unfoldable pub seen_at : RowForm → ℕ → List ℕ → Reading (Option ℕ)
+seen_at First least bytes = Ok (None, bytes)
+seen_at Second least bytes = optional_moment_at least bytes
+
+unfoldable pub attribute_body_at : RowForm → List ℕ → Reading AttributeBody
+attribute_body_at form bytes = do
   kind ← text_at 1 100 bytes
   category ← between_at 0 15 kind.1
   to_ids ← flag_at category.1
@@ -103,6 +114,10 @@ attribute_body_at bytes = do
   deleted ← flag_at comment.1
   value ← value_at (text_limit - length kind.0 - length comment.0) kind.0 deleted.1
   tags ← tags_at (text_limit - length kind.0 - length comment.0 - length value.0) value.1
+  object_relation ← relation_at form
+      (text_limit - length kind.0 - length comment.0 - length value.0 - tags_size tags.0) tags.1
+  first_seen ← seen_at form 0 object_relation.1
+  last_seen ← seen_at form (earliest first_seen.0) first_seen.1
   Ok (
     record {
       kind = kind.0;
@@ -112,8 +127,11 @@ attribute_body_at bytes = do
       deleted = deleted.0;
       value = value.0;
       tags = tags.0;
+      object_relation = object_relation.0;
+      first_seen = first_seen.0;
+      last_seen = last_seen.0;
     },
-    tags.1,
+    last_seen.1,
   )
 
 unfoldable pub reference_body_at : List ℕ → Reading ReferenceBody
@@ -169,8 +187,8 @@ sighting_body_at bytes = do
   Ok (record { by_name = by_name.0; kind = kind.0; date = date.0; source = source.0 }, source.1)
 
 -- the content of this kind
-abbrev pub content_of : Bool → List ℕ → ℕ → List ℕ → Reading Content
-content_of may bytes kind rest =
+abbrev pub content_of : RowForm → Bool → List ℕ → ℕ → List ℕ → Reading Content
+content_of form may bytes kind rest =
     if kind == 0 then (do
       b ← event_body_at rest
       Ok (Content.Event b.0, b.1))
@@ -178,7 +196,7 @@ content_of may bytes kind rest =
       b ← object_body_at rest
       Ok (Content.Object b.0, b.1))
     else if kind == 2 then (do
-      b ← attribute_body_at rest
+      b ← attribute_body_at form rest
       Ok (Content.Attribute b.0, b.1))
     else if kind == 3 then (do
       b ← reference_body_at rest
@@ -196,8 +214,8 @@ content_of may bytes kind rest =
     else Err (length bytes)
 
 -- a content that a row of this key, label and flags may have
-unfoldable pub content_at : KeyForm → ℕ → Bool × Bool → List ℕ → Reading Content
-content_at key label flags bytes = do
+unfoldable pub content_at : RowForm → KeyForm → ℕ → Bool × Bool → List ℕ → Reading Content
+content_at form key label flags bytes = do
   kind ← byte_at bytes
-  if fits key label flags kind.0 then content_of (may_remove key) bytes kind.0 kind.1
+  if fits key label flags kind.0 then content_of form (may_remove key) bytes kind.0 kind.1
       else Err (length bytes)

@@ -8,9 +8,10 @@ use Rattle.misp_elem.specs.declared.content.ReferenceBody.{ReferenceBody}
 use Rattle.misp_elem.specs.declared.content.ProposalBody.{ProposalBody}
 use Rattle.misp_elem.specs.declared.content.SightingBody.{SightingBody}
 use Rattle.misp_elem.specs.declared.content.Content.{Content}
-use Rattle.misp_elem.specs.Fields.{is_text, IsText, text_limit, IsStamp, IsBetween, IsOptionalUid, IsDate, is_value, IsValue, AreTags, tags_size}
+use Rattle.misp_elem.specs.Fields.{is_text, IsText, text_limit, IsStamp, IsBetween, IsOptionalUid, IsDate, IsOptionalMoment, earliest, is_value, IsValue, AreTags, tags_size}
 
--- Each text has the room that the texts before it leave of the limit.
+-- Each text has the room that the texts before it leave of the limit, and what was seen last was not
+-- so before it was seen first.
 abbrev pub IsEventBody : EventBody → Type 0
 IsEventBody b =
     IsText 1 text_limit b.info
@@ -42,7 +43,12 @@ IsAttributeBody b =
     × (IsText 0 (text_limit - length b.kind) b.comment
     × (Unit {0}
     × (IsValue (text_limit - length b.kind - length b.comment) b.kind b.value
-    × AreTags (text_limit - length b.kind - length b.comment - length b.value) b.tags)))))
+    × (AreTags (text_limit - length b.kind - length b.comment - length b.value) b.tags
+    × (IsText 0
+    (text_limit - length b.kind - length b.comment - length b.value - tags_size b.tags)
+    b.object_relation
+    × (IsOptionalMoment 0 b.first_seen
+    × IsOptionalMoment (earliest b.first_seen) b.last_seen))))))))
 
 abbrev pub IsReferenceBody : ReferenceBody → Type 0
 IsReferenceBody b =
@@ -116,6 +122,7 @@ text_size (Content.Object b) =
     length b.name + length b.meta_category + length b.description + length b.comment
 text_size (Content.Attribute b) =
     length b.kind + length b.comment + length b.value + tags_size b.tags
+    + length b.object_relation
 text_size (Content.Reference b) = length b.relationship_type + length b.comment
 text_size (Content.Proposal b) = length b.kind + length b.comment + length b.value
 text_size (Content.Verdict b) = 0

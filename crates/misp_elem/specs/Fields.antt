@@ -5,6 +5,7 @@ use Rattle.std.specs.Ordering.{nat_cmp, is_lt}
 use Rattle.std.specs.Cmp.Lexicographic.{slice_cmp}
 use Rattle.misp_ids.specs.declared.uid.Uid.{Uid}
 use Rattle.misp_ids.specs.declared.stamp.TheConstants.{LAST_SECOND}
+use Rattle.misp_dates.specs.declared.moment.TheConstants.{LAST_MICROSECOND}
 use Rattle.misp_types.specs.Values.{is_kept}
 use Rattle.misp_ids.specs.Uid.{IsUid}
 use Rattle.misp_elem.specs.declared.content.Tag.{Tag}
@@ -35,11 +36,24 @@ abbrev pub IsOptionalUid : Option Uid → Type 0
 IsOptionalUid None = Unit {0}
 IsOptionalUid (Some u) = IsUid u
 
--- ---- dates
+-- ---- dates and moments
 
 -- a day of the calendar as `YYYY-MM-DD`
 abbrev pub IsDate : List ℕ → Type 0
 IsDate text = is_date text ≡ true
+
+-- a moment that is no earlier than this
+abbrev pub IsMoment : ℕ → ℕ → Type 0
+IsMoment least m = (least ≤ m) × (m ≤ LAST_MICROSECOND)
+
+abbrev pub IsOptionalMoment : ℕ → Option ℕ → Type 0
+IsOptionalMoment least None = Unit {0}
+IsOptionalMoment least (Some m) = IsMoment least m
+
+-- the earliest that a later moment may be, where the one before it is known or not
+abbrev pub earliest : Option ℕ → ℕ
+earliest None = 0
+earliest (Some m) = m
 
 -- ---- values of attributes
 

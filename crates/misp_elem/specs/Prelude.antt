@@ -18,7 +18,7 @@ unfoldable pub use Rattle.misp_types.specs.Values.{is_kept}
 unfoldable pub use Rattle.misp_elem.specs.Contents.{text_size}
 pub use Rattle.misp_elem.specs.Contents.{IsAttributeBody, content_kind}
 pub use Rattle.misp_elem.specs.Draft.{ReferenceDraftFields as ReferenceDraft, SubmissionFields as Submission}
-pub use Rattle.misp_elem.specs.Fields.{AreTags, AreTagsAfter, IsBetween, IsOptionalUid, IsStamp, IsTag, IsTagName, IsText, IsValue, is_after, is_text, text_limit}
+pub use Rattle.misp_elem.specs.Fields.{AreTags, AreTagsAfter, IsBetween, IsMoment, IsOptionalMoment, IsOptionalUid, IsStamp, IsTag, IsTagName, IsText, IsValue, earliest, is_after, is_text, text_limit}
 pub use Rattle.misp_elem.specs.Key.{IsKey, IsPlace, IsPlaceBut, of_proposal, place_kind}
 unfoldable pub use Rattle.misp_elem.specs.KeyFacts.{uuid_at}
 unfoldable pub use Rattle.misp_elem.specs.KeyReading.{key_at}

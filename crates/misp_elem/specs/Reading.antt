@@ -8,6 +8,7 @@ use Rattle.misp_ids.specs.declared.uid.OrgId.{OrgId}
 use Rattle.misp_ids.specs.declared.uid.ElemId.{ElemId}
 use Rattle.misp_ids.specs.Names.{is_inst_name}
 use Rattle.misp_ids.specs.declared.stamp.TheConstants.{LAST_SECOND}
+use Rattle.misp_dates.specs.declared.moment.TheConstants.{LAST_MICROSECOND}
 use Rattle.misp_types.specs.Values.{is_kept}
 pub use Rattle.misp_lists.specs.Reading.{◌>>=◌}
 use Rattle.misp_elem.specs.declared.fault.BadField.{BadField}
@@ -146,3 +147,17 @@ optional_of true rest = uid_at rest >>= λ u. Ok (Some u.0, u.1)
 
 unfoldable pub optional_at : List ℕ → Reading (Option Uid)
 optional_at bytes = flag_at bytes >>= λ f. optional_of f.0 f.1
+
+-- a moment that is no earlier than this
+unfoldable pub moment_at : ℕ → List ℕ → Reading ℕ
+moment_at least bytes = do
+  n ← number_at w64 bytes
+  if nat_le least n.0 && nat_le n.0 LAST_MICROSECOND then Ok n else Err (length bytes)
+
+abbrev pub optional_moment_of : ℕ → Bool → List ℕ → Reading (Option ℕ)
+optional_moment_of least false rest = Ok (None, rest)
+optional_moment_of least true rest = moment_at least rest >>= λ m. Ok (Some m.0, m.1)
+
+unfoldable pub optional_moment_at : ℕ → List ℕ → Reading (Option ℕ)
+optional_moment_at least bytes =
+    flag_at bytes >>= λ f. optional_moment_of least f.0 f.1

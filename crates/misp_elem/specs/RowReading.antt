@@ -3,9 +3,11 @@ use Rattle.std.specs.Prelude.{ℕ, List, length, Bool, true, false, Result, Ok, 
 use Rattle.std.specs.List.{list_any}
 use Rattle.misp_ids.specs.declared.label.Label.{Label}
 use Rattle.misp_ids.specs.Labels.{label_kind}
+use Rattle.misp_elem.specs.declared.row.RowForm.{RowForm}
+use Rattle.misp_elem.specs.declared.row.RowForm.TheVariants.{First, Second}
 use Rattle.misp_elem.specs.declared.row.RowFields.{RowFields}
 use Rattle.misp_elem.specs.Row.{barred_labels}
-use Rattle.misp_elem.specs.Reading.{Reading, ◌>>=◌, ended, byte_at, uid_at, org_at, between_at, stamp_at}
+use Rattle.misp_elem.specs.Reading.{Reading, ◌>>=◌, ended, byte_at, uid_at, org_at, stamp_at}
 use Rattle.misp_elem.specs.KeyReading.{key_at}
 use Rattle.misp_elem.specs.ContentReading.{content_at}
 
@@ -42,14 +44,14 @@ flags_of bytes b rest =
 unfoldable pub flags_at : List ℕ → Reading (Bool × Bool)
 flags_at bytes = byte_at bytes >>= λ b. flags_of bytes b.0 b.1
 
-unfoldable pub fields_at : List ℕ → Reading RowFields
-fields_at bytes = do
+unfoldable pub fields_at : RowForm → List ℕ → Reading RowFields
+fields_at form bytes = do
   owner ← org_at bytes
   key ← key_at owner.1
   stamp ← stamp_at key.1
   label ← label_at (barred_labels key.0) stamp.1
   flags ← flags_at label.1
-  content ← content_at key.0 (label_kind label.0) flags.0 flags.1
+  content ← content_at form key.0 (label_kind label.0) flags.0 flags.1
   Ok (
     record {
       owner = owner.0;
@@ -63,10 +65,20 @@ fields_at bytes = do
     content.1,
   )
 
+-- the byte of a form
+abbrev pub form_of : List ℕ → ℕ → List ℕ → Reading RowForm
+form_of bytes b rest =
+    if b == 1 then Ok (First, rest)
+    else if b == 2 then Ok (Second, rest)
+    else Err (length bytes)
+
+unfoldable pub form_at : List ℕ → Reading RowForm
+form_at bytes = byte_at bytes >>= λ b. form_of bytes b.0 b.1
+
 unfoldable pub row_at : List ℕ → Reading RowFields
 row_at bytes = do
-  form ← between_at 1 1 bytes
-  fields_at form.1
+  form ← form_at bytes
+  fields_at form.0 form.1
 
 unfoldable pub row_of : List ℕ → Result RowFields ℕ
 row_of bytes = row_at bytes >>= λ r. ended r

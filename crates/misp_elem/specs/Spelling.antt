@@ -1,5 +1,5 @@
--- The one spelling of each key and row.
-use Rattle.std.specs.Prelude.{ℕ, List, [], ◌∷◌, ◌++◌, length, Bool, true, false, Option, Some, None, flat_map}
+-- The one spelling of each key, and those of each row in its forms.
+use Rattle.std.specs.Prelude.{◌≡◌, ◌⊎◌, ℕ, List, [], ◌∷◌, ◌++◌, length, Bool, true, false, Option, Some, None, flat_map}
 use Rattle.std.specs.Int.{w32, w64, w128, to_be_bytes}
 use Rattle.misp_ids.specs.declared.label.Label.{Label}
 use Rattle.misp_ids.specs.declared.uid.Uid.{Uid}
@@ -12,6 +12,8 @@ use Rattle.misp_elem.specs.declared.content.ReferenceBody.{ReferenceBody}
 use Rattle.misp_elem.specs.declared.content.ProposalBody.{ProposalBody}
 use Rattle.misp_elem.specs.declared.content.SightingBody.{SightingBody}
 use Rattle.misp_elem.specs.declared.content.Content.{Content}
+use Rattle.misp_elem.specs.declared.row.RowForm.{RowForm}
+use Rattle.misp_elem.specs.declared.row.RowForm.TheVariants.{First, Second}
 use Rattle.misp_elem.specs.declared.row.RowFields.{RowFields}
 use Rattle.misp_elem.specs.declared.key.Place.{Place}
 use Rattle.misp_elem.specs.declared.key.Place.TheVariants.{Event, Object, Attribute, ObjectAttribute}
@@ -69,6 +71,11 @@ optional_uid (Some u) = 1 ∷ uid u
 unfoldable pub stamp : ℕ → List ℕ
 stamp s = to_be_bytes w64 s
 
+-- a flag, and the moment in eight bytes where there is one
+abbrev pub optional_moment : Option ℕ → List ℕ
+optional_moment None = 0 ∷ []
+optional_moment (Some m) = 1 ∷ stamp m
+
 abbrev pub label : Label → List ℕ
 label Label.Own = 0 ∷ []
 label Label.Community = 1 ∷ []
@@ -103,15 +110,22 @@ event_body b =
     ++ (text b.orgc_name
     ++ tags b.tags)))))))
 
-abbrev pub attribute_body : AttributeBody → List ℕ
-attribute_body b =
+-- what the second form spells besides
+abbrev pub relation_and_moments : RowForm → AttributeBody → List ℕ
+relation_and_moments First b = []
+relation_and_moments Second b =
+    text b.object_relation ++ (optional_moment b.first_seen ++ optional_moment b.last_seen)
+
+abbrev pub attribute_body : RowForm → AttributeBody → List ℕ
+attribute_body form b =
     text b.kind
     ++ ((b.category ∷ [])
     ++ (flag b.to_ids
     ++ (text b.comment
     ++ (flag b.deleted
     ++ (text b.value
-    ++ tags b.tags)))))
+    ++ (tags b.tags
+    ++ relation_and_moments form b))))))
 
 abbrev pub object_body : ObjectBody → List ℕ
 object_body b =
@@ -139,21 +153,44 @@ proposal_body b =
 abbrev pub sighting_body : SightingBody → List ℕ
 sighting_body b = text b.by_name ++ ((b.kind ∷ []) ++ (stamp b.date ++ text b.source))
 
-abbrev pub content : Content → List ℕ
-content (Content.Event b) = 0 ∷ event_body b
-content (Content.Object b) = 1 ∷ object_body b
-content (Content.Attribute b) = 2 ∷ attribute_body b
-content (Content.Reference b) = 3 ∷ reference_body b
-content (Content.Proposal b) = 4 ∷ proposal_body b
-content (Content.Verdict b) = 5 ∷ flag b
-content (Content.Sighting b) = 6 ∷ sighting_body b
-content Content.Gone = 7 ∷ []
+abbrev pub content_in : RowForm → Content → List ℕ
+content_in form (Content.Event b) = 0 ∷ event_body b
+content_in form (Content.Object b) = 1 ∷ object_body b
+content_in form (Content.Attribute b) = 2 ∷ attribute_body form b
+content_in form (Content.Reference b) = 3 ∷ reference_body b
+content_in form (Content.Proposal b) = 4 ∷ proposal_body b
+content_in form (Content.Verdict b) = 5 ∷ flag b
+content_in form (Content.Sighting b) = 6 ∷ sighting_body b
+content_in form Content.Gone = 7 ∷ []
 
-abbrev pub row : RowFields → List ℕ
-row r =
-    1 ∷ uid r.owner.0
+-- what follows the byte of the form
+abbrev pub fields_in : RowForm → RowFields → List ℕ
+fields_in form r =
+    uid r.owner.0
     ++ (key r.key
     ++ (stamp r.stamp
     ++ (label r.label
     ++ (flags (r.held, r.carried)
-    ++ content r.content))))
+    ++ content_in form r.content))))
+
+abbrev pub content : Content → List ℕ
+content c = content_in Second c
+
+-- THE SPELLING of a row, which is that of the second form
+abbrev pub row : RowFields → List ℕ
+row r = 2 ∷ fields_in Second r
+
+-- its spelling in the first form, which is read and not written
+abbrev pub row_of_first_form : RowFields → List ℕ
+row_of_first_form r = 1 ∷ fields_in First r
+
+-- the first form spells all that this says: no part of an object, and no moment
+abbrev pub IsOfFirstForm : Content → Type 0
+IsOfFirstForm (Content.Attribute b) =
+    (b.object_relation ≡ []) × ((b.first_seen ≡ None) × (b.last_seen ≡ None))
+IsOfFirstForm _ = Unit {0}
+
+-- THE FORMS: the bytes spell this row in the second form, or in the first where that spells all
+abbrev pub Spells : List ℕ → RowFields → Type 0
+Spells bytes r =
+    (bytes ≡ row r) ⊎ (IsOfFirstForm r.content × (bytes ≡ row_of_first_form r))

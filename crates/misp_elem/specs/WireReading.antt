@@ -2,6 +2,7 @@
 -- before it, and the event's own row first.
 use Rattle.std.specs.Prelude.{◌≡◌, ℕ, ◌==◌, ◌&&◌, not, List, [], ◌∷◌, length, Bool, true, false, Option, Some, None, Result, Ok, Err, if◌then◌else◌}
 use Rattle.misp_elem.specs.Prelude.{◌>>=◌, Element, EventId, KeyForm, OrgId, Reading, RowFields, barred_labels, between_at, event_at, event_key, event_of, is_after, key, key_at, label_kind, org_at, stamp_at}
+use Rattle.misp_elem.specs.declared.row.RowForm.TheVariants.{Second}
 use Rattle.misp_elem.specs.Reading.{ended}
 use Rattle.misp_elem.specs.KeyReading.{place_at}
 use Rattle.misp_elem.specs.ContentReading.{content_at}
@@ -74,7 +75,7 @@ fields_on_wire event before bytes = do
   stamp ← stamp_at next.1
   label ← label_at (barred_labels next.0) stamp.1
   flags ← carried_at label.1
-  content ← content_at next.0 (label_kind label.0) flags.0 flags.1
+  content ← content_at Second next.0 (label_kind label.0) flags.0 flags.1
   Ok (
     record {
       owner = owner.0;
@@ -88,9 +89,10 @@ fields_on_wire event before bytes = do
     content.1,
   )
 
+-- of the second form alone
 unfoldable pub row_on_wire : EventId → Option KeyForm → List ℕ → Reading RowFields
 row_on_wire event before bytes = do
-  form ← between_at 1 1 bytes
+  form ← between_at 2 2 bytes
   fields_on_wire event before form.1
 
 unfoldable pub row_of_wire : EventId → Option KeyForm → List ℕ → Result RowFields ℕ

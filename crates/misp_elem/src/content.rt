@@ -1,5 +1,6 @@
 //! What a row says of what its key names.
 
+use misp_dates::Moment;
 use misp_ids::{Items, OrgId, Stamp, Text, Uid};
 
 /// A tag. Its colour is red, green and blue.
@@ -49,6 +50,11 @@ pub struct AttributeBody {
     pub deleted: bool,
     pub value: Text,
     pub tags: Items<Tag>,
+    /// The name of its part in the template of its object, empty where it has none.
+    pub object_relation: Text,
+    /// From when to when what it names was seen.
+    pub first_seen: Option<Moment>,
+    pub last_seen: Option<Moment>,
 }
 
 #[derive(Drop)]

@@ -74,6 +74,9 @@ impl Clone for AttributeBody {
             deleted: self.deleted,
             value: self.value.clone()?,
             tags: copy_of(&self.tags)?,
+            object_relation: self.object_relation.clone()?,
+            first_seen: self.first_seen,
+            last_seen: self.last_seen,
         })
     }
 }

@@ -24,6 +24,7 @@ pub use facts::uuid_at;
 pub use fault::DecodeFault;
 pub use key::{Key, KeyForm, Place, ProposalName};
 pub use key_list::Parents;
+pub use misp_dates::Moment;
 pub use misp_ids::NoMemory;
 pub use order::compare_keys;
 pub use reading::{decode, decode_key, decode_on_wire};

@@ -8,6 +8,7 @@ mod contents;
 mod fields;
 mod keys;
 mod rows;
+mod seen;
 mod tags;
 mod values;
 mod wire;

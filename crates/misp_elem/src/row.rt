@@ -22,6 +22,13 @@ pub struct Row {
     pub content: Content,
 }
 
+/// The forms in which a row is spelled. The first has neither the parts of objects nor moments.
+#[derive(Clone, Copy, PartialEq, Eq)]
+pub(crate) enum RowForm {
+    First,
+    Second,
+}
+
 /// The fields of a row, whether they fit or not.
 #[derive(Drop)]
 pub struct RowFields {

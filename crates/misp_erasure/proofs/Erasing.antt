@@ -53,36 +53,36 @@ module _ (keep : Key → Bool) (c : IsClosed keep) where
   scene_cut n w act caller = rw (known_at_cut w act.at caller.org) refl
 
   -- a synchronisation
-  moved_cut : (n : ℕ) (r : Route) (vs : List Version) → map (moved n r) (cut keep vs) ≡ cut keep (map (moved n r) vs)
+  moved_cut : (r : Route) (vs : List Version) → map (moved r) (cut keep vs) ≡ cut keep (map (moved r) vs)
   unfolding moved cut
-  moved_cut n r vs = sym (filter-map (moved n r) (λ v. keep v.key) vs)
+  moved_cut r vs = sym (filter-map (moved r) (λ v. keep v.key) vs)
 
   append_cut : (xs ys : List Version) → cut keep (xs ++ ys) ≡ cut keep xs ++ cut keep ys
   unfolding cut
   append_cut xs ys = filter-append (λ v. keep v.key) xs ys
 
-  synced_cut : (n : ℕ) (w : World) (r : Route) → synced n (cut_world keep w) r ≡ cut_world keep (synced n w r)
+  synced_cut : (w : World) (r : Route) → synced (cut_world keep w) r ≡ cut_world keep (synced w r)
   unfolding synced cut_world
-  synced_cut n w r = λ i. record { log = (ap (λ vs. cut keep w.log ++ vs) came ∙ sym (append_cut w.log _)) i; groups = synced_groups w.groups r }
+  synced_cut w r = λ i. record { log = (ap (λ vs. cut keep w.log ++ vs) came ∙ sym (append_cut w.log _)) i; groups = synced_groups w.groups r; made = w.made }
     where
       groups : List Group
       groups = synced_groups w.groups r r.into
 
-      came : counted (tables (cut keep w.log) r.into) groups (map (moved n r) (passing (cut keep w.log) (w.groups r.from) r))
-          ≡ cut keep (counted (tables w.log r.into) groups (map (moved n r) (passing w.log (w.groups r.from) r)))
+      came : counted (tables (cut keep w.log) r.into) groups (map (moved r) (passing (cut keep w.log) (w.groups r.from) r))
+          ≡ cut keep (counted (tables w.log r.into) groups (map (moved r) (passing w.log (w.groups r.from) r)))
       came =
-          (λ i. counted (tables_cut keep c w.log r.into i) groups (map (moved n r) (passing_cut keep c w.log (w.groups r.from) r i)))
-          ∙ ap (counted (cut_rows keep (tables w.log r.into)) groups) (moved_cut n r (passing w.log (w.groups r.from) r))
-          ∙ counted_cut keep c (tables w.log r.into) groups (map (moved n r) (passing w.log (w.groups r.from) r))
+          (λ i. counted (tables_cut keep c w.log r.into i) groups (map (moved r) (passing_cut keep c w.log (w.groups r.from) r i)))
+          ∙ ap (counted (cut_rows keep (tables w.log r.into)) groups) (moved_cut r (passing w.log (w.groups r.from) r))
+          ∙ counted_cut keep c (tables w.log r.into) groups (map (moved r) (passing w.log (w.groups r.from) r))
 
   -- a request, by what it brings
   world_is : (w : World) (xs ys : List Version) → xs ≡ cut keep ys → record (cut_world keep w) { log = (cut_world keep w).log ++ xs } ≡ cut_world keep (record w { log = w.log ++ ys })
   unfolding cut_world
-  world_is w xs ys h = λ i. record { log = (ap (λ vs. cut keep w.log ++ vs) h ∙ sym (append_cut w.log ys)) i; groups = w.groups }
+  world_is w xs ys h = λ i. record { log = (ap (λ vs. cut keep w.log ++ vs) h ∙ sym (append_cut w.log ys)) i; groups = w.groups; made = w.made }
 
   nothing_kept : (w : World) (ys : List Version) → cut keep ys ≡ [] → cut_world keep w ≡ cut_world keep (record w { log = w.log ++ ys })
   unfolding cut_world
-  nothing_kept w ys h = λ i. record { log = (sym (append_cut w.log ys ∙ ap (λ vs. cut keep w.log ++ vs) h ∙ append-nil (cut keep w.log))) i; groups = w.groups }
+  nothing_kept w ys h = λ i. record { log = (sym (append_cut w.log ys ∙ ap (λ vs. cut keep w.log ++ vs) h ∙ append-nil (cut keep w.log))) i; groups = w.groups; made = w.made }
 
   -- a request over the kept rows, by what it brings there
   asked_cut : (n : ℕ) (w : World) (act : Act) (caller : Caller) (b : Ask) (ys : List Version) →
@@ -165,10 +165,10 @@ module _ (keep : Key → Bool) (c : IsClosed keep) where
   misfit_step net n w act caller true = refl
   misfit_step net n w act caller false = refl
 
-  route_step : (n : ℕ) (w : World) (o : Option Route) →
-      elim o as (λ x. World) [ None ↦ cut_world keep w | Some r ↦ synced n (cut_world keep w) r ] ≡ cut_world keep (elim o as (λ x. World) [ None ↦ w | Some r ↦ synced n w r ])
-  route_step n w None = refl
-  route_step n w (Some r) = synced_cut n w r
+  route_step : (w : World) (o : Option Route) →
+      elim o as (λ x. World) [ None ↦ cut_world keep w | Some r ↦ synced (cut_world keep w) r ] ≡ cut_world keep (elim o as (λ x. World) [ None ↦ w | Some r ↦ synced w r ])
+  route_step w None = refl
+  route_step w (Some r) = synced_cut w r
 
   -- for one act: the state after what is left of the act is what is kept of the state after it
   pub step_cut : (o : OrgId) (net : Net) (n : ℕ) (w : World) (act : Act) → HasKnown o keep w → HasKnown o keep (step net n w act) → HasPairs keep n w act →
@@ -180,7 +180,7 @@ module _ (keep : Key → Bool) (c : IsClosed keep) where
           step net n (cut_world keep w) (record act { command = erased_command o keep n w (record act { command = d }) }) ≡ cut_world keep (step net n w (record act { command = d }))
       by_command (Asks caller a) l p = request_step o net n w act caller a now l p
       by_command (Misfits caller) l p = misfit_step net n w act caller (same_org caller.org o)
-      by_command (Syncs way link) l p = route_step n w (net way act.at link w.groups)
+      by_command (Syncs direction link) l p = route_step w (net direction act.at link w.groups w.made)
       by_command _ l p = refl
 
   -- after the erased acts the state is what is kept of the state after the acts

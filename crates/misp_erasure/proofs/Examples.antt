@@ -2,7 +2,9 @@
 use Rattle.std.proofs.Common.{ℕ, [], ◌∷◌, false, Some, None, List, length, map, true, ◌≡◌, refl, Option, cond, ◌*◌, ◌+◌, Bool}
 use Rattle.misp_history.proofs.Prelude.{Act, AddEvent, Administers, Ask, Asks, Content, DeleteEvent, Draft, EditAttribute, EditEvent, ElemId, EventId, Group, Inst, Key, Label, Listed, Net, OrgId, Other, Place, Proposal, Publish, Refused}
 use Rattle.misp_history.proofs.Prelude.{Reply, Route, Rule, Saved, Seen, Submission, Syncs, Taken, is_less, label_kind, same_inst, tables}
-use Rattle.misp_ids.specs.declared.label.Way.TheVariants.{Pull, Push}
+use Rattle.misp_ids.specs.declared.label.Way.{Way}
+use Rattle.misp_ids.specs.declared.label.Direction.{Direction}
+use Rattle.misp_ids.specs.declared.label.Direction.TheVariants.{Pull, Push}
 use Rattle.misp_model.specs.Prelude.{ElementExists, ElementFull, EventExists, EventGone, GroupNotUsable, NotGranted, NotOwner, ProposalExists, TimeLimit, VisibleAttribute, VisibleObject, Way}
 use Rattle.misp_model.specs.Answers.{Packed, Parts, Shares}
 use Rattle.misp_model.specs.Scene.{LockedCopy, OlderTime, ProposalClosed}
@@ -55,7 +57,7 @@ attribute number n l =
       number = number;
       place = Place.Attribute (elem_id n);
       label = l;
-      content = Content.Attribute (record { kind = 116 ∷ []; category = 15; to_ids = false; comment = []; deleted = false; value = n ∷ []; tags = [] });
+      content = Content.Attribute (record { kind = 116 ∷ []; category = 15; to_ids = false; comment = []; deleted = false; value = n ∷ []; tags = []; object_relation = []; first_seen = None; last_seen = None });
     }
 
 event_with : ℕ → Label → List Draft → Submission
@@ -72,7 +74,7 @@ event_of_two : ℕ → Label → Submission
 event_of_two n l = event_with n l (attribute 1 21 Label.Inherit ∷ attribute 2 22 Label.Own ∷ [])
 
 no_links : Net
-no_links way i link groups = None
+no_links direction i link groups made = None
 
 asks : ℕ → ℕ → Ask → Act
 asks o time a = record { at = 97 ∷ []; now = time; command = Asks (record { org = org o; name = []; partner = None }) a }
@@ -105,27 +107,27 @@ c : Inst
 c = 99 ∷ []
 
 -- a link: where it is, to which peer, and whose key it has
-route : Way → Inst → Inst → OrgId → Route
-route Pull at peer o = record { way = Pull; from = peer; «for» = o; dest = at; into = at; holder = o }
-route Push at peer o = record { way = Push; from = at; «for» = o; dest = peer; into = peer; holder = o }
+route : Direction → Inst → Inst → OrgId → Route
+route Pull at peer o = record { way = Way.Pull; from = peer; «for» = o; dest = at; into = at; holder = o }
+route Push at peer o = record { way = Way.Push; from = at; «for» = o; dest = peer; into = peer; holder = o }
 
 links : Net
-links way i link groups =
-    cond (same_inst link (98 ∷ 97 ∷ [])) (Some (route way b a (org 2)))
-    (cond (same_inst link (99 ∷ 98 ∷ [])) (Some (route way c b (org 3)))
-    (cond (same_inst link (97 ∷ 98 ∷ [])) (Some (route way a b (org 1)))
-    (cond (same_inst link (97 ∷ 118 ∷ [])) (Some (route way a b (org 3)))
-    (cond (same_inst link (98 ∷ 99 ∷ [])) (Some (route way b c (org 3))) None))))
+links direction i link groups made =
+    cond (same_inst link (98 ∷ 97 ∷ [])) (Some (route direction b a (org 2)))
+    (cond (same_inst link (99 ∷ 98 ∷ [])) (Some (route direction c b (org 3)))
+    (cond (same_inst link (97 ∷ 98 ∷ [])) (Some (route direction a b (org 1)))
+    (cond (same_inst link (97 ∷ 118 ∷ [])) (Some (route direction a b (org 3)))
+    (cond (same_inst link (98 ∷ 99 ∷ [])) (Some (route direction b c (org 3))) None))))
 
-syncs : Way → Inst → Inst → Act
-syncs way i link = record { at = i; now = 0; command = Syncs way link }
+syncs : Direction → Inst → Inst → Act
+syncs direction i link = record { at = i; now = 0; command = Syncs direction link }
 
 asks_at : Inst → ℕ → ℕ → Ask → Act
 asks_at i o time x = record { at = i; now = time; command = Asks (record { org = org o; name = []; partner = None }) x }
 
 -- with a key for a partner
 asks_for : Inst → Inst → ℕ → ℕ → Ask → Act
-asks_for partner i o time x = record { at = i; now = time; command = Asks (record { org = org o; name = []; partner = Some partner }) x }
+asks_for partner i o time x = record { at = i; now = time; command = Asks (record { org = org o; name = []; partner = Some (record { inst = partner; way = Way.Pull }) }) x }
 
 -- the number of a rule
 rule_number : Rule → ℕ
@@ -174,7 +176,7 @@ stamps _ = []
 comment : ℕ → ℕ → Ask
 comment n x =
     Ask.Change (EditAttribute (event n) (Place.Attribute (elem_id x))
-    (record { stamp = None; label = None; category = None; to_ids = None; comment = Some (99 ∷ []); kind_value = None }))
+    (record { stamp = None; label = None; category = None; to_ids = None; comment = Some (99 ∷ []); kind_value = None; seen = None }))
 
 relabel : ℕ → Label → Ask
 relabel n l =
@@ -257,7 +259,7 @@ unfolding Outcomes.coming Outcomes.arriving Outcomes.takes Outcomes.first_brough
     Statements.sees_target Statements.propose_rules Statements.propose_writes Statements.sighting_key Statements.sight_rules Statements.sight_writes Statements.judged_at
     Statements.judged_place Statements.is_for_new Statements.proposal_row Statements.proposal_body Statements.accepted Statements.made Statements.body_seen Statements.acceptance
     Statements.judge_writes Statements.can_judge Statements.judge_rules Audience.allows Audience.carries Audience.known_group Audience.is_known_group Audience.group_passes
-    Audience.label_opens Audience.is_open Levels.hop Levels.down Audience.label_lets_out Audience.label_is_known Closed.cut_rows Closed.cut Erasure.cut_world Closed.keeps_reference
+    Audience.label_opens Audience.is_open Levels.hop Levels.down Levels.lowering Levels.landed Audience.label_lets_out Audience.label_is_known Closed.cut_rows Closed.cut Erasure.cut_world Closed.keeps_reference
     Closed.cut_body Closed.is_empty Closed.where_kept Closed.erased_ask Erasure.erased_request Erasure.erased_command Erasure.erased_act Erasure.erase Version.has_path Version.is_published
     Version.is_handed_in KeyFacts.is_statement RowFacts.is_gone History.exportable History.without_local_tags Version.label_now History.content_now History.same_cell History.published_after
     History.released History.row_of History.is_newest History.newest_from History.newest History.tables RowOrder.spell_place RowOrder.spell_inst RowOrder.spell_name RowOrder.spell

@@ -63,6 +63,12 @@ pub erased_groups : (o : OrgId) (net : Net) (acts more : List Act) →
 unfolding cut_world
 erased_groups o net acts more = ap (λ (w : World). w.groups) (erased_part o net acts more)
 
+-- and so is what was made of the administration
+pub erased_made : (o : OrgId) (net : Net) (acts more : List Act) →
+    (run net 0 start (erase o (kept o net 0 start (acts ++ more)) net 0 start acts)).made ≡ (run net 0 start acts).made
+unfolding cut_world
+erased_made o net acts more = ap (λ (w : World). w.made) (erased_part o net acts more)
+
 -- the kept keys are the least set that is closed and has what it is to have
 pub kept_is_least : (keep : Key → Bool) (o : OrgId) (net : Net) (acts : List Act) → IsClosed keep → IsKept o keep net 0 start acts → (k : Key) → kept o net 0 start acts k ≡ true → keep k ≡ true
 unfolding kept kept_keys all_kept

@@ -3,7 +3,7 @@ use Rattle.std.specs.Prelude.{Bool, cond, Some, None, ℕ, suc, List, [], ◌∷
 use Rattle.misp_model.specs.Prelude.{Inst, Key, OrgId, Scene, cut, is_accepted, list_all, same_org}
 use Rattle.misp_model.specs.Closed.{erased_ask, HasPair}
 use Rattle.misp_model.specs.declared.ask.Ask.{Ask}
-use Rattle.misp_history.specs.Acts.{World, Command, Asks, Nothing, Caller, Act, Misfits, Syncs, Takes_groups, Administers, scene, Net, step, known_at}
+use Rattle.misp_history.specs.Acts.{World, Command, Asks, Nothing, Caller, Act, Misfits, Syncs, Takes_groups, Administers, Shares, Makes, scene, Net, step, known_at}
 
 -- the state without what is not kept
 unfoldable pub cut_world : (Key → Bool) → World → World
@@ -22,9 +22,11 @@ erased_command o keep n w act =
     elim act.command [
       | Asks c a ↦ erased_request o keep (scene n w act c) c a
       | Misfits c ↦ cond (same_org c.org o) (Misfits c) Nothing
-      | Syncs way link ↦ Syncs way link
+      | Syncs direction link ↦ Syncs direction link
       | Takes_groups c gs ↦ Takes_groups c gs
       | Administers by add g ↦ Administers by add g
+      | Shares c add g ↦ Shares c add g
+      | Makes c item ↦ Makes c item
       | Nothing ↦ Nothing
     ]
 
@@ -48,9 +50,11 @@ HasPairs keep n w act =
     elim act.command [
       | Asks c a ↦ HasPair keep (scene n w act c) a
       | Misfits c ↦ Unit {0}
-      | Syncs way link ↦ Unit {0}
+      | Syncs direction link ↦ Unit {0}
       | Takes_groups c gs ↦ Unit {0}
       | Administers by add g ↦ Unit {0}
+      | Shares c add g ↦ Unit {0}
+      | Makes c item ↦ Unit {0}
       | Nothing ↦ Unit {0}
     ]
 

@@ -4,7 +4,7 @@ use Rattle.std.specs.Prelude.{Bool, List, [], ◌∷◌, ◌++◌, map, filter, 
 use Rattle.misp_model.specs.Prelude.{Element, Key, OrgId, Proposal, Reference, Reply, Scene, Sighting, Verdict, is_accepted, judged_place, list_any, parents, same_key, same_org}
 use Rattle.misp_model.specs.declared.ask.Ask.{Ask}
 use Rattle.misp_model.specs.declared.ask.Ask.TheVariants.{View, Propose, Judge, Sight, Index, Groups, SyncGroups, SyncEvents, SyncPart, TakePart}
-use Rattle.misp_history.specs.Acts.{World, known_at, Act, Net, step, Asks, Misfits, Syncs, Takes_groups, Administers, Nothing, scene, replies_to}
+use Rattle.misp_history.specs.Acts.{World, known_at, Act, Net, step, Asks, Misfits, Syncs, Takes_groups, Administers, Shares, Makes, Nothing, scene, replies_to}
 use Rattle.misp_erasure.specs.Erasure.{erase}
 
 -- the key is one of these
@@ -50,9 +50,11 @@ acceptance_of n w act =
     elim act.command [
       | Asks c a ↦ acceptance_in (scene n w act c) a
       | Misfits c ↦ []
-      | Syncs way link ↦ []
+      | Syncs direction link ↦ []
       | Takes_groups c gs ↦ []
       | Administers by add g ↦ []
+      | Shares c add g ↦ []
+      | Makes c item ↦ []
       | Nothing ↦ []
     ]
 
@@ -105,9 +107,9 @@ kept_keys o net n w acts =
 unfoldable pub kept : OrgId → Net → ℕ → World → List Act → Key → Bool
 kept o net n w acts = is_one_of (kept_keys o net n w acts)
 
--- the state before any act: no version, and no group
+-- the state before any act: no version, no group, and nothing made
 unfoldable pub start : World
-start = record { log = []; groups = λ i. [] }
+start = record { log = []; groups = λ i. []; made = λ i. [] }
 
 -- the acts without what the organisation was never granted
 unfoldable pub erased : OrgId → Net → List Act → List Act

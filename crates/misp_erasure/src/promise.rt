@@ -27,6 +27,9 @@ pub fn erasure()
     ensures groups { (o : OrgId) (net : Net) (acts more : List Act) →
         (run net 0 start (erase o (kept o net 0 start (acts ++ more)) net 0 start acts)).groups
         ≡ (run net 0 start acts).groups }
+    ensures made { (o : OrgId) (net : Net) (acts more : List Act) →
+        (run net 0 start (erase o (kept o net 0 start (acts ++ more)) net 0 start acts)).made
+        ≡ (run net 0 start acts).made }
 {}
 
 /// The keys that stay are the least set that has, with each key, what stands above it, with each

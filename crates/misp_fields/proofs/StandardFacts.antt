@@ -3,7 +3,8 @@ use Rattle.std.proofs.Common.{◌≡◌, true, [], ◌∷◌, map, Some, None, O
 use Rattle.hex.proofs.OnLiterals.{hex_on_literals}
 use Rattle.serde_json.specs.Data.{unsigned, null, boolean, number, string}
 use Rattle.misp_fields.specs.declared.need.Need.{Need}
-use Rattle.misp_fields.specs.Fields.{colour_in, number_of}
+use Rattle.misp_fields.specs.Fields.{colour_in, moment_of, number_of}
+use Rattle.misp_dates.specs.Moments.{read_moment}
 use Rattle.misp_fields.specs.Needs.{need_words}
 
 pub known_colours : map colour_in (codes "#ff8000" ∷ codes "#FF80aB" ∷ codes "ff8000" ∷ codes "#ff80" ∷ codes "#ff80000" ∷ codes "#ff800g" ∷ codes "" ∷ [])
@@ -22,3 +23,9 @@ pub known_words : map need_words (Need.Text ∷ Need.Digit 7 ∷ Need.Part 2 ∷
     ≡ codes "text" ∷ (codes "digit " ++ decimal 7) ∷ (codes "part " ++ decimal 2) ∷ codes "row" ∷ []
 unfolding need_words
 known_words = refl
+
+-- the empty text is no moment
+pub known_moments : (moment_of (string (codes "")) ≡ Ok None) × (moment_of null ≡ Err Need.Moment)
+    × (moment_of (string (codes "2023-11-14")) ≡ Err Need.Moment)
+unfolding read_moment
+known_moments = (refl, refl, refl)

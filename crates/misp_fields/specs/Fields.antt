@@ -11,6 +11,7 @@ use Rattle.misp_ids.specs.declared.uid.Uid.{Uid}
 use Rattle.misp_ids.specs.declared.stamp.TheConstants.{LAST_SECOND}
 use Rattle.misp_ids.specs.Uid.{read_uid}
 use Rattle.misp_dates.specs.Dates.{is_date}
+use Rattle.misp_dates.specs.Moments.{read_moment}
 use Rattle.misp_fields.specs.declared.need.Need.{Need}
 
 -- what a function returned, seen by view, is what is read
@@ -97,6 +98,16 @@ optional_uuid_of _ = Err Need.Uuid
 abbrev pub date_text_of : Data → Result (List ℕ) Need
 date_text_of (string s) = if is_date s then Ok s else Err Need.Date
 date_text_of _ = Err Need.Date
+
+-- the empty text is no moment
+abbrev pub moment_in : List ℕ → Result (Option ℕ) Need
+moment_in [] = Ok None
+moment_in (b ∷ bs) = or_need Need.Moment (option_map Some (read_moment (b ∷ bs)))
+
+-- a moment, in microseconds since 1970, or none
+abbrev pub moment_of : Data → Result (Option ℕ) Need
+moment_of (string s) = moment_in s
+moment_of _ = Err Need.Moment
 
 -- the three bytes that six hexadecimal digits after `#` write, in either case
 abbrev pub colour_in : List ℕ → Option (List ℕ)

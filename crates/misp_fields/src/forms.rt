@@ -1,12 +1,12 @@
-//! Dates and colours.
+//! Dates, moments and colours.
 
 ghost use Rattle.std.specs.Prelude.{◌≡◌};
 ghost use Rattle.serde_json.specs.View.{view};
-ghost use Rattle.misp_fields.specs.Fields.{Shown, date_text_of, colour_in, colour_of};
+ghost use Rattle.misp_fields.specs.Fields.{Shown, date_text_of, moment_of, colour_in, colour_of};
 
 use crate::need::Need;
 use hex::FromHex;
-use misp_dates::is_date;
+use misp_dates::{Moment, is_date};
 use serde_json::Value;
 
 /// A date of the calendar, `YYYY-MM-DD`.
@@ -16,6 +16,20 @@ pub fn date<'a>(value: &'a Value) -> Result<&'a str, Need>
     match value {
         Value::String(text) if is_date(text.as_bytes()) => Ok(text.as_str()),
         _ => Err(Need::Date),
+    }
+}
+
+/// A moment as `Moment::read` takes it, or none where the text is empty.
+pub fn moment(value: &Value) -> Result<Option<Moment>, Need>
+    ensures { result ≡ moment_of (view value.now) }
+{
+    match value {
+        Value::String(text) if text.is_empty() => Ok(None),
+        Value::String(text) => match Moment::read(text.as_bytes()) {
+            Some(moment) => Ok(Some(moment)),
+            None => Err(Need::Moment),
+        },
+        _ => Err(Need::Moment),
     }
 }
 

@@ -7,7 +7,7 @@ mod need;
 mod numbers;
 mod values;
 
-pub use forms::{colour, date};
+pub use forms::{colour, date, moment};
 pub use need::{Need, write_need};
 pub use numbers::{number, stamp};
 pub use values::{flag, list, member, optional_uuid, text, uuid};

@@ -16,6 +16,7 @@ pub enum Need {
     List,
     Uuid,
     Date,
+    Moment,
     Colour,
     /// A member that may not be absent.
     Present,
@@ -47,6 +48,7 @@ pub fn write_need(out: &mut String, need: Need) -> Result<(), AllocError>
         Need::List => out.push_str("list"),
         Need::Uuid => out.push_str("uuid"),
         Need::Date => out.push_str("date"),
+        Need::Moment => out.push_str("moment"),
         Need::Colour => out.push_str("colour"),
         Need::Present => out.push_str("present"),
         Need::Object => out.push_str("object"),

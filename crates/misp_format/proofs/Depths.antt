@@ -6,8 +6,9 @@ use Rattle.misp_elem.specs.declared.key.ProposalName.{ProposalName}
 use Rattle.misp_format.specs.Prelude.{AttributeBody, Content, Data, ElemId, EventBody, EventId, GroupNames, Items, KeyForm, Label, Members, ObjectBody, OrgId, Refusal, RowFields, Tag, Uid, VisibleAttribute, VisibleEvent, VisibleObject}
 use Rattle.misp_format.specs.Prelude.{attribute_data, attribute_members, attribute_with, body_data, event_members, event_with, group_data, group_names, items_of, member, no_members, object, object_data, object_members, object_with}
 use Rattle.misp_format.specs.Prelude.{optional_uuid_data, put, reference_data, slice_cmp, tag_data, with_group}
+use Rattle.misp_format.specs.Fields.{moment_if_known, text_if_any, with_some}
 use Rattle.misp_format.specs.Replies.{saved_data, taken_data, refusal_data}
-use Rattle.misp_format.specs.Written.{reference_with, reference_of, proposal_with, proposal_of, proposal_data, sighting_with, sighting_of, sighting_data, attribute_of, object_of, event_of, event_data}
+use Rattle.misp_format.specs.Written.{reference_with, reference_of, proposal_with, proposal_of, proposal_data, sighting_with, sighting_of, sighting_data, attribute_rest, attribute_of, object_of, event_of, event_data}
 
 -- at most so many levels
 pub record Shallow (n : ℕ) (d : Data) : Type 0 where
@@ -28,6 +29,14 @@ shallow_items n one h (x ∷ xs) =
 
 shallow_member : (n : ℕ) (k : List ℕ) (d : Data) (ms : Members) → Shallow n d → ShallowMembers n ms → ShallowMembers n (member k d ms)
 shallow_member n k d ms here others = record { levels = omega arith }
+
+shallow_moment : (n : ℕ) (k : List ℕ) (m : Option ℕ) (ms : Members) → ShallowMembers n ms → ShallowMembers n (with_some k (moment_if_known m) ms)
+shallow_moment n k None ms h = h
+shallow_moment n k (Some m) ms h = shallow_member n k _ ms (record { levels = omega arith }) h
+
+shallow_text : (n : ℕ) (k text : List ℕ) (ms : Members) → ShallowMembers n ms → ShallowMembers n (with_some k (text_if_any text) ms)
+shallow_text n k [] ms h = h
+shallow_text n k (b ∷ bs) ms h = shallow_member n k _ ms (record { levels = omega arith }) h
 
 shallow_put : (n : ℕ) (k : List ℕ) (d : Data) (ms : Members) → Shallow n d → ShallowMembers n ms → ShallowMembers n (put k d ms)
 shallow_put n k d no_members here h = shallow_member n k d no_members here h
@@ -102,7 +111,9 @@ shallow_attribute_with names a b =
     let proposals = shallow_items 2 proposal_data shallow_proposal a.proposals in
     let sightings = shallow_items 2 sighting_data shallow_sighting a.sightings in
     let tags = shallow_items 1 tag_data shallow_tag b.tags in
-    let members : ShallowMembers 3 (attribute_members a b) = record { levels = omega arith } in
+    let rest : ShallowMembers 3 (attribute_rest a b) = record { levels = omega arith } in
+    let seen = shallow_moment 3 (codes "first_seen") b.first_seen _ (shallow_moment 3 (codes "last_seen") b.last_seen _ (shallow_text 3 (codes "object_relation") b.object_relation (attribute_rest a b) rest)) in
+    let members : ShallowMembers 3 (attribute_members a b) = record { levels = omega (arith, seen.levels) } in
     shallow_object 3 (with_group names a.row.label (attribute_members a b)) (shallow_group 3 names a.row.label (attribute_members a b) (omega arith) members)
 
 shallow_attribute_of : (names : GroupNames) (a : VisibleAttribute) (content : Content) → Shallow 4 (attribute_of names a content)

@@ -1,26 +1,27 @@
 -- What is written of an event is read to what it brings.
 use Rattle.std.proofs.Common.{◌≡◌, ℕ, ◌<◌, ◌≤◌, ◌^◌, true, false, List, [], ◌∷◌, length, map, Option, Some, None, Ok, refl, sym, ap, ◌∙◌, subst, arith, lit<, codes, unwrap_or, option_map, option_and_then, nat_lt, nat_le, ◌==◌, ◌&&◌, fold}
-use Rattle.serde_json.specs.Find.{get}
+use Rattle.serde_json.specs.Find.{get, get_member}
 use Rattle.misp_lists.proofs.Prelude.{and_parts, nat_tests}
-use Rattle.misp_fields.specs.Fields.{present, flag_of}
+use Rattle.misp_fields.specs.Fields.{present, flag_of, moment_of}
 use Rattle.misp_elem.specs.Prelude.{IsAttributeBody, IsLabel, IsLabelBut, IsPlace, IsRow, IsUid, barred_labels, is_kept, list_any}
 use Rattle.misp_elem.specs.declared.key.KeyForm.TheVariants.{Element, Reference}
 use Rattle.misp_elem.specs.Contents.{IsObjectBody, IsEventBody}
 use Rattle.misp_elem.specs.Visible.{place_in, IsAttributeOf, IsReferenceOf, IsObjectOf, IsWhole}
 use Rattle.misp_format.specs.Prelude.{◌>>=◌, AllByRecursion, AttributeBody, Body, Content, Data, ElemId, EventBody, EventId, Gathered, GroupNames, Label, ObjectBody, Place, Reading, RowFields, Uid, VisibleAttribute, VisibleEvent}
-use Rattle.misp_format.specs.Prelude.{VisibleObject, attribute_data, attribute_members, attribute_with, attributes_at, body_data, category_of, each, event_at, event_members, event_with, group_names, item_path, items_of, kept_of, label_at}
+use Rattle.misp_format.specs.Prelude.{VisibleObject, attribute_data, attribute_members, attribute_with, attributes_at, body_data, boolean, category_of, each, event_at, event_members, event_with, group_names, item_path, items_of, kept_of, label_at}
 use Rattle.misp_format.specs.Prelude.{label_kind, list_data, list_of, made_uid, member, member_of, member_path, must_be, no_members, none_from, number_data, number_of, number_within, object, object_data, object_members, object_with}
 use Rattle.misp_format.specs.Prelude.{objects_at, optional_uuid_data, optional_uuid_of, read, reference_data, some_date_of, some_text_of, string, tag_data, tags_at, text_of, uuid_data, uuid_of, with_group, with_part, with_reference}
 use Rattle.misp_format.specs.Brought.{place_of, draft_of, reference_draft, owner_of, target_of, reference_body, and_attribute, and_reference, and_object, elements_of, event_draft, body_in, brought}
-use Rattle.misp_format.specs.Elements.{unless_file, kind_at, no_file_at, value_at, kept_at, attribute_at, next_attribute, reference_at, next_reference, references_at, object_at, object_and_others_at, next_object}
+use Rattle.misp_format.specs.Elements.{unless_file, kind_at, no_file_at, value_at, kept_at, seen_at, attribute_at, next_attribute, reference_at, next_reference, references_at, object_at, object_and_others_at, next_object}
 use Rattle.misp_format.specs.Gathered.{place}
 use Rattle.misp_format.specs.Kinds.{other_category, category_name, is_file_type}
 use Rattle.misp_format.specs.Readers.{is_long, text_within, is_file}
 use Rattle.misp_format.specs.Rows.{row}
 use Rattle.misp_format.specs.Tables.{submission_of, event_itself_at}
-use Rattle.misp_format.specs.Written.{place_uuid, key_uuid, attribute_of, reference_of, object_of, event_of, event_data}
+use Rattle.misp_format.specs.Written.{place_uuid, key_uuid, attribute_of, attribute_rest, reference_of, object_of, event_of, event_data}
 use Rattle.misp_format.proofs.Back.{row_back, each_back, number_back, within_back, at_most_5, beside, found_beside, row_beside, label_back, uuid_back, optional_back, category_back, kept_back, no_file_type}
 use Rattle.misp_elem.proofs.Sizes.{least_of}
+use Rattle.misp_format.proofs.Moments.{past_all, first_row, last_row, part_row, never_early}
 use Rattle.misp_format.proofs.RowFacts.{attribute_size, reference_size, object_size, event_size, attribute_of_row, object_of_row, reference_of_row, event_of_row, key_of_row, uuid_in_place}
 use Rattle.misp_format.proofs.TagsBack.{tags_back}
 
@@ -40,36 +41,50 @@ attribute_shape : (names : GroupNames) (a : VisibleAttribute) (b : AttributeBody
 unfolding attribute_data attribute_with
 attribute_shape names a b content = ap (attribute_of names a) content
 
+-- what is found is there, if it is not null
+later : {x y : Option Data} → x ≡ y → option_and_then present x ≡ option_and_then present y
+later e = ap (λ o. option_and_then present o) e
+
 attribute_read : (path : List ℕ) (names : GroupNames) (owner : Option ElemId) (word n : ℕ) (a : VisibleAttribute) (b : AttributeBody)
     → IsUid (key_uuid a.row.key) → IsLabel a.row.label → IsAttributeBody b
     → attribute_at path owner word n (object (with_group names a.row.label (attribute_members a b)))
     ≡ Ok (record { number = n; place = place_in owner (record { 0 = key_uuid a.row.key }); label = a.row.label; content = Content.Attribute b })
-unfolding attribute_at
+unfolding attribute_at seen_at
 attribute_read path names owner word n a b wide labelled h =
     let ms = attribute_members a b in
     let plain : Body = record { path = path; value = object ms } in
     let it : Body = record { path = path; value = object (with_group names a.row.label ms) } in
-    let room = h.1.1.1.1.1.1.1 in
+    let room = h.1.1.1.1.1.1.0.1 in
+    let rest = attribute_rest a b in
     let value_kept : is_kept b.kind b.value ≡ true = (and_parts _ _ h.1.1.1.1.1.0).1 in
     let long : is_long 1 100 b.kind ≡ true = (and_parts _ _ h.0).0 in
     let no_file : is_file_type b.kind ≡ false = no_file_type b.kind b.value value_kept in
     let uuid : row it (codes "uuid") uuid_of (Ok (made_uid word n)) ≡ Ok (key_uuid a.row.key) =
     row_beside path names a.row.label ms (codes "uuid") uuid_of (Ok (made_uid word n)) (key_uuid a.row.key) refl
-    (row_back plain (codes "uuid") uuid_of (Ok (made_uid word n)) (uuid_data (key_uuid a.row.key)) (key_uuid a.row.key) refl (uuid_back (key_uuid a.row.key) wide)) in
-    let type : row it (codes "type") (text_within 1 100) must_be ≡ Ok b.kind = row_beside path names a.row.label ms (codes "type") (text_within 1 100) must_be b.kind refl (rw long refl) in
+    (row_back plain (codes "uuid") uuid_of (Ok (made_uid word n)) (uuid_data (key_uuid a.row.key)) (key_uuid a.row.key) (later (past_all (codes "uuid") b rest refl refl refl)) (uuid_back (key_uuid a.row.key) wide)) in
+    let type : row it (codes "type") (text_within 1 100) must_be ≡ Ok b.kind = row_beside path names a.row.label ms (codes "type") (text_within 1 100) must_be b.kind refl
+    (row_back plain (codes "type") (text_within 1 100) must_be (string b.kind) b.kind (later (past_all (codes "type") b rest refl refl refl)) (rw long refl)) in
     let kind : kind_at it ≡ Ok b.kind = rw (type, no_file) refl in
     let category : row it (codes "category") category_of (Ok other_category) ≡ Ok b.category =
     row_beside path names a.row.label ms (codes "category") category_of (Ok other_category) b.category refl
     (row_back plain (codes "category") category_of (Ok other_category) (string (category_name b.category)) b.category refl (category_back b.category (upto_15 b.category h.1.0))) in
-    let to_ids : row it (codes "to_ids") flag_of (Ok false) ≡ Ok b.to_ids = row_beside path names a.row.label ms (codes "to_ids") flag_of (Ok false) b.to_ids refl refl in
+    let to_ids : row it (codes "to_ids") flag_of (Ok false) ≡ Ok b.to_ids = row_beside path names a.row.label ms (codes "to_ids") flag_of (Ok false) b.to_ids refl
+    (row_back plain (codes "to_ids") flag_of (Ok false) (boolean b.to_ids) b.to_ids (later (past_all (codes "to_ids") b rest refl refl refl)) refl) in
     let label : label_at it 5 5 ≡ Ok a.row.label = label_back path names a.row.label ms 5 5 (at_most_5 a.row.label) labelled refl in
     let comment : row it (codes "comment") text_of (Ok []) ≡ Ok b.comment = row_beside path names a.row.label ms (codes "comment") text_of (Ok []) b.comment refl refl in
     let deleted : row it (codes "deleted") flag_of (Ok false) ≡ Ok b.deleted = row_beside path names a.row.label ms (codes "deleted") flag_of (Ok false) b.deleted refl refl in
-    let no_data : no_file_at it ≡ Ok tt = ap (λ o. unless_file it (codes "data") (unwrap_or (option_map is_file (option_and_then present o)) false)) (beside names a.row.label ms (codes "data") refl) in
-    let text : row it (codes "value") text_of must_be ≡ Ok b.value = row_beside path names a.row.label ms (codes "value") text_of must_be b.value refl refl in
+    let no_data : no_file_at it ≡ Ok tt = ap (λ o. unless_file it (codes "data") (unwrap_or (option_map is_file (option_and_then present o)) false)) (beside names a.row.label ms (codes "data") refl ∙ past_all (codes "data") b rest refl refl refl) in
+    let text : row it (codes "value") text_of must_be ≡ Ok b.value = row_beside path names a.row.label ms (codes "value") text_of must_be b.value refl
+    (row_back plain (codes "value") text_of must_be (string b.value) b.value (later (past_all (codes "value") b rest refl refl refl)) refl) in
     let value : value_at b.kind it ≡ Ok b.value = ap (λ (r : Reading (List ℕ)). r >>= λ text. kept_at it (kept_of b.kind text)) text ∙ ap (kept_at it) (kept_back b.kind b.value value_kept) in
+    let first : row it (codes "first_seen") moment_of (Ok None) ≡ Ok b.first_seen =
+    row_beside path names a.row.label ms (codes "first_seen") moment_of (Ok None) b.first_seen refl (first_row path ms rest b refl refl h.1.1.1.1.1.1.1.1.0) in
+    let last : row it (codes "last_seen") moment_of (Ok None) ≡ Ok b.last_seen =
+    row_beside path names a.row.label ms (codes "last_seen") moment_of (Ok None) b.last_seen refl (last_row path ms rest b refl refl h.1.1.1.1.1.1.1.1.1) in
+    let seen : seen_at it (Ok None) ≡ Ok (record { first = b.first_seen; last = b.last_seen }) = rw (first, last, never_early b.first_seen b.last_seen h.1.1.1.1.1.1.1.1.1) refl in
+    let relation : row it (codes "object_relation") text_of (Ok []) ≡ Ok b.object_relation = row_beside path names a.row.label ms (codes "object_relation") text_of (Ok []) b.object_relation refl (part_row path ms rest b refl refl) in
     let tags : tags_at it ≡ Ok b.tags = tags_back _ path it.value b.tags room (found_beside names a.row.label ms (codes "Tag") (list_data tag_data b.tags) refl refl) in
-    rw (uuid, kind, category, to_ids, label, comment, deleted, no_data, value, tags, attribute_size b h) refl
+    rw (uuid, kind, category, to_ids, label, comment, deleted, no_data, value, seen, relation, tags, attribute_size b h) refl
 
 -- the label of a row
 label_in : (r : RowFields) → IsRow r → IsLabel r.label

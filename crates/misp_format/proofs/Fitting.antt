@@ -3,7 +3,7 @@ use Rattle.std.proofs.Common.{◌≡◌, ℕ, ◌+◌, ◌-◌, ◌<◌, ◌≤�
 use Rattle.std.specs.Prelude.{⊤}
 use Rattle.misp_lists.proofs.Prelude.{bytes_eq-Decides, nat_tests, ok_keeps}
 use Rattle.misp_types.specs.Values.{keeps, IsKept}
-use Rattle.misp_elem.specs.Prelude.{IsAttributeBody, IsBetween, IsLabel, IsLabelBut, IsOptionalUid, IsText, is_kept, text_limit}
+use Rattle.misp_elem.specs.Prelude.{IsAttributeBody, IsBetween, IsLabel, IsLabelBut, IsOptionalMoment, IsOptionalUid, IsText, earliest, is_kept, text_limit}
 use Rattle.misp_elem.specs.declared.content.ReferenceBody.{ReferenceBody}
 use Rattle.misp_elem.specs.Contents.{IsObjectBody, IsReferenceBody}
 use Rattle.misp_elem.specs.Draft.{EventDraftFields, IsEventDraft, IsOptionalDate}
@@ -60,9 +60,11 @@ kind_fits kind long utf8 = rw (long, utf8) refl
 pub attribute_fits : (it : Body) (b : AttributeBody) → is_long 1 100 b.kind ≡ true
     → row it (codes "category") category_of (Ok other_category) ≡ Ok b.category
     → is_utf8 b.kind ≡ true → is_utf8 b.comment ≡ true → is_utf8 b.value ≡ true
-    → IsKept b.kind b.value → FitTags b.tags → text_size (Content.Attribute b) ≤ text_limit → IsAttributeBody b
+    → IsKept b.kind b.value → FitTags b.tags → is_utf8 b.object_relation ≡ true
+    → IsOptionalMoment 0 b.first_seen × IsOptionalMoment (earliest b.first_seen) b.last_seen
+    → text_size (Content.Attribute b) ≤ text_limit → IsAttributeBody b
 unfolding text_size
-attribute_fits it b long category kind comment value kept tags short = (
+attribute_fits it b long category kind comment value kept tags relation seen short = (
   kind_fits b.kind long kind,
   (
     category_fits it b.category category,
@@ -74,7 +76,10 @@ attribute_fits it b long category kind comment value kept tags short = (
           tt,
           (
             rw (in_room 0 (text_limit - length b.kind - length b.comment) b.value value (omega arith) (omega arith), kept_is_kept b.kind b.value kept) refl,
-            tags _ (omega arith) (omega arith),
+            (
+              tags _ (omega arith) (omega arith),
+              (in_room 0 _ b.object_relation relation (omega arith) (omega arith), seen),
+            ),
           ),
         ),
       ),

@@ -10,6 +10,7 @@ mod GroupNames
 pub mod GroupTexts
 mod Grouped
 mod Kept
+mod Moments
 pub mod ReadBack
 mod RowFacts
 mod StandardFacts

@@ -163,15 +163,60 @@ return_sighting r = return_sighting_of r.key r.content
 
 -- ---- attributes, objects and events
 
-return_attribute_with : (names : GroupNames) (a : VisibleAttribute) (b : AttributeBody) → Returns (attribute_with names a b)
-unfolding attribute_with
-return_attribute_with names a b =
-    let proposals = return_items proposal_data return_proposal a.proposals in
-    let sightings = return_items sighting_data return_sighting a.sightings in
-    let tags = return_items tag_data return_tag b.tags in
-    return_object (with_group names a.row.label (attribute_members a b)) (by_label names a.row.label (attribute_members a b)
-    (record { no_number = rw (proposals.no_number, sightings.no_number, tags.no_number) refl; back = rw (proposals.back, sightings.back, tags.back) refl })
-    (λ group. record { no_number = rw (proposals.no_number, sightings.no_number, tags.no_number) refl; back = rw (proposals.back, sightings.back, tags.back) refl }))
+-- with a sharing group and without one
+abbrev ReturnBoth : GroupNames → Members → Type 0
+ReturnBoth names ms = ReturnMembers ms × ((group : GroupId) → ReturnMembers (put (codes "SharingGroup") (group_data names group) ms))
+
+module _ (names : GroupNames) (a : VisibleAttribute) (b : AttributeBody) where
+  proposals : ReturnItems (items_of (map proposal_data a.proposals))
+  proposals = return_items proposal_data return_proposal a.proposals
+
+  sightings : ReturnItems (items_of (map sighting_data a.sightings))
+  sightings = return_items sighting_data return_sighting a.sightings
+
+  tags : ReturnItems (items_of (map tag_data b.tags))
+  tags = return_items tag_data return_tag b.tags
+
+  -- with each of the moments and of the part or without it
+  seen_returns : (first last : Option ℕ) (relation : List ℕ) → ReturnBoth names (attribute_members a (record b { object_relation = relation; first_seen = first; last_seen = last }))
+  seen_returns None None [] = (
+    record { no_number = rw (proposals.no_number, sightings.no_number, tags.no_number) refl; back = rw (proposals.back, sightings.back, tags.back) refl },
+    λ group. record { no_number = rw (proposals.no_number, sightings.no_number, tags.no_number) refl; back = rw (proposals.back, sightings.back, tags.back) refl },
+  )
+  seen_returns None None (c ∷ cs) = (
+    record { no_number = rw (proposals.no_number, sightings.no_number, tags.no_number) refl; back = rw (proposals.back, sightings.back, tags.back) refl },
+    λ group. record { no_number = rw (proposals.no_number, sightings.no_number, tags.no_number) refl; back = rw (proposals.back, sightings.back, tags.back) refl },
+  )
+  seen_returns None (Some n) [] = (
+    record { no_number = rw (proposals.no_number, sightings.no_number, tags.no_number) refl; back = rw (proposals.back, sightings.back, tags.back) refl },
+    λ group. record { no_number = rw (proposals.no_number, sightings.no_number, tags.no_number) refl; back = rw (proposals.back, sightings.back, tags.back) refl },
+  )
+  seen_returns None (Some n) (c ∷ cs) = (
+    record { no_number = rw (proposals.no_number, sightings.no_number, tags.no_number) refl; back = rw (proposals.back, sightings.back, tags.back) refl },
+    λ group. record { no_number = rw (proposals.no_number, sightings.no_number, tags.no_number) refl; back = rw (proposals.back, sightings.back, tags.back) refl },
+  )
+  seen_returns (Some m) None [] = (
+    record { no_number = rw (proposals.no_number, sightings.no_number, tags.no_number) refl; back = rw (proposals.back, sightings.back, tags.back) refl },
+    λ group. record { no_number = rw (proposals.no_number, sightings.no_number, tags.no_number) refl; back = rw (proposals.back, sightings.back, tags.back) refl },
+  )
+  seen_returns (Some m) None (c ∷ cs) = (
+    record { no_number = rw (proposals.no_number, sightings.no_number, tags.no_number) refl; back = rw (proposals.back, sightings.back, tags.back) refl },
+    λ group. record { no_number = rw (proposals.no_number, sightings.no_number, tags.no_number) refl; back = rw (proposals.back, sightings.back, tags.back) refl },
+  )
+  seen_returns (Some m) (Some n) [] = (
+    record { no_number = rw (proposals.no_number, sightings.no_number, tags.no_number) refl; back = rw (proposals.back, sightings.back, tags.back) refl },
+    λ group. record { no_number = rw (proposals.no_number, sightings.no_number, tags.no_number) refl; back = rw (proposals.back, sightings.back, tags.back) refl },
+  )
+  seen_returns (Some m) (Some n) (c ∷ cs) = (
+    record { no_number = rw (proposals.no_number, sightings.no_number, tags.no_number) refl; back = rw (proposals.back, sightings.back, tags.back) refl },
+    λ group. record { no_number = rw (proposals.no_number, sightings.no_number, tags.no_number) refl; back = rw (proposals.back, sightings.back, tags.back) refl },
+  )
+
+  return_attribute_with : Returns (attribute_with names a b)
+  unfolding attribute_with
+  return_attribute_with =
+      let both = seen_returns b.first_seen b.last_seen b.object_relation in
+      return_object (with_group names a.row.label (attribute_members a b)) (by_label names a.row.label (attribute_members a b) both.0 both.1)
 
 return_attribute_of : (names : GroupNames) (a : VisibleAttribute) (content : Content) → Returns (attribute_of names a content)
 return_attribute_of names a (Content.Attribute b) = return_attribute_with names a b

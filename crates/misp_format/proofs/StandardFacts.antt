@@ -3,7 +3,7 @@ use Rattle.std.proofs.Common.{◌≡◌, [], ◌∷◌, map, Ok, Err, None, Some
 use Rattle.misp_types.specs.Kinds.{rule_of, form_of}
 use Rattle.misp_format.specs.Prelude.{Content, FormatFault, Label, Need, Place, array, attributes_at, boolean, category_of, event_at, item, item_path, kept_of, label_at, made_uid, member, member_path, no_items, no_members, object}
 use Rattle.misp_format.specs.Prelude.{objects_at, string, tags_at, tags_size, text_size}
-use Rattle.misp_format.specs.Elements.{attribute_at, tag_at, object_at, object_and_others_at}
+use Rattle.misp_format.specs.Elements.{attribute_at, seen_at, tag_at, object_at, object_and_others_at}
 use Rattle.misp_format.specs.Labels.{group_at}
 use Rattle.misp_format.specs.Tables.{event_itself_at}
 
@@ -33,9 +33,9 @@ pub known_attribute : attribute_at (codes "Attribute") None 0 0 (object (member 
       number = 0;
       place = Place.Attribute (record { 0 = made_uid 0 0 });
       label = Label.Inherit;
-      content = Content.Attribute (record { kind = codes "domain"; category = 15; to_ids = false; comment = []; deleted = false; value = codes "example.org"; tags = [] });
+      content = Content.Attribute (record { kind = codes "domain"; category = 15; to_ids = false; comment = []; deleted = false; value = codes "example.org"; tags = []; object_relation = []; first_seen = None; last_seen = None });
     })
-unfolding attribute_at label_at tags_at text_size tags_size kept_of rule_of form_of
+unfolding attribute_at seen_at label_at tags_at text_size tags_size kept_of rule_of form_of
 known_attribute = refl
 
 -- a tag that has no more than its name
@@ -58,7 +58,7 @@ pub known_faults : (event_at 0 (object (member (codes "analysis") (boolean true)
     (member (codes "info") (string (codes "Wave")) no_members)))
     no_members))
     ≡ Err (FormatFault.BadField (member_path (item_path (member_path (item_path (member_path (codes "Event") (codes "Object")) 0) (codes "Attribute")) 0) (codes "value")) Need.Length))
-unfolding event_at event_itself_at label_at tags_at attributes_at objects_at object_and_others_at object_at attribute_at text_size tags_size kept_of rule_of form_of
+unfolding event_at event_itself_at label_at tags_at attributes_at objects_at object_and_others_at object_at attribute_at seen_at text_size tags_size kept_of rule_of form_of
 known_faults = (refl, refl)
 
 -- a group is read with the distribution 4, by its creator first, and with no other

@@ -1,14 +1,16 @@
 -- What is put down member by member is put down whole.
-use Rattle.std.proofs.Common.{◌≡◌, ℕ, List, [], ◌∷◌, ◌++◌, refl, sym, ap, ◌∙◌, append_assoc, append-nil}
+use Rattle.std.proofs.Common.{◌≡◌, ℕ, List, [], ◌∷◌, ◌++◌, refl, sym, ap, ◌∙◌, append_assoc, append-nil, Option, Some, None, codes}
 use Rattle.json.specs.Print.{print}
 use Rattle.json.specs.Token.{Token}
 use Rattle.json.specs.Tree.{json_tokens, items_tokens, members_tokens}
 use Rattle.serde_json.specs.Written.{outline, items_outline, members_outline}
 use Rattle.serde_json.proofs.Texts.{print-outline}
 use Rattle.misp_format.specs.Prelude.{AttributeBody, Data, EventBody, GroupNames, Items, Label, Members, ObjectBody, VisibleAttribute, VisibleEvent, VisibleObject, array, attribute_members, attribute_with, compact_text, event_members}
-use Rattle.misp_format.specs.Prelude.{event_with, item, member, no_items, no_members, object, object_members, object_with, put_member, with_group}
-use Rattle.misp_format.specs.Tokens.{PutDown, behind, push, with, put_value, put_members, put_attribute_lists, put_object_lists, put_event_lists}
-use Rattle.misp_format.specs.Written.{attribute_texts, object_texts, event_texts}
+use Rattle.misp_format.specs.Kinds.{category_name}
+use Rattle.misp_format.specs.Prelude.{boolean, label_kind, string, event_with, item, member, no_items, no_members, object, object_members, object_with, put_member, with_group}
+use Rattle.misp_format.specs.Fields.{moment_if_known, number_data, text_if_any, with_some}
+use Rattle.misp_format.specs.Tokens.{PutDown, behind, push, with, put_value, put_members, put_some, put_attribute_lists, put_seen_and_part, put_object_lists, put_event_lists}
+use Rattle.misp_format.specs.Written.{attribute_rest, attribute_texts, with_seen_and_part, object_texts, event_texts}
 use Rattle.json.specs.Token as tokens
 
 -- one list of tokens after another
@@ -44,6 +46,21 @@ unfolding put_value
 array_put ds was = items_put ds (push tokens.begin_array was)
 
 -- ---- elements
+
+some_put : (name : List ℕ) (o : Option Data) (ms : Members) (was : PutDown) → put_members (with_some name o ms) was ≡ put_members ms (put_some name o was)
+some_put name None ms was = refl
+some_put name (Some d) ms was = refl
+
+seen_and_part_put : (b : AttributeBody) (ms : Members) (was : PutDown) → put_members (with_seen_and_part b ms) was ≡ put_members ms (put_seen_and_part b was)
+seen_and_part_put b ms was =
+    some_put (codes "first_seen") (moment_if_known b.first_seen) _ was
+    ∙ some_put (codes "last_seen") (moment_if_known b.last_seen) _ (put_some (codes "first_seen") (moment_if_known b.first_seen) was)
+    ∙ some_put (codes "object_relation") (text_if_any b.object_relation) ms _
+
+pub attribute_texts_put : (a : VisibleAttribute) (b : AttributeBody) (was : PutDown)
+    → put_members (attribute_texts a b) was ≡ put_members (attribute_rest a b) (put_seen_and_part b
+    (put_member (codes "distribution") (number_data (label_kind a.row.label)) (put_member (codes "deleted") (boolean b.deleted) (put_member (codes "comment") (string b.comment) (put_member (codes "category") (string (category_name b.category)) was)))))
+attribute_texts_put a b was = seen_and_part_put b (attribute_rest a b) _
 
 grouped_attribute : (names : GroupNames) (label : Label) (a : VisibleAttribute) (b : AttributeBody) (was : PutDown)
     → put_members (with_group names label (attribute_members a b)) was ≡ put_members (attribute_texts a b) (put_attribute_lists names label a b was)

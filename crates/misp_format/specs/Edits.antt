@@ -9,9 +9,10 @@ use Rattle.misp_fields.specs.Fields.{member_of, text_of, flag_of, stamp_of, opti
 use Rattle.misp_model.specs.declared.edit.EventEditFields.{EventEditFields}
 use Rattle.misp_model.specs.declared.edit.AttributeEditFields.{AttributeEditFields}
 use Rattle.misp_model.specs.declared.edit.ObjectEditFields.{ObjectEditFields}
+use Rattle.misp_model.specs.declared.edit.Seen.{Seen}
 use Rattle.misp_model.specs.Edit.{given_size, pair_size}
 use Rattle.misp_format.specs.Body.{Body}
-use Rattle.misp_format.specs.Elements.{unless_long, kind_at, value_at}
+use Rattle.misp_format.specs.Elements.{unless_long, kind_at, value_at, seen_at}
 use Rattle.misp_format.specs.Kinds.{category_of}
 use Rattle.misp_format.specs.Labels.{label_at}
 use Rattle.misp_format.specs.Readers.{number_within, some_text_of, some_date_of}
@@ -48,6 +49,11 @@ kind_value_at it = do
 unfoldable pub given_kind_value_at : Body → Reading (Option (List ℕ × List ℕ))
 given_kind_value_at it = given (has it (codes "type") || has it (codes "value")) (kind_value_at it)
 
+-- FIRST and LAST SEEN: where one of them is there, the other must be there
+unfoldable pub given_seen_at : Body → Reading (Option Seen)
+given_seen_at it =
+    given (has it (codes "first_seen") || has it (codes "last_seen")) (seen_at it must_be)
+
 -- ---- edits
 
 -- EVENT: what a body changes of an event
@@ -81,6 +87,7 @@ attribute_edit_at d = do
   label ← given_label_at it 5
   comment ← given_row it (codes "comment") text_of
   kind_value ← given_kind_value_at it
+  seen ← given_seen_at it
   stamp ← given_row it (codes "timestamp") stamp_of
   fits ← unless_long it (given_size comment + pair_size kind_value)
   Ok (record {
@@ -90,6 +97,7 @@ attribute_edit_at d = do
     to_ids = to_ids;
     comment = comment;
     kind_value = kind_value;
+    seen = seen;
   })
 
 -- OBJECT: what a body changes of an object

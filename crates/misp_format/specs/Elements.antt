@@ -1,6 +1,6 @@
 -- THE TABLES of elements: the members of each in the order in which they are read.
 --     MEMBER ← row it NAME READER WHERE-ABSENT
-use Rattle.std.specs.Prelude.{ℕ, Bool, true, false, nat_lt, List, [], ◌∷◌, map, codes, Option, Some, None, option_map, unwrap_or, Ok, Err, if◌then◌else◌, ⊤}
+use Rattle.std.specs.Prelude.{ℕ, Bool, true, false, nat_lt, List, [], ◌∷◌, map, codes, Option, Some, None, option_map, unwrap_or, Result, Ok, Err, if◌then◌else◌, ⊤}
 use Rattle.std.specs.Ordering.{nat_cmp}
 use Rattle.std.specs.BTreeMap.{insert_entry}
 use Rattle.serde_json.specs.Data.{Data, no_items}
@@ -9,13 +9,14 @@ use Rattle.misp_types.specs.declared.fault.ValueFault.{ValueFault}
 use Rattle.misp_types.specs.Checked.{Checked}
 use Rattle.misp_types.specs.Values.{kept_of}
 use Rattle.misp_fields.specs.declared.need.Need.{Need}
-use Rattle.misp_fields.specs.Fields.{member_of, text_of, number_of, flag_of, uuid_of, optional_uuid_of, colour_of, list_of}
+use Rattle.misp_fields.specs.Fields.{member_of, text_of, number_of, flag_of, uuid_of, optional_uuid_of, moment_of, colour_of, list_of}
 use Rattle.misp_elem.specs.Prelude.{ElemId, slice_cmp, text_limit, text_size}
 use Rattle.misp_elem.specs.declared.key.Place.{Place}
 use Rattle.misp_elem.specs.declared.content.Tag.{Tag}
 use Rattle.misp_elem.specs.declared.content.Content.{Content}
 use Rattle.misp_elem.specs.Draft.{DraftFields, ReferenceDraftFields}
 use Rattle.misp_elem.specs.Visible.{place_in}
+use Rattle.misp_model.specs.declared.edit.Seen.{Seen}
 use Rattle.misp_format.specs.declared.fault.FormatFault.{FormatFault}
 use Rattle.misp_format.specs.Body.{Body}
 use Rattle.misp_format.specs.Gathered.{Gathered, place, with_part, with_reference}
@@ -109,6 +110,26 @@ value_at kind it = do
   text ← row it (codes "value") text_of must_be
   kept_at it (kept_of kind text)
 
+-- whether it was last seen before it was first, as far as both are known
+abbrev pub ends_early : Option ℕ → Option ℕ → Bool
+ends_early (Some first) (Some last) = nat_lt last first
+ends_early (Some first) None = false
+ends_early None last = false
+
+-- the last moment is not before the first
+abbrev pub in_order_at : Body → Seen → Reading Seen
+in_order_at it seen =
+    if ends_early seen.first seen.last
+    then Err (FormatFault.BadField (member_path it.path (codes "last_seen")) Need.Range)
+    else Ok seen
+
+-- when it was first and last seen, and what counts where one of them is absent
+unfoldable pub seen_at : Body → Result (Option ℕ) Need → Reading Seen
+seen_at it absent = do
+  first ← row it (codes "first_seen") moment_of absent
+  last ← row it (codes "last_seen") moment_of absent
+  in_order_at it (record { first = first; last = last })
+
 -- ATTRIBUTE: of an object, or outside objects, at a place in reading order
 unfoldable pub attribute_at : List ℕ → Option ElemId → ℕ → ℕ → Data → Reading DraftFields
 attribute_at path object word n d = do
@@ -122,6 +143,8 @@ attribute_at path object word n d = do
   deleted ← row it (codes "deleted") flag_of (Ok false)
   no_file ← no_file_at it
   value ← value_at kind it
+  seen ← seen_at it (Ok None)
+  object_relation ← row it (codes "object_relation") text_of (Ok [])
   tags ← tags_at it
   content ← Ok (Content.Attribute (record {
     kind = kind;
@@ -131,6 +154,9 @@ attribute_at path object word n d = do
     deleted = deleted;
     value = value;
     tags = tags;
+    object_relation = object_relation;
+    first_seen = seen.first;
+    last_seen = seen.last;
   }))
   fits ← unless_long it (text_size content)
   Ok (record {

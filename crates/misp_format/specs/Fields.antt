@@ -1,9 +1,10 @@
 -- Members that are written.
-use Rattle.std.specs.Prelude.{ℕ, Bool, ◌&&◌, ◌==◌, List, [], codes, decimal, map, Option, Some, None, unwrap_or}
+use Rattle.std.specs.Prelude.{ℕ, Bool, ◌&&◌, ◌==◌, List, [], ◌∷◌, codes, decimal, map, Option, Some, None, unwrap_or}
 use Rattle.serde_json.specs.Data.{Data, unsigned, number, string, array, object, Members, member, no_members, put}
 use Rattle.serde_json.specs.View.{items_of}
 use Rattle.misp_ids.specs.declared.label.Label.{Label}
 use Rattle.misp_ids.specs.Uid.{text_of}
+use Rattle.misp_dates.specs.Moments.{moment_text}
 use Rattle.misp_groups.specs.Prelude.{GroupId, OrgId, Uid, lookup}
 
 -- numbers are written as texts
@@ -24,6 +25,22 @@ list_data one xs = array (items_of (map one xs))
 abbrev pub optional_uuid_data : Option Uid → Data
 optional_uuid_data None = string []
 optional_uuid_data (Some u) = uuid_data u
+
+-- ---- members that are not always there
+
+-- a moment that is known, and a text that is not empty
+abbrev pub moment_if_known : Option ℕ → Option Data
+moment_if_known None = None
+moment_if_known (Some moment) = Some (string (moment_text moment))
+
+abbrev pub text_if_any : List ℕ → Option Data
+text_if_any [] = None
+text_if_any (b ∷ bs) = Some (string (b ∷ bs))
+
+-- with this member before the others, where there is something to write
+abbrev pub with_some : List ℕ → Option Data → Members → Members
+with_some name None ms = ms
+with_some name (Some d) ms = member name d ms
 
 -- ---- organisations
 

@@ -1,5 +1,5 @@
 -- The tokens of what is written, and a text that is put down token by token.
-use Rattle.std.specs.Prelude.{ℕ, List, [], ◌∷◌, ◌++◌, codes}
+use Rattle.std.specs.Prelude.{ℕ, List, [], ◌∷◌, ◌++◌, codes, Option, Some, None}
 use Rattle.json.specs.Token.{Token, key}
 use Rattle.json.specs.Tree.{json_tokens}
 use Rattle.serde_json.specs.Data.{Data, Members, member, no_members}
@@ -10,7 +10,7 @@ use Rattle.misp_elem.specs.declared.content.AttributeBody.{AttributeBody}
 use Rattle.misp_elem.specs.declared.visible.VisibleAttribute.{VisibleAttribute}
 use Rattle.misp_elem.specs.declared.visible.VisibleObject.{VisibleObject}
 use Rattle.misp_elem.specs.declared.visible.VisibleEvent.{VisibleEvent}
-use Rattle.misp_format.specs.Fields.{GroupNames, group_data, list_data, org_data}
+use Rattle.misp_format.specs.Fields.{GroupNames, group_data, list_data, moment_if_known, text_if_any, org_data}
 use Rattle.misp_format.specs.Written.{tag_data, reference_data, proposal_data, sighting_data, attribute_data, object_data}
 
 -- what stood before, and the tokens that were put down after it
@@ -45,6 +45,18 @@ put_member name d was = put_value d (push (key name) was)
 abbrev pub put_members : Members → PutDown → PutDown
 put_members no_members was = was
 put_members (member name d ms) was = put_members ms (put_member name d was)
+
+-- with this member at the end, where there is something to write
+abbrev pub put_some : List ℕ → Option Data → PutDown → PutDown
+put_some name None was = was
+put_some name (Some d) was = put_member name d was
+
+-- with the moments and the part of an attribute at the end, each where there is one
+abbrev pub put_seen_and_part : AttributeBody → PutDown → PutDown
+put_seen_and_part b was =
+    put_some (codes "object_relation") (text_if_any b.object_relation) (
+    put_some (codes "last_seen") (moment_if_known b.last_seen) (
+    put_some (codes "first_seen") (moment_if_known b.first_seen) was))
 
 -- with the member `SharingGroup` at the end, where the label is that of a group
 abbrev pub put_group : GroupNames → Label → PutDown → PutDown

@@ -15,7 +15,7 @@ use Rattle.misp_elem.specs.declared.row.RowFields.{RowFields}
 use Rattle.misp_elem.specs.declared.visible.VisibleAttribute.{VisibleAttribute}
 use Rattle.misp_elem.specs.declared.visible.VisibleObject.{VisibleObject}
 use Rattle.misp_elem.specs.declared.visible.VisibleEvent.{VisibleEvent}
-use Rattle.misp_format.specs.Fields.{number_data, uuid_data, optional_uuid_data, list_data, org_data, group_names, GroupNames, with_group}
+use Rattle.misp_format.specs.Fields.{number_data, uuid_data, optional_uuid_data, list_data, moment_if_known, text_if_any, with_some, org_data, group_names, GroupNames, with_group}
 use Rattle.misp_format.specs.Kinds.{category_name}
 
 -- ---- identifiers
@@ -110,6 +110,23 @@ sighting_data r = sighting_of r.key r.content
 
 -- ---- attributes
 
+-- its last texts
+abbrev pub attribute_rest : VisibleAttribute → AttributeBody → Members
+attribute_rest a b =
+    member (codes "timestamp") (number_data a.row.stamp) (
+    member (codes "to_ids") (boolean b.to_ids) (
+    member (codes "type") (string b.kind) (
+    member (codes "uuid") (uuid_data (key_uuid a.row.key)) (
+    member (codes "value") (string b.value)
+    no_members))))
+
+-- when it was first and last seen, and its part in an object, each where there is one
+abbrev pub with_seen_and_part : AttributeBody → Members → Members
+with_seen_and_part b ms =
+    with_some (codes "first_seen") (moment_if_known b.first_seen) (
+    with_some (codes "last_seen") (moment_if_known b.last_seen) (
+    with_some (codes "object_relation") (text_if_any b.object_relation) ms))
+
 -- but for its lists and the sharing group
 abbrev pub attribute_texts : VisibleAttribute → AttributeBody → Members
 attribute_texts a b =
@@ -117,12 +134,7 @@ attribute_texts a b =
     member (codes "comment") (string b.comment) (
     member (codes "deleted") (boolean b.deleted) (
     member (codes "distribution") (number_data (label_kind a.row.label)) (
-    member (codes "timestamp") (number_data a.row.stamp) (
-    member (codes "to_ids") (boolean b.to_ids) (
-    member (codes "type") (string b.kind) (
-    member (codes "uuid") (uuid_data (key_uuid a.row.key)) (
-    member (codes "value") (string b.value)
-    no_members))))))))
+    with_seen_and_part b (attribute_rest a b)))))
 
 -- but for the sharing group
 abbrev pub attribute_members : VisibleAttribute → AttributeBody → Members

@@ -19,6 +19,7 @@ mod path;
 mod proposal;
 mod readers;
 mod reference;
+mod seen;
 mod sighting;
 mod tag;
 

@@ -1,5 +1,6 @@
 -- What a request that writes newer versions does to the tables: each is put in its place as a row.
 use Rattle.std.proofs.Common.{◌≡◌, ℕ, [], List, ◌∷◌, true, Bool, false, ap, leb, ◌++◌, ◌∙◌, cond, refl, arith, map, suc, ltb, not, ◌&&◌, filter, le-leb}
+use Rattle.misp_levels.specs.Levels.{lowering}
 use Rattle.misp_history.proofs.Prelude.{AllByRecursion, Inst, IsDistinct, Label, Version, Written, all_implies, and_from, any_agree, any_never, content_now, event_key, event_of}
 use Rattle.misp_history.proofs.Prelude.{filter_all, fresh_row, has_path, is_handed_in, is_published, label_now, list_all, list_all-append, list_any, nat_tests, published_after, put, put_all, put_row}
 use Rattle.misp_history.proofs.Prelude.{released, row_of, same_cell, same_inst, same_inst-refl, same_key, same_org, stands_before, tables}
@@ -24,7 +25,7 @@ never_after log v h =
     (λ p e. no_later (same_inst p.at v.at && same_org p.owner v.owner && same_key p.key (event_key (event_of v.key))) (is_published p.came) (not (has_path p)) v.act p.act e) log h ∙ any_never (λ p. false) (λ p. refl) log
 
 pub row_of_fresh : (log : List Version) (v : Version) → v.path ≡ [] → is_handed_in v.came ≡ false → list_all (λ u. leb u.act v.act) log ≡ true → row_of log v ≡ fresh_row v
-unfolding row_of fresh_row released label_now content_now has_path down is_published published_after
+unfolding row_of fresh_row released label_now lowering content_now has_path down is_published published_after
 row_of_fresh log v p written h = rw (p, written, never_after log v h, down_none v.label, or_none _ false refl) refl
 
 -- ---- versions that are written

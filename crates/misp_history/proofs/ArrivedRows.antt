@@ -3,8 +3,11 @@ use Rattle.std.proofs.Common.{◌≡◌, ℕ, ◌≤◌, ◌-◌, arith, List, t
 use Rattle.misp_history.proofs.Prelude.{AreRows, Content, Element, Group, IsContent, IsRow, IsTable, IsUid, Key, Label, Place, Route, Row, Tag, and_from, and_parts, arrived, arriving_rows, cond_both, content_kind, exportable, false≢true}
 use Rattle.misp_history.proofs.Prelude.{fits, here, is_gone, is_known, is_tombstone, known, label_kind, map_from, may_remove, of_part, passes, passing_rows, there, without_local_tags}
 use Rattle.misp_lists.proofs.Orders.{bytes_on}
-use Rattle.misp_levels.specs.Levels.{down}
-use Rattle.misp_elem.specs.Prelude.{AreTags, AreTagsAfter, IsLabelBut, barred_labels, is_after, is_text, is_utf8, text_limit}
+use Rattle.misp_levels.specs.Levels.{down, landed, lowering}
+use Rattle.misp_ids.specs.declared.label.Way.{Way}
+use Rattle.misp_elem.specs.Prelude.{AreTags, AreTagsAfter, IsLabelBut, IsText, barred_labels, is_after, is_text, is_utf8, text_limit}
+use Rattle.misp_elem.specs.Fields.{tags_size}
+use Rattle.misp_lists.proofs.Prelude.{sum_by-cons}
 use Rattle.misp_history.proofs.Passed.{is_row, no_tombstone_passes}
 
 -- ---- tags
@@ -36,11 +39,34 @@ fewer (t ∷ tags) = let le = fewer tags in cond_both t.exportable (t ∷ export
 tags_stay : (room : ℕ) (tags : List Tag) → AreTags room tags → AreTags room (exportable tags)
 tags_stay room tags a = let le = fewer tags in let lt = a.0 in (omega arith, tags_part room room [] [] tags (omega arith) (λ name h. h) a.1)
 
+-- ---- the text after the tags
+tags_left : (tags : List Tag) → tags_size (exportable tags) ≤ tags_size tags
+unfolding exportable tags_size
+tags_left [] = omega arith
+tags_left (t ∷ tags) =
+    let le = tags_left tags in
+    let all = sum_by-cons (λ (u : Tag). length u.name) t tags in
+    cond_both t.exportable (t ∷ exportable tags) (exportable tags) (λ ts. tags_size ts ≤ tags_size (t ∷ tags))
+    (λ e. omega (arith, all, le, sum_by-cons (λ (u : Tag). length u.name) t (exportable tags))) (λ e. omega (arith, all, le))
+
+text_stays : (room more : ℕ) (text : List ℕ) → room ≤ more → IsText 0 room text → IsText 0 more text
+text_stays room more text le h =
+    let two = and_parts (nat_le 0 (length text) && nat_le (length text) room) (is_utf8 text) h in
+    let one = and_parts (nat_le 0 (length text)) (nat_le (length text) room) two.0 in
+    let a : length text ≤ room = leb-true (length text) room one.1 in
+    and_from _ _ (and_from _ _ one.0 (le-leb (length text) more (omega arith))) two.1
+
 -- ---- contents and labels
 content_stays : (may : Bool) (c : Content) → IsContent may c → IsContent may (without_local_tags c)
 unfolding without_local_tags
 content_stays may (Content.Event b) i = (i.0, (i.1.0, (i.1.1.0, (i.1.1.1.0, (i.1.1.1.1.0, (i.1.1.1.1.1.0, (i.1.1.1.1.1.1.0, (i.1.1.1.1.1.1.1.0, tags_stay (text_limit - length b.info) b.tags i.1.1.1.1.1.1.1.1))))))))
-content_stays may (Content.Attribute b) i = (i.0, (i.1.0, (tt, (i.1.1.1.0, (tt, (i.1.1.1.1.1.0, tags_stay (text_limit - length b.kind - length b.comment - length b.value) b.tags i.1.1.1.1.1.1))))))
+content_stays may (Content.Attribute b) i = (i.0, (i.1.0, (tt, (i.1.1.1.0, (tt, (i.1.1.1.1.1.0, (tags_stay (text_limit - length b.kind - length b.comment - length b.value) b.tags i.1.1.1.1.1.1.0, (relation_stays, i.1.1.1.1.1.1.1.1))))))))
+  where
+    room : ℕ
+    room = text_limit - length b.kind - length b.comment - length b.value
+
+    relation_stays : IsText 0 (room - tags_size (exportable b.tags)) b.object_relation
+    relation_stays = let le = tags_left b.tags in text_stays (room - tags_size b.tags) (room - tags_size (exportable b.tags)) b.object_relation (omega arith) i.1.1.1.1.1.1.1.0
 content_stays may _ i = i
 
 kind_stays : (c : Content) → content_kind (without_local_tags c) ≡ content_kind c
@@ -71,14 +97,26 @@ label_hops (Element e p) Label.Connected h = (refl, tt)
 label_hops _ Label.Connected h = absurd (false≢true (sym h.0))
 label_hops k _ h = h
 
+-- and so is one as a way leaves it
+label_lands : (way : Way) (k : Key) (l : Label) → IsLabelBut (barred_labels k) l → IsLabelBut (barred_labels k) (landed way l)
+unfolding landed lowering down
+label_lands Way.Pull k l h = label_hops k l h
+label_lands Way.Push k l h = label_hops k l h
+label_lands Way.Internal k Label.Own h = h
+label_lands Way.Internal k Label.Community h = h
+label_lands Way.Internal k Label.Connected h = h
+label_lands Way.Internal k Label.All h = h
+label_lands Way.Internal k (Label.Group g) h = h
+label_lands Way.Internal k Label.Inherit h = h
+
 -- ---- rows
 pub arrived_row : (route : Route) (row : Row) → IsUid route.holder.0 → IsRow row → is_tombstone row ≡ false → IsRow (arrived route row)
 unfolding arrived is_tombstone
 arrived_row route row u i n =
-    let fit : fits row.key (label_kind (down row.label 1)) (false, true) (content_kind (without_local_tags row.content)) ≡ true =
-    ap (fits row.key (label_kind (down row.label 1)) (false, true)) (kind_stays row.content)
-    ∙ fits_on row.key (label_kind row.label) (label_kind (down row.label 1)) (row.held, row.carried) (false, true) row.content (not_seven row.content n) i.1.1.1.1.1.0 in
-    (u, (i.1.0, (i.1.1.0, (label_hops row.key row.label i.1.1.1.0, (tt, (fit, content_stays (may_remove row.key) row.content i.1.1.1.1.1.1))))))
+    let fit : fits row.key (label_kind (landed route.way row.label)) (false, true) (content_kind (without_local_tags row.content)) ≡ true =
+    ap (fits row.key (label_kind (landed route.way row.label)) (false, true)) (kind_stays row.content)
+    ∙ fits_on row.key (label_kind row.label) (label_kind (landed route.way row.label)) (row.held, row.carried) (false, true) row.content (not_seven row.content n) i.1.1.1.1.1.0 in
+    (u, (i.1.0, (i.1.1.0, (label_lands route.way row.key row.label i.1.1.1.0, (tt, (fit, content_stays (may_remove row.key) row.content i.1.1.1.1.1.1))))))
 
 all_rows : (xs : List Row) → ((x : Row) → Contains xs x → IsRow x) → AreRows xs
 all_rows [] h = tt

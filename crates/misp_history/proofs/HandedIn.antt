@@ -1,5 +1,6 @@
 -- A package that an organisation hands in is merged into the tables, as its rows are handed in.
 use Rattle.std.proofs.Common.{◌≡◌, List, Bool, ℕ, true, false, refl, map, ap, ◌∙◌, length, sym, ◌++◌, leb, ◌&&◌, ◌||◌, not, filter}
+use Rattle.misp_levels.specs.Levels.{lowering}
 use Rattle.misp_history.proofs.Prelude.{EventId, Group, Inst, IsDistinct, IsTable, OrgId, Row, Version, all-filter, all-map, all_implies, and_from, and_parts, any_agree, content_now, counted, counts, distinct_from_map, distinct_map}
 use Rattle.misp_history.proofs.Prelude.{event_key, event_of, filter_agree, handed, handed_in, has_copy, has_event, has_gone, has_home, has_path, in_one_cell, is_handed_in, is_row_of, is_statement, is_tombstone, is_welcome, known, label_now}
 use Rattle.misp_history.proofs.Prelude.{length-map, list_all, list_any, map_twice, merged, rows_taken, same_cell, same_inst, same_inst-refl, same_key, same_org, same_org-refl, same_org-sound, tables}
@@ -14,7 +15,7 @@ module _ (n : ℕ) (i : Inst) (w : OrgId) (rows : List Row) where
 
   -- a row as it is handed in
   all_settled : map settled coming ≡ map (handed w) rows
-  unfolding settled handed_in handed label_now content_now has_path
+  unfolding settled handed_in handed label_now lowering content_now has_path
   all_settled = map_twice (handed_in n i w) settled (handed w) (λ row. rw (down_none row.label) refl) rows
 
   all_two : list_all (λ v. comes i v && same_org v.owner w) coming ≡ true

@@ -6,6 +6,7 @@ pub mod AsNew
 pub mod ByPackages
 pub mod Changing
 pub mod Copies
+pub mod Descent
 pub mod Elsewhere
 pub mod FirstPackages
 pub mod GroupsAgain

@@ -39,30 +39,30 @@ module _ (i : Inst) (rows : List Row) (groups : List Group) (sorted : IsSorted r
       (λ z m. let a = (taken_are i rows groups ys e).are z m in taken_has i rows groups xs z (back z a.1) (ap (λ b. b && is_newer_row rows z) (counts_alike z) ∙ a.0))
 
 -- the receiver's tables after a synchronisation
-pub synced_here : (n : ℕ) (w : World) (route : Route) →
-    tables (synced n w route).log route.into
+pub synced_here : (w : World) (route : Route) →
+    tables (synced w route).log route.into
     ≡ merged route.into (tables w.log route.into) (synced_groups w.groups route route.into) (arriving_rows (tables w.log route.from) (w.groups route.from) route)
 unfolding synced
-synced_here n w route =
-    come_merged route.into w.log coming (synced_groups w.groups route route.into) (all_come w.log (w.groups route.from) route n (passing w.log (w.groups route.from) route)) (moved_apart w.log (w.groups route.from) route n)
+synced_here w route =
+    come_merged route.into w.log coming (synced_groups w.groups route route.into) (all_come w.log (w.groups route.from) route (passing w.log (w.groups route.from) route)) (moved_apart w.log (w.groups route.from) route)
     ∙ merged_alike route.into (tables w.log route.into) (synced_groups w.groups route route.into) (tables_sorted w.log route.into) (map settled coming) (arriving_rows (tables w.log route.from) (w.groups route.from) route)
-    (settled_table w.log (w.groups route.from) route n) (arriving_table w.log (w.groups route.from) route) (came_back w.log (w.groups route.from) route n) (came_so w.log (w.groups route.from) route n)
+    (settled_table w.log (w.groups route.from) route) (arriving_table w.log (w.groups route.from) route) (came_back w.log (w.groups route.from) route) (came_so w.log (w.groups route.from) route)
   where
     coming : List Version
-    coming = map (moved n route) (passing w.log (w.groups route.from) route)
+    coming = map (moved route) (passing w.log (w.groups route.from) route)
 
 -- and those of another instance
-pub synced_elsewhere : (n : ℕ) (w : World) (route : Route) (j : Inst) → same_inst route.into j ≡ false → tables (synced n w route).log j ≡ tables w.log j
+pub synced_elsewhere : (w : World) (route : Route) (j : Inst) → same_inst route.into j ≡ false → tables (synced w route).log j ≡ tables w.log j
 unfolding synced counted
-synced_elsewhere n w route j apart =
-    none_come route.into j (filter _ (map (moved n route) (passing w.log (w.groups route.from) route))) w.log apart
-    (all-filter _ _ (map (moved n route) (passing w.log (w.groups route.from) route)) (all_come w.log (w.groups route.from) route n (passing w.log (w.groups route.from) route)))
+synced_elsewhere w route j apart =
+    none_come route.into j (filter _ (map (moved route) (passing w.log (w.groups route.from) route))) w.log apart
+    (all-filter _ _ (map (moved route) (passing w.log (w.groups route.from) route)) (all_come w.log (w.groups route.from) route (passing w.log (w.groups route.from) route)))
 
 -- ---- the same once more
 
-module _ (n m : ℕ) (w : World) (r : Route) (apart : same_inst r.into r.from ≡ false) where
+module _ (w : World) (r : Route) (apart : same_inst r.into r.from ≡ false) where
   abbrev once : World
-  once = synced n w r
+  once = synced w r
 
   back_apart : same_inst r.from r.into ≡ false
   back_apart = false_from_ne_true _ (λ g. false≢true (sym apart ∙ ap (same_inst r.into) (same_inst-sound r.from r.into g) ∙ same_inst-refl r.into))
@@ -86,15 +86,15 @@ module _ (n m : ℕ) (w : World) (r : Route) (apart : same_inst r.into r.from �
 
   -- what comes is what came
   coming_again : arriving_rows (tables once.log r.from) (once.groups r.from) r ≡ arriving_rows (tables w.log r.from) (w.groups r.from) r
-  coming_again = λ i. arriving_rows (synced_elsewhere n w r r.from apart i) (from_groups i) r
+  coming_again = λ i. arriving_rows (synced_elsewhere w r r.from apart i) (from_groups i) r
 
   here_once : tables once.log r.into ≡ merged r.into (tables w.log r.into) (once.groups r.into) (arriving_rows (tables w.log r.from) (w.groups r.from) r)
   unfolding synced
-  here_once = synced_here n w r
+  here_once = synced_here w r
 
-  pub again_here : tables (synced m once r).log r.into ≡ tables once.log r.into
+  pub again_here : tables (synced once r).log r.into ≡ tables once.log r.into
   again_here =
-      synced_here m once r
+      synced_here once r
       ∙ (λ i. merged r.into (here_once i) (again_groups i) (coming_again i))
       ∙ merged_again r.into (tables w.log r.into) (once.groups r.into) (arriving_rows (tables w.log r.from) (w.groups r.from) r) (arriving_table w.log (w.groups r.from) r)
       ∙ sym here_once
@@ -104,7 +104,7 @@ module _ (n m : ℕ) (w : World) (r : Route) (apart : same_inst r.into r.from �
       (λ i. rows_taken r.into (here_once i) (again_groups i) (coming_again i))
       ∙ none_again r.into (tables w.log r.into) (once.groups r.into) (arriving_rows (tables w.log r.from) (w.groups r.from) r) (arriving_table w.log (w.groups r.from) r)
 
-  pub again_groups_here : (synced m once r).groups r.into ≡ once.groups r.into
+  pub again_groups_here : (synced once r).groups r.into ≡ once.groups r.into
   unfolding synced
   again_groups_here = again_groups
 
@@ -151,7 +151,7 @@ module _ (i : Inst) (log vs : List Version) (come : list_all (comes i) vs ≡ tr
           let in_it : among rows f.0 ≡ true = any_has (is_row_of f.0.owner f.0.key) rows z m (ap (λ (r : Row). same_org r.owner f.0.owner && same_key r.key f.0.key) (sym f.1.1) ∙ one_cell (settled f.0) (settled f.0) refl refl) in
           subst (Contains (map settled new)) f.1.1 (map_has settled new f.0 (kept_has (is_new_to log) (filter (among rows) vs) f.0 (kept_has (among rows) vs f.0 f.1.0 in_it) fresh))
 
-module _ (n : ℕ) (log : List Version) (groups mine : List Group) (route : Route) where
+module _ (log : List Version) (groups mine : List Group) (route : Route) where
   abbrev T : List Row
   T = tables log route.into
 
@@ -160,7 +160,7 @@ module _ (n : ℕ) (log : List Version) (groups mine : List Group) (route : Rout
 
   -- the versions that come
   abbrev vs : List Version
-  vs = map (moved n route) (passing log groups route)
+  vs = map (moved route) (passing log groups route)
 
   -- the first packages were applied
   applied_first : (k : ℕ) → AreRows (tables log route.from) →
@@ -168,8 +168,8 @@ module _ (n : ℕ) (log : List Version) (groups mine : List Group) (route : Rout
       ≡ merged_by route.into T mine (take k (packages coming))
   unfolding is_taken
   applied_first k are =
-      some_come route.into log vs (all_come log groups route n (passing log groups route)) (moved_apart log groups route n) (settled_table log groups route n) (brought (is_taken route.into T mine coming) [] ps) t.apart
-      (λ y m. ((and_parts (counts_row route.into T mine coming y) (is_newer_row T y) (t.are y m).0).1, came_so log groups route n y (t.are y m).1))
+      some_come route.into log vs (all_come log groups route (passing log groups route)) (moved_apart log groups route) (settled_table log groups route) (brought (is_taken route.into T mine coming) [] ps) t.apart
+      (λ y m. ((and_parts (counts_row route.into T mine coming y) (is_newer_row T y) (t.are y m).0).1, came_so log groups route y (t.are y m).1))
       ∙ sym (merged_packages route.into T mine coming (arriving_table log groups route) route.holder owned ps q)
     where
       ps : List (List Row)
@@ -202,27 +202,27 @@ brought_through test (suc k) so (p ∷ ps) = one (fresh test so p) refl (brought
     one (x ∷ f) e ih = rw e (ap (λ rs. (x ∷ f) ++ rs) ih)
 
 -- a synchronisation that stopped after the batches that its first k packages made
-pub stopped_here : (n k : ℕ) (w : World) (r : Route) (g : Bool) → AreRows (tables w.log r.from) →
-    tables (synced_partly n w r g (count_bringing (takes w r (cond g (synced_groups w.groups r) w.groups r.into)) [] (take k (packages (arriving w r))))).log r.into
+pub stopped_here : (k : ℕ) (w : World) (r : Route) (g : Bool) → AreRows (tables w.log r.from) →
+    tables (synced_partly w r g (count_bringing (takes w r (cond g (synced_groups w.groups r) w.groups r.into)) [] (take k (packages (arriving w r))))).log r.into
     ≡ merged_by r.into (tables w.log r.into) (cond g (synced_groups w.groups r) w.groups r.into) (take k (packages (arriving w r)))
 unfolding synced_partly first_brought takes arriving outcomes.coming
-stopped_here n k w r g are =
-    ap (λ rs. tables (w.log ++ filter (λ v. list_any (is_row_of v.owner v.key) rs) (map (moved n r) (passing w.log (w.groups r.from) r))) r.into)
+stopped_here k w r g are =
+    ap (λ rs. tables (w.log ++ filter (λ v. list_any (is_row_of v.owner v.key) rs) (map (moved r) (passing w.log (w.groups r.from) r))) r.into)
     (sym (brought_through (is_taken r.into (tables w.log r.into) (cond g (synced_groups w.groups r) w.groups r.into) (arriving_rows (tables w.log r.from) (w.groups r.from) r)) k []
     (packages (arriving_rows (tables w.log r.from) (w.groups r.from) r))))
-    ∙ applied_first n w.log (w.groups r.from) (cond g (synced_groups w.groups r) w.groups r.into) r k are
+    ∙ applied_first w.log (w.groups r.from) (cond g (synced_groups w.groups r) w.groups r.into) r k are
 
-pub stopped_elsewhere : (n k : ℕ) (w : World) (r : Route) (g : Bool) (j : Inst) → same_inst r.into j ≡ false → tables (synced_partly n w r g k).log j ≡ tables w.log j
+pub stopped_elsewhere : (k : ℕ) (w : World) (r : Route) (g : Bool) (j : Inst) → same_inst r.into j ≡ false → tables (synced_partly w r g k).log j ≡ tables w.log j
 unfolding synced_partly outcomes.coming
-stopped_elsewhere n k w r g j h =
-    none_come r.into j (filter _ (map (moved n r) (passing w.log (w.groups r.from) r))) w.log h
-    (all-filter _ _ (map (moved n r) (passing w.log (w.groups r.from) r)) (all_come w.log (w.groups r.from) r n (passing w.log (w.groups r.from) r)))
+stopped_elsewhere k w r g j h =
+    none_come r.into j (filter _ (map (moved r) (passing w.log (w.groups r.from) r))) w.log h
+    (all-filter _ _ (map (moved r) (passing w.log (w.groups r.from) r)) (all_come w.log (w.groups r.from) r (passing w.log (w.groups r.from) r)))
 
-pub done_here : (n : ℕ) (w : World) (r : Route) → AreRows (tables w.log r.from) →
-    tables (synced n w r).log r.into ≡ merged_by r.into (tables w.log r.into) ((synced n w r).groups r.into) (packages (arriving w r))
+pub done_here : (w : World) (r : Route) → AreRows (tables w.log r.from) →
+    tables (synced w r).log r.into ≡ merged_by r.into (tables w.log r.into) ((synced w r).groups r.into) (packages (arriving w r))
 unfolding arriving synced
-done_here n w r are =
-    synced_here n w r
+done_here w r are =
+    synced_here w r
     ∙ sym (merged_whole r.into (tables w.log r.into) (synced_groups w.groups r r.into) coming table r.holder
     (all_arrive (tables w.log r.from) (w.groups r.from) r (tables_are_tables w.log r.from) are) (packages coming) (packages_are coming table)
     (tables_sorted w.log r.into) (packages_cover coming table (with_own (tables w.log r.from) (w.groups r.from) r)))

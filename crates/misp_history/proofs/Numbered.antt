@@ -18,22 +18,22 @@ newest_within p i before (v ∷ after) h =
     cond_both (same_inst v.at i && is_newest before v after) _ _ (λ us. list_all p us ≡ true) (λ e. and_from _ _ (and_parts _ _ h).0 later) (λ e. later)
 
 -- what moves keeps the number of its act
-pub moved_within : (m n : ℕ) (r : Route) (vs : List Version) → list_all (is_below m) vs ≡ true → list_all (is_below m) (map (moved n r) vs) ≡ true
+pub moved_within : (m : ℕ) (r : Route) (vs : List Version) → list_all (is_below m) vs ≡ true → list_all (is_below m) (map (moved r) vs) ≡ true
 unfolding moved
-moved_within m n r [] h = refl
-moved_within m n r (v ∷ vs) h = and_from _ _ (and_parts _ _ h).0 (moved_within m n r vs (and_parts _ _ h).1)
+moved_within m r [] h = refl
+moved_within m r (v ∷ vs) h = and_from _ _ (and_parts _ _ h).0 (moved_within m r vs (and_parts _ _ h).1)
 
 passing_within : (p : Version → Bool) (log : List Version) (groups : List Group) (r : Route) → list_all p log ≡ true → list_all p (passing log groups r) ≡ true
 unfolding passing newest
 passing_within p log groups r h = all-filter p (λ v. passes (known_there log groups r) groups r (row_of log v)) (newest_from r.from [] log) (newest_within p r.from [] log h)
 
-synced_below : (n : ℕ) (w : World) (r : Route) → list_all (is_below (suc n)) w.log ≡ true → list_all (is_below (suc n)) (synced n w r).log ≡ true
+synced_below : (n : ℕ) (w : World) (r : Route) → list_all (is_below (suc n)) w.log ≡ true → list_all (is_below (suc n)) (synced w r).log ≡ true
 unfolding synced counted
 synced_below n w r h =
     all_both (is_below (suc n)) w.log _ h
-    (all-filter (is_below (suc n)) (counts (tables w.log r.into) (synced_groups w.groups r r.into) (map (moved n r) (passing w.log (w.groups r.from) r)))
-    (map (moved n r) (passing w.log (w.groups r.from) r))
-    (moved_within (suc n) n r (passing w.log (w.groups r.from) r) (passing_within (is_below (suc n)) w.log (w.groups r.from) r h)))
+    (all-filter (is_below (suc n)) (counts (tables w.log r.into) (synced_groups w.groups r r.into) (map (moved r) (passing w.log (w.groups r.from) r)))
+    (map (moved r) (passing w.log (w.groups r.from) r))
+    (moved_within (suc n) r (passing w.log (w.groups r.from) r) (passing_within (is_below (suc n)) w.log (w.groups r.from) r h)))
 
 -- what a request brings is of its act
 brings_now : (s : Scene) (a : Ask) → list_all (is_below (suc s.act)) (brings s a) ≡ true
@@ -55,9 +55,9 @@ step_below net n w act older = by_command act.command refl (below_next n w.log o
   where
     by_command : (d : Command) → act.command ≡ d → list_all (is_below (suc n)) w.log ≡ true → list_all (is_below (suc n)) (step net n w act).log ≡ true
     by_command (Asks c a) e h = rw e (asked_below n w act c a h)
-    by_command (Syncs way link) e h = rw e (routed (net way act.at link w.groups))
+    by_command (Syncs direction link) e h = rw e (routed (net direction act.at link w.groups w.made))
       where
-        routed : (o : Option Route) → list_all (is_below (suc n)) (elim o as (λ x. World) [ None ↦ w | Some r ↦ synced n w r ]).log ≡ true
+        routed : (o : Option Route) → list_all (is_below (suc n)) (elim o as (λ x. World) [ None ↦ w | Some r ↦ synced w r ]).log ≡ true
         routed None = h
         routed (Some r) = synced_below n w r h
     by_command _ e h = rw e h

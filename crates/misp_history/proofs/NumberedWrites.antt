@@ -1,5 +1,6 @@
 -- What a request writes and is answered bears the number of its act in the versions that it writes, and nowhere else; the partner of the caller's key counts for pulls alone.
 use Rattle.std.proofs.Common.{◌≡◌, List, Bool, true, false, refl, map, cond, [], ◌∷◌, ap, ◌++◌, ◌∙◌, sym, ℕ, length, Option, Some, None, option_map, ◌&&◌, ◌||◌, not, leb, option_to_list, filter_map, filter}
+use Rattle.misp_model.specs.Scene.{Partner}
 use Rattle.misp_history.proofs.Prelude.{Act, AddEvent, AddParts, Ask, Caller, Change, Content, Draft, Element, EventId, Group, Index, Judge, Key, Label, Listed, Other, ProposalBody, ProposalName, Publish, ReferenceDraft}
 use Rattle.misp_history.proofs.Prelude.{Refused, Reply, Row, Rule, Saved, Scene, Seen, Submission, TakePart, Taken, Verdict, Version, View, VisibleEvent, World, acceptance, accepted, answer, any_map, as_deleted, as_published, ask_rules}
 use Rattle.misp_history.proofs.Prelude.{at_attribute, at_publishing, at_tags, body_seen, brings, change_writes, changed, changed_row, concerning, cons_option, counted, counts, event_key, event_of, event_written, filter-map, first_rule}
@@ -14,7 +15,7 @@ use Rattle.misp_model.specs.Answers.{Packed}
 use Rattle.misp_model.specs.Machine.{pulls}
 use Rattle.misp_model.specs.Pulling.{pulled_events, pulled_groups, pulled_part, pulled_rows}
 use Rattle.misp_model.specs.declared.package.PackageFields.{PackageFields as Package}
-use Rattle.misp_history.proofs.Prelude.{Groups, Inst, Propose, Sight, SyncEvents, SyncGroups, SyncPart, false≢true}
+use Rattle.misp_history.proofs.Prelude.{Groups, Propose, Sight, SyncEvents, SyncGroups, SyncPart, false≢true}
 
 -- ---- lists
 map_cond : {X Y : Type 0} (f : X → Y) (b : Bool) (xs ys : List X) → cond b (map f xs) (map f ys) ≡ map f (cond b xs ys)
@@ -37,7 +38,7 @@ pub scene_is : (m n : ℕ) (w : World) (act : Act) (c : Caller) → scene n w ac
 unfolding scene
 scene_is m n w act c = refl
 
-module _ (n : ℕ) (partner : Option Inst) (s : Scene) where
+module _ (n : ℕ) (partner : Option Partner) (s : Scene) where
   abbrev other : Scene
   other = record s { act = n; partner = partner }
 

@@ -151,7 +151,7 @@ module _ (n : ℕ) (w : World) (act : Act) (c : Caller) (r : Route) (h : PullsBy
   abbrev arrives_from : Way → Inst → OrgId → List Row
   arrives_from way a o = arriving_rows (tables w.log a) (w.groups a) (pulling way a o)
 
-  partner_is : c.partner ≡ Some r.dest
+  partner_is : c.partner ≡ Some (record { inst = r.dest; way = r.way })
   unfolding scene
   partner_is = h.partner
 
@@ -163,21 +163,21 @@ module _ (n : ℕ) (w : World) (act : Act) (c : Caller) (r : Route) (h : PullsBy
   unfolding scene
   by_is = h.by
 
-  pulled_there : pulled_rows (scene n w act c) ≡ arrives_from Way.Pull act.at c.org
+  pulled_there : pulled_rows (scene n w act c) ≡ arrives_from r.way act.at c.org
   unfolding pulled_rows scene known_at arriving_rows passing_rows
   pulled_there = λ i. elim (partner_is i) as (λ x. List Row) [ None ↦ [] | Some partner ↦ arriving_by (scene n w act c) (pull_route (scene n w act c) partner) ]
 
   pub pulled_is : pulled_rows (scene n w act c) ≡ arriving_rows (tables w.log r.from) (w.groups r.from) (to_nobody r)
   pulled_is =
       pulled_there
-      ∙ (λ i. arrives_from (sym h.way i) (at_is i) (by_is i))
+      ∙ (λ i. arrives_from r.way (at_is i) (by_is i))
       ∙ into_apart (tables w.log r.from) (w.groups r.from) (to_nobody r) r.dest
 
   pub groups_are : answer (scene n w act c) SyncGroups ≡ Shares (filter (λ g. carries g r.«for» r.dest) (w.groups r.from))
   unfolding answer ask_rules ok_answer first_rule pulled_groups scene
   groups_are =
       ap Shares
-      ((λ i. elim (partner_is i) as (λ x. List Group) [ None ↦ [] | Some partner ↦ filter (λ g. carries g c.org partner) (w.groups act.at) ])
+      ((λ i. elim (partner_is i) as (λ x. List Group) [ None ↦ [] | Some partner ↦ filter (λ g. carries g c.org partner.inst) (w.groups act.at) ])
       ∙ (λ i. filter (λ g. carries g (by_is i) r.dest) (w.groups (at_is i))))
 
   all_nobodys : list_all (λ row. same_org row.owner nobody) (arriving_rows (tables w.log r.from) (w.groups r.from) (to_nobody r)) ≡ true

@@ -1,11 +1,11 @@
 -- What passes in a synchronisation is told by the sender's rows, each key once.
-use Rattle.std.proofs.Common.{◌≡◌, List, Bool, true, ap, arith, sym, ◌∙◌, inl, inr, ltb, Some, None, ℕ, false, refl, map, cond, length, ◌&&◌, Option, Contains, filter, lt-ltb, subst}
+use Rattle.std.proofs.Common.{◌≡◌, List, Bool, true, ap, arith, sym, ◌∙◌, inl, inr, ltb, Some, None, false, refl, map, cond, ◌&&◌, Option, Contains, filter, lt-ltb, subst}
 use Rattle.misp_history.proofs.Prelude.{Content, Element, Group, IsDistinct, IsTable, Key, OrgId, Reference, Route, Row, Tag, Version, all-map, all_of_kept, and_from, and_parts, and_right, any_has, apart_in_order, arrived, arriving_rows}
 use Rattle.misp_history.proofs.Prelude.{cases_order, content_now, distinct_from_map, distinct_map, distinct_part, distinct_weaker, element_passes, event_of, exportable, false_from_ne_true, false≢true, filter-map, filter_all, filter_among}
 use Rattle.misp_history.proofs.Prelude.{from_in_order, granted, granted_known, has_path, in_one_cell, in_order, in_order_has, in_order_rows, is_known, is_least, is_sent_owner, kept_has, known, known_there, label_now, list_all, map_from}
 use Rattle.misp_history.proofs.Prelude.{map_has, map_twice, moved, newest, not-true, one_cell, passes, passes_by, passing, passing_rows, row_of, same_cell, same_inst, same_inst-refl, same_key, same_key-refl, same_key-sound, same_org}
 use Rattle.misp_history.proofs.Prelude.{same_org-sound, sent_copy, stands_before, tables, without_local_tags}
-use Rattle.misp_levels.proofs.Steps.{down_more}
+use Rattle.misp_levels.proofs.Steps.{down_landed}
 use Rattle.misp_model.proofs.KnownRows.{granted_is_known}
 use Rattle.misp_history.proofs.AsNew.{tables_are_tables, newest_apart}
 use Rattle.misp_history.proofs.Arriving.{settled, comes}
@@ -136,41 +136,41 @@ module _ (log : List Version) (groups : List Group) (route : Route) where
   without_once true c = sym (without_twice c)
   without_once false c = refl
 
-  one_settled : (n : ℕ) (v : Version) → settled (moved n route v) ≡ arrived route (row_of log v)
+  one_settled : (v : Version) → settled (moved route v) ≡ arrived route (row_of log v)
   unfolding settled moved arrived row_of label_now content_now has_path
-  one_settled n v = λ i. record (arrived route (row_of log v)) { label = down_more v.label (length v.path) i; content = without_once (has_path v) v.content i }
+  one_settled v = λ i. record (arrived route (row_of log v)) { label = down_landed route.way v.label v.path i; content = without_once (has_path v) v.content i }
 
-  pub coming_settled : (n : ℕ) → map settled (map (moved n route) (passing log groups route)) ≡ map (arrived route) (filter goes loose)
+  pub coming_settled : map settled (map (moved route) (passing log groups route)) ≡ map (arrived route) (filter goes loose)
   unfolding passing known_there
-  coming_settled n =
-      map_twice (moved n route) settled (λ v. arrived route (row_of log v)) (one_settled n) (passing log groups route)
+  coming_settled =
+      map_twice (moved route) settled (λ v. arrived route (row_of log v)) one_settled (passing log groups route)
       ∙ sym (map_twice (row_of log) (arrived route) (λ v. arrived route (row_of log v)) (λ v. refl) (passing log groups route))
       ∙ ap (map (arrived route)) (sym (filter-map (row_of log) goes (newest log route.from)))
 
-  pub all_come : (n : ℕ) (vs : List Version) → list_all (comes route.into) (map (moved n route) vs) ≡ true
+  pub all_come : (vs : List Version) → list_all (comes route.into) (map (moved route) vs) ≡ true
   unfolding moved has_path
-  all_come n vs = all-map (comes route.into) (moved n route) (λ v. and_from _ _ (same_inst-refl route.into) refl) vs
+  all_come vs = all-map (comes route.into) (moved route) (λ v. and_from _ _ (same_inst-refl route.into) refl) vs
 
   -- what arrives are the versions that come, as rows, in another order
-  pub came_so : (n : ℕ) (x : Row) → Contains (arriving_rows rows groups route) x → Contains (map settled (map (moved n route) (passing log groups route))) x
-  came_so n x m = subst (λ rs. Contains rs x) (sym (coming_settled n)) (map_within (arrived route) _ (filter goes loose) (from_in_order stands_before (filter goes loose)) x (subst (λ rs. Contains rs x) arriving_in_order m))
+  pub came_so : (x : Row) → Contains (arriving_rows rows groups route) x → Contains (map settled (map (moved route) (passing log groups route))) x
+  came_so x m = subst (λ rs. Contains rs x) (sym coming_settled) (map_within (arrived route) _ (filter goes loose) (from_in_order stands_before (filter goes loose)) x (subst (λ rs. Contains rs x) arriving_in_order m))
 
-  pub came_back : (n : ℕ) (x : Row) → Contains (map settled (map (moved n route) (passing log groups route))) x → Contains (arriving_rows rows groups route) x
-  came_back n x m = subst (λ rs. Contains rs x) (sym arriving_in_order) (map_within (arrived route) (filter goes loose) _ (in_order_has stands_before (filter goes loose)) x (subst (λ rs. Contains rs x) (coming_settled n) m))
+  pub came_back : (x : Row) → Contains (map settled (map (moved route) (passing log groups route))) x → Contains (arriving_rows rows groups route) x
+  came_back x m = subst (λ rs. Contains rs x) (sym arriving_in_order) (map_within (arrived route) (filter goes loose) _ (in_order_has stands_before (filter goes loose)) x (subst (λ rs. Contains rs x) coming_settled m))
 
   arrived_apart : (a b : Row) → same_key a.key b.key ≡ false → in_one_cell (arrived route a) (arrived route b) ≡ false
   unfolding in_one_cell arrived
   arrived_apart a b h = and_right (same_org route.holder route.holder) _ h
 
   -- of different names as they come
-  pub settled_table : (n : ℕ) → IsTable (map settled (map (moved n route) (passing log groups route)))
-  settled_table n = subst IsTable (sym (coming_settled n)) (distinct_map (arrived route) (λ a b. same_key a.key b.key) in_one_cell arrived_apart (filter goes loose) keys_apart)
+  pub settled_table : IsTable (map settled (map (moved route) (passing log groups route)))
+  settled_table = subst IsTable (sym coming_settled) (distinct_map (arrived route) (λ a b. same_key a.key b.key) in_one_cell arrived_apart (filter goes loose) keys_apart)
 
-  pub moved_apart : (n : ℕ) → IsDistinct same_cell (map (moved n route) (passing log groups route))
+  pub moved_apart : IsDistinct same_cell (map (moved route) (passing log groups route))
   unfolding same_cell in_one_cell settled
-  moved_apart n =
-      distinct_weaker same_cell (λ a b. in_one_cell (settled a) (settled b)) (λ a b h. and_within (same_inst a.at b.at) (same_org a.owner b.owner) (same_key a.key b.key) h) (map (moved n route) (passing log groups route))
-      (distinct_from_map settled in_one_cell (map (moved n route) (passing log groups route)) (settled_table n))
+  moved_apart =
+      distinct_weaker same_cell (λ a b. in_one_cell (settled a) (settled b)) (λ a b h. and_within (same_inst a.at b.at) (same_org a.owner b.owner) (same_key a.key b.key) h) (map (moved route) (passing log groups route))
+      (distinct_from_map settled in_one_cell (map (moved route) (passing log groups route)) settled_table)
 
   pub arriving_table : IsTable (arriving_rows rows groups route)
   arriving_table =

@@ -1,19 +1,18 @@
 -- What a synchronising key is answered, put together.
 use Rattle.std.specs.Prelude.{◌≡◌, ℕ, List, [], Option, Some, None, filter_map, flat_map}
 use Rattle.std.specs.List.{range_with_len}
-use Rattle.misp_model.specs.Prelude.{EventId, Reply, Row, Scene, Way, answer}
+use Rattle.misp_model.specs.Prelude.{EventId, Reply, Row, Scene, answer}
 use Rattle.misp_model.specs.declared.ask.Ask.TheVariants.{SyncEvents, SyncPart}
 use Rattle.misp_model.specs.Answers.{Packed, Parts}
 use Rattle.misp_model.specs.Package.{nobody}
 use Rattle.misp_history.specs.Passing.{Route}
 
 -- the caller asks as a pull by this route does: where it comes from, for its organisation, with a
--- key for the instance that it goes to
+-- key for the instance that it goes to on its way
 pub record PullsBy (route : Route) (s : Scene) : Type 0 where
-  pub way : route.way ≡ Way.Pull
   pub at : s.at ≡ route.from
   pub by : s.by ≡ route.«for»
-  pub partner : s.partner ≡ Some route.dest
+  pub partner : s.partner ≡ Some (record { inst = route.dest; way = route.way })
 
 -- the same route, where nobody holds yet what comes
 abbrev pub to_nobody : Route → Route

@@ -3,7 +3,7 @@ use Rattle.std.specs.Prelude.{ℕ, Bool, List, map, [], cond, ◌++◌, filter, 
 use Rattle.misp_model.specs.Prelude.{Group, Row, Version, is_row_of, list_any}
 use Rattle.misp_history.specs.Merging.{packages, arriving_rows, is_taken, brought, bringing}
 use Rattle.misp_history.specs.Passing.{Route, passing, moved}
-use Rattle.misp_history.specs.Acts.{World, synced_groups, Act, Asks, Misfits, Syncs, Takes_groups, Administers, Nothing, Net, step}
+use Rattle.misp_history.specs.Acts.{World, synced_groups, Act, Asks, Misfits, Syncs, Takes_groups, Administers, Shares, Makes, Nothing, Net, step}
 use Rattle.misp_history.specs.History.{tables}
 
 -- what became of an act: all of it was applied; nothing was; or of a synchronisation the groups or
@@ -14,9 +14,9 @@ pub data Outcome : Type 0 where
   Failed : Outcome
   Stopped : (groups : Bool) → (packages : ℕ) → Outcome
 
--- what comes by the n-th act, a synchronisation
-unfoldable pub coming : ℕ → World → Route → List Version
-coming n w r = map (moved n r) (passing w.log (w.groups r.from) r)
+-- what comes by a synchronisation
+unfoldable pub coming : World → Route → List Version
+coming w r = map (moved r) (passing w.log (w.groups r.from) r)
 
 -- what arrives of the sender's rows
 unfoldable pub arriving : World → Route → List Row
@@ -33,12 +33,13 @@ first_brought p w r groups =
     (bringing p (takes w r groups) [] (packages (arriving w r)))
 
 -- a synchronisation that stopped after its groups or not, and after p batches
-unfoldable pub synced_partly : ℕ → World → Route → Bool → ℕ → World
-synced_partly n w r g p =
+unfoldable pub synced_partly : World → Route → Bool → ℕ → World
+synced_partly w r g p =
     record {
       log = w.log ++ filter (λ v. list_any (is_row_of v.owner v.key)
-          (first_brought p w r (cond g (synced_groups w.groups r) w.groups r.into))) (coming n w r);
+          (first_brought p w r (cond g (synced_groups w.groups r) w.groups r.into))) (coming w r);
       groups = cond g (synced_groups w.groups r) w.groups;
+      made = w.made;
     }
 
 -- the state after an act of which only a part was applied; where a batch was, the groups were
@@ -47,14 +48,16 @@ step_partly net n w act Whole = step net n w act
 step_partly net n w act Failed = w
 step_partly net n w act (Stopped g p) =
     elim act.command [
-      | Syncs way link ↦ elim (net way act.at link w.groups) [
+      | Syncs direction link ↦ elim (net direction act.at link w.groups w.made) [
         | None ↦ w
-        | Some r ↦ synced_partly n w r (g || ltb 0 p) p
+        | Some r ↦ synced_partly w r (g || ltb 0 p) p
       ]
       | Asks c a ↦ w
       | Misfits c ↦ w
       | Takes_groups c gs ↦ w
       | Administers o add g ↦ w
+      | Shares c add g ↦ w
+      | Makes c item ↦ w
       | Nothing ↦ w
     ]
 

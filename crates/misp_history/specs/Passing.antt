@@ -1,5 +1,5 @@
 -- What passes of a history in a synchronisation, and as what it comes.
-use Rattle.std.specs.Prelude.{ℕ, ◌∷◌, List, filter}
+use Rattle.std.specs.Prelude.{◌∷◌, List, filter}
 use Rattle.misp_model.specs.Prelude.{Group, Row, Version, known}
 use Rattle.misp_history.specs.History.{tables, newest, row_of}
 unfoldable pub use Rattle.misp_model.specs.Passing.{element_passes, is_sent_owner, lets_out, passes, passes_at, passes_by, sent_copy}
@@ -15,6 +15,6 @@ passing log groups route =
     filter (λ v. passes (known_there log groups route) groups route (row_of log v))
     (newest log route.from)
 
--- the version as it comes by the n-th act, a synchronisation
-unfoldable pub moved : ℕ → Route → Version → Version
-moved n route v = record v { at = route.into; owner = route.holder; path = n ∷ v.path }
+-- the version as it comes by this synchronisation
+unfoldable pub moved : Route → Version → Version
+moved route v = record v { at = route.into; owner = route.holder; path = route.way ∷ v.path }

@@ -24,6 +24,7 @@ ghost use Rattle.misp_model.specs.Machine.{put_row, put_all, let_go, published_r
 ghost use Rattle.misp_model.specs.Scene.{Scene, own_row};
 ghost use Rattle.misp_model.specs.Changing.{change_writes};
 ghost use Rattle.misp_model.specs.Numbers.{scene_as, versions_as, reply_as};
+ghost use Rattle.misp_model.specs.Scene.{Partner};
 ghost use Rattle.misp_history.specs.Acts.{World, Act, Net, Caller, Asks, Misfits, Administers, Nothing, scene, with_groups, step};
 ghost use Rattle.misp_model.specs.Answers.{ask_rules, brings, is_accepted, answer};
 ghost use Rattle.misp_groups.specs.Changes.{administered};
@@ -140,12 +141,12 @@ pub fn a_request_is_decided_without_its_number()
 /// The partner of the caller's key counts for what a pull asks, and for nothing else: any other
 /// request with another partner is refused, accepted and answered alike, and writes the same.
 pub fn a_partner_counts_for_pulls_alone()
-    ensures rules { (p : Option Inst) (s : Scene) (a : Ask) → pulls a ≡ false →
+    ensures rules { (p : Option Partner) (s : Scene) (a : Ask) → pulls a ≡ false →
         ask_rules (record s { partner = p }) a ≡ ask_rules s a }
-    ensures accepted { (p : Option Inst) (s : Scene) (a : Ask) → pulls a ≡ false →
+    ensures accepted { (p : Option Partner) (s : Scene) (a : Ask) → pulls a ≡ false →
         is_accepted (record s { partner = p }) a ≡ is_accepted s a }
-    ensures answer { (p : Option Inst) (s : Scene) (a : Ask) → pulls a ≡ false →
+    ensures answer { (p : Option Partner) (s : Scene) (a : Ask) → pulls a ≡ false →
         answer (record s { partner = p }) a ≡ answer s a }
-    ensures versions { (p : Option Inst) (s : Scene) (a : Ask) →
+    ensures versions { (p : Option Partner) (s : Scene) (a : Ask) →
         brings (record s { partner = p }) a ≡ brings s a }
 {}

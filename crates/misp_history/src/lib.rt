@@ -3,6 +3,7 @@
 #![tactic(auto)]
 
 mod laws;
+mod origins;
 mod synchronising;
 mod table;
 
@@ -10,6 +11,9 @@ pub use laws::{
     a_copy_is_as_its_event_came, a_partner_counts_for_pulls_alone,
     a_publishing_clears_the_holds_of_its_copy, a_request_is_decided_without_its_number,
     an_accepted_request_is_put_row_by_row, one_version_more, what_an_act_leaves,
+};
+pub use origins::{
+    each_row_has_its_label_of_origin_lowered_by_its_hops, each_version_has_an_origin,
 };
 pub use synchronising::{
     a_package_is_handed_in, a_part_is_the_one_asked_for, a_pull_is_answered_by_packages,

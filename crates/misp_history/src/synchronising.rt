@@ -29,12 +29,12 @@ ghost use Rattle.misp_history.specs.Merging.{IsPackageOf, arrives, arriving_rows
 /// A synchronisation merges what passes of the sender's rows into the rows of its receiver, and
 /// changes no row of another instance.
 pub fn one_synchronisation()
-    ensures here { (n : ℕ) (w : World) (r : Route) →
-        tables (synced n w r).log r.into
+    ensures here { (w : World) (r : Route) →
+        tables (synced w r).log r.into
         ≡ merged r.into (tables w.log r.into) (synced_groups w.groups r r.into)
         (arriving_rows (tables w.log r.from) (w.groups r.from) r) }
-    ensures elsewhere { (n : ℕ) (w : World) (r : Route) (j : Inst) →
-        same_inst r.into j ≡ false → tables (synced n w r).log j ≡ tables w.log j }
+    ensures elsewhere { (w : World) (r : Route) (j : Inst) →
+        same_inst r.into j ≡ false → tables (synced w r).log j ≡ tables w.log j }
 {}
 
 /// What passes of a table was granted there to the organisation of the synchronisation, and arrives
@@ -67,20 +67,20 @@ pub fn a_package_is_handed_in()
 /// The same synchronisation once more, with both instances unchanged, takes no group and no row, and
 /// changes nothing.
 pub fn a_second_synchronisation()
-    ensures here { (n m : ℕ) (w : World) (r : Route) → same_inst r.into r.from ≡ false →
-        tables (synced m (synced n w r) r).log r.into ≡ tables (synced n w r).log r.into }
-    ensures elsewhere { (n m : ℕ) (w : World) (r : Route) (j : Inst) → same_inst r.into j ≡ false →
-        tables (synced m (synced n w r) r).log j ≡ tables (synced n w r).log j }
-    ensures groups { (n m : ℕ) (w : World) (r : Route) → same_inst r.into r.from ≡ false →
-        (synced m (synced n w r) r).groups r.into ≡ (synced n w r).groups r.into }
-    ensures taken { (n : ℕ) (w : World) (r : Route) → same_inst r.into r.from ≡ false →
-        rows_taken r.into (tables (synced n w r).log r.into)
-        (synced_groups (synced n w r).groups r r.into)
-        (arriving_rows (tables (synced n w r).log r.from) ((synced n w r).groups r.from) r)
+    ensures here { (w : World) (r : Route) → same_inst r.into r.from ≡ false →
+        tables (synced (synced w r) r).log r.into ≡ tables (synced w r).log r.into }
+    ensures elsewhere { (w : World) (r : Route) (j : Inst) → same_inst r.into j ≡ false →
+        tables (synced (synced w r) r).log j ≡ tables (synced w r).log j }
+    ensures groups { (w : World) (r : Route) → same_inst r.into r.from ≡ false →
+        (synced (synced w r) r).groups r.into ≡ (synced w r).groups r.into }
+    ensures taken { (w : World) (r : Route) → same_inst r.into r.from ≡ false →
+        rows_taken r.into (tables (synced w r).log r.into)
+        (synced_groups (synced w r).groups r r.into)
+        (arriving_rows (tables (synced w r).log r.from) ((synced w r).groups r.from) r)
         ≡ [] }
-    ensures counted { (n : ℕ) (w : World) (r : Route) → same_inst r.into r.from ≡ false →
-        count_taken ((synced n w r).groups r.into)
-        (filter (λ g. carries g r.«for» r.dest) ((synced n w r).groups r.from)) ≡ 0 }
+    ensures counted { (w : World) (r : Route) → same_inst r.into r.from ≡ false →
+        count_taken ((synced w r).groups r.into)
+        (filter (λ g. carries g r.«for» r.dest) ((synced w r).groups r.from)) ≡ 0 }
 {}
 
 /// The packages up to the n-th that brings a row are the first ones, and so many of them bring one,
@@ -123,20 +123,20 @@ pub fn packages_are_merged_one_by_one()
 /// into the rows of its receiver, one after another, and one that is done has merged all of them.
 /// Neither changes a row of another instance.
 pub fn a_synchronisation_by_packages()
-    ensures stopped { (n k : ℕ) (w : World) (r : Route) (g : Bool) →
+    ensures stopped { (k : ℕ) (w : World) (r : Route) (g : Bool) →
         AreRows (tables w.log r.from) →
-        tables (synced_partly n w r g
+        tables (synced_partly w r g
         (count_bringing (takes w r (cond g (synced_groups w.groups r) w.groups r.into)) []
         (take k (packages (arriving w r))))).log r.into
         ≡ merged_by r.into (tables w.log r.into) (cond g (synced_groups w.groups r) w.groups r.into)
         (take k (packages (arriving w r))) }
-    ensures done { (n : ℕ) (w : World) (r : Route) → AreRows (tables w.log r.from) →
-        tables (synced n w r).log r.into
-        ≡ merged_by r.into (tables w.log r.into) ((synced n w r).groups r.into)
+    ensures done { (w : World) (r : Route) → AreRows (tables w.log r.from) →
+        tables (synced w r).log r.into
+        ≡ merged_by r.into (tables w.log r.into) ((synced w r).groups r.into)
         (packages (arriving w r)) }
-    ensures elsewhere { (n p : ℕ) (w : World) (r : Route) (g : Bool) (j : Inst) →
+    ensures elsewhere { (p : ℕ) (w : World) (r : Route) (g : Bool) (j : Inst) →
         same_inst r.into j ≡ false →
-        tables (synced_partly n w r g p).log j ≡ tables w.log j }
+        tables (synced_partly w r g p).log j ≡ tables w.log j }
 {}
 
 /// What a synchronising key is answered is what a pull by its partner brings: the groups that

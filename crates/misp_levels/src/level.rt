@@ -1,7 +1,7 @@
 //! What becomes of a label on the way.
 
 ghost use Rattle.std.specs.Prelude.{◌≡◌};
-ghost use Rattle.misp_levels.specs.Levels.{hop, down};
+ghost use Rattle.misp_levels.specs.Levels.{hop, down, landed};
 
 use misp_ids::{Label, Way};
 
@@ -11,6 +11,7 @@ pub fn hop(way: Way, label: &Label) -> Option<Label>
     ensures { result ≡ hop way label.now }
 {
     match (way, label) {
+        (Way::Internal, _) => Some(*label),
         (Way::Push, Label::Own | Label::Community) => None,
         (Way::Pull, Label::Own | Label::Community) => Some(Label::Own),
         (_, Label::Connected) => Some(Label::Community),
@@ -27,5 +28,16 @@ pub fn down(label: &Label, hops: u64) -> Label
         (Label::Connected, 1) => Label::Community,
         (Label::Connected, 2..) | (Label::Community, 1..) => Label::Own,
         _ => *label,
+    }
+}
+
+/// The label with which what is sent on this way comes.
+#[tactic(auto, unfolding(crate::specs::Levels::landed, crate::specs::Levels::lowering), using(crate::proofs::Steps::down_none))]
+pub fn landed(way: Way, label: &Label) -> Label
+    ensures { result ≡ landed way label.now }
+{
+    match way {
+        Way::Internal => *label,
+        Way::Pull | Way::Push => down(label, 1),
     }
 }

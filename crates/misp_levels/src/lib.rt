@@ -4,5 +4,7 @@
 mod laws;
 mod level;
 
-pub use laws::{a_hop_is_one_step_down, no_hop_raises_a_label, steps_down_add_up};
-pub use level::{down, hop};
+pub use laws::{
+    a_hop_is_one_step_down, a_hop_more_lands_on_its_way, no_hop_raises_a_label, steps_down_add_up,
+};
+pub use level::{down, hop, landed};

@@ -1,8 +1,9 @@
 -- What a request is refused by does not depend on the number of its act, nor, where it is no pull, on the partner of the caller's key.
 use Rattle.std.proofs.Common.{◌≡◌, ℕ, List, [], ◌∷◌, ◌++◌, Bool, true, false, refl, ap, sym, map, ◌&&◌, ◌||◌, not, Option, Some, None, option_map, filter}
+use Rattle.misp_model.specs.Scene.{Partner}
 use Rattle.misp_model.specs.Prelude.{AddEvent, AddParts, Ask, Change, Content, Delete, DeleteEvent, DeleteReference, EditAttribute, EditEvent, EditObject, Element, ElementExists, ElementFull, ElemId, EventExists, EventGone, EventId}
 use Rattle.misp_model.specs.Prelude.{GroupNotUsable, Groups, Index, Judge, Key, Label, NotGranted, OrgId, Place, Proposal, ProposalDraft, ProposalExists, ProposalName, Propose, Publish, Reference, Row, Scene, Sight, Sighting}
-use Rattle.misp_model.specs.Prelude.{Inst, SyncEvents, SyncGroups, SyncPart}
+use Rattle.misp_model.specs.Prelude.{SyncEvents, SyncGroups, SyncPart}
 use Rattle.misp_model.specs.Machine.{pulls}
 use Rattle.misp_model.specs.Pulling.{pulled_part, pulled_rows}
 use Rattle.misp_lists.proofs.Prelude.{false≢true}
@@ -15,7 +16,7 @@ use Rattle.misp_model.specs.Scene.{OlderTime, sees_live}
 use Rattle.misp_model.specs.Adding.{target_of, has_target, object_is_there, part_fits, reference_fits}
 use Rattle.misp_model.specs.Statements.{sees_target, proposal_row, can_judge}
 
-module _ (n : ℕ) (partner : Option Inst) (s : Scene) where
+module _ (n : ℕ) (partner : Option Partner) (s : Scene) where
   abbrev other : Scene
   other = record s { act = n; partner = partner }
 

@@ -1,13 +1,14 @@
 -- What passes of kept rows is what is kept of what passes, and so what a pull brings of an event.
 use Rattle.std.proofs.Common.{◌≡◌, List, [], Bool, true, refl, ap, ◌&&◌, ◌∙◌, sym, map, filter, ℕ, length, Option, Some, None, option_map}
 use Rattle.std.specs.List.{slice_get}
+use Rattle.misp_model.specs.Scene.{Partner}
 use Rattle.misp_elem.proofs.Same.{target_kept}
 use Rattle.misp_lists.proofs.Lists.{all_of_kept, all_same, filter_all}
 use Rattle.misp_model.specs.declared.package.PackageFields.{PackageFields}
 use Rattle.misp_model.specs.Packing.{arrived, packages}
 use Rattle.misp_model.specs.Passing.{Route, element_passes, lets_out, passes, passes_at, passes_by, sent_copy}
 use Rattle.misp_model.specs.Pulling.{arriving_by, pull_route, pulled_packages, pulled_part, pulled_rows}
-use Rattle.misp_model.proofs.Prelude.{Element, EventId, Group, Inst, IsClosed, Key, Proposal, Reference, Row, Scene, Sighting, Verdict, and_parts, any_within, cut_rows, cut_scene, event_is_closed, event_kept, event_key, event_of, event_rows}
+use Rattle.misp_model.proofs.Prelude.{Element, EventId, Group, IsClosed, Key, Proposal, Reference, Row, Scene, Sighting, Verdict, and_parts, any_within, cut_rows, cut_scene, event_is_closed, event_kept, event_key, event_of, event_rows}
 use Rattle.misp_model.proofs.Prelude.{filter-map, filter_cut, filter_within, first_of_all, granted, of_event, parents, same_event, same_key, same_key-keeps}
 use Rattle.misp_model.proofs.Knowing.{granted_cut, own_rows_cut}
 use Rattle.misp_model.proofs.Moving.{is_least_cut}
@@ -66,7 +67,7 @@ module _ (e : EventId) (s : Scene) where
   unfolding pulled_rows cut_scene
   pulled_here = by_partner s.partner
     where
-      by_partner : (partner : Option Inst) → elim partner as (λ x. List Row) [ None ↦ [] | Some p ↦ arriving_by (cut_scene (of_event e) s) (pull_route s p) ]
+      by_partner : (partner : Option Partner) → elim partner as (λ x. List Row) [ None ↦ [] | Some p ↦ arriving_by (cut_scene (of_event e) s) (pull_route s p) ]
           ≡ event_rows e (elim partner as (λ x. List Row) [ None ↦ [] | Some p ↦ arriving_by s (pull_route s p) ])
       by_partner None = refl
       by_partner (Some p) = arriving_here (pull_route s p)

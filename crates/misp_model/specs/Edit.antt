@@ -1,10 +1,11 @@
 -- Edits, each given part of which is such as a row may have.
 use Rattle.std.specs.Prelude.{◌≡◌, ℕ, ◌+◌, nat_le, true, List, [], ◌∷◌, length, Option, Some, None}
-use Rattle.misp_elem.specs.Fields.{IsText, IsDate, IsBetween, IsValue, IsOptionalUid, text_limit}
+use Rattle.misp_elem.specs.Fields.{IsText, IsDate, IsBetween, IsValue, IsOptionalUid, IsOptionalMoment, earliest, text_limit}
 use Rattle.misp_elem.specs.Row.{IsLabel, IsLabelBut}
 use Rattle.misp_model.specs.declared.edit.EventEditFields.{EventEditFields}
 use Rattle.misp_model.specs.declared.edit.AttributeEditFields.{AttributeEditFields}
 use Rattle.misp_model.specs.declared.edit.ObjectEditFields.{ObjectEditFields}
+use Rattle.misp_model.specs.declared.edit.Seen.{Seen}
 
 -- what is given is so
 abbrev pub IsGiven : {A : Type 0} → (A → Type 0) → Option A → Type 0
@@ -29,6 +30,10 @@ IsWithin size = nat_le size text_limit ≡ true
 abbrev pub IsKindValue : List ℕ × List ℕ → Type 0
 IsKindValue p = IsText 1 100 p.0 × IsValue text_limit p.0 p.1
 
+-- two moments, of which the last is not before the first
+abbrev pub IsSeen : Seen → Type 0
+IsSeen s = IsOptionalMoment 0 s.first × IsOptionalMoment (earliest s.first) s.last
+
 -- no label of an event inherits
 abbrev pub IsEventEdit : EventEditFields → Type 0
 IsEventEdit e =
@@ -46,7 +51,8 @@ IsAttributeEdit e =
     × (IsGiven (IsBetween 0 15) e.category
     × (IsGiven (IsText 0 text_limit) e.comment
     × (IsGiven IsKindValue e.kind_value
-    × IsWithin (given_size e.comment + pair_size e.kind_value))))
+    × (IsGiven IsSeen e.seen
+    × IsWithin (given_size e.comment + pair_size e.kind_value)))))
 
 abbrev pub IsObjectEdit : ObjectEditFields → Type 0
 IsObjectEdit e =

@@ -17,7 +17,7 @@ unfoldable pub given : {A : Type 0} → Option A → A → A
 given None x = x
 given (Some y) x = y
 
--- the attribute after an edit
+-- the attribute after an edit, which leaves its part in the template of its object
 unfoldable pub edited : AttributeEdit → AttributeBody → AttributeBody
 edited e b =
     record b {
@@ -26,6 +26,8 @@ edited e b =
       comment = given e.comment b.comment;
       kind = elim e.kind_value [ None ↦ b.kind | Some p ↦ p.0 ];
       value = elim e.kind_value [ None ↦ b.value | Some p ↦ p.1 ];
+      first_seen = elim e.seen [ None ↦ b.first_seen | Some s ↦ s.first ];
+      last_seen = elim e.seen [ None ↦ b.last_seen | Some s ↦ s.last ];
     }
 
 -- the attribute's body in a row's content, after a function

@@ -1,6 +1,6 @@
 -- As what rows arrive, and how they are packed.
 use Rattle.std.specs.Prelude.{ℕ, zero, suc, Bool, true, false, not, ◌&&◌, List, [], ◌∷◌, filter, flat_map, map}
-use Rattle.misp_levels.specs.Levels.{down}
+use Rattle.misp_levels.specs.Levels.{landed}
 use Rattle.misp_lists.specs.Order.{in_order}
 use Rattle.misp_elem.specs.declared.content.Content.{Content}
 use Rattle.misp_elem.specs.declared.content.Tag.{Tag}
@@ -30,15 +30,15 @@ without_local_tags (Content.Verdict b) = Content.Verdict b
 without_local_tags (Content.Sighting b) = Content.Sighting b
 without_local_tags Content.Gone = Content.Gone
 
--- a row as it arrives at the end of a route: the holder's, carried and not held, its label one step
--- down, without the tags that are not exportable
+-- a row as it arrives at the end of a route: the holder's, carried and not held, its label as the
+-- way leaves it, without the tags that are not exportable
 unfoldable pub arrived : Route → Row → Row
 arrived route row =
     record {
       owner = route.holder;
       key = row.key;
       stamp = row.stamp;
-      label = down row.label 1;
+      label = landed route.way row.label;
       held = false;
       carried = true;
       content = without_local_tags row.content;

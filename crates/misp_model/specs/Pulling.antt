@@ -1,26 +1,25 @@
 -- What a synchronising key is answered: what a pull by its partner brings.
 use Rattle.std.specs.Prelude.{ℕ, List, [], Option, Some, None, filter, length, map, option_map}
 use Rattle.std.specs.List.{slice_get}
-use Rattle.misp_ids.specs.declared.label.Way.{Way}
 use Rattle.misp_groups.specs.declared.group.GroupFields.{GroupFields as Group}
 use Rattle.misp_groups.specs.Audience.{carries}
 use Rattle.misp_lists.specs.Order.{in_order}
 use Rattle.misp_elem.specs.declared.row.RowFields.{RowFields as Row}
-use Rattle.misp_elem.specs.Prelude.{EventId, Inst, event_of}
+use Rattle.misp_elem.specs.Prelude.{EventId, event_of}
 use Rattle.misp_model.specs.declared.package.PackageFields.{PackageFields}
 use Rattle.misp_model.specs.Packing.{arrived, event_rows, is_own, packages}
 use Rattle.misp_model.specs.Passing.{Route, passes, route_to}
 use Rattle.misp_model.specs.RowOrder.{stands_before}
-use Rattle.misp_model.specs.Scene.{Scene}
+use Rattle.misp_model.specs.Scene.{Partner, Scene}
 
 -- the route of a pull by this partner for the caller
-abbrev pub pull_route : Scene → Inst → Route
-pull_route s partner = route_to Way.Pull s.at s.by partner
+abbrev pub pull_route : Scene → Partner → Route
+pull_route s partner = route_to partner.way s.at s.by partner.inst
 
 -- the groups that carry to the partner of the caller's key; without a partner there are none
 unfoldable pub pulled_groups : Scene → List Group
 pulled_groups s =
-    elim s.partner [ None ↦ [] | Some partner ↦ filter (λ g. carries g s.by partner) s.groups ]
+    elim s.partner [ None ↦ [] | Some partner ↦ filter (λ g. carries g s.by partner.inst) s.groups ]
 
 -- of the rows that the caller knows those that pass by this route, as they arrive
 abbrev pub arriving_by : Scene → Route → List Row

@@ -1,6 +1,7 @@
 -- A request's surroundings, what its caller has there and can see, and what its own rows become.
 use Rattle.std.specs.Prelude.{ℕ, List, Bool, true, false, [], ◌∷◌, Option, Some, None, ◌&&◌, ltb, eqb, map, option_to_list, not, ◌||◌, find}
 use Rattle.misp_ids.specs.Moments.{next_stamp}
+use Rattle.misp_ids.specs.declared.label.Way.{Way}
 use Rattle.misp_groups.specs.declared.group.GroupFields.{GroupFields as Group}
 use Rattle.misp_groups.specs.Audience.{group_passes, allows}
 use Rattle.misp_elem.specs.Prelude.{EventId, Inst, Label, OrgId, Stamp, event_key, last_stamp, list_any, same_key, text_size}
@@ -10,6 +11,11 @@ use Rattle.misp_elem.specs.declared.content.Content.{Content}
 use Rattle.misp_model.specs.View.{has_home, has_copy, has_gone, granted_somewhere, element_granted, is_live, is_row_of}
 use Rattle.misp_model.specs.Version.{Version, Written}
 
+-- the instance that a key is for, and the way on which rows go there
+pub record Partner : Type 0 where
+  pub inst : Inst
+  pub way : Way
+
 -- a request's surroundings: its number, where and by whom, the instance that the caller's key is
 -- for, the moment and its date, and the rows and groups that it can look at
 pub record Scene : Type 0 where
@@ -17,7 +23,7 @@ pub record Scene : Type 0 where
   pub at : Inst
   pub by : OrgId
   pub by_name : List ℕ
-  pub partner : Option Inst
+  pub partner : Option Partner
   pub now : Stamp
   pub today : List ℕ
   pub rows : List Row

@@ -97,7 +97,7 @@ proposal_body (Content.Verdict b) = None
 proposal_body (Content.Sighting b) = None
 proposal_body Content.Gone = None
 
--- an attribute as the proposal makes it: deleted, or with the proposal's texts
+-- an attribute as the proposal makes it: deleted, or with the proposal's texts and the rest its own
 unfoldable pub accepted : ProposalBody → AttributeBody → AttributeBody
 accepted p b =
     cond p.remove (record b { deleted = true })
@@ -120,6 +120,9 @@ made p =
       deleted = false;
       value = p.value;
       tags = [];
+      object_relation = [];
+      first_seen = None;
+      last_seen = None;
     }
 
 unfoldable pub body_seen : Scene → EventId → ProposalName → Option ProposalBody

@@ -1,6 +1,7 @@
 -- A version: what an act writes of a key, as it counts at an instance.
-use Rattle.std.specs.Prelude.{ℕ, List, Bool, true, false, [], ◌∷◌, length, ◌&&◌}
-use Rattle.misp_levels.specs.Levels.{down}
+use Rattle.std.specs.Prelude.{ℕ, List, Bool, true, false, [], ◌∷◌, ◌&&◌}
+use Rattle.misp_ids.specs.declared.label.Way.{Way}
+use Rattle.misp_levels.specs.Levels.{down, lowering}
 use Rattle.misp_elem.specs.Prelude.{EventId, Inst, Label, OrgId, Stamp, event_key, same_key, same_org}
 use Rattle.misp_elem.specs.declared.key.KeyForm.{KeyForm as Key}
 use Rattle.misp_elem.specs.declared.content.Content.{Content}
@@ -13,7 +14,8 @@ pub data Came : Type 0 where
   Handed_in : Came
 
 -- a version: where it is, whose it is, what it says of which key, and how it came there.
--- label and content are those at its origin; path has the synchronisations by which it came since
+-- label and content are those at its origin; path has the ways of the synchronisations by which it
+-- came since
 pub record Version : Type 0 where
   pub at : Inst
   pub owner : OrgId
@@ -23,11 +25,11 @@ pub record Version : Type 0 where
   pub content : Content
   pub came : Came
   pub act : ℕ
-  pub path : List ℕ
+  pub path : List Way
 
 -- the version came by a synchronisation
 unfoldable pub has_path : Version → Bool
-has_path v = elim v.path [ [] ↦ false | n ∷ ns ↦ true ]
+has_path v = elim v.path [ [] ↦ false | way ∷ ways ↦ true ]
 
 unfoldable pub is_published : Came → Bool
 is_published Published = true
@@ -39,9 +41,9 @@ is_handed_in Handed_in = true
 is_handed_in Written = false
 is_handed_in Published = false
 
--- the label that it has now: that of its origin, after as many hops as its path is long
+-- the label that it has now: that of its origin, after those hops of its path that lower one
 unfoldable pub label_now : Version → Label
-label_now v = down v.label (length v.path)
+label_now v = down v.label (lowering v.path)
 
 -- the version is the owner's of the event itself
 unfoldable pub is_event_of : OrgId → EventId → Version → Bool

@@ -1,5 +1,6 @@
 //! Edits. What is absent stays.
 
+use misp_elem::Moment;
 use misp_ids::{Label, Stamp, Text, Uid};
 use std::marker::Model;
 
@@ -73,6 +74,15 @@ pub struct AttributeEditFields {
     pub comment: Option<Text>,
     /// The type and the value, which change together.
     pub kind_value: Option<(Text, Text)>,
+    /// The two moments, which change together.
+    pub seen: Option<Seen>,
+}
+
+/// When something was first and last seen, as far as it is known.
+#[derive(Clone, Copy)]
+pub struct Seen {
+    pub first: Option<Moment>,
+    pub last: Option<Moment>,
 }
 
 impl Model for AttributeEdit {

@@ -18,6 +18,7 @@ pub use ask::Ask;
 pub use change::Change;
 pub use edit::{
     AttributeEdit, AttributeEditFields, EventEdit, EventEditFields, ObjectEdit, ObjectEditFields,
+    Seen,
 };
 pub use known_rows::known_rows_answer_as_all;
 pub use laws::{

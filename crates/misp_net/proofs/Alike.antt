@@ -11,9 +11,11 @@ use Rattle.misp_model.specs.declared.ask.Ask.{Ask}
 use Rattle.misp_model.specs.Machine.{seeing}
 use Rattle.misp_model.specs.Prelude.{Key, Scene}
 use Rattle.misp_erasure.specs.Erasure.{erased_act, erased_command, erased_request}
-use Rattle.misp_core.specs.Answers.{scene_at}
+use Rattle.misp_core.specs.Administering.{administered}
+use Rattle.misp_core.specs.Answers.{bare_scene}
 use Rattle.misp_core.specs.Effects.{asked, asked_over, refused}
 use Rattle.misp_core.specs.Keeping.{caller_at}
+use Rattle.misp_core.specs.Partners.{partner_of}
 use Rattle.misp_core.specs.Prelude.{Row}
 use Rattle.misp_store.specs.Prelude.{reach_of}
 use Rattle.misp_api.specs.Answering.{caller_in, replied}
@@ -46,6 +48,7 @@ module _ (o : OrgId) (keep : Key → Bool) (n : ℕ) (w : World) where
   unfolding erased_command
   left_command host time c (Command.Asks ask) own = own_request _ (caller_at host.admin c) ask own
   left_command host time c (Command.TakesGroups groups) own = refl
+  left_command host time c (Command.Shares add g) own = refl
 
   left_asking : (host : Host) (time : ℕ) (form : Reading Commanded) (caller : Option Caller) → AskedBy caller form → IsBy o caller
       → erased_command o keep n w (record { at = host.name; now = time; command = asking form host caller }) ≡ asking form host caller
@@ -70,14 +73,14 @@ module _ (o : OrgId) (keep : Key → Bool) (n : ℕ) (w : World) where
 
 -- ---- what is replied
 
--- it depends on the organisation and the partner of the caller, and not on its role
-asked_alike : (host : Host) (now : ℕ) (c d : Caller) (ask : Ask) (groups : List Group) (read : Result (List Row) (List ℕ)) → c.org ≡ d.org → c.partner ≡ d.partner
+-- it depends on the organisation and the partner of the caller with the way there, and not on its role
+asked_alike : (host : Host) (now : ℕ) (c d : Caller) (ask : Ask) (groups : List Group) (read : Result (List Row) (List ℕ)) → c.org ≡ d.org → partner_of c ≡ partner_of d
     → asked_over host now (c, ask) groups read ≡ asked_over host now (d, ask) groups read
 asked_alike host now c d ask groups (Ok rows) org partner =
-    λ i. asked host.admin (seeing (scene_at host now (record { org = org i; role = c.role; partner = partner i }) groups) rows) ask
+    λ i. asked host.admin (seeing (record (bare_scene host now (record { org = org i; role = c.role; partner = c.partner; internal = c.internal }) groups) { partner = partner i }) rows) ask
 asked_alike host now c d ask groups (Err name) org partner = refl
 
-ask_alike : (host : Host) (now : ℕ) (c d : Caller) (x y : Ask) (here : Seen) → c.org ≡ d.org → c.partner ≡ d.partner → x ≡ y
+ask_alike : (host : Host) (now : ℕ) (c d : Caller) (x y : Ask) (here : Seen) → c.org ≡ d.org → partner_of c ≡ partner_of d → x ≡ y
     → command_effect host now c (Command.Asks x) here ≡ command_effect host now d (Command.Asks y) here
 ask_alike host now c d x y here org partner same =
     asked_alike host now c d x here.groups (here.rows (reach_of c.org x)) org partner
@@ -89,7 +92,17 @@ command_alike host now c d (Command.Asks x) (Command.Asks y) here same =
     let what : x ≡ y = cc in
     ask_alike host now c d x y here (ap (λ (a : model.Caller). a.org) who) (ap (λ (a : model.Caller). a.partner) who) what
 command_alike host now c d (Command.Asks x) (Command.TakesGroups y) here same = absurd cc
+command_alike host now c d (Command.Asks x) (Command.Shares add g) here same = absurd cc
 command_alike host now c d (Command.TakesGroups x) (Command.Asks y) here same = absurd cc
+command_alike host now c d (Command.TakesGroups x) (Command.Shares add g) here same = absurd cc
+command_alike host now c d (Command.Shares add g) (Command.Asks y) here same = absurd cc
+command_alike host now c d (Command.Shares add g) (Command.TakesGroups y) here same = absurd cc
+command_alike host now c d (Command.Shares add g) (Command.Shares also h) here same =
+    let who : caller_at host.admin c ≡ caller_at host.admin d = cc in
+    let adds : add ≡ also = cc in
+    let what : g ≡ h = cc in
+    let by : c.org ≡ d.org = ap (λ (a : model.Caller). a.org) who in
+    λ i. administered now (by i) (adds i) (what i) here.groups
 command_alike host now c d (Command.TakesGroups x) (Command.TakesGroups y) here same =
     let what : x ≡ y = cc in
     ap (λ groups. command_effect host now c (Command.TakesGroups groups) here) what

@@ -108,6 +108,7 @@ asks_refused at comes tables is (Stopped stop k lost) none = none_put at tables 
 command_local : (host : Host) (caller : Caller) (command : Command) → IsLocal (command_at host caller command)
 command_local host caller (Command.Asks ask) = tt
 command_local host caller (Command.TakesGroups groups) = tt
+command_local host caller (Command.Shares add g) = tt
 
 asking_local : (form : Reading Commanded) (host : Host) (caller : Option Caller) → IsLocal (asking form host caller)
 asking_local (Ok it) host caller = command_local host it.0 it.1

@@ -7,6 +7,7 @@ use Rattle.misp_effects.proofs.Courses.{run_kept}
 use Rattle.misp_net.specs.Prelude.{Act, AreAmong, AreKept, Done, HasRun, Host, IsCut, KeeperState, Line, Output, Ran, Standing, acts_of, described_host, host_of, hosts_of, outputs_of, state_of, states_of}
 use Rattle.misp_net.specs.Carrying.{Carried}
 use Rattle.misp_net.specs.Meaning.{AreAsFormed}
+use Rattle.misp_net.specs.Opening.{opened_states}
 use Rattle.misp_net.specs.Passing.{Passes, Trail}
 use Rattle.misp_net.proofs.Passing.{passes_kept}
 
@@ -19,7 +20,7 @@ opened_long instances entries hosts =
 pub record AreInFront (hosts described : List Host) (front after rest olds news : List KeeperState) (count : ℕ) : Type 0 where
   pub same : hosts ≡ described
   pub long : length front ≡ count
-  pub kept : AreKept (take count olds) front
+  pub kept : AreKept (opened_states (take count olds)) front
   pub left : rest ≡ drop count olds
   pub still : length after ≡ length front
   pub is : news ≡ after ++ rest
@@ -29,20 +30,20 @@ module _ {hosts described : List Host} {front after rest olds news : List Keeper
   pub others_kept : drop count news ≡ drop count olds
   others_kept = ap (drop count) over.is ∙ drop_at after rest count (over.still ∙ over.long) ∙ over.left
 
-  -- a run of the instances is one of the first keepers, as they were before these were opened
-  ran_in_front : (acts : List Act) (outputs : List Output) → Ran hosts acts front after outputs → Ran described acts (take count olds) (take count news) outputs
+  -- a run of the instances is one of the first keepers, as these are once they are open
+  ran_in_front : (acts : List Act) (outputs : List Output) → Ran hosts acts front after outputs → Ran described acts (opened_states (take count olds)) (take count news) outputs
   ran_in_front acts outputs ran =
       let last : take count news ≡ after = ap (take count) over.is ∙ take_at after rest count (over.still ∙ over.long) in
-      subst (λ there. Ran there acts (take count olds) (take count news) outputs) over.same (run_kept over.kept ran (rw last (all_kept after)))
+      subst (λ there. Ran there acts (opened_states (take count olds)) (take count news) outputs) over.same (run_kept over.kept ran (rw last (all_kept after)))
 
   -- and so is what passed
-  passes_in_front : (dones : List Done) (first last : Option Trail) → Passes hosts dones front after first last → Passes described dones (take count olds) (take count news) first last
+  passes_in_front : (dones : List Done) (first last : Option Trail) → Passes hosts dones front after first last → Passes described dones (opened_states (take count olds)) (take count news) first last
   passes_in_front dones first last passes =
       let end : take count news ≡ after = ap (take count) over.is ∙ take_at after rest count (over.still ∙ over.long) in
-      subst (λ there. Passes there dones (take count olds) (take count news) first last) over.same
-      (subst (λ now. Passes hosts dones (take count olds) now first last) (sym end) (passes_kept hosts (take count olds) front over.kept dones after first last passes))
+      subst (λ there. Passes there dones (opened_states (take count olds)) (take count news) first last) over.same
+      (subst (λ now. Passes hosts dones (opened_states (take count olds)) now first last) (sym end) (passes_kept hosts (opened_states (take count olds)) front over.kept dones after first last passes))
 
-  pub run_in_front : {first last : Carried} {lines : List Line} {text : List ℕ} → HasRun hosts lines front after first last text → HasRun described lines (take count olds) (take count news) first last text
+  pub run_in_front : {first last : Carried} {lines : List Line} {text : List ℕ} → HasRun hosts lines front after first last text → HasRun described lines (opened_states (take count olds)) (take count news) first last text
   run_in_front {first} {last} run = record {
     dones = run.dones;
     done = run.done;
@@ -55,7 +56,7 @@ module _ {hosts described : List Host} {front after rest olds news : List Keeper
   }
 
   -- also of one that was cut short
-  pub cut_in_front : {first last : Option Trail} {lines : List Line} → IsCut hosts lines front after first last → IsCut described lines (take count olds) (take count news) first last
+  pub cut_in_front : {first last : Option Trail} {lines : List Line} → IsCut hosts lines front after first last → IsCut described lines (opened_states (take count olds)) (take count news) first last
   cut_in_front {first} {last} cut = record {
     count = cut.count;
     dones = cut.dones;

@@ -17,10 +17,10 @@ use Rattle.misp_net.specs.Links.{link_at, place_of_peer}
 use Rattle.misp_net.specs.Passing.{IsSyncPassed, Trail, UnlessHere, stands_at, told_at}
 use Rattle.misp_net.specs.Prelude.{Host, KeeperState, Standing, SyncData, host_at, host_of, hosts_of, seen_in, spelled, state_of, states_of}
 use Rattle.misp_net.specs.Running.{IsSynced}
-use Rattle.misp_net.specs.Ways.{IsTrailOn, synced_on, taker, telling_on}
+use Rattle.misp_net.specs.Directions.{IsTrailOn, synced_on, taker, telling_on}
 use Rattle.misp_net.proofs.Growing.{grows_as}
 use Rattle.misp_net.proofs.Steps.{hosts_kept}
-use Rattle.misp_net.proofs.Ways.{giver_held, taker_held}
+use Rattle.misp_net.proofs.Directions.{giver_held, taker_held}
 use Rattle.misp_sync.specs.Pulled as pulls
 
 -- two places that are apart
@@ -48,7 +48,7 @@ there_state : (old : List Standing) (at : ℕ) → at < length old → state_at 
 there_state old at lt = get_or-map state_of old at no_one (state None 0) lt
 
 module _ (line : SyncData) (peer : ℕ) (old new : List Standing) (reply : SyncReply) (lt : line.at < length old) (peer_lt : peer < length old)
-    (other : eqb peer line.at ≡ false) (is : HaveSynced line.way line.link line.at peer old new reply) where
+    (other : eqb peer line.at ≡ false) (is : HaveSynced line.direction line.link line.at peer old new reply) where
   -- names and administrations stay
   pub lent_hosts : hosts_of new ≡ hosts_of old
   lent_hosts =
@@ -69,13 +69,13 @@ module _ (line : SyncData) (peer : ℕ) (old new : List Standing) (reply : SyncR
       ap (λ p. host_at p (hosts_of old)) (sym place) ∙ get_or-map host_of old peer no_one nobody peer_lt in
       let there : Host = host_at (place_of_peer (hosts_of old) line.at line.link) (hosts_of old) in
       let Did : Host → Host → Option Held → Type 0 = λ h f left. IfSome own.held (λ o. IfSome from.held (λ p.
-      Does SyncReply spelled pulls.stop_in (telling_on line.way) (synced_on line.way h line.link f (seen_in o) (seen_in p)) (taker line.way o p) reply left)) in
-      let did : Did (host_at line.at (hosts_of old)) there (taker line.way (state_of is.mine) (state_of is.theirs)).held =
-      subst (λ left. Did (host_at line.at (hosts_of old)) there left) (sym (taker_held line.way is.mine is.theirs))
-      (subst (λ (h : Host). Did h there (taker line.way is.mine is.theirs).held) (sym own_host)
-      (subst (λ (f : Host). Did (host_of own) f (taker line.way is.mine is.theirs).held) (sym from_host) went.synced_is)) in
+      Does SyncReply spelled pulls.stop_in (telling_on line.direction) (synced_on line.direction h line.link f (seen_in o) (seen_in p)) (taker line.direction o p) reply left)) in
+      let did : Did (host_at line.at (hosts_of old)) there (taker line.direction (state_of is.mine) (state_of is.theirs)).held =
+      subst (λ left. Did (host_at line.at (hosts_of old)) there left) (sym (taker_held line.direction is.mine is.theirs))
+      (subst (λ (h : Host). Did h there (taker line.direction is.mine is.theirs).held) (sym own_host)
+      (subst (λ (f : Host). Did (host_of own) f (taker line.direction is.mine is.theirs).held) (sym from_host) went.synced_is)) in
       let met : IsSynced (hosts_of old) line reply (state_of own) (state_of is.mine) (state_of from) (state_of is.theirs) =
-      record { did = did; kept = giver_held line.way is.mine is.theirs ∙ went.kept ∙ sym (giver_held line.way own from); cause = went.here; peer_cause = went.there } in
+      record { did = did; kept = giver_held line.direction is.mine is.theirs ∙ went.kept ∙ sym (giver_held line.direction own from); cause = went.here; peer_cause = went.there } in
       record {
         here = state_of is.mine;
         there = state_of is.theirs;
@@ -90,7 +90,7 @@ module _ (line : SyncData) (peer : ℕ) (old new : List Standing) (reply : SyncR
 
 -- what passed for it is what passed over its link
 pub lent_passed : (line : SyncData) (peer : ℕ) (old : List Standing) (reply : SyncReply) (before after : Option Trail) → line.at < length old → peer < length old → eqb peer line.at ≡ false
-    → peer ≡ place_of_peer (hosts_of old) line.at line.link → ((d : Standing) → HasCarriedSync line.way line.link (get_or old line.at d) (get_or old peer d) reply before after)
+    → peer ≡ place_of_peer (hosts_of old) line.at line.link → ((d : Standing) → HasCarriedSync line.direction line.link (get_or old line.at d) (get_or old peer d) reply before after)
     → GrowsBy before after (IsSyncPassed (hosts_of old) (states_of old) line reply)
 lent_passed line peer old reply before after lt peer_lt other place passed =
     let own : Standing = get_or old line.at no_one in
@@ -103,13 +103,13 @@ lent_passed line peer old reply before after lt peer_lt other place passed =
     let told_is : told_at (hosts_of old) (states_of old) peer ≡ told_of (Some from) =
     ap (λ (h : Host). option_map (λ held. (h, held)) (state_at peer (states_of old)).held) (get_or-map host_of old peer no_one nobody peer_lt)
     ∙ ap (λ (s : KeeperState). option_map (λ held. (host_of from, held)) s.held) (there_state old peer peer_lt) in
-    grows_as before after (IsTrailOn line.way there own (told_of (Some from)) reply) (IsSyncPassed (hosts_of old) (states_of old) line reply)
+    grows_as before after (IsTrailOn line.direction there own (told_of (Some from)) reply) (IsSyncPassed (hosts_of old) (states_of old) line reply)
     (λ more is.
     subst (λ p. UnlessHere (eqb p line.at)
-    (IsTrailOn line.way (link_at (hosts_of old) line.at line.link) (stands_at (hosts_of old) (states_of old) line.at) (told_at (hosts_of old) (states_of old) p) reply) more) place
+    (IsTrailOn line.direction (link_at (hosts_of old) line.at line.link) (stands_at (hosts_of old) (states_of old) line.at) (told_at (hosts_of old) (states_of old) p) reply) more) place
     (subst (λ here. UnlessHere here
-    (IsTrailOn line.way (link_at (hosts_of old) line.at line.link) (stands_at (hosts_of old) (states_of old) line.at) (told_at (hosts_of old) (states_of old) peer) reply) more) (sym other)
-    (subst (λ (l : Option Link). IsTrailOn line.way l (stands_at (hosts_of old) (states_of old) line.at) (told_at (hosts_of old) (states_of old) peer) reply more) (sym link_is)
-    (subst (λ (o : Standing). IsTrailOn line.way there o (told_at (hosts_of old) (states_of old) peer) reply more) (sym stands)
-    (subst (λ told. IsTrailOn line.way there own told reply more) (sym told_is) is)))))
+    (IsTrailOn line.direction (link_at (hosts_of old) line.at line.link) (stands_at (hosts_of old) (states_of old) line.at) (told_at (hosts_of old) (states_of old) peer) reply) more) (sym other)
+    (subst (λ (l : Option Link). IsTrailOn line.direction l (stands_at (hosts_of old) (states_of old) line.at) (told_at (hosts_of old) (states_of old) peer) reply more) (sym link_is)
+    (subst (λ (o : Standing). IsTrailOn line.direction there o (told_at (hosts_of old) (states_of old) peer) reply more) (sym stands)
+    (subst (λ told. IsTrailOn line.direction there own told reply more) (sym told_is) is)))))
     (passed no_one)

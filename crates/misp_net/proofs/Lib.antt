@@ -36,4 +36,4 @@ pub mod SyncsTold
 pub mod Telling
 pub mod Turns
 pub mod Unique
-pub mod Ways
+pub mod Directions

@@ -2,7 +2,7 @@
 use Rattle.std.proofs.Common.{◌≡◌, ℕ, zero, suc, List, [], ◌∷◌, ◌++◌, Bool, true, false, eqb, Option, Some, None, Ok, Err, inl, inr, refl, sym, ◌∙◌, ap, subst, arith, IfSome}
 use Rattle.std.proofs.lemmas.Bool.{cases_Bool}
 use Rattle.misp_ids.specs.Refusal.{bare}
-use Rattle.misp_ids.specs.declared.label.Way.{Way}
+use Rattle.misp_ids.specs.declared.label.Direction.{Direction}
 use Rattle.misp_ids.specs.declared.refusal.Refusal.{Refusal}
 use Rattle.misp_ids.specs.declared.refusal.RuleName.{RuleName}
 use Rattle.misp_ids.specs.declared.refusal.RuleName.TheVariants.{LinkOff, NoLink}
@@ -25,7 +25,7 @@ use Rattle.misp_net.specs.Asking.{asked_at, asked_over, names_of}
 use Rattle.misp_net.specs.Links.{link_at, peer_place, place_named, place_of_peer}
 use Rattle.misp_net.specs.Passing.{IsPassed, IsPassedFor, IsSyncPassed, Passes, Trail, UnlessHere, stands_at, told_at}
 use Rattle.misp_net.specs.Prelude.{AreKept, Bad, Done, Host, IsDone, KeeperState, Nothing, Output, SyncData, Replied, Synced, Unanswered}
-use Rattle.misp_net.specs.Ways.{IsTrailOn}
+use Rattle.misp_net.specs.Directions.{IsTrailOn}
 use Rattle.misp_net.proofs.Asking.{asked_none, bar_from, place_same}
 use Rattle.misp_net.proofs.Growing.{grows_as}
 
@@ -39,17 +39,17 @@ unless_as : (here : Bool) (P Q : Trail → Type 0) → ((more : Trail) → P mor
 unless_as true P Q follows trail is = is
 unless_as false P Q follows trail is = follows trail is
 
-none_off : (way : Way) (link : Link) (here : Standing) (peer : Option (Host × Held)) (reply : SyncReply) → link.on ≡ false → IsTrailOn way (Some link) here peer reply []
-none_off Way.Pull link here peer reply off = subst (λ on. IfOn on (IsPullTrail link.key peer reply) []) (sym off) refl
-none_off Way.Push link here peer reply off = subst (λ on. IfOn on (IsPushTrail link here peer reply) []) (sym off) refl
+none_off : (direction : Direction) (link : Link) (here : Standing) (peer : Option (Host × Held)) (reply : SyncReply) → link.on ≡ false → IsTrailOn direction (Some link) here peer reply []
+none_off Direction.Pull link here peer reply off = subst (λ on. IfOn on (IsPullTrail link.key peer reply) []) (sym off) refl
+none_off Direction.Push link here peer reply off = subst (λ on. IfOn on (IsPushTrail link here peer reply) []) (sym off) refl
 
 -- a link that is not there, or is off, has no trail
-none_over : (way : Way) (link : Option Link) (why : Refusal) (here : Standing) (peer : Option (Host × Held)) (reply : SyncReply) → bar_of link ≡ Some why → IsTrailOn way link here peer reply []
-none_over Way.Pull None why here peer reply bar = refl
-none_over Way.Push None why here peer reply bar = refl
-none_over way (Some link) why here peer reply bar = elim (cases_Bool link.on) [
+none_over : (direction : Direction) (link : Option Link) (why : Refusal) (here : Standing) (peer : Option (Host × Held)) (reply : SyncReply) → bar_of link ≡ Some why → IsTrailOn direction link here peer reply []
+none_over Direction.Pull None why here peer reply bar = refl
+none_over Direction.Push None why here peer reply bar = refl
+none_over direction (Some link) why here peer reply bar = elim (cases_Bool link.on) [
   | inl on ↦ absurd (let no_ : None ≡ Some why = rw on at bar in cc)
-  | inr off ↦ none_off way link here peer reply off
+  | inr off ↦ none_off direction link here peer reply off
 ]
 
 module _ (hosts : List Host) (old : List KeeperState) (line : SyncData) (reply : SyncReply) where
@@ -57,7 +57,7 @@ module _ (hosts : List Host) (old : List KeeperState) (line : SyncData) (reply :
   barred_passed : (why : Refusal) → bar_of (link_at hosts line.at line.link) ≡ Some why → IsSyncPassed hosts old line reply []
   barred_passed why bar =
       unless_none (eqb (place_of_peer hosts line.at line.link) line.at) _
-      (none_over line.way (link_at hosts line.at line.link) why (stands_at hosts old line.at) (told_at hosts old (place_of_peer hosts line.at line.link)) reply bar)
+      (none_over line.direction (link_at hosts line.at line.link) why (stands_at hosts old line.at) (told_at hosts old (place_of_peer hosts line.at line.link)) reply bar)
 
   -- and nothing where its peer is no other instance
   alone_passed : eqb (place_of_peer hosts line.at line.link) line.at ≡ true → IsSyncPassed hosts old line reply []
@@ -112,11 +112,11 @@ if_on : (on : Bool) (P Q : Trail → Type 0) → ((more : Trail) → P more → 
 if_on true P Q follows trail is = follows trail is
 if_on false P Q follows trail is = is
 
-pub trail_held : (way : Way) (link : Option Link) (one two : Standing) (peer : Option (Host × Held)) (reply : SyncReply) (trail : Trail) → two.held ≡ one.held → two.name ≡ one.name
-    → IsTrailOn way link one peer reply trail → IsTrailOn way link two peer reply trail
-trail_held Way.Pull link one two peer reply trail held name is = is
-trail_held Way.Push None one two peer reply trail held name is = is
-trail_held Way.Push (Some link) one two peer reply trail held name is =
+pub trail_held : (direction : Direction) (link : Option Link) (one two : Standing) (peer : Option (Host × Held)) (reply : SyncReply) (trail : Trail) → two.held ≡ one.held → two.name ≡ one.name
+    → IsTrailOn direction link one peer reply trail → IsTrailOn direction link two peer reply trail
+trail_held Direction.Pull link one two peer reply trail held name is = is
+trail_held Direction.Push None one two peer reply trail held name is = is
+trail_held Direction.Push (Some link) one two peer reply trail held name is =
     if_on link.on (IsPushTrail link one peer reply) (IsPushTrail link two peer reply) (λ more on. on_held link one two peer reply more held name on) trail is
 
 module _ (hosts : List Host) (old new : List KeeperState) (kept : AreKept old new) where
@@ -126,11 +126,11 @@ module _ (hosts : List Host) (old new : List KeeperState) (kept : AreKept old ne
   sync_kept : (line : SyncData) (reply : SyncReply) (trail : Trail) → IsSyncPassed hosts new line reply trail → IsSyncPassed hosts old line reply trail
   sync_kept line reply trail is =
       let peer : ℕ = place_of_peer hosts line.at line.link in
-      unless_as (eqb peer line.at) (IsTrailOn line.way (link_at hosts line.at line.link) (stands_at hosts new line.at) (told_at hosts new peer) reply)
-      (IsTrailOn line.way (link_at hosts line.at line.link) (stands_at hosts old line.at) (told_at hosts old peer) reply)
+      unless_as (eqb peer line.at) (IsTrailOn line.direction (link_at hosts line.at line.link) (stands_at hosts new line.at) (told_at hosts new peer) reply)
+      (IsTrailOn line.direction (link_at hosts line.at line.link) (stands_at hosts old line.at) (told_at hosts old peer) reply)
       (λ more on.
-      trail_held line.way (link_at hosts line.at line.link) (stands_at hosts new line.at) (stands_at hosts old line.at) (told_at hosts old peer) reply more (sym (state_kept line.at old new kept)) refl
-      (subst (λ told. IsTrailOn line.way (link_at hosts line.at line.link) (stands_at hosts new line.at) told reply more) (told_kept peer) on))
+      trail_held line.direction (link_at hosts line.at line.link) (stands_at hosts new line.at) (stands_at hosts old line.at) (told_at hosts old peer) reply more (sym (state_kept line.at old new kept)) refl
+      (subst (λ told. IsTrailOn line.direction (link_at hosts line.at line.link) (stands_at hosts new line.at) told reply more) (told_kept peer) on))
       trail is
 
   deed_kept : (deed : Deed) (output : Output) (trail : Trail) → IsPassed hosts new deed output trail → IsPassed hosts old deed output trail

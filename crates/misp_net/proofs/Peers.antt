@@ -3,14 +3,14 @@ use Rattle.std.proofs.Common.{◌≡◌, ℕ, zero, suc, ◌<◌, true, false, e
 use Rattle.std.proofs.lemmas.Bool.{cases_Bool}
 use Rattle.std.proofs.lemmas.List.Quantifiers.{position-Some}
 use Rattle.misp_ids.proofs.Same.{same_inst-refl}
-use Rattle.misp_ids.specs.declared.label.Way.{Way}
+use Rattle.misp_ids.specs.declared.label.Direction.{Direction}
 use Rattle.misp_orgs.specs.declared.link.Link.{Link}
 use Rattle.misp_script.proofs.Places.{first_place}
 use Rattle.misp_core.specs.Prelude.{Group, Host, Inst, World, same_inst}
 use Rattle.misp_net.specs.Prelude.{AreDistinct, host_at}
 use Rattle.misp_net.specs.Hosts.{nobody}
 use Rattle.misp_net.specs.Links.{links_of, peer_place, place_named, place_of_peer, route_at}
-use Rattle.misp_net.specs.Ways.{route_on}
+use Rattle.misp_net.specs.Directions.{route_on}
 
 -- ---- instances by name
 
@@ -50,14 +50,14 @@ peer_inside hosts at (Some link) lt = named_inside hosts at link.peer lt (place_
 -- ---- the net
 
 -- it has the routes of the place of an instance
-pub route_there : (hosts : List Host) (way : Way) (at : ℕ) (link : Inst) (w : World) → AreDistinct hosts → at < length hosts
-    → links_of hosts way (host_at at hosts).name link w.groups ≡ route_at hosts way at link (w.groups (host_at at hosts).name)
-route_there hosts way at link w distinct lt = rw (place_is hosts at distinct lt) refl
+pub route_there : (hosts : List Host) (direction : Direction) (at : ℕ) (link : Inst) (w : World) → AreDistinct hosts → at < length hosts
+    → links_of hosts direction (host_at at hosts).name link w.groups w.made ≡ route_at hosts direction at link (w.groups (host_at at hosts).name)
+route_there hosts direction at link w distinct lt = rw (place_is hosts at distinct lt) refl
 
 -- where the peer is another, that of the synchronisation with it, and else none
-pub route_apart : (hosts : List Host) (way : Way) (at : ℕ) (link : Inst) (groups : List Group) → eqb (place_of_peer hosts at link) at ≡ false
-    → route_at hosts way at link groups ≡ route_on way (host_at at hosts) link (host_at (place_of_peer hosts at link) hosts) groups
-route_apart hosts way at link groups other = rw other refl
+pub route_apart : (hosts : List Host) (direction : Direction) (at : ℕ) (link : Inst) (groups : List Group) → eqb (place_of_peer hosts at link) at ≡ false
+    → route_at hosts direction at link groups ≡ route_on direction (host_at at hosts) link (host_at (place_of_peer hosts at link) hosts) groups
+route_apart hosts direction at link groups other = rw other refl
 
-pub no_route : (hosts : List Host) (way : Way) (at : ℕ) (link : Inst) (groups : List Group) → eqb (place_of_peer hosts at link) at ≡ true → route_at hosts way at link groups ≡ None
-no_route hosts way at link groups same = rw same refl
+pub no_route : (hosts : List Host) (direction : Direction) (at : ℕ) (link : Inst) (groups : List Group) → eqb (place_of_peer hosts at link) at ≡ true → route_at hosts direction at link groups ≡ None
+no_route hosts direction at link groups same = rw same refl

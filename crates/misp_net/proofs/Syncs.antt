@@ -4,7 +4,7 @@ use Rattle.std.proofs.lemmas.Bool.{cases_Bool, cases_eq}
 use Rattle.std.proofs.lemmas.Bool.Decides.{eqb_tells}
 use Rattle.std.proofs.lemmas.List.{set-get_or}
 use Rattle.misp_ids.specs.Refusal.{bare}
-use Rattle.misp_ids.specs.declared.label.Way.{Way}
+use Rattle.misp_ids.specs.declared.label.Direction.{Direction}
 use Rattle.misp_ids.specs.declared.refusal.Refusal.{Refusal}
 use Rattle.misp_ids.specs.declared.refusal.RuleName.TheVariants.{LinkOff, NoLink}
 use Rattle.misp_orgs.specs.declared.link.Link.{Link}
@@ -28,8 +28,8 @@ use Rattle.misp_net.specs.Prelude.{Effect, Host, KeeperState, Output, Seen, Stop
 use Rattle.misp_net.specs.Acts.{Syncs, act}
 use Rattle.misp_net.specs.Links.{link_at, place_of_peer, synced_at, unsynced}
 use Rattle.misp_net.specs.Meaning.{sync_telling}
-use Rattle.misp_net.specs.Ways.{giver, synced_on, taker, telling_on}
-use Rattle.misp_net.proofs.Ways.{bar_comes, taker_of, telling_shown}
+use Rattle.misp_net.specs.Directions.{giver, synced_on, taker, telling_on}
+use Rattle.misp_net.proofs.Directions.{bar_comes, taker_of, telling_shown}
 use Rattle.misp_effects.specs.Effect as effects
 use Rattle.misp_net.specs.Running as lines
 use Rattle.misp_sync.specs.Pulled as pulls
@@ -41,8 +41,8 @@ module _ {S A : Type 0} (seen_in : Held → S) (spelled : Spelling) (stop_in : A
     (lt : at < length old) (peer_lt : peer < length old) (apart : at ≢ peer)
     (cause : HasCause (get_or old at none).faults here.faults (stop_in output ≡ Some (Stop.Keeper Here)))
     (peer_cause : HasCause (get_or old peer none).faults there.faults (stop_in output ≡ Some (Stop.Keeper There))) where
-  abbrev pub meant : Way → Meaning S A
-  meant way = record { at = at; peer = peer; into = taker way at peer; comes = comes; telling = telling }
+  abbrev pub meant : Direction → Meaning S A
+  meant direction = record { at = at; peer = peer; into = taker direction at peer; comes = comes; telling = telling }
 
   -- the keepers afterwards
   abbrev both : List KeeperState
@@ -55,50 +55,50 @@ module _ {S A : Type 0} (seen_in : Held → S) (spelled : Spelling) (stop_in : A
   count_there = count_same (set old at here) peer there (rw (length-set old at here) peer_lt)
 
   -- of all keepers only those of the two may have failed
-  two_causes : (way : Way) (place : ℕ) → RoseBy (fault_at stop_in place (meant way) output) (count_at place old) (count_at place both)
-  two_causes way place =
+  two_causes : (direction : Direction) (place : ℕ) → RoseBy (fault_at stop_in place (meant direction) output) (count_at place old) (count_at place both)
+  two_causes direction place =
       elim (cases_eq place at) [
         | inl same ↦
             rw (same, count_is old at none lt, count_here)
-            (fault_rose (meant way) (stop_in output) at _ _ (λ is h. cause.rose is) (λ is h. absurd (apart (sym h))) cause.later)
+            (fault_rose (meant direction) (stop_in output) at _ _ (λ is h. cause.rose is) (λ is h. absurd (apart (sym h))) cause.later)
         | inr other ↦
             elim (cases_eq place peer) [
               | inl same ↦
                   rw (same, count_is old peer none peer_lt, count_there)
-                  (fault_rose (meant way) (stop_in output) peer _ _ (λ is h. absurd (apart h)) (λ is h. peer_cause.rose is) peer_cause.later)
+                  (fault_rose (meant direction) (stop_in output) peer _ _ (λ is h. absurd (apart h)) (λ is h. peer_cause.rose is) peer_cause.later)
               | inr neither ↦
                   rw (count_other (set old at here) peer place there neither, count_other old at place here other)
-                  (fault_rose (meant way) (stop_in output) place _ _ (λ is h. absurd (other (sym h))) (λ is h. absurd (neither (sym h))) (omega arith))
+                  (fault_rose (meant direction) (stop_in output) place _ _ (λ is h. absurd (other (sym h))) (λ is h. absurd (neither (sym h))) (omega arith))
             ]
       ]
 
   -- where the one that takes holds this, and the other what it held, that is what all hold
-  all_told : (way : Way) (tables : Tables) (held : Held) → Tell old tables → (taker way here there).held ≡ Some held
-      → (giver way here there).held ≡ (giver way (get_or old at none) (get_or old peer none)).held
-      → Tell both (set tables (taker way at peer) held)
-  all_told Way.Pull tables held tell is same =
+  all_told : (direction : Direction) (tables : Tables) (held : Held) → Tell old tables → (taker direction here there).held ≡ Some held
+      → (giver direction here there).held ≡ (giver direction (get_or old at none) (get_or old peer none)).held
+      → Tell both (set tables (taker direction at peer) held)
+  all_told Direction.Pull tables held tell is same =
       let after : Tables = set tables at held in
       let kept : held_at peer after ≡ held_at peer tables = get_or-set_other tables at peer held nothing_held (λ e. apart (sym e)) in
       subst (λ left. Tell both left) (set-get_or after peer nothing_held)
       (tell_set (set old at here) after peer there (held_at peer after) (tell_set old tables at here held tell is) (same ∙ tell_at old tables peer none peer_lt tell ∙ ap Some (sym kept)))
-  all_told Way.Push tables held tell is same =
+  all_told Direction.Push tables held tell is same =
       let first : Tell (set old at here) (set tables at (held_at at tables)) = tell_set old tables at here (held_at at tables) tell (same ∙ tell_at old tables at none lt tell) in
       tell_set (set old at here) tables peer there held (subst (λ left. Tell (set old at here) left) (set-get_or tables at nothing_held) first) is
 
   -- what is put by the one that takes, where the other holds what it held, is an act among all
-  two_act : (way : Way)
+  two_act : (direction : Direction)
       → ((tables : Tables) → Tell old tables
-      → Does A spelled stop_in telling (comes (seen_in (held_at at tables)) (seen_in (held_at peer tables))) (held_at (taker way at peer) tables) output (taker way here there).held)
-      → (giver way here there).held ≡ (giver way (get_or old at none) (get_or old peer none)).held
-      → IsAct S A seen_in spelled stop_in (meant way) old both output
-  two_act way does same = record {
+      → Does A spelled stop_in telling (comes (seen_in (held_at at tables)) (seen_in (held_at peer tables))) (held_at (taker direction at peer) tables) output (taker direction here there).held)
+      → (giver direction here there).held ≡ (giver direction (get_or old at none) (get_or old peer none)).held
+      → IsAct S A seen_in spelled stop_in (meant direction) old both output
+  two_act direction does same = record {
     places = length-set (set old at here) peer there ∙ length-set old at here;
-    causes = two_causes way;
+    causes = two_causes direction;
     done = λ tables tell. record {
       outcome = (does tables tell).outcome;
       agree = (does tables tell).agree;
       output_is = (does tables tell).reply_is;
-      tables_are = all_told way tables _ tell (does tables tell).held_is same;
+      tables_are = all_told direction tables _ tell (does tables tell).held_is same;
       fits = (does tables tell).fits;
     };
   }
@@ -107,7 +107,7 @@ module _ {S A : Type 0} (seen_in : Held → S) (spelled : Spelling) (stop_in : A
 
 -- with another peer it is that with this
 pub synced_there : (hosts : List Host) (line : SyncData) (own there : Seen) → eqb (place_of_peer hosts line.at line.link) line.at ≡ false
-    → synced_at hosts line own there ≡ synced_on line.way (host_at line.at hosts) line.link (host_at (place_of_peer hosts line.at line.link) hosts) own there
+    → synced_at hosts line own there ≡ synced_on line.direction (host_at line.at hosts) line.link (host_at (place_of_peer hosts line.at line.link) hosts) own there
 synced_there hosts line own there other = rw other refl
 
 -- and without one it is refused
@@ -126,8 +126,8 @@ module _ (hosts : List Host) (time word : ℕ) (line : SyncData) (old : List Kee
   peer = place_of_peer hosts line.at line.link
 
   abbrev SyncedSo : Held → Held → Type 0
-  SyncedSo own from = Does SyncReply spelled pulls.stop_in (telling_on line.way)
-      (synced_on line.way (host_at line.at hosts) line.link (host_at peer hosts) (seen_in own) (seen_in from)) (taker line.way own from) reply (taker line.way here there).held
+  SyncedSo own from = Does SyncReply spelled pulls.stop_in (telling_on line.direction)
+      (synced_on line.direction (host_at line.at hosts) line.link (host_at peer hosts) (seen_in own) (seen_in from)) (taker line.direction own from) reply (taker line.direction here there).held
 
   apart : line.at ≢ peer
   apart same = elim (eqb_tells peer line.at) [
@@ -137,25 +137,25 @@ module _ (hosts : List Host) (time word : ℕ) (line : SyncData) (old : List Kee
 
   -- it as it is put out
   put_out : (own from : Held) → SyncedSo own from
-      → Does Output spelled stop_in (sync_telling line.way) (shown Synced (synced_at hosts line (seen_in own) (seen_in from))) (taker line.way own from) (Synced reply) (taker line.way here there).held
+      → Does Output spelled stop_in (sync_telling line.direction) (shown Synced (synced_at hosts line (seen_in own) (seen_in from))) (taker line.direction own from) (Synced reply) (taker line.direction here there).held
   put_out own from did =
-      subst (λ (e : Effect SyncReply). Does Output spelled stop_in (sync_telling line.way) (shown Synced e) (taker line.way own from) (Synced reply) (taker line.way here there).held)
+      subst (λ (e : Effect SyncReply). Does Output spelled stop_in (sync_telling line.direction) (shown Synced e) (taker line.direction own from) (Synced reply) (taker line.direction here there).held)
       (sym (synced_there hosts line (seen_in own) (seen_in from) other))
-      (does_shown spelled Synced pulls.stop_in stop_in (telling_on line.way) (sync_telling line.way) (λ a. refl) (telling_shown line.way)
-      (synced_on line.way (host_at line.at hosts) line.link (host_at peer hosts) (seen_in own) (seen_in from)) (taker line.way own from) reply (taker line.way here there).held did)
+      (does_shown spelled Synced pulls.stop_in stop_in (telling_on line.direction) (sync_telling line.direction) (λ a. refl) (telling_shown line.direction)
+      (synced_on line.direction (host_at line.at hosts) line.link (host_at peer hosts) (seen_in own) (seen_in from)) (taker line.direction own from) reply (taker line.direction here there).held did)
 
   -- What it did between two instances is an act among all: with the one that takes what it comes to, and with the other what was held is held.
   pub two_synced : IfSome (get_or old line.at none).held (λ own. IfSome (get_or old peer none).held (λ from. SyncedSo own from))
-      → (giver line.way here there).held ≡ (giver line.way (get_or old line.at none) (get_or old peer none)).held
+      → (giver line.direction here there).held ≡ (giver line.direction (get_or old line.at none) (get_or old peer none)).held
       → HasCause (get_or old line.at none).faults here.faults (pulls.stop_in reply ≡ Some (Stop.Keeper Here))
       → HasCause (get_or old peer none).faults there.faults (pulls.stop_in reply ≡ Some (Stop.Keeper There))
       → lines.IsAct hosts (act time word (Syncs line)) old (set (set old line.at here) peer there) (Synced reply)
   two_synced did same cause peer_cause =
-      two_act seen_in spelled stop_in (sync_telling line.way) line.at peer (λ own from. shown Synced (synced_at hosts line own from)) old here there none (Synced reply)
-      lt peer_lt apart cause peer_cause line.way
+      two_act seen_in spelled stop_in (sync_telling line.direction) line.at peer (λ own from. shown Synced (synced_at hosts line own from)) old here there none (Synced reply)
+      lt peer_lt apart cause peer_cause line.direction
       (λ tables tell.
-      subst (λ held. Does Output spelled stop_in (sync_telling line.way) (shown Synced (synced_at hosts line (seen_in (held_at line.at tables)) (seen_in (held_at peer tables)))) held (Synced reply) (taker line.way here there).held)
-      (sym (taker_of (λ place. held_at place tables) line.way line.at peer))
+      subst (λ held. Does Output spelled stop_in (sync_telling line.direction) (shown Synced (synced_at hosts line (seen_in (held_at line.at tables)) (seen_in (held_at peer tables)))) held (Synced reply) (taker line.direction here there).held)
+      (sym (taker_of (λ place. held_at place tables) line.direction line.at peer))
       (put_out (held_at line.at tables) (held_at peer tables)
       (told_there (λ from. SyncedSo (held_at line.at tables) from) old tables peer none peer_lt tell
       (told_there (λ own. IfSome (get_or old peer none).held (λ from. SyncedSo own from)) old tables line.at none lt tell did))))
@@ -180,7 +180,7 @@ barred_there hosts line own there why bar = elim (cases_Bool (eqb (place_of_peer
   | inl alone ↦ synced_alone hosts line own there alone ∙ ap (λ b. effects.effect (replies.Stopped no_count (unwrap_or b (bare NoLink))) []) bar
   | inr other ↦
       synced_there hosts line own there other
-      ∙ bar_comes line.way (host_at line.at hosts) line.link (host_at (place_of_peer hosts line.at line.link) hosts) own there (link_at hosts line.at line.link) why refl bar
+      ∙ bar_comes line.direction (host_at line.at hosts) line.link (host_at (place_of_peer hosts line.at line.link) hosts) own there (link_at hosts line.at line.link) why refl bar
 ]
 
 -- such a refusal tells no stop
@@ -202,7 +202,7 @@ module _ (hosts : List Host) (time word : ℕ) (line : SyncData) (old : List Kee
     places = refl;
     causes = λ place. rw none (omega arith);
     done = λ tables tell.
-        let into : ℕ = taker line.way line.at (place_of_peer hosts line.at line.link) in
+        let into : ℕ = taker line.direction line.at (place_of_peer hosts line.at line.link) in
         let whole = is (seen_in (held_at line.at tables)) (seen_in (held_at (place_of_peer hosts line.at line.link) tables)) in
         record {
           outcome = Went;

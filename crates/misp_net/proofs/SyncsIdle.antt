@@ -2,7 +2,7 @@
 use Rattle.std.proofs.Common.{◌≡◌, ℕ, eqb, List, [], ◌∷◌, Option, None, Some, Result, Ok, Err, refl, ◌∙◌, ap, map, subst, inl, inr, slice_set}
 use Rattle.std.proofs.lemmas.Bool.{cases_Bool}
 use Rattle.std.proofs.lemmas.List.{set-get_or}
-use Rattle.misp_ids.specs.declared.label.Way.{Way}
+use Rattle.misp_ids.specs.declared.label.Direction.{Direction}
 use Rattle.misp_ids.specs.declared.refusal.Refusal.{Refusal}
 use Rattle.misp_orgs.specs.Admin.{link_of, who_of}
 use Rattle.misp_orgs.specs.Roles.{permits}
@@ -27,7 +27,7 @@ use Rattle.misp_net.specs.Prelude.{Effect, Host, Outcome, Seen, Stop, Stopped, S
 use Rattle.misp_net.specs.Links.{place_of_peer, synced_at}
 use Rattle.misp_net.specs.Meaning.{syncing}
 use Rattle.misp_net.specs.Promise.{IsBar, IsIdle}
-use Rattle.misp_net.specs.Ways.{synced_on, taker}
+use Rattle.misp_net.specs.Directions.{synced_on, taker}
 use Rattle.misp_net.proofs.Syncs.{synced_alone, synced_there}
 use Rattle.misp_net.proofs.SyncsTold.{none_left}
 use Rattle.misp_effects.specs.Run as runs
@@ -129,10 +129,10 @@ pushed_idle here link peer own there is =
     let e : Effect (Option Refusal) = pushed_over here.name (link_of here.admin.links link) peer own there in
     push_over_idle here.name (link_of here.admin.links link) peer own there (told_barred (count_of e.batches) e.reply is)
 
--- on both ways
-on_idle : (way : Way) (here : Host) (link : Inst) (peer : Host) (own there : Seen) → IsIdle (Synced (synced_on way here link peer own there).reply) → (synced_on way here link peer own there).batches ≡ []
-on_idle Way.Pull here link peer own there is = pulled_idle here link peer own there is
-on_idle Way.Push here link peer own there is = pushed_idle here link peer own there is
+-- in both directions
+on_idle : (direction : Direction) (here : Host) (link : Inst) (peer : Host) (own there : Seen) → IsIdle (Synced (synced_on direction here link peer own there).reply) → (synced_on direction here link peer own there).batches ≡ []
+on_idle Direction.Pull here link peer own there is = pulled_idle here link peer own there is
+on_idle Direction.Push here link peer own there is = pushed_idle here link peer own there is
 
 idle_at : (hosts : List Host) (line : SyncData) (own there : Seen) → IsIdle (Synced (synced_at hosts line own there).reply) → (synced_at hosts line own there).batches ≡ []
 idle_at hosts line own there is = elim (cases_Bool (eqb (place_of_peer hosts line.at line.link) line.at)) [
@@ -140,7 +140,7 @@ idle_at hosts line own there is = elim (cases_Bool (eqb (place_of_peer hosts lin
   | inr other ↦
       let same = synced_there hosts line own there other in
       ap (λ (e : Effect SyncReply). e.batches) same
-      ∙ on_idle line.way (host_at line.at hosts) line.link (host_at (place_of_peer hosts line.at line.link) hosts) own there (subst (λ (e : Effect SyncReply). IsIdle (Synced e.reply)) same is)
+      ∙ on_idle line.direction (host_at line.at hosts) line.link (host_at (place_of_peer hosts line.at line.link) hosts) own there (subst (λ (e : Effect SyncReply). IsIdle (Synced e.reply)) same is)
 ]
 
 -- what a stop is told by bars nothing
@@ -156,8 +156,8 @@ pub sync_idle : (hosts : List Host) (line : SyncData) (outcome : Outcome) (table
     → runs.tables_after seen_in spelled outcome (syncing hosts line) tables ≡ tables
 sync_idle hosts line Went tables is =
     let peer : ℕ = place_of_peer hosts line.at line.link in
-    let into : ℕ = taker line.way line.at peer in
+    let into : ℕ = taker line.direction line.at peer in
     let e : Effect SyncReply = synced_at hosts line (seen_in (held_at line.at tables)) (seen_in (held_at peer tables)) in
-    ap (slice_set tables into) (none_left line.way Went e (held_at into tables) (idle_at hosts line (seen_in (held_at line.at tables)) (seen_in (held_at peer tables)) is))
+    ap (slice_set tables into) (none_left line.direction Went e (held_at into tables) (idle_at hosts line (seen_in (held_at line.at tables)) (seen_in (held_at peer tables)) is))
     ∙ set-get_or tables into nothing_held
 sync_idle hosts line (Stopped stop k lost) tables is = absurd (stop_free stop is)

@@ -9,9 +9,10 @@ use Rattle.misp_history.proofs.Numbered.{step_below}
 use Rattle.misp_store.specs.Sharing.{or_none}
 use Rattle.misp_store.proofs.GroupRows.{AreReadBack}
 use Rattle.misp_core.specs.Prelude.{AreReadable, Caller, Effect, Group, Held, Host, Inst, Keeps, Stamp, World, groups_of, left, list_all, put_batches, same_inst, seen_in, spelled, step, tables}
+use Rattle.misp_core.specs.Administering.{administered}
 use Rattle.misp_core.specs.HandedGroups.{act_handing, groups_put}
 use Rattle.misp_core.specs.Taking.{groups_taken}
-use Rattle.misp_core.specs.Keeping.{act_at, act_of}
+use Rattle.misp_core.specs.Keeping.{act_at, act_of, caller_at}
 use Rattle.misp_core.proofs.Keeping.{keeps_by, over_all, same_elsewhere, same_groups, left_there}
 use Rattle.misp_core.proofs.HandedGroups.{groups_apart, handed_left, log_stays, permitted_handed}
 use Rattle.misp_core.proofs.KeepingGroups.{administered_left, same_log, groups_elsewhere}
@@ -19,7 +20,7 @@ use Rattle.misp_api.specs.Commands.{AsksBuilt}
 use Rattle.misp_api.specs.Prelude.{Commanded, Reading, command_effect, is_allowed, replied}
 use Rattle.misp_api.specs.declared.command.Command.{Command}
 use Rattle.misp_api.proofs.Forms.{AllowedForm, BuiltForm}
-use Rattle.misp_net.specs.Prelude.{AreDistinct, GroupData, Reply, Stop, Stopped, Tables, grouped, held_at, host_at, links_of, nothing_held}
+use Rattle.misp_net.specs.Prelude.{AreDistinct, GroupData, OrgId, Reply, Stop, Stopped, Tables, grouped, held_at, host_at, links_of, nothing_held}
 use Rattle.misp_net.specs.Meaning.{asking, administering, command_at}
 use Rattle.misp_sync.specs.History.{applied}
 use Rattle.misp_net.specs.History.{seen_by, IsHistory}
@@ -32,9 +33,15 @@ pub world_whole : (net : Net) (n : ℕ) (w : World) (act : model.Act) → step_p
 unfolding step_partly
 world_whole net n w act = refl
 
+-- a request on a group does what a line of it does
+shared_step : (net : Net) (n : ℕ) (w : World) (here : Inst) (now : Stamp) (c : model.Caller) (add : Bool) (g : Group)
+    → step net n w (record { at = here; now = now; command = model.Shares c add g }) ≡ step net n w (act_of here now c.org add g)
+unfolding step
+shared_step net n w here now c add g = refl
+
 -- it is no synchronisation
 abbrev pub IsLocal : model.Command → Type 0
-IsLocal (model.Syncs way link) = ⊥
+IsLocal (model.Syncs direction link) = ⊥
 IsLocal command = Unit {0}
 
 command_still : (net : Net) (n : ℕ) (w : World) (at : Inst) (now : Stamp) (command : model.Command) (groups : Bool) (packages : ℕ) → IsLocal command
@@ -42,9 +49,11 @@ command_still : (net : Net) (n : ℕ) (w : World) (at : Inst) (now : Stamp) (com
 unfolding step_partly
 command_still net n w at now (model.Asks c a) groups packages local = refl
 command_still net n w at now (model.Misfits c) groups packages local = refl
-command_still net n w at now (model.Syncs way link) groups packages local = absurd local
+command_still net n w at now (model.Syncs direction link) groups packages local = absurd local
 command_still net n w at now (model.Takes_groups c gs) groups packages local = refl
 command_still net n w at now (model.Administers o add g) groups packages local = refl
+command_still net n w at now (model.Shares c add g) groups packages local = refl
+command_still net n w at now (model.Makes c item) groups packages local = refl
 command_still net n w at now model.Nothing groups packages local = refl
 
 -- of an act that is no synchronisation, and was stopped, nothing is applied
@@ -64,6 +73,7 @@ module _ (hosts : List Host) (distinct : AreDistinct hosts) (n : ℕ) (w : World
   command_told at now caller (Command.Asks ask) built lt =
       ap (λ (e : Effect Reply). e.reply) (over_all w (host_at at hosts) now (caller, ask) (held_at at old) built (told.each at lt))
   command_told at now caller (Command.TakesGroups coming) built lt = ap (λ groups. (groups_put (groups_taken groups coming)).reply) (groups_there at lt)
+  command_told at now caller (Command.Shares add g) built lt = ap (λ groups. (administered now caller.org add g groups).reply) (groups_there at lt)
 
   pub request_told : (at now : ℕ) (form : Reading Commanded) → BuiltForm form → at < length hosts
       → (replied (host_at at hosts) now form (seen_in (held_at at old))).reply ≡ (replied (host_at at hosts) now form (seen_by hosts w at)).reply
@@ -121,6 +131,21 @@ module _ (hosts : List Host) (distinct : AreDistinct hosts) (n : ℕ) (w : World
 
   -- where a group that is kept is read again
   module _ (back : AreReadBack) where
+    -- a group that is added or edited
+    group_put : (at now : ℕ) (by : OrgId) (add : Bool) (g : Group) → at < length hosts → AreReadable (administered now by add g (groups_of (held_at at old))).batches
+        → IsHistory hosts (suc n) (step (links_of hosts) n w (act_of (host_at at hosts).name now by add g))
+        (slice_set old at (put_batches (map spelled (administered now by add g (groups_of (held_at at old))).batches) (held_at at old)))
+    group_put at now by add g lt fits =
+        let here : Inst = (host_at at hosts).name in
+        let held : Held = held_at at old in
+        one_left at lt (step (links_of hosts) n w (act_of here now by add g)) _
+        (administered_left (links_of hosts) n here w now by add g back held (told.each at lt) fits)
+        (λ j other. (
+          ap (λ log. tables log j) (same_log (links_of hosts) n here w now by add g),
+          groups_elsewhere (links_of hosts) n here w now by add g j other,
+        ))
+        (step_below (links_of hosts) n w (act_of here now by add g) told.earlier)
+
     -- a command that is permitted
     command_left : (at now : ℕ) (caller : Caller) (command : Command) → AsksBuilt command → is_allowed (caller, command) ≡ true → at < length hosts
         → AreReadable (command_effect (host_at at hosts) now caller command (seen_in (held_at at old))).batches
@@ -144,6 +169,13 @@ module _ (hosts : List Host) (distinct : AreDistinct hosts) (n : ℕ) (w : World
           groups_apart (links_of hosts) n w host now caller coming j other,
         ))
         (step_below (links_of hosts) n w (act_handing host now caller coming) told.earlier)
+    command_left at now caller (Command.Shares add g) built may lt fits =
+        let host : Host = host_at at hosts in
+        let held : Held = held_at at old in
+        let same : step (links_of hosts) n w (record { at = host.name; now = now; command = model.Shares (caller_at host.admin caller) add g })
+        ≡ step (links_of hosts) n w (act_of host.name now caller.org add g) = shared_step (links_of hosts) n w host.name now (caller_at host.admin caller) add g in
+        subst (λ (v : World). IsHistory hosts (suc n) v (slice_set old at (put_batches (map spelled (administered now caller.org add g (groups_of held)).batches) held))) (sym same)
+        (group_put at now caller.org add g lt fits)
 
     -- a request
     pub request_left : (at now : ℕ) (form : Reading Commanded) (caller : Option Caller) → BuiltForm form → AllowedForm form → at < length hosts
@@ -159,14 +191,5 @@ module _ (hosts : List Host) (distinct : AreDistinct hosts) (n : ℕ) (w : World
         → AreReadable (grouped now line.org line.add form (groups_of (held_at line.at old))).batches
         → IsHistory hosts (suc n) (step (links_of hosts) n w (record { at = (host_at line.at hosts).name; now = now; command = administering form line }))
         (slice_set old line.at (put_batches (map spelled (grouped now line.org line.add form (groups_of (held_at line.at old))).batches) (held_at line.at old)))
-    group_left now line (Ok g) lt fits =
-        let here : Inst = (host_at line.at hosts).name in
-        let held : Held = held_at line.at old in
-        one_left line.at lt (step (links_of hosts) n w (act_of here now line.org line.add g)) _
-        (administered_left (links_of hosts) n here w now line.org line.add g back held (told.each line.at lt) fits)
-        (λ j other. (
-          ap (λ log. tables log j) (same_log (links_of hosts) n here w now line.org line.add g),
-          groups_elsewhere (links_of hosts) n here w now line.org line.add g j other,
-        ))
-        (step_below (links_of hosts) n w (act_of here now line.org line.add g) told.earlier)
+    group_left now line (Ok g) lt fits = group_put line.at now line.org line.add g lt fits
     group_left now line (Err refusal) lt fits = as_before _ _ (step_nothing (links_of hosts) n w _ refl) (still line.at)

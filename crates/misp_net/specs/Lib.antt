@@ -15,4 +15,4 @@ pub mod Run
 pub mod Running
 pub mod SyncText
 pub mod Text
-pub mod Ways
+pub mod Directions

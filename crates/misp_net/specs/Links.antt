@@ -3,7 +3,7 @@ use Rattle.std.specs.Prelude.{ℕ, ◌==◌, List, [], Option, None, bytes_eq, i
 use Rattle.std.specs.Option.{option_map_or}
 use Rattle.misp_ids.specs.Refusal.{bare}
 use Rattle.misp_ids.specs.Same.{Inst}
-use Rattle.misp_ids.specs.declared.label.Way.{Way}
+use Rattle.misp_ids.specs.declared.label.Direction.{Direction}
 use Rattle.misp_ids.specs.declared.refusal.RuleName.TheVariants.{NoLink}
 use Rattle.misp_orgs.specs.Admin.{link_of}
 use Rattle.misp_orgs.specs.declared.link.Link.{Link}
@@ -17,7 +17,7 @@ use Rattle.misp_sync.specs.Pulled.{bar_of}
 use Rattle.misp_sync.specs.declared.reply.SyncReply.{SyncReply}
 use Rattle.misp_sync.specs.declared.reply.SyncReply.TheVariants as replies
 use Rattle.misp_net.specs.Hosts.{host_at}
-use Rattle.misp_net.specs.Ways.{route_on, synced_on}
+use Rattle.misp_net.specs.Directions.{route_on, synced_on}
 
 -- the place of the first instance of this name
 abbrev pub place_named : List Host → Inst → Option ℕ
@@ -48,18 +48,18 @@ abbrev pub synced_at : List Host → SyncData → Seen → Seen → Effect SyncR
 synced_at hosts line own there =
     let peer : ℕ = place_of_peer hosts line.at line.link in
     if peer == line.at then unsynced (link_at hosts line.at line.link)
-    else synced_on line.way (host_at line.at hosts) line.link (host_at peer hosts) own there
+    else synced_on line.direction (host_at line.at hosts) line.link (host_at peer hosts) own there
 
 -- ---- the net
 
 -- the route over a link of a place, these being the groups there
-abbrev pub route_at : List Host → Way → ℕ → Inst → List Group → Option Route
-route_at hosts way at link groups =
+abbrev pub route_at : List Host → Direction → ℕ → Inst → List Group → Option Route
+route_at hosts direction at link groups =
     let peer : ℕ = place_of_peer hosts at link in
     if peer == at then None
-    else route_on way (host_at at hosts) link (host_at peer hosts) groups
+    else route_on direction (host_at at hosts) link (host_at peer hosts) groups
 
 -- each instance pulls and pushes over its links
 abbrev pub links_of : List Host → Net
-links_of hosts way here link groups =
-    option_map_or (λ at. route_at hosts way at link (groups here)) (place_named hosts here) None
+links_of hosts direction here link groups made =
+    option_map_or (λ at. route_at hosts direction at link (groups here)) (place_named hosts here) None

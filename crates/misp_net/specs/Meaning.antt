@@ -1,6 +1,6 @@
 -- What each act means: THE definition by deed.
 use Rattle.std.specs.Prelude.{◌≡◌, ◌⊎◌, ℕ, List, [], ◌∷◌, map, take, Option, Some, None, option_map, Ok, Err}
-use Rattle.misp_ids.specs.declared.label.Way.{Way}
+use Rattle.misp_ids.specs.declared.label.Direction.{Direction}
 use Rattle.misp_script.specs.Step.{GroupData, SyncData}
 use Rattle.misp_http.specs.declared.request.Read.{Read}
 use Rattle.misp_http.specs.declared.request.Read.TheVariants as reads
@@ -23,7 +23,7 @@ use Rattle.misp_sync.specs.declared.reply.SyncReply.TheVariants as synced
 use Rattle.misp_net.specs.Acts.{Act, Deed, Idle, Asks, Administers, Syncs}
 use Rattle.misp_net.specs.Hosts.{host_at}
 use Rattle.misp_net.specs.Links.{place_of_peer, synced_at}
-use Rattle.misp_net.specs.Ways.{counted_on, taker}
+use Rattle.misp_net.specs.Directions.{counted_on, taker}
 use Rattle.misp_history.specs.Acts as model
 use Rattle.misp_core.specs.Effects as replies
 use Rattle.misp_sync.specs.Pulled as pulls
@@ -45,9 +45,9 @@ asks at comes =
 
 -- a stop of a synchronisation leaves the batches that were put, and tells what those brought that
 -- it counts
-abbrev pub sync_telling : Way → Telling Output
-sync_telling way stop n lost e =
-    effect (Synced (synced.Stopped (count_of (take (counted_on way stop lost n) e.batches))
+abbrev pub sync_telling : Direction → Telling Output
+sync_telling direction stop n lost e =
+    effect (Synced (synced.Stopped (count_of (take (counted_on direction stop lost n) e.batches))
     (stop_refusal stop))) (take n e.batches)
 
 -- of an instance and the peer of a link the one takes what passes at the other
@@ -57,9 +57,9 @@ syncing hosts line =
     record {
       at = line.at;
       peer = peer;
-      into = taker line.way line.at peer;
+      into = taker line.direction line.at peer;
       comes = λ own there. shown Synced (synced_at hosts line own there);
-      telling = sync_telling line.way;
+      telling = sync_telling line.direction;
     }
 
 -- none is asked, and nothing stops it
@@ -89,6 +89,8 @@ abbrev pub command_at : Host → Caller → Command → model.Command
 command_at host caller (Command.Asks ask) = model.Asks (caller_at host.admin caller) ask
 command_at host caller (Command.TakesGroups groups) =
     model.Takes_groups (caller_at host.admin caller) groups
+command_at host caller (Command.Shares add group) =
+    model.Shares (caller_at host.admin caller) add group
 
 -- the command, or that somebody asked what is no request
 abbrev pub asking : Reading Commanded → Host → Option Caller → model.Command
@@ -136,7 +138,7 @@ deed_meaning hosts time word (Administers line) =
 deed_meaning hosts time word (Syncs line) = record {
   means = syncing hosts line;
   formed = None;
-  act = sync_act line.way (host_at line.at hosts).name time line.link;
+  act = sync_act line.direction (host_at line.at hosts).name time line.link;
   asker = None;
 }
 

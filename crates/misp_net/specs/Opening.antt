@@ -1,7 +1,10 @@
--- What keeps the instances of a description from opening over keepers, or stops the run of a
--- script.
-use Rattle.std.specs.Prelude.{◌≡◌, List, true, Option}
+-- What opening instances over keepers leaves of these, and what keeps the instances of a description
+-- from opening, or stops the run of a script.
+use Rattle.std.specs.Prelude.{◌≡◌, ◌≤◌, ◌⊎◌, List, true, map, Option, option_map}
+use Rattle.std.specs.List.{AllZip}
+use Rattle.misp_outside.specs.KeeperState.{state}
 use Rattle.misp_effects.specs.KeeperStates.{OneFailed}
+use Rattle.misp_store.specs.Renewing.{renewed}
 use Rattle.misp_store.specs.Sharing.{may_be_unsound}
 use Rattle.misp_core.specs.Prelude.{Host, KeeperState}
 use Rattle.misp_net.specs.Lines.{Line}
@@ -9,17 +12,44 @@ use Rattle.misp_net.specs.Passing.{Trail}
 use Rattle.misp_net.specs.Promise.{IsCut}
 use Rattle.misp_net.specs.declared.places.NetFault.{NetFault}
 
+-- ---- what is held once instances are open
+
+-- the keeper of an instance as it opens: what it tells is renewed, which says the same
+abbrev pub opened_state : KeeperState → KeeperState
+opened_state s = state (option_map renewed s.held) s.faults
+
+-- the same of each
+abbrev pub opened_states : List KeeperState → List KeeperState
+opened_states old = map opened_state old
+
+-- a keeper tells what it told, or that renewed, and its count of faults did not fall
+pub record IsKeptOrOpened (old new : KeeperState) : Type 0 where
+  pub told_so : (new.held ≡ old.held) ⊎ (new.held ≡ (opened_state old).held)
+  pub later : old.faults ≤ new.faults
+
+-- that is so of each
+abbrev pub AreKeptOrOpened : List KeeperState → List KeeperState → Type 0
+AreKeptOrOpened old new = AllZip IsKeptOrOpened old new
+
+-- ---- why lines are not run
+
 -- no line was run
 abbrev pub IsUnopened : NetFault → Type 0
 IsUnopened NetFault.KeeperFault = Unit {0}
 IsUnopened NetFault.BadRow = Unit {0}
 IsUnopened NetFault.NoMemory = ⊥
 
--- the count of a keeper rose; or one holds a row of the administration that is none, as far as it
--- tells; or memory ran out after some first lines
+-- memory ran out before any line, with some instances open, or after some first lines
+abbrev pub IsCutShort : List Host → List Line → List KeeperState → List KeeperState
+    → Option Trail → Option Trail → Type 0
+IsCutShort hosts lines old new before after =
+    (AreKeptOrOpened old new × (after ≡ before))
+    ⊎ IsCut hosts lines (opened_states old) new before after
+
+-- the count of a keeper rose; or one holds a row that is none, as far as it tells; or memory ran out
 abbrev pub IsStoppedBy : List Host → List Line → List KeeperState → List KeeperState
     → Option Trail → Option Trail → NetFault → Type 0
 IsStoppedBy hosts lines old new before after NetFault.KeeperFault = OneFailed old new
 IsStoppedBy hosts lines old new before after NetFault.BadRow = may_be_unsound old ≡ true
 IsStoppedBy hosts lines old new before after NetFault.NoMemory =
-    IsCut hosts lines old new before after
+    IsCutShort hosts lines old new before after

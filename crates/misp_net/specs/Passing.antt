@@ -10,7 +10,7 @@ use Rattle.misp_net.specs.Acts.{Deed, Done, Syncs}
 use Rattle.misp_net.specs.Hosts.{host_at}
 use Rattle.misp_net.specs.Links.{link_at, place_of_peer}
 use Rattle.misp_net.specs.Run.{IsDone}
-use Rattle.misp_net.specs.Ways.{IsTrailOn}
+use Rattle.misp_net.specs.Directions.{IsTrailOn}
 use Rattle.misp_net.specs.declared.line.Output.{Output}
 use Rattle.misp_net.specs.declared.line.Output.TheVariants.{Synced}
 
@@ -40,7 +40,7 @@ UnlessHere false P trail = P trail
 abbrev pub IsSyncPassed : List Host → List KeeperState → SyncData → SyncReply → Trail → Type 0
 IsSyncPassed hosts old line reply trail =
     UnlessHere (place_of_peer hosts line.at line.link == line.at)
-    (IsTrailOn line.way (link_at hosts line.at line.link) (stands_at hosts old line.at)
+    (IsTrailOn line.direction (link_at hosts line.at line.link) (stands_at hosts old line.at)
     (told_at hosts old (place_of_peer hosts line.at line.link)) reply) trail
 
 -- for any other deed nothing passed

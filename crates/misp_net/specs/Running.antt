@@ -33,7 +33,7 @@ use Rattle.misp_net.specs.Meaning.{meaning, stop_in}
 use Rattle.misp_net.specs.Passing.{IsPassedFor, Trail}
 use Rattle.misp_net.specs.Run.{IsDone}
 use Rattle.misp_net.specs.Text.{done_text}
-use Rattle.misp_net.specs.Ways.{giver, synced_on, taker, telling_on}
+use Rattle.misp_net.specs.Directions.{giver, synced_on, taker, telling_on}
 use Rattle.misp_net.specs.declared.line.Output.{Output}
 use Rattle.misp_net.specs.declared.line.Output.TheVariants.{Replied, Unanswered}
 use Rattle.misp_net.specs.declared.places.NetFault.{NetFault}
@@ -99,11 +99,11 @@ HasSession now word r old new Wrote =
 pub record IsSynced (hosts : List Host) (line : SyncData) (reply : SyncReply)
     (own here peer there : KeeperState) : Type 0 where
   pub did : IfSome own.held (λ o. IfSome peer.held
-      (λ p. DoesCall SyncReply spelled pulls.stop_in (telling_on line.way)
-      (synced_on line.way (host_at line.at hosts) line.link
+      (λ p. DoesCall SyncReply spelled pulls.stop_in (telling_on line.direction)
+      (synced_on line.direction (host_at line.at hosts) line.link
       (host_at (place_of_peer hosts line.at line.link) hosts) (seen_in o) (seen_in p))
-      (taker line.way o p) reply (taker line.way here there).held))
-  pub kept : (giver line.way here there).held ≡ (giver line.way own peer).held
+      (taker line.direction o p) reply (taker line.direction here there).held))
+  pub kept : (giver line.direction here there).held ≡ (giver line.direction own peer).held
   pub cause : HasCause own.faults here.faults (pulls.stop_in reply ≡ Some (stops.Keeper Here))
   pub peer_cause : HasCause peer.faults there.faults
       (pulls.stop_in reply ≡ Some (stops.Keeper There))

@@ -2,7 +2,7 @@
 
 ghost use Rattle.std.specs.Prelude.{◌≡◌, ◌<◌, ◌≤◌, ◌-◌, Some, IfSome, false, length, nat_eq, slice_index_or, vec_len, vec_capacity};
 ghost use Rattle.std.specs.List.{insert, remove};
-ghost use Rattle.misp_ids.specs.declared.label.Way.TheVariants as ways;
+ghost use Rattle.misp_ids.specs.declared.label.Direction.TheVariants as directions;
 ghost use Rattle.misp_outside.specs.Causes.{HasCause};
 ghost use Rattle.misp_effects.specs.declared.stop.Stop.TheVariants as stops;
 ghost use Rattle.misp_core.specs.Standing.{Standing, host_of};
@@ -23,7 +23,7 @@ ghost use Rattle.misp_net.specs.Lending.{HasCarriedSync, HasSynced, HasSyncedWit
 use crate::over_carry::OverCarry;
 use misp_api::Routes;
 use misp_core::Instance;
-use misp_ids::{InstId, Stamp, Way};
+use misp_ids::{Direction, InstId, Stamp};
 use misp_outside::{Carry, Keeper};
 use misp_sync::{SyncReply, pull, push};
 use std::alloc::Global;
@@ -80,7 +80,7 @@ fn pull_over<K: Keeper, C: Carry>(
         (stop_in result ≡ Some (stops.Keeper Here)) }
     ensures carry { HasCause (C.faults carry.old) (C.faults carry.new)
         (stop_in result ≡ Some stops.Carry) }
-    ensures passed { HasCarriedSync ways.Pull link.now own.old peer.old result
+    ensures passed { HasCarriedSync directions.Pull link.now own.old peer.old result
         (C.passed carry.old) (C.passed carry.new) }
     ensures name { own.new.name ≡ own.old.name }
     ensures admin { own.new.admin ≡ own.old.admin }
@@ -114,7 +114,7 @@ fn push_over<K: Keeper, C: Carry>(
         (stop_in result ≡ Some (stops.Keeper Here)) }
     ensures carry { HasCause (C.faults carry.old) (C.faults carry.new)
         (stop_in result ≡ Some stops.Carry) }
-    ensures passed { HasCarriedSync ways.Push link.now own.old peer.old result
+    ensures passed { HasCarriedSync directions.Push link.now own.old peer.old result
         (C.passed carry.old) (C.passed carry.new) }
     ensures name { own.new.name ≡ own.old.name }
     ensures admin { own.new.admin ≡ own.old.admin }
@@ -123,27 +123,27 @@ fn push_over<K: Keeper, C: Carry>(
     push(alloc, own, link, &mut wire)
 }
 
-// The one synchronises with the other on a way.
+// The one synchronises with the other in a direction.
 fn sync_pair<K: Keeper, C: Carry>(
     alloc: Global,
     routes: &Routes,
     own: &mut Instance<K>,
     peer: &mut Instance<K>,
     carry: &mut C,
-    way: Way,
+    direction: Direction,
     link: &InstId,
     now: Stamp,
     word: u128,
 ) -> SyncReply
-    ensures synced { HasSynced way link.now own.old peer.old own.new peer.new result }
+    ensures synced { HasSynced direction link.now own.old peer.old own.new peer.new result }
     ensures carry { HasCause (C.faults carry.old) (C.faults carry.new)
         (stop_in result ≡ Some stops.Carry) }
-    ensures passed { HasCarriedSync way link.now own.old peer.old result
+    ensures passed { HasCarriedSync direction link.now own.old peer.old result
         (C.passed carry.old) (C.passed carry.new) }
 {
-    match way {
-        Way::Pull => pull_over(alloc, routes, own, peer, carry, link, now, word),
-        Way::Push => push_over(alloc, routes, own, peer, carry, link, now, word),
+    match direction {
+        Direction::Pull => pull_over(alloc, routes, own, peer, carry, link, now, word),
+        Direction::Push => push_over(alloc, routes, own, peer, carry, link, now, word),
     }
 }
 
@@ -155,26 +155,26 @@ fn sync_with<K: Keeper, C: Carry>(
     instances: &mut Vec<Instance<K>>,
     place: usize,
     carry: &mut C,
-    way: Way,
+    direction: Direction,
     link: &InstId,
     now: Stamp,
     word: u128,
 ) -> SyncReply
     requires { place < vec_len instances.old }
-    ensures synced { HasSyncedWith way link.now place own.old own.new
+    ensures synced { HasSyncedWith direction link.now place own.old own.new
         instances.old.items instances.new.items result }
     ensures room { vec_capacity instances.new ≡ vec_capacity instances.old }
     ensures carry { HasCause (C.faults carry.old) (C.faults carry.new)
         (stop_in result ≡ Some stops.Carry) }
-    ensures passed { (d : Standing) → HasCarriedSync way link.now own.old
+    ensures passed { (d : Standing) → HasCarriedSync direction link.now own.old
         (slice_index_or instances.old.items place d) result
         (C.passed carry.old) (C.passed carry.new) }
 {
     let peer = &mut instances[place];
-    sync_pair(alloc, routes, own, peer, carry, way, link, now, word)
+    sync_pair(alloc, routes, own, peer, carry, direction, link, now, word)
 }
 
-/// The instance at one place synchronises with the one at another, on a way and over a link of its
+/// The instance at one place synchronises with the one at another, in a direction and over a link of its
 /// own.
 pub fn sync_between<K: Keeper, C: Carry>(
     alloc: Global,
@@ -183,7 +183,7 @@ pub fn sync_between<K: Keeper, C: Carry>(
     carry: &mut C,
     own: usize,
     peer: usize,
-    way: Way,
+    direction: Direction,
     link: &InstId,
     now: Stamp,
     word: u128,
@@ -193,18 +193,18 @@ pub fn sync_between<K: Keeper, C: Carry>(
     requires apart { nat_eq own peer ≡ false }
 
     // What a pull or a push promises holds of the two, and the others are as they were.
-    ensures synced { HaveSynced way link.now own peer
+    ensures synced { HaveSynced direction link.now own peer
         instances.old.items instances.new.items result }
     ensures carry { HasCause (C.faults carry.old) (C.faults carry.new)
         (stop_in result ≡ Some stops.Carry) }
-    ensures passed { (d : Standing) → HasCarriedSync way link.now
+    ensures passed { (d : Standing) → HasCarriedSync direction link.now
         (slice_index_or instances.old.items own d) (slice_index_or instances.old.items peer d)
         result (C.passed carry.old) (C.passed carry.new) }
 {
     let mut mine = take_out(instances, own);
     let place = place_without(peer, own);
     let reply = sync_with(
-        alloc, routes, &mut mine, instances, place, carry, way, link, now, word,
+        alloc, routes, &mut mine, instances, place, carry, direction, link, now, word,
     );
     put_in(instances, own, mine);
     reply

@@ -5,7 +5,6 @@ ghost use Rattle.misp_outside.specs.Causes.{RoseBy};
 ghost use Rattle.misp_script.specs.Directory.{directory_of, roster_names};
 ghost use Rattle.misp_script.specs.Step.{IsPlaced, command_data, step_data, step_of};
 ghost use Rattle.misp_script.specs.Step as commands;
-ghost use Rattle.misp_effects.specs.KeeperStates.{told};
 ghost use Rattle.misp_net.specs.Hosts.{described_hosts};
 ghost use Rattle.misp_net.specs.Acts.{Does, Done, outputs_done};
 ghost use Rattle.misp_net.specs.Asking.{names_of};
@@ -15,7 +14,7 @@ ghost use Rattle.misp_net.specs.Running.{hosts_of, states_of, CutLine, IsAdminis
 ghost use Rattle.misp_net.specs.Lines.{lines_of};
 ghost use Rattle.misp_store.specs.Sharing.{may_be_sound};
 ghost use Rattle.misp_sync.specs.Trail.{GrowsBy};
-ghost use Rattle.misp_net.specs.Opening.{IsStoppedBy, IsUnopened};
+ghost use Rattle.misp_net.specs.Opening.{AreKeptOrOpened, IsStoppedBy, IsUnopened, opened_states};
 ghost use Rattle.misp_net.specs.Run.{IsDone};
 ghost use Rattle.misp_net.specs.Text.{output_text, line_of};
 ghost use Rattle.misp_net.specs.Promise.{HasRun, IsCut, IsNetRun};
@@ -237,26 +236,25 @@ pub fn run_net<K: Keeper, C: Carry>(
     // replies: all of one run, whose text this is.
     ensures ran { IfOk result (λ lines.
         IsNetRun (described_hosts net) (lines_of (directory_of net) script.now)
-        (take (length net.instances) (map K.state keepers.old.items))
+        (opened_states (take (length net.instances) (map K.state keepers.old.items)))
         (take (length net.instances) (map K.state keepers.new.items))
         (carried (C.faults carry.old) (C.passed carry.old))
         (carried (C.faults carry.new) (C.passed carry.new)) lines.items) }
 
-    // Lines are run only where every row of the administration that is told is a group.
+    // Lines are run only where every row that is told decodes.
     ensures sound { OnOk result (may_be_sound
         (take (length net.instances) (map K.state keepers.old.items)) ≡ true) }
 
     // Else a keeper failed or holds a row that is none, or memory ran out: then some first lines
-    // were run, and no other did anything. Where the instances do not open, no keeper holds
-    // anything else than before.
+    // were run, and no other did anything. Where the instances do not open, each keeper holds what
+    // it held, or that in its newest form.
     ensures stopped { IfErr result (IsStoppedBy
         (described_hosts net) (lines_of (directory_of net) script.now)
         (take (length net.instances) (map K.state keepers.old.items))
         (take (length net.instances) (map K.state keepers.new.items))
         (C.passed carry.old) (C.passed carry.new)) }
-    ensures kept { IfErr result (λ fault. IsUnopened fault →
-        told (map K.state keepers.new.items)
-        ≡ told (map K.state keepers.old.items)) }
+    ensures kept { IfErr result (λ fault. IsUnopened fault → AreKeptOrOpened
+        (map K.state keepers.old.items) (map K.state keepers.new.items)) }
 
     // However it ends, the faults of what carries are not fewer, each keeper is back in its place,
     // and those after the instances are as they were.

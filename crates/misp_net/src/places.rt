@@ -4,6 +4,7 @@ ghost use Rattle.std.specs.Prelude.{◌≡◌, ◌+◌, ◌<◌, ◌≤◌, [], 
 ghost use Rattle.misp_effects.specs.KeeperStates.{AreKept, OneFailed};
 ghost use Rattle.misp_core.specs.Standing.{host_of};
 ghost use Rattle.misp_net.specs.Hosts.{described_host};
+ghost use Rattle.misp_net.specs.Opening.{AreKeptOrOpened, opened_states};
 ghost use Rattle.misp_net.specs.Running.{hosts_of, state_of, states_of, fault_of};
 ghost use Rattle.misp_store.specs.Sharing.{may_be_sound, may_be_unsound};
 
@@ -18,7 +19,7 @@ use std::alloc::{AllocError, Global};
 pub enum NetFault {
     /// A keeper failed while an instance was opened.
     KeeperFault,
-    /// A row of the administration is no group.
+    /// A row does not decode, or one of the administration is no group.
     BadRow,
     NoMemory,
 }
@@ -63,8 +64,9 @@ pub fn open_first<K: Keeper>(
     requires { 0 < vec_len keepers.old }
     ensures host { IfOk result (λ instance. host_of instance ≡ described_host entry) }
     ensures opened { IfOk result (λ instance. AreKept
-        (take 1 (map K.state keepers.old.items)) (state_of instance ∷ [])) }
-    ensures sound { IfOk result (λ instance. may_be_sound (state_of instance ∷ []) ≡ true) }
+        (opened_states (take 1 (map K.state keepers.old.items))) (state_of instance ∷ [])) }
+    ensures sound { OnOk result
+        (may_be_sound (take 1 (map K.state keepers.old.items)) ≡ true) }
     ensures rest { OnOk result (map K.state keepers.new.items
         ≡ drop 1 (map K.state keepers.old.items)) }
     ensures fewer { OnOk result (1 + vec_len keepers.new ≡ vec_len keepers.old) }
@@ -100,7 +102,7 @@ pub(crate) fn open_all<K: Keeper>(
     ensures hosts { IfOk result (λ instances.
         hosts_of instances.items ≡ map described_host entries.items) }
     ensures opened { IfOk result (λ instances. AreKept
-        (take (vec_len entries) (map K.state keepers.old.items))
+        (opened_states (take (vec_len entries) (map K.state keepers.old.items)))
         (states_of instances.items)) }
     ensures rest { OnOk result (map K.state keepers.new.items
         ≡ drop (vec_len entries) (map K.state keepers.old.items)) }
@@ -110,7 +112,7 @@ pub(crate) fn open_all<K: Keeper>(
         vec_len instances + vec_len keepers.new ≡ vec_len keepers.old) }
     ensures room { OnOk result (vec_len keepers.old ≤ vec_capacity keepers.new) }
     ensures back { OnErr result
-        (AreKept (map K.state keepers.old.items) (map K.state keepers.new.items)) }
+        (AreKeptOrOpened (map K.state keepers.old.items) (map K.state keepers.new.items)) }
     ensures places { OnErr result (vec_len keepers.new ≡ vec_len keepers.old) }
     ensures others { OnErr result
         (drop (vec_len entries) (map K.state keepers.new.items)

@@ -82,7 +82,16 @@ fn lend<K: Keeper, C: Carry>(
     ensures hosts { hosts_of instances.new.items ≡ hosts_of instances.old.items }
 {
     sync_between(
-        alloc, routes, instances, carry, line.at, peer, line.way, &line.link, now, word,
+        alloc,
+        routes,
+        instances,
+        carry,
+        line.at,
+        peer,
+        line.direction,
+        &line.link,
+        now,
+        word,
     )
 }
 

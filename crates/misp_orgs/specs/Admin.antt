@@ -1,10 +1,11 @@
 -- What is set up at an instance, as contracts see it.
-use Rattle.std.specs.Prelude.{ℕ, ◌==◌, Bool, List, Option, option_map, find, bytes_eq}
+use Rattle.std.specs.Prelude.{ℕ, ◌==◌, Bool, List, Option, None, find, bytes_eq}
+use Rattle.std.specs.Option.{option_map_or}
 use Rattle.misp_lists.specs.Prelude.{IsDistinct, IsStrictlySortedBy, Ordering, nat_cmp, slice_cmp}
 use Rattle.misp_lists.specs.Order.{sorted_by}
 use Rattle.misp_orgs.specs.declared.link.Link.{Link}
 use Rattle.misp_orgs.specs.Org.{OrgFields}
-use Rattle.misp_orgs.specs.Keys.{KeyFields, CallerFields, caller_of}
+use Rattle.misp_orgs.specs.Keys.{KeyFields, CallerFields, caller_where}
 
 -- the organisations that are known, the keys, and the links
 pub record AdminFields : Type 0 where
@@ -64,9 +65,10 @@ admin_of orgs keys links = record {
 abbrev pub record_of : List KeyFields → List ℕ → Option KeyFields
 record_of keys key = find (λ k. bytes_eq k.key key) keys
 
--- who asks with the key, if it is one of the instance
+-- who asks with the key, if it is one of the instance and not revoked
 abbrev pub who_of : AdminFields → List ℕ → Option CallerFields
-who_of admin key = option_map caller_of (record_of admin.keys key)
+who_of admin key =
+    option_map_or (λ k. caller_where k k.revoked) (record_of admin.keys key) None
 
 -- the link of this name
 abbrev pub link_of : List Link → List ℕ → Option Link

@@ -109,12 +109,13 @@ impl Admin {
         ensures { result ≡ who_of self.now key.now }
     {
         match record_of(self.keys.as_slice(), key) {
-            Some(record) => Some(Caller {
+            Some(record) if !record.revoked => Some(Caller {
                 org: record.org,
                 role: record.role,
                 partner: record.partner,
+                internal: record.internal,
             }),
-            None => None,
+            _ => None,
         }
     }
 

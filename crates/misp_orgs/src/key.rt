@@ -14,6 +14,10 @@ pub struct KeyRecord {
     pub role: Role,
     /// The instance that asks with a key for synchronisation.
     pub partner: Option<InstId>,
+    /// Nobody asks with it any more.
+    pub revoked: bool,
+    /// The instance that asks with it is of the same host.
+    pub internal: bool,
 }
 
 impl Model for KeyRecord {
@@ -21,13 +25,32 @@ impl Model for KeyRecord {
 
     ghost Value = { KeyFields };
 
-    ghost view = { λ k. record { key = k.key; org = k.org; role = k.role; partner = k.partner } };
+    ghost view = { λ k. record {
+      key = k.key;
+      org = k.org;
+      role = k.role;
+      partner = k.partner;
+      revoked = k.revoked;
+      internal = k.internal;
+    } };
 
-    ghost invariant = { λ k. IsKey
-        (record { key = k.key; org = k.org; role = k.role; partner = k.partner }) };
+    ghost invariant = { λ k. IsKey (record {
+      key = k.key;
+      org = k.org;
+      role = k.role;
+      partner = k.partner;
+      revoked = k.revoked;
+      internal = k.internal;
+    }) };
 
-    ghost inverse = { λ v.
-        record { key = v.key; org = v.org; role = v.role; partner = v.partner } };
+    ghost inverse = { λ v. record {
+      key = v.key;
+      org = v.org;
+      role = v.role;
+      partner = v.partner;
+      revoked = v.revoked;
+      internal = v.internal;
+    } };
 }
 
 /// Who asks.
@@ -39,6 +62,8 @@ pub struct Caller {
     pub role: Role,
     /// The instance that asks with a key for synchronisation.
     pub partner: Option<InstId>,
+    /// That instance is of the same host.
+    pub internal: bool,
 }
 
 impl Model for Caller {
@@ -46,10 +71,24 @@ impl Model for Caller {
 
     ghost Value = { CallerFields };
 
-    ghost view = { λ c. record { org = c.org; role = c.role; partner = c.partner } };
+    ghost view = { λ c. record {
+      org = c.org;
+      role = c.role;
+      partner = c.partner;
+      internal = c.internal;
+    } };
 
-    ghost invariant = { λ c. IsCaller
-        (record { org = c.org; role = c.role; partner = c.partner }) };
+    ghost invariant = { λ c. IsCaller (record {
+      org = c.org;
+      role = c.role;
+      partner = c.partner;
+      internal = c.internal;
+    }) };
 
-    ghost inverse = { λ v. record { org = v.org; role = v.role; partner = v.partner } };
+    ghost inverse = { λ v. record {
+      org = v.org;
+      role = v.role;
+      partner = v.partner;
+      internal = v.internal;
+    } };
 }

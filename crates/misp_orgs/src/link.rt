@@ -16,4 +16,6 @@ pub struct Link {
     pub push_org: OrgId,
     /// Whether the link is in use.
     pub on: bool,
+    /// Both instances are of one host, and a push over the link lowers no label.
+    pub internal: bool,
 }

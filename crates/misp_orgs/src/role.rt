@@ -30,6 +30,8 @@ pub enum Perm {
     Publish,
     /// To hand over and to take in as another instance.
     Sync,
+    /// To add and to edit sharing groups.
+    Group,
     Admin,
 }
 
@@ -46,6 +48,7 @@ impl Perm {
             Perm::Sight => "Sight",
             Perm::Publish => "Publish",
             Perm::Sync => "Sync",
+            Perm::Group => "Group",
             Perm::Admin => "Admin",
         }
     }
@@ -58,8 +61,9 @@ pub fn may(role: Role, perm: Perm) -> bool
     match role {
         Role::Reader => matches!(perm, Perm::Read),
         Role::User => matches!(perm, Perm::Read | Perm::Write | Perm::Propose | Perm::Sight),
-        Role::Publisher | Role::OrgAdmin => !matches!(perm, Perm::Sync | Perm::Admin),
-        Role::Sync => !matches!(perm, Perm::Admin),
+        Role::Publisher => !matches!(perm, Perm::Sync | Perm::Group | Perm::Admin),
+        Role::OrgAdmin => !matches!(perm, Perm::Sync | Perm::Admin),
+        Role::Sync => !matches!(perm, Perm::Group | Perm::Admin),
         Role::SiteAdmin => matches!(perm, Perm::Admin),
     }
 }

@@ -7,7 +7,7 @@ use Rattle.misp_elem.specs.Prelude.{is_text, key_at, list_any, of_proposal, org_
 use Rattle.misp_elem.specs.Fields.{is_date}
 use Rattle.misp_elem.specs.Key.{of_reference, of_sighting}
 use Rattle.misp_elem.specs.KeyReading.{element_at, key_of_kind, place_at, place_of, proposal_at, proposed_at, reference_at, sighting_at, verdict_at}
-use Rattle.misp_elem.specs.Reading.{date_at, elem_at, flag_at, flag_of, inst_at, inst_of, number_at, optional_at, optional_of, text_at, text_of, uid_at, value_at}
+use Rattle.misp_elem.specs.Reading.{date_at, elem_at, flag_at, flag_of, inst_at, inst_of, moment_at, number_at, optional_at, optional_moment_at, optional_moment_of, optional_of, text_at, text_of, uid_at, value_at}
 use Rattle.misp_elem.specs.WireReading.{first_key_at, front_at, key_after_at, later_key_at, own_event_at}
 use Rattle.misp_model.specs.Prelude.{Attribute, Element, EventId, Key, Object, ObjectAttribute, Proposal, Reference, Sighting, Verdict}
 
@@ -127,6 +127,17 @@ optional_bounded = before flag_bounded (λ f. record { within = behind f }) wher
   behind : (f : Bool) (n : ℕ) (rest : List ℕ) → length rest ≤ n → Within n (optional_of f rest)
   behind false n rest le = value le
   behind true n rest le = (final (λ u. Some u) uid_bounded).within n rest le
+
+moment_bounded : (least : ℕ) → IsBounded (moment_at least)
+unfolding moment_at
+moment_bounded least = tested _ (number_bounded w64)
+
+pub optional_moment_bounded : (least : ℕ) → IsBounded (optional_moment_at least)
+unfolding optional_moment_at
+optional_moment_bounded least = before flag_bounded (λ f. record { within = behind f }) where
+  behind : (f : Bool) (n : ℕ) (rest : List ℕ) → length rest ≤ n → Within n (optional_moment_of least f rest)
+  behind false n rest le = value le
+  behind true n rest le = (final (λ m. Some m) (moment_bounded least)).within n rest le
 
 -- ---- keys
 

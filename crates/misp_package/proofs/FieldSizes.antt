@@ -4,7 +4,8 @@ use Rattle.std.proofs.Common.{List, [], ◌∷◌, ◌++◌, length, Option, Som
 use Rattle.misp_lists.proofs.Prelude.{and_parts, false≢true}
 use Rattle.misp_elem.specs.Prelude.{AreTags, AreTagsAfter, IsKey, IsText, Uid, inst_name, is_after, is_text, proposal_name}
 use Rattle.misp_elem.specs.Key.{IsInstName, IsProposalName}
-use Rattle.misp_elem.specs.Spelling.{flag, flags, key, label, optional_uid, place, stamp, tag, tags, text, uid}
+use Rattle.misp_elem.specs.declared.content.AttributeBody.{AttributeBody}
+use Rattle.misp_elem.specs.Spelling.{flag, flags, key, label, optional_moment, optional_uid, place, stamp, tag, tags, text, uid}
 use Rattle.misp_elem.proofs.Sizes.{least_of, most_of}
 use Rattle.misp_model.specs.Prelude.{Attribute, Element, Event, Key, Label, Object, ObjectAttribute, Place, Proposal, ProposalName, Reference, Sighting, Tag, Verdict}
 
@@ -29,6 +30,25 @@ flag_size false = refl
 pub optional_size : (o : Option Uid) → length (optional_uid o) ≤ 17
 optional_size None = omega arith
 optional_size (Some u) = omega (arith, uid_size u)
+
+moment_size : (o : Option ℕ) → length (optional_moment o) ≤ 9
+moment_size None = omega arith
+moment_size (Some m) = omega (arith, stamp_size m)
+
+-- what is spelled of an attribute behind its tags
+abbrev pub more_of : AttributeBody → List ℕ
+more_of b = text b.object_relation ++ (optional_moment b.first_seen ++ optional_moment b.last_seen)
+
+pub more_size : (b : AttributeBody) → length (more_of b) ≤ 22 + length b.object_relation
+more_size b =
+    omega (
+      arith,
+      length-append (text b.object_relation) (optional_moment b.first_seen ++ optional_moment b.last_seen),
+      length-append (optional_moment b.first_seen) (optional_moment b.last_seen),
+      text_size b.object_relation,
+      moment_size b.first_seen,
+      moment_size b.last_seen,
+    )
 
 pub flags_size : (held carried : Bool) → length (flags (held, carried)) ≡ 1
 flags_size true true = refl

@@ -17,6 +17,7 @@ use Rattle.misp_history.specs.Merging.{arrived, arriving_rows, cut, is_own, othe
 use Rattle.misp_history.specs.Passing.{passes}
 use Rattle.misp_history.proofs.Passed.{no_tombstone_passes, with_own}
 use Rattle.misp_copies.proofs.KeyOrder.{in_numbers}
+use Rattle.misp_ids.specs.declared.label.Way.{Way}
 use Rattle.misp_package.specs.declared.via.Via.{Via}
 use Rattle.misp_package.specs.Passing.{route_of}
 use Rattle.misp_package.specs.Packing.{ArePackable, IsPacking, IsPart, is_packable, is_whole, key_order, on_wire, rows_in}
@@ -89,7 +90,7 @@ own_least (Verdict e n i o) = refl
 own_least (Sighting e t i o u) = refl
 
 module _ (v : Via) where
-  wire_is : (row : Row) → arrived (route_of v) row ≡ on_wire row
+  wire_is : (row : Row) → arrived (route_of v) row ≡ on_wire v.way row
   unfolding arrived on_wire
   wire_is row = refl
 
@@ -101,34 +102,34 @@ module _ (v : Via) where
 
 -- ---- the rows of a package
 
-wired_key : (row : Row) → IsRow (on_wire row) → IsKey row.key
+wired_key : (way : Way) (row : Row) → IsRow (on_wire way row) → IsKey row.key
 unfolding on_wire
-wired_key row i = i.1.0
+wired_key way row i = i.1.0
 
-bytes_ascend : (xs : List Row) → AllByRecursion (λ y. IsRow (on_wire y)) xs → IsStrictlySortedBy key_order xs → IsStrictlySortedBy (slice_cmp nat_cmp) (map (λ row. spelling.key row.key) (map on_wire xs))
+bytes_ascend : (way : Way) (xs : List Row) → AllByRecursion (λ y. IsRow (on_wire way y)) xs → IsStrictlySortedBy key_order xs → IsStrictlySortedBy (slice_cmp nat_cmp) (map (λ row. spelling.key row.key) (map (on_wire way) xs))
 unfolding IsStrictlySortedBy on_wire key_order
-bytes_ascend [] a s = tt
-bytes_ascend (x ∷ xs) a s = (each xs a.1 s.0, bytes_ascend xs a.1 s.1)
+bytes_ascend way [] a s = tt
+bytes_ascend way (x ∷ xs) a s = (each xs a.1 s.0, bytes_ascend way xs a.1 s.1)
   where
-    each : (ys : List Row) → AllByRecursion (λ y. IsRow (on_wire y)) ys → AllByRecursion (λ y. key_order x y ≡ Less) ys → AllByRecursion (λ b. slice_cmp nat_cmp (spelling.key x.key) b ≡ Less) (map (λ row. spelling.key row.key) (map on_wire ys))
+    each : (ys : List Row) → AllByRecursion (λ y. IsRow (on_wire way y)) ys → AllByRecursion (λ y. key_order x y ≡ Less) ys → AllByRecursion (λ b. slice_cmp nat_cmp (spelling.key x.key) b ≡ Less) (map (λ row. spelling.key row.key) (map (on_wire way) ys))
     each [] b t = tt
     each (y ∷ ys) b t = (in_numbers x.key y.key a.0.1.0 b.0.1.0 ∙ t.0, each ys b.1 t.1)
 
-all_packed : (e : EventId) (xs : List Row) → AllByRecursion (λ y. event_of y.key ≡ e) xs → list_all (is_packed e) (map on_wire xs) ≡ true
+all_packed : (way : Way) (e : EventId) (xs : List Row) → AllByRecursion (λ y. event_of y.key ≡ e) xs → list_all (is_packed e) (map (on_wire way) xs) ≡ true
 unfolding on_wire
-all_packed e [] a = refl
-all_packed e (x ∷ xs) a = and_from _ _ (ap (λ (f : EventId). eqb f.0.0 e.0.0 && true && true && true) a.0 ∙ itself e.0.0) (all_packed e xs a.1)
+all_packed way e [] a = refl
+all_packed way e (x ∷ xs) a = and_from _ _ (ap (λ (f : EventId). eqb f.0.0 e.0.0 && true && true && true) a.0 ∙ itself e.0.0) (all_packed way e xs a.1)
   where
     itself : (n : ℕ) → (eqb n n && true && true && true) ≡ true
     itself n = grind (arith, nat_tests)
 
-wired_rows : (xs : List Row) → AllByRecursion (λ y. IsRow (on_wire y)) xs → AreRows (map on_wire xs)
-wired_rows [] a = tt
-wired_rows (x ∷ xs) a = (a.0, wired_rows xs a.1)
+wired_rows : (way : Way) (xs : List Row) → AllByRecursion (λ y. IsRow (on_wire way y)) xs → AreRows (map (on_wire way) xs)
+wired_rows way [] a = tt
+wired_rows way (x ∷ xs) a = (a.0, wired_rows way xs a.1)
 
-are_all : (xs : List Row) → AreRows (map on_wire xs) → AllByRecursion (λ y. IsRow (on_wire y)) xs
-are_all [] a = tt
-are_all (x ∷ xs) a = (a.0, are_all xs a.1)
+are_all : (way : Way) (xs : List Row) → AreRows (map (on_wire way) xs) → AllByRecursion (λ y. IsRow (on_wire way y)) xs
+are_all way [] a = tt
+are_all way (x ∷ xs) a = (a.0, are_all way xs a.1)
 
 -- what can go into a package is of its event
 of_event : (e : EventId) (xs : List Row) → list_all (is_packable e) xs ≡ true → AllByRecursion (λ y. event_of y.key ≡ e) xs
@@ -142,13 +143,13 @@ pub record IsWired (e : EventId) (rows : List Row) : Type 0 where
   pub packed : list_all (is_packed e) rows ≡ true
   pub ascend : IsStrictlySortedBy (slice_cmp nat_cmp) (map (λ row. spelling.key row.key) rows)
 
-pub part_wired : (e : EventId) (own : Row) (others : List Row) → IsPart e (own ∷ others) → AreRows (map on_wire (own ∷ others)) → IsWired e (map on_wire (own ∷ others))
+pub part_wired : (way : Way) (e : EventId) (own : Row) (others : List Row) → IsPart e (own ∷ others) → AreRows (map (on_wire way) (own ∷ others)) → IsWired e (map (on_wire way) (own ∷ others))
 unfolding on_wire
-part_wired e own others part are = record {
-  count = subst (λ n. IsBetween 1 65 n) (sym (length-map (own ∷ others) on_wire)) part.count;
+part_wired way e own others part are = record {
+  count = subst (λ n. IsBetween 1 65 n) (sym (length-map (own ∷ others) (on_wire way))) part.count;
   first = part.packable.first;
-  packed = all_packed e (own ∷ others) (of_event e (own ∷ others) part.packable.each);
-  ascend = bytes_ascend (own ∷ others) (are_all (own ∷ others) are) part.packable.ascend;
+  packed = all_packed way e (own ∷ others) (of_event e (own ∷ others) part.packable.each);
+  ascend = bytes_ascend way (own ∷ others) (are_all way (own ∷ others) are) part.packable.ascend;
 }
 
 -- the packages of what can go into packages
@@ -193,7 +194,7 @@ module _ (rows : List Row) (groups : List Group) (v : Via) (e : EventId) (table 
   unfolding passing_rows known
   loose_of = all-filter (λ row. same_event (event_of row.key) e) _ _ (all-filter (λ row. same_event (event_of row.key) e) (is_known rows groups v.here v.org) rows ours)
 
-  on_wire_sorted : in_order stands_before (arriving_rows rows groups (route_of v)) ≡ map on_wire sorted
+  on_wire_sorted : in_order stands_before (arriving_rows rows groups (route_of v)) ≡ map (on_wire v.way) sorted
   unfolding arriving_rows
   on_wire_sorted =
       sym (in_order_map (arrived (route_of v)) stands_before loose)
@@ -216,7 +217,7 @@ module _ (rows : List Row) (groups : List Group) (v : Via) (e : EventId) (table 
   -- where nothing passes there is no package
   pub none_packed : sorted ≡ [] → packages (arriving_rows rows groups (route_of v)) ≡ []
   unfolding packages
-  none_packed h = ap (λ s. flat_map (λ x. map (λ c. x ∷ c) (cut 64 (others_with s x))) (filter is_own s)) (on_wire_sorted ∙ ap (map on_wire) h)
+  none_packed h = ap (λ s. flat_map (λ x. map (λ c. x ∷ c) (cut 64 (others_with s x))) (filter is_own s)) (on_wire_sorted ∙ ap (map (on_wire v.way)) h)
 
   module _ (own : Row) (others : List Row) (first : sorted ≡ own ∷ others) where
     ascends : IsStrictlySortedBy key_order (own ∷ others)
@@ -236,11 +237,11 @@ module _ (rows : List Row) (groups : List Group) (v : Via) (e : EventId) (table 
     own_key : own.key ≡ event_key e
     unfolding arriving_rows on_wire key_order
     own_key =
-        let came : in_order stands_before (arriving_rows rows groups (route_of v)) ≡ map on_wire (own ∷ others) = on_wire_sorted ∙ ap (map on_wire) first in
-        let there_is : list_any (λ r. same_key r.key (event_key (event_of own.key))) (map on_wire (own ∷ others)) ≡ true =
+        let came : in_order stands_before (arriving_rows rows groups (route_of v)) ≡ map (on_wire v.way) (own ∷ others) = on_wire_sorted ∙ ap (map (on_wire v.way)) first in
+        let there_is : list_any (λ r. same_key r.key (event_key (event_of own.key))) (map (on_wire v.way) (own ∷ others)) ≡ true =
         ap (list_any (λ r. same_key r.key (event_key (event_of own.key)))) (sym came) ∙ any_in_order stands_before (λ r. same_key r.key (event_key (event_of own.key))) (arriving_rows rows groups (route_of v))
-        ∙ with_own rows groups (route_of v) (on_wire own) (from_in_order stands_before (arriving_rows rows groups (route_of v)) (on_wire own) (subst (λ l. Contains l (on_wire own)) (sym came) (here (on_wire own) (map on_wire others)))) in
-        let f = found (λ r. same_key r.key (event_key (event_of own.key))) (own ∷ others) (sym (any_map on_wire (λ r. same_key r.key (event_key (event_of own.key))) (own ∷ others)) ∙ there_is) in
+        ∙ with_own rows groups (route_of v) (on_wire v.way own) (from_in_order stands_before (arriving_rows rows groups (route_of v)) (on_wire v.way own) (subst (λ l. Contains l (on_wire v.way own)) (sym came) (here (on_wire v.way own) (map (on_wire v.way) others)))) in
+        let f = found (λ r. same_key r.key (event_key (event_of own.key))) (own ∷ others) (sym (any_map (on_wire v.way) (λ r. same_key r.key (event_key (event_of own.key))) (own ∷ others)) ∙ there_is) in
         one f.0 (same_key-sound f.0.key (event_key (event_of own.key)) f.1.1) (first_or own others f.0 f.1.0)
       where
         one : (y : Row) → y.key ≡ event_key (event_of own.key) → (own ≡ y) ⊎ Contains others y → own.key ≡ event_key e
@@ -248,37 +249,37 @@ module _ (rows : List Row) (groups : List Group) (v : Via) (e : EventId) (table 
         one y k (inr m) =
             absurd (false≢true (sym (own_least own.key) ∙ ap (λ j. is_less (spell own.key) (spell j)) (sym k) ∙ less_is (spell own.key) (spell y.key) ∙ ap is_lt (all_of (λ y. key_order own y ≡ Less) others y behind m)))
 
-    is_first : is_own (on_wire own) ≡ true
+    is_first : is_own (on_wire v.way own) ≡ true
     unfolding is_own on_wire event_of event_key
     is_first = ap (λ k. same_key k (event_key (event_of k))) own_key ∙ same_key-refl (event_key e)
 
-    others_not : AllByRecursion (λ y. is_own (on_wire y) ≡ false) others
+    others_not : AllByRecursion (λ y. is_own (on_wire v.way y) ≡ false) others
     unfolding is_own on_wire
     others_not = all_implied (λ y. (key_order own y ≡ Less) × (event_of y.key ≡ e)) (λ y. same_key y.key (event_key (event_of y.key)) ≡ false)
         (λ y h. false_from_ne_true _ (λ g. false≢true (sym (ap is_eq h.0) ∙ sym (key_level own y)
         ∙ ap (λ k. same_key k y.key) (own_key ∙ ap event_key (sym h.1) ∙ sym (same_key-sound y.key (event_key (event_of y.key)) g)) ∙ same_key-refl y.key))) others
         (all_both (λ y. key_order own y ≡ Less) (λ y. event_of y.key ≡ e) others behind fit.1)
 
-    own_rows : filter is_own (map on_wire (own ∷ others)) ≡ on_wire own ∷ []
-    own_rows = rw (is_first, keeps_none is_own (map on_wire others) (all_map on_wire (λ y. is_own (on_wire y) ≡ false) (λ y. is_own y ≡ false) (λ y h. h) others others_not)) refl
+    own_rows : filter is_own (map (on_wire v.way) (own ∷ others)) ≡ on_wire v.way own ∷ []
+    own_rows = rw (is_first, keeps_none is_own (map (on_wire v.way) others) (all_map (on_wire v.way) (λ y. is_own (on_wire v.way y) ≡ false) (λ y. is_own y ≡ false) (λ y h. h) others others_not)) refl
 
-    other_rows : others_with (map on_wire (own ∷ others)) (on_wire own) ≡ map on_wire others
+    other_rows : others_with (map (on_wire v.way) (own ∷ others)) (on_wire v.way own) ≡ map (on_wire v.way) others
     unfolding others_with on_wire
     other_rows =
-        dropped (same_event (event_of own.key) (event_of own.key)) (is_own (on_wire own)) _ _ is_first
-        ∙ keeps_all (λ r. same_event (event_of r.key) (event_of own.key) && not (is_own r)) (map on_wire others)
-        (all_map on_wire (λ y. (is_own (on_wire y) ≡ false) × (event_of y.key ≡ e)) (λ r. (same_event (event_of r.key) (event_of own.key) && not (is_own r)) ≡ true)
+        dropped (same_event (event_of own.key) (event_of own.key)) (is_own (on_wire v.way own)) _ _ is_first
+        ∙ keeps_all (λ r. same_event (event_of r.key) (event_of own.key) && not (is_own r)) (map (on_wire v.way) others)
+        (all_map (on_wire v.way) (λ y. (is_own (on_wire v.way y) ≡ false) × (event_of y.key ≡ e)) (λ r. (same_event (event_of r.key) (event_of own.key) && not (is_own r)) ≡ true)
         (λ y h. and_from _ _ ((λ i. same_event (h.1 i) (fit.0 i)) ∙ same_event-refl e) (ap not h.0)) others (all_both _ _ others others_not fit.1))
 
-    pub packed_are : packages (arriving_rows rows groups (route_of v)) ≡ map (λ part. map on_wire (own ∷ part)) (cut 64 others)
+    pub packed_are : packages (arriving_rows rows groups (route_of v)) ≡ map (λ part. map (on_wire v.way) (own ∷ part)) (cut 64 others)
     unfolding packages
     packed_are =
-        ap (λ s. flat_map (λ x. map (λ c. x ∷ c) (cut 64 (others_with s x))) (filter is_own s)) (on_wire_sorted ∙ ap (map on_wire) first)
-        ∙ ap (flat_map (λ x. map (λ c. x ∷ c) (cut 64 (others_with (map on_wire (own ∷ others)) x)))) own_rows
-        ∙ append-nil (map (λ c. on_wire own ∷ c) (cut 64 (others_with (map on_wire (own ∷ others)) (on_wire own))))
-        ∙ ap (λ l. map (λ c. on_wire own ∷ c) (cut 64 l)) other_rows
-        ∙ ap (map (λ c. on_wire own ∷ c)) (sym (cut_map on_wire 64 others))
-        ∙ map_twice (map on_wire) (λ c. on_wire own ∷ c) (λ part. map on_wire (own ∷ part)) (λ c. refl) (cut 64 others)
+        ap (λ s. flat_map (λ x. map (λ c. x ∷ c) (cut 64 (others_with s x))) (filter is_own s)) (on_wire_sorted ∙ ap (map (on_wire v.way)) first)
+        ∙ ap (flat_map (λ x. map (λ c. x ∷ c) (cut 64 (others_with (map (on_wire v.way) (own ∷ others)) x)))) own_rows
+        ∙ append-nil (map (λ c. on_wire v.way own ∷ c) (cut 64 (others_with (map (on_wire v.way) (own ∷ others)) (on_wire v.way own))))
+        ∙ ap (λ l. map (λ c. on_wire v.way own ∷ c) (cut 64 l)) other_rows
+        ∙ ap (map (λ c. on_wire v.way own ∷ c)) (sym (cut_map (on_wire v.way) 64 others))
+        ∙ map_twice (map (on_wire v.way)) (λ c. on_wire v.way own ∷ c) (λ part. map (on_wire v.way) (own ∷ part)) (λ c. refl) (cut 64 others)
 
     -- and what passes can go into packages
     pub packable_here : ArePackable e (own ∷ others)
@@ -296,7 +297,7 @@ module _ (rows : List Row) (groups : List Group) (v : Via) (e : EventId) (table 
       by_keys [] e = let none = size [] e in absurd (omega (arith, none))
       by_keys (x ∷ xs) e =
           let more = size (x ∷ xs) e in
-          ap length (packed_are x xs e) ∙ length-map (cut 64 xs) (λ part. map on_wire (x ∷ part)) ∙ cut_count 64 xs others (omega (arith, more))
+          ap length (packed_are x xs e) ∙ length-map (cut 64 xs) (λ part. map (on_wire v.way) (x ∷ part)) ∙ cut_count 64 xs others (omega (arith, more))
 
   -- and none where nothing passes
   pub none_counted : loose ≡ [] → length (packages (arriving_rows rows groups (route_of v))) ≡ 0

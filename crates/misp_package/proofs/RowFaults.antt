@@ -5,14 +5,15 @@ use Rattle.misp_elem.specs.Prelude.{◌>>=◌, Reading, barred_labels, is_after}
 use Rattle.misp_elem.specs.Prelude.{label_kind, list_any, text_limit}
 use Rattle.misp_elem.specs.Contents.{is_removal, least_kind}
 use Rattle.misp_elem.specs.ContentReading.{attribute_body_at, colour_at, content_at, content_of, event_body_at, object_body_at, proposal_body_at}
-use Rattle.misp_elem.specs.ContentReading.{proposed_value_at, reference_body_at, removal_at, sighting_body_at, tag_at, tag_name_at, tags_after, tags_at}
+use Rattle.misp_elem.specs.Fields.{earliest, tags_size}
+use Rattle.misp_elem.specs.ContentReading.{proposed_value_at, reference_body_at, relation_at, removal_at, seen_at, sighting_body_at, tag_at, tag_name_at, tags_after, tags_at}
 use Rattle.misp_elem.specs.Reading.{ended}
 use Rattle.misp_elem.specs.Row.{fits, may_remove}
 use Rattle.misp_elem.specs.RowReading.{flags_at, flags_of, group_at, label_at, label_of}
 use Rattle.misp_elem.specs.WireReading.{carried_at, fields_on_wire, nobody_at, row_of_wire, row_on_wire}
 use Rattle.misp_model.specs.Prelude.{Content, EventId, Key, Label}
 use Rattle.misp_package.proofs.BoundedFields.{IsBounded, Within, before, between_bounded, byte_bounded, date_bounded, dropped, fault, final, flag_bounded, from_front}
-use Rattle.misp_package.proofs.BoundedFields.{from_front, key_after_bounded, number_bounded, optional_bounded, org_bounded, stamp_bounded, tested, text_bounded, uid_bounded, value, value_bounded, within_if, within_then}
+use Rattle.misp_package.proofs.BoundedFields.{from_front, key_after_bounded, number_bounded, optional_bounded, optional_moment_bounded, org_bounded, stamp_bounded, tested, text_bounded, uid_bounded, value, value_bounded, within_if, within_then}
 
 -- ---- contents
 
@@ -57,15 +58,6 @@ object_body_bounded =
     final (λ deleted. record { name = name; meta_category = category; description = description; comment = comment; template_uuid = template; template_version = version; deleted = deleted })
     flag_bounded))))))
 
-attribute_body_bounded : IsBounded attribute_body_at
-unfolding attribute_body_at
-attribute_body_bounded =
-    before (text_bounded 1 100) (λ kind. before (between_bounded 0 15) (λ category. before flag_bounded (λ to_ids.
-    before (text_bounded 0 (text_limit - length kind)) (λ comment. before flag_bounded (λ deleted.
-    before (value_bounded (text_limit - length kind - length comment) kind) (λ value.
-    final (λ ts. record { kind = kind; category = category; to_ids = to_ids; comment = comment; deleted = deleted; value = value; tags = ts })
-    (tags_bounded (text_limit - length kind - length comment - length value))))))))
-
 reference_body_bounded : IsBounded reference_body_at
 unfolding reference_body_at
 reference_body_bounded =
@@ -95,21 +87,46 @@ sighting_body_bounded =
     before (text_bounded 0 64) (λ name. before (between_bounded 0 2) (λ kind. before stamp_bounded (λ date.
     final (λ source. record { by_name = name; kind = kind; date = date; source = source }) (text_bounded 0 text_limit))))
 
-content_within : (may : Bool) (n : ℕ) (bytes : List ℕ) (kind : ℕ) (rest : List ℕ) → length bytes ≤ n → length rest ≤ n → Within n (content_of may bytes kind rest)
-content_within may n bytes kind rest le h =
-    within_if n _ _ _ ((final (λ b. Content.Event b) event_body_bounded).within n rest h)
-    (within_if n _ _ _ ((final (λ b. Content.Object b) object_body_bounded).within n rest h)
-    (within_if n _ _ _ ((final (λ b. Content.Attribute b) attribute_body_bounded).within n rest h)
-    (within_if n _ _ _ ((final (λ b. Content.Reference b) reference_body_bounded).within n rest h)
-    (within_if n _ _ _ ((final (λ b. Content.Proposal b) (proposal_body_bounded may)).within n rest h)
-    (within_if n _ _ _ ((final (λ b. Content.Verdict b) flag_bounded).within n rest h)
-    (within_if n _ _ _ ((final (λ b. Content.Sighting b) sighting_body_bounded).within n rest h)
-    (within_if n _ _ _ (value h) (fault le))))))))
+-- an attribute in a form of rows of which its part of an object and its moments are read so
+module _ (form : _) (relation : (room : ℕ) → IsBounded (relation_at form room)) (seen : (least : ℕ) → IsBounded (seen_at form least)) where
+  attribute_body_bounded : IsBounded (attribute_body_at form)
+  unfolding attribute_body_at
+  attribute_body_bounded =
+      before (text_bounded 1 100) (λ kind. before (between_bounded 0 15) (λ category. before flag_bounded (λ to_ids.
+      before (text_bounded 0 (text_limit - length kind)) (λ comment. before flag_bounded (λ deleted.
+      before (value_bounded (text_limit - length kind - length comment) kind) (λ value.
+      before (tags_bounded (text_limit - length kind - length comment - length value)) (λ ts.
+      before (relation (text_limit - length kind - length comment - length value - tags_size ts)) (λ object_relation. before (seen 0) (λ first.
+      final (λ last.
+      record {
+        kind = kind;
+        category = category;
+        to_ids = to_ids;
+        comment = comment;
+        deleted = deleted;
+        value = value;
+        tags = ts;
+        object_relation = object_relation;
+        first_seen = first;
+        last_seen = last;
+      })
+      (seen (earliest first)))))))))))
 
-content_bounded : (k : Key) (label : ℕ) (flags : Bool × Bool) → IsBounded (content_at k label flags)
-unfolding content_at
-content_bounded k label flags = from_front (λ bytes kind rest. cond (fits k label flags kind) (content_of (may_remove k) bytes kind rest) (Err (length bytes))) byte_bounded
-    (λ n bytes kind rest le h. within_if n _ _ _ (content_within (may_remove k) n bytes kind rest le h) (fault le))
+  content_within : (may : Bool) (n : ℕ) (bytes : List ℕ) (kind : ℕ) (rest : List ℕ) → length bytes ≤ n → length rest ≤ n → Within n (content_of form may bytes kind rest)
+  content_within may n bytes kind rest le h =
+      within_if n _ _ _ ((final (λ b. Content.Event b) event_body_bounded).within n rest h)
+      (within_if n _ _ _ ((final (λ b. Content.Object b) object_body_bounded).within n rest h)
+      (within_if n _ _ _ ((final (λ b. Content.Attribute b) attribute_body_bounded).within n rest h)
+      (within_if n _ _ _ ((final (λ b. Content.Reference b) reference_body_bounded).within n rest h)
+      (within_if n _ _ _ ((final (λ b. Content.Proposal b) (proposal_body_bounded may)).within n rest h)
+      (within_if n _ _ _ ((final (λ b. Content.Verdict b) flag_bounded).within n rest h)
+      (within_if n _ _ _ ((final (λ b. Content.Sighting b) sighting_body_bounded).within n rest h)
+      (within_if n _ _ _ (value h) (fault le))))))))
+
+  content_bounded : (k : Key) (label : ℕ) (flags : Bool × Bool) → IsBounded (content_at form k label flags)
+  unfolding content_at
+  content_bounded k label flags = from_front (λ bytes kind rest. cond (fits k label flags kind) (content_of form (may_remove k) bytes kind rest) (Err (length bytes))) byte_bounded
+      (λ n bytes kind rest le h. within_if n _ _ _ (content_within (may_remove k) n bytes kind rest le h) (fault le))
 
 -- ---- rows
 
@@ -136,10 +153,11 @@ unfolding nobody_at
 nobody_bounded = tested _ org_bounded
 
 fields_bounded : (e : EventId) (k : Option Key) → IsBounded (fields_on_wire e k)
-unfolding fields_on_wire
+unfolding fields_on_wire relation_at seen_at
 fields_bounded e k =
     before nobody_bounded (λ owner. before (key_after_bounded e k) (λ next. before stamp_bounded (λ s. before (label_bounded (barred_labels next)) (λ l. before carried_bounded (λ f.
-    final (λ c. record { owner = owner; key = next; stamp = s; label = l; held = f.0; carried = f.1; content = c }) (content_bounded next (label_kind l) f))))))
+    final (λ c. record { owner = owner; key = next; stamp = s; label = l; held = f.0; carried = f.1; content = c })
+    (content_bounded _ (λ room. record { within = (text_bounded 0 room).within }) (λ least. record { within = (optional_moment_bounded least).within }) next (label_kind l) f))))))
 
 -- where bytes that follow are at fault
 left_is : {A : Type 0} (b : Bool) (a : A) (m left : ℕ) → ◌≡◌ {A = Result A ℕ} (cond b (Ok a) (Err m)) (Err left) → m ≡ left
@@ -154,5 +172,5 @@ ended_within n (Err m) left h e = let same : m ≡ left = cc in omega (arith, h.
 pub row_fault : (e : EventId) (k : Option Key) (bytes : List ℕ) (left : ℕ) → row_of_wire e k bytes ≡ Err left → left ≤ length bytes
 unfolding row_of_wire row_on_wire
 row_fault e k bytes left h =
-    let row = before (between_bounded 1 1) (λ form. fields_bounded e k) in
+    let row = before (between_bounded 2 2) (λ form. fields_bounded e k) in
     ended_within (length bytes) (row_on_wire e k bytes) left (row.within (length bytes) bytes (omega arith)) h

@@ -4,12 +4,13 @@ use Rattle.std.proofs.Common.{List, [], ◌∷◌, ◌++◌, length, arith, leng
 use Rattle.misp_lists.proofs.Prelude.{and_parts}
 use Rattle.misp_elem.specs.Prelude.{IsRow, text_limit}
 use Rattle.misp_elem.specs.Contents.{IsContent, IsProposed, least_kind}
+use Rattle.misp_elem.specs.Fields.{tags_size as names_size}
 use Rattle.misp_elem.specs.Spelling.{content, flag, flags, key, label, optional_uid, row, stamp, tags, text, uid}
 use Rattle.misp_elem.proofs.ShortTexts.{is_text-date}
 use Rattle.misp_elem.proofs.Sizes.{most_of}
 use Rattle.misp_elem.proofs.Contents.{content_may}
 use Rattle.misp_model.specs.Prelude.{Content, Row}
-use Rattle.misp_package.proofs.FieldSizes.{flag_size, flags_size, key_size, label_size, optional_size, stamp_size, tags_size, text_size, uid_size}
+use Rattle.misp_package.proofs.FieldSizes.{flag_size, flags_size, key_size, label_size, more_of, more_size, optional_size, stamp_size, tags_size, text_size, uid_size}
 
 -- ---- contents
 
@@ -63,13 +64,16 @@ content_size may (Content.Object b) h =
       flag_size b.deleted,
     )
 content_size may (Content.Attribute b) h =
+    let more : List ℕ = more_of b in
     omega (
       arith,
-      length-append (text b.kind) ((b.category ∷ []) ++ (flag b.to_ids ++ (text b.comment ++ (flag b.deleted ++ (text b.value ++ tags b.tags))))),
-      length-append (flag b.to_ids) (text b.comment ++ (flag b.deleted ++ (text b.value ++ tags b.tags))),
-      length-append (text b.comment) (flag b.deleted ++ (text b.value ++ tags b.tags)),
-      length-append (flag b.deleted) (text b.value ++ tags b.tags),
-      length-append (text b.value) (tags b.tags),
+      length-append (text b.kind) ((b.category ∷ []) ++ (flag b.to_ids ++ (text b.comment ++ (flag b.deleted ++ (text b.value ++ (tags b.tags ++ more)))))),
+      length-append (flag b.to_ids) (text b.comment ++ (flag b.deleted ++ (text b.value ++ (tags b.tags ++ more)))),
+      length-append (text b.comment) (flag b.deleted ++ (text b.value ++ (tags b.tags ++ more))),
+      length-append (flag b.deleted) (text b.value ++ (tags b.tags ++ more)),
+      length-append (text b.value) (tags b.tags ++ more),
+      length-append (tags b.tags) more,
+      more_size b,
       text_size b.kind,
       most_of 1 100 b.kind h.0,
       flag_size b.to_ids,
@@ -78,7 +82,8 @@ content_size may (Content.Attribute b) h =
       flag_size b.deleted,
       text_size b.value,
       most_of 0 (text_limit - length b.kind - length b.comment) b.value (and_parts _ _ h.1.1.1.1.1.0).0,
-      tags_size (text_limit - length b.kind - length b.comment - length b.value) b.tags h.1.1.1.1.1.1,
+      tags_size (text_limit - length b.kind - length b.comment - length b.value) b.tags h.1.1.1.1.1.1.0,
+      most_of 0 (text_limit - length b.kind - length b.comment - length b.value - names_size b.tags) b.object_relation h.1.1.1.1.1.1.1.0,
     )
 content_size may (Content.Reference b) h =
     omega (

@@ -11,9 +11,9 @@ use Rattle.misp_model.specs.Package.{nobody}
 use Rattle.misp_package.specs.Packing.{AreNumberedFrom, is_whole, on_wire, rows_in}
 
 -- a row that is no tombstone is one on the wire
-pub wired_row : (row : Row) → IsRow row → is_whole row ≡ true → IsRow (on_wire row)
+pub wired_row : (way : Way) (row : Row) → IsRow row → is_whole row ≡ true → IsRow (on_wire way row)
 unfolding on_wire is_whole arrived
-wired_row row i w = arrived_row (record { way = Way.Pull; from = []; «for» = nobody; dest = []; into = []; holder = nobody }) row (omega arith) i (not-true _ w)
+wired_row way row i w = arrived_row (record { way = way; from = []; «for» = nobody; dest = []; into = []; holder = nobody }) row (omega arith) i (not-true _ w)
 
 pub whole_at : (xs : List (Bor Row)) (i : ℕ) (x : Bor Row) → i < length xs → x ≡ get_or xs i x → list_all is_whole (map (λ r. r.now) xs) ≡ true → is_whole x.now ≡ true
 whole_at [] i x lt e a = absurd (omega arith)
@@ -21,21 +21,21 @@ whole_at (y ∷ ys) zero x lt e a = ap (λ (r : Bor Row). is_whole r.now) e ∙ 
 whole_at (y ∷ ys) (suc i) x lt e a = whole_at ys i x (omega arith) e (and_parts (is_whole y.now) (list_all is_whole (map (λ r. r.now) ys)) a).1
 
 -- one row more on the wire
-one_more : (own : Row) (xs : List (Bor Row)) (i : ℕ) → i < length xs → (x : Bor Row) → x ≡ get_or xs i x
-    → map on_wire (own ∷ map (λ r. r.now) (take i xs)) ++ on_wire x.now ∷ [] ≡ map on_wire (own ∷ map (λ r. r.now) (take (i + 1) xs))
-one_more own xs i lt x e =
-    sym (ap (λ (l : List (Bor Row)). map on_wire (own ∷ map (λ r. r.now) l)) (take_more xs i x lt)
-    ∙ ap (λ (l : List Row). map on_wire (own ∷ l)) (map-append (λ (r : Bor Row). r.now) (take i xs) (get_or xs i x ∷ []))
-    ∙ map-append on_wire (own ∷ map (λ r. r.now) (take i xs)) ((get_or xs i x).now ∷ [])
-    ∙ ap (λ (r : Bor Row). map on_wire (own ∷ map (λ r. r.now) (take i xs)) ++ on_wire r.now ∷ []) (sym e))
+one_more : (way : Way) (own : Row) (xs : List (Bor Row)) (i : ℕ) → i < length xs → (x : Bor Row) → x ≡ get_or xs i x
+    → map (on_wire way) (own ∷ map (λ r. r.now) (take i xs)) ++ on_wire way x.now ∷ [] ≡ map (on_wire way) (own ∷ map (λ r. r.now) (take (i + 1) xs))
+one_more way own xs i lt x e =
+    sym (ap (λ (l : List (Bor Row)). map (on_wire way) (own ∷ map (λ r. r.now) l)) (take_more xs i x lt)
+    ∙ ap (λ (l : List Row). map (on_wire way) (own ∷ l)) (map-append (λ (r : Bor Row). r.now) (take i xs) (get_or xs i x ∷ []))
+    ∙ map-append (on_wire way) (own ∷ map (λ r. r.now) (take i xs)) ((get_or xs i x).now ∷ [])
+    ∙ ap (λ (r : Bor Row). map (on_wire way) (own ∷ map (λ r. r.now) (take i xs)) ++ on_wire way r.now ∷ []) (sym e))
 
-pub wire_more : (own : Row) (xs : List (Bor Row)) (i : ℕ) (x : Bor Row) (y : Row) (done : List Row) → i < length xs → x ≡ get_or xs i x → done ≡ map on_wire (own ∷ map (λ r. r.now) (take i xs)) → y ≡ on_wire x.now
-    → done ++ y ∷ [] ≡ map on_wire (own ∷ map (λ r. r.now) (take (i + 1) xs))
-wire_more own xs i x y done lt e h k = (λ j. h j ++ k j ∷ []) ∙ one_more own xs i lt x e
+pub wire_more : (way : Way) (own : Row) (xs : List (Bor Row)) (i : ℕ) (x : Bor Row) (y : Row) (done : List Row) → i < length xs → x ≡ get_or xs i x → done ≡ map (on_wire way) (own ∷ map (λ r. r.now) (take i xs)) → y ≡ on_wire way x.now
+    → done ++ y ∷ [] ≡ map (on_wire way) (own ∷ map (λ r. r.now) (take (i + 1) xs))
+wire_more way own xs i x y done lt e h k = (λ j. h j ++ k j ∷ []) ∙ one_more way own xs i lt x e
 
-pub wired_more : (own : Row) (xs : List (Bor Row)) (i : ℕ) (x : Bor Row) → i < length xs → x ≡ get_or xs i x → AreRows (map on_wire (own ∷ map (λ r. r.now) (take i xs))) → IsRow (on_wire x.now)
-    → AreRows (map on_wire (own ∷ map (λ r. r.now) (take (i + 1) xs)))
-wired_more own xs i x lt e h k = subst AreRows (one_more own xs i lt x e) (are_rows_push (map on_wire (own ∷ map (λ r. r.now) (take i xs))) (on_wire x.now) h k)
+pub wired_more : (way : Way) (own : Row) (xs : List (Bor Row)) (i : ℕ) (x : Bor Row) → i < length xs → x ≡ get_or xs i x → AreRows (map (on_wire way) (own ∷ map (λ r. r.now) (take i xs))) → IsRow (on_wire way x.now)
+    → AreRows (map (on_wire way) (own ∷ map (λ r. r.now) (take (i + 1) xs)))
+wired_more way own xs i x lt e h k = subst AreRows (one_more way own xs i lt x e) (are_rows_push (map (on_wire way) (own ∷ map (λ r. r.now) (take i xs))) (on_wire way x.now) h k)
 
 pub part_at : (P : List Row → Type 0) (parts : List (Bor (List (Bor Row)))) (i : ℕ) (part : Bor (List (Bor Row))) → i < length parts → part ≡ get_or parts i part →
     AllByRecursion P (rows_in parts) → P (map (λ r. r.now) part.now)

@@ -2,7 +2,8 @@
 use Rattle.std.specs.Prelude.{◌≡◌, Bool, true, false, not, ◌&&◌, List, [], ◌∷◌, ℕ, suc, length, map, Option, Some, None}
 use Rattle.std.specs.List.Sorted.{IsStrictlySortedBy}
 use Rattle.misp_lists.specs.Order.{sorted_by}
-use Rattle.misp_levels.specs.Levels.{down}
+use Rattle.misp_ids.specs.declared.label.Way.{Way}
+use Rattle.misp_levels.specs.Levels.{landed}
 use Rattle.misp_elem.specs.Fields.{IsBetween}
 use Rattle.misp_elem.specs.RowFacts.{is_tombstone}
 use Rattle.misp_model.specs.Prelude.{Bor, EventId, Ordering, Row, event_of, list_all, same_event}
@@ -12,14 +13,14 @@ use Rattle.misp_history.specs.History.{without_local_tags}
 use Rattle.misp_copies.specs.Keys.{key_cmp}
 use Rattle.misp_model.specs.Package.{nobody}
 
--- the row as it arrives at nobody
-unfoldable pub on_wire : Row → Row
-on_wire row =
+-- the row as it arrives on this way at nobody
+unfoldable pub on_wire : Way → Row → Row
+on_wire way row =
     record {
       owner = nobody;
       key = row.key;
       stamp = row.stamp;
-      label = down row.label 1;
+      label = landed way row.label;
       held = false;
       carried = true;
       content = without_local_tags row.content;

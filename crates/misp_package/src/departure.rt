@@ -41,7 +41,7 @@ pub fn outgoing(
         return Ok(Vec::new(alloc));
     };
     let parts = parts_of(alloc, others)?;
-    let packages = packed(alloc, event, own, parts.as_slice())?;
+    let packages = packed(alloc, via.way, event, own, parts.as_slice())?;
     Ok(packages)
 }
 

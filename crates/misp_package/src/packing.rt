@@ -8,7 +8,7 @@ ghost use Rattle.misp_package.specs.Packing.{AreNumbered, IsPart, is_whole, on_w
 
 use crate::wire::on_wire;
 use misp_elem::Row;
-use misp_ids::{EventId, Items, NoMemory};
+use misp_ids::{EventId, Items, NoMemory, Way};
 use misp_model::{Package, PackageFields};
 use std::alloc::Global;
 
@@ -34,17 +34,18 @@ pub(crate) fn parts_of<'a, 'b>(
     Ok(parts)
 }
 
-// The event's own row and others as they are on the wire.
-fn all_on_wire(alloc: Global, own: &Row, others: &[&Row]) -> Result<Vec<Row>, NoMemory>
+// The event's own row and others as they are on the wire of this way.
+fn all_on_wire(alloc: Global, way: Way, own: &Row, others: &[&Row]) -> Result<Vec<Row>, NoMemory>
     requires { list_all is_whole (own.now ∷ map (λ r. r.now) others.now) ≡ true }
     ensures wired { IfOk result (λ rows. rows.items
-        ≡ map on_wire (own.now ∷ map (λ r. r.now) others.now)) }
-    ensures rows { OnOk result (AreRows (map on_wire (own.now ∷ map (λ r. r.now) others.now))) }
+        ≡ map (on_wire way) (own.now ∷ map (λ r. r.now) others.now)) }
+    ensures rows { OnOk result
+        (AreRows (map (on_wire way) (own.now ∷ map (λ r. r.now) others.now))) }
 {
     let mut rows = Vec::with_capacity(alloc, others.len().saturating_add(1))?;
-    rows.push(on_wire(own)?)?;
+    rows.push(on_wire(way, own)?)?;
     for row in others {
-        rows.push(on_wire(row)?)?;
+        rows.push(on_wire(way, row)?)?;
     }
     Ok(rows)
 }
@@ -52,6 +53,7 @@ fn all_on_wire(alloc: Global, own: &Row, others: &[&Row]) -> Result<Vec<Row>, No
 // The package of this number, with the event's own row and these others.
 fn package(
     alloc: Global,
+    way: Way,
     event: &EventId,
     own: &Row,
     others: &[&Row],
@@ -64,11 +66,11 @@ fn package(
       event = event.now;
       part = part;
       parts = parts;
-      rows = map on_wire (own.now ∷ map (λ r. r.now) others.now);
+      rows = map (on_wire way) (own.now ∷ map (λ r. r.now) others.now);
     }) }
 {
     let _number = event.0.0;
-    let rows = all_on_wire(alloc, own, others)?;
+    let rows = all_on_wire(alloc, way, own, others)?;
     Ok(Package::of(PackageFields {
         event: *event,
         part,
@@ -80,13 +82,14 @@ fn package(
 /// A package for each of these parts, in which the event's own row comes first.
 pub(crate) fn packed(
     alloc: Global,
+    way: Way,
     event: &EventId,
     own: &Row,
     parts: &[&[&Row]],
 ) -> Result<Vec<Package>, NoMemory>
     requires { AllByRecursion (λ part. IsPart event.now (own.now ∷ part)) (rows_in parts.now) }
     ensures packed { IfOk result (λ packages. map (λ p. p.rows) packages.items
-        ≡ map (λ part. map on_wire (own.now ∷ part)) (rows_in parts.now)) }
+        ≡ map (λ part. map (on_wire way) (own.now ∷ part)) (rows_in parts.now)) }
     ensures numbered { IfOk result (λ packages. AreNumbered event.now packages.items) }
 {
     let Ok(count) = u32::try_from(parts.len()) else {
@@ -95,7 +98,7 @@ pub(crate) fn packed(
     let mut packages = Vec::new(alloc);
     let mut number = 0;
     for part in parts {
-        packages.push(package(alloc, event, own, part, number, count)?)?;
+        packages.push(package(alloc, way, event, own, part, number, count)?)?;
         number += 1;
     }
     Ok(packages)

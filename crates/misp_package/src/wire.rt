@@ -6,8 +6,8 @@ ghost use Rattle.misp_history.specs.History.{exportable, without_local_tags};
 ghost use Rattle.misp_package.specs.Packing.{is_whole, on_wire};
 
 use misp_elem::{AttributeBody, Content, EventBody, Row, Tag};
-use misp_ids::{Items, NoMemory, OrgId, Uid};
-use misp_levels::down;
+use misp_ids::{Items, NoMemory, OrgId, Uid, Way};
+use misp_levels::landed;
 
 // Those of the tags that are exportable.
 #[tactic(auto, unfolding(misp_history::specs::History::exportable))]
@@ -50,6 +50,9 @@ fn attribute_without(body: &AttributeBody) -> Result<AttributeBody, NoMemory>
         deleted: copy.deleted,
         value: copy.value,
         tags: exportable(copy.tags),
+        object_relation: copy.object_relation,
+        first_seen: copy.first_seen,
+        last_seen: copy.last_seen,
     })
 }
 
@@ -65,19 +68,19 @@ fn without_local_tags(content: &Content) -> Result<Content, NoMemory>
     }
 }
 
-/// The row as it arrives at nobody.
+/// The row as it arrives on this way at nobody.
 #[tactic(auto, unfolding(crate::specs::Packing::on_wire))]
-pub(crate) fn on_wire(row: &Row) -> Result<Row, NoMemory>
+pub(crate) fn on_wire(way: Way, row: &Row) -> Result<Row, NoMemory>
     requires { is_whole row.now ≡ true }
-    ensures wired { IfOk result (λ r. r ≡ on_wire row.now) }
-    ensures row { IsRow (on_wire row.now) }
+    ensures wired { IfOk result (λ r. r ≡ on_wire way row.now) }
+    ensures row { IsRow (on_wire way row.now) }
 {
     let content = without_local_tags(&row.content)?;
     Ok(Row {
         owner: OrgId(Uid(0)),
         key: row.key,
         stamp: row.stamp,
-        label: down(&row.label, 1),
+        label: landed(way, &row.label),
         held: false,
         carried: true,
         content,

@@ -11,7 +11,7 @@ use Rattle.misp_script.specs.declared.description.HostKey.{HostKey}
 use Rattle.misp_script.specs.declared.description.HostLink.{HostLink}
 use Rattle.misp_script.specs.declared.fault.DescNeed.{DescNeed}
 use Rattle.misp_script.specs.Entries.{Body, entry_of, text_at, text_or_none_at, said, flag_or_at, refused_if, no_other, each}
-use Rattle.misp_script.specs.Tables.{org_name_at, uuid_at, has_name, has_number, org_at, next_org, host_name_at, has_host, host_at, next_host, host_of, has_key, known_host_at, known_org_at, api_key_at, role_at, partner_at, key_at}
+use Rattle.misp_script.specs.Tables.{org_name_at, uuid_at, has_name, has_number, org_at, next_org, host_name_at, has_host, host_at, next_host, host_of, has_key, known_host_at, known_org_at, known_org_or_none_at, internal_at, key_internal_at, api_key_at, role_at, partner_at, key_at}
 use Rattle.misp_script.specs.Tables.{next_key, has_link, host_in, is_taken, link_at, next_link}
 use Rattle.misp_script.specs.Network.{keys_of, links_of}
 use Rattle.misp_script.proofs.Parts.{bytes_eq-refl, distinct_own}
@@ -40,28 +40,29 @@ orgs_distinct ds orgs h =
 abbrev pub same_host : Host → Host → Bool
 same_host a b = bytes_eq a.name b.name
 
-host_new : (before : List Host) (it : Body) (x : Host) → host_at before it ≡ Ok x → has_host before x.name ≡ false
+host_new : (orgs : List OrgFields) (before : List Host) (it : Body) (x : Host) → host_at orgs before it ≡ Ok x → has_host before x.name ≡ false
 unfolding host_at
-host_new before it x h =
+host_new orgs before it x h =
     let P : Host → Type 0 = λ x. has_host before x.name ≡ false in
     bind_keeps P (host_name_at it) _ (λ name is1.
     bind_keeps P (refused_if (has_host before name) it (codes "name") DescNeed.Distinct) _ (λ new is2.
     bind_keeps P (text_or_none_at it (codes "address")) _ (λ address is3.
-    bind_keeps P (no_other it (codes "name" ∷ codes "address" ∷ [])) _ (λ no_more is4.
-    ok_keeps P _ (not_bad (has_host before name) _ _ new is2))))) x h
+    bind_keeps P (known_org_or_none_at orgs it (codes "host")) _ (λ org is4.
+    bind_keeps P (no_other it (codes "name" ∷ codes "address" ∷ codes "host" ∷ [])) _ (λ no_more is5.
+    ok_keeps P _ (not_bad (has_host before name) _ _ new is2)))))) x h
 
-pub hosts_distinct : (ds : List Data) (hosts : List Host) → each next_host 0 [] ds ≡ Ok hosts → IsDistinct same_host hosts
-hosts_distinct ds hosts h =
-    each_keeps next_host (IsDistinct same_host) (λ n s d t p is. adds_keep (host_at s (entry_of (codes "instance") n d)) s (IsDistinct same_host)
-    (λ x read. distinct_last same_host s x p (host_new s (entry_of (codes "instance") n d) x read)) t is) 0 [] ds hosts (distinct_none same_host) h
+pub hosts_distinct : (orgs : List OrgFields) (ds : List Data) (hosts : List Host) → each (next_host orgs) 0 [] ds ≡ Ok hosts → IsDistinct same_host hosts
+hosts_distinct orgs ds hosts h =
+    each_keeps (next_host orgs) (IsDistinct same_host) (λ n s d t p is. adds_keep (host_at orgs s (entry_of (codes "instance") n d)) s (IsDistinct same_host)
+    (λ x read. distinct_last same_host s x p (host_new orgs s (entry_of (codes "instance") n d) x read)) t is) 0 [] ds hosts (distinct_none same_host) h
 
-pub hosts_counted : (n : ℕ) (s : List Host) (ds : List Data) (hosts : List Host) → each next_host n s ds ≡ Ok hosts → length hosts ≡ length s + length ds
-hosts_counted n s [] hosts h = ok_keeps (λ t. length t ≡ length s + 0) s (omega arith) hosts h
-hosts_counted n s (d ∷ ds) hosts h =
+pub hosts_counted : (orgs : List OrgFields) (n : ℕ) (s : List Host) (ds : List Data) (hosts : List Host) → each (next_host orgs) n s ds ≡ Ok hosts → length hosts ≡ length s + length ds
+hosts_counted orgs n s [] hosts h = ok_keeps (λ t. length t ≡ length s + 0) s (omega arith) hosts h
+hosts_counted orgs n s (d ∷ ds) hosts h =
     let P : List Host → Type 0 = λ t. length t ≡ length s + length (d ∷ ds) in
-    bind_keeps P (next_host n s d) (λ more. each next_host (n + 1) more ds) (λ more is y rest.
-    let longer : length more ≡ length s + 1 = adds_keep (host_at s (entry_of (codes "instance") n d)) s (λ t. length t ≡ length s + 1) (λ x read. length-append s (x ∷ [])) more is in
-    omega (arith, longer, hosts_counted (n + 1) more ds y rest)) hosts h
+    bind_keeps P (next_host orgs n s d) (λ more. each (next_host orgs) (n + 1) more ds) (λ more is y rest.
+    let longer : length more ≡ length s + 1 = adds_keep (host_at orgs s (entry_of (codes "instance") n d)) s (λ t. length t ≡ length s + 1) (λ x read. length-append s (x ∷ [])) more is in
+    omega (arith, longer, hosts_counted orgs (n + 1) more ds y rest)) hosts h
 
 -- ---- keys
 
@@ -78,8 +79,9 @@ key_new orgs hosts before it k h =
     bind_keeps P (known_org_at orgs it (codes "org")) _ (λ org is4.
     bind_keeps P (role_at it) _ (λ role is5.
     bind_keeps P (partner_at hosts it role) _ (λ partner is6.
-    bind_keeps P (no_other it (codes "instance" ∷ codes "key" ∷ codes "org" ∷ codes "role" ∷ codes "partner" ∷ [])) _ (λ no_more is7.
-    ok_keeps P _ (not_bad (has_key before at key) _ _ new is3)))))))) k h
+    bind_keeps P (key_internal_at hosts it at partner) _ (λ internal is7.
+    bind_keeps P (no_other it (codes "instance" ∷ codes "key" ∷ codes "org" ∷ codes "role" ∷ codes "partner" ∷ codes "internal" ∷ [])) _ (λ no_more is8.
+    ok_keeps P _ (not_bad (has_key before at key) _ _ new is3))))))))) k h
 
 keys_distinct : (orgs : List OrgFields) (hosts : List Host) (ds : List Data) (keys : List HostKey) → each (next_key orgs hosts) 0 [] ds ≡ Ok keys → IsDistinct same_host_key keys
 keys_distinct orgs hosts ds keys h =
@@ -135,10 +137,11 @@ link_new orgs hosts before it l h =
     bind_keeps P (known_org_at orgs it (codes "holder")) _ (λ holder is7.
     bind_keeps P (known_org_at orgs it (codes "push_org")) _ (λ push_org is8.
     bind_keeps P (flag_or_at it (codes "on") true) _ (λ on is9.
-    bind_keeps P (no_other it (codes "name" ∷ codes "at" ∷ codes "to" ∷ codes "key" ∷ codes "holder" ∷ codes "push_org" ∷ codes "on" ∷ [])) _ (λ no_more is10.
+    bind_keeps P (internal_at hosts it at peer) _ (λ internal is10.
+    bind_keeps P (no_other it (codes "name" ∷ codes "at" ∷ codes "to" ∷ codes "key" ∷ codes "holder" ∷ codes "push_org" ∷ codes "on" ∷ codes "internal" ∷ [])) _ (λ no_more is11.
     let fresh : has_link before at name ≡ false = ap (λ o. option_map_or (λ at. has_link before at name) o false) (sym (host_read hosts it (codes "at") at is3)) ∙ not_bad (is_taken hosts before it name) _ _ new is2 in
     let apart : not (bytes_eq peer at) ≡ true = ap not (not_bad (bytes_eq peer at) _ _ other is5) in
-    ok_keeps P _ (fresh, and_from _ _ (host_there hosts it (codes "to") peer is4) apart))))))))))) l h
+    ok_keeps P _ (fresh, and_from _ _ (host_there hosts it (codes "to") peer is4) apart)))))))))))) l h
 
 pub links_read : (orgs : List OrgFields) (hosts : List Host) (ds : List Data) (links : List HostLink) → each (next_link orgs hosts) 0 [] ds ≡ Ok links
     → IsDistinct same_host_link links × AllByRecursion (λ l. is_apart hosts l ≡ true) links

@@ -56,14 +56,14 @@ peers_all names orgs keys links each_one (h ∷ hs) = and_from _ _ (each_one h.n
 -- ---- the whole
 
 net_of : (ms : Members) (orgs : List OrgFields) (hosts : List Host) (keys : List HostKey) (links : List HostLink) → length (entries_at (codes "instance") ms) ≤ instance_limit
-    → each next_host 0 [] (entries_at (codes "instance") ms) ≡ Ok hosts → AllByRecursion (λ l. is_apart hosts l ≡ true) links
+    → each (next_host orgs) 0 [] (entries_at (codes "instance") ms) ≡ Ok hosts → AllByRecursion (λ l. is_apart hosts l ≡ true) links
     → IsNet (record { instances = instances_of orgs keys links hosts })
 net_of ms orgs hosts keys links few of_hosts apart =
     let names : names_of (record { instances = instances_of orgs keys links hosts }) ≡ host_names hosts =
     map_twice (instance_of orgs keys links) (λ entry. entry.name) (λ h. h.name) (λ h. refl) hosts in
     record {
-      few = omega (arith, length-map hosts (instance_of orgs keys links), hosts_counted 0 [] (entries_at (codes "instance") ms) hosts of_hosts);
-      names = rw names (distinct_map (λ h. h.name) (λ a b. bytes_eq a.name b.name) bytes_eq (λ a b apart. apart) hosts (hosts_distinct (entries_at (codes "instance") ms) hosts of_hosts));
+      few = omega (arith, length-map hosts (instance_of orgs keys links), hosts_counted orgs 0 [] (entries_at (codes "instance") ms) hosts of_hosts);
+      names = rw names (distinct_map (λ h. h.name) (λ a b. bytes_eq a.name b.name) bytes_eq (λ a b apart. apart) hosts (hosts_distinct orgs (entries_at (codes "instance") ms) hosts of_hosts));
       peers = rw names (peers_all (host_names hosts) orgs keys links (λ name. peers_of hosts links name apart) hosts);
     }
 
@@ -73,7 +73,7 @@ network_net ms d h =
     bind_keeps IsNet (all_known ms) _ (λ known is1.
     bind_keeps IsNet (within_limits ms) _ (λ few is2.
     bind_keeps IsNet (each next_org 0 [] (entries_at (codes "org") ms)) _ (λ orgs is3.
-    bind_keeps IsNet (each next_host 0 [] (entries_at (codes "instance") ms)) _ (λ hosts is4.
+    bind_keeps IsNet (each (next_host orgs) 0 [] (entries_at (codes "instance") ms)) _ (λ hosts is4.
     bind_keeps IsNet (each (next_key orgs hosts) 0 [] (entries_at (codes "key") ms)) _ (λ keys is5.
     bind_keeps IsNet (each (next_link orgs hosts) 0 [] (entries_at (codes "link") ms)) _ (λ links is6.
     ok_keeps IsNet _ (net_of ms orgs hosts keys links (hosts_few ms few is2) is4 (links_read orgs hosts (entries_at (codes "link") ms) links is6).1))))))) d h

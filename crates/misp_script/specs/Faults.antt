@@ -18,6 +18,7 @@ need_name DescNeed.Key = codes "key"
 need_name DescNeed.Role = codes "role"
 need_name DescNeed.Known = codes "known"
 need_name DescNeed.Distinct = codes "distinct"
+need_name DescNeed.Host = codes "host"
 
 -- a value, or the first fault
 abbrev pub Reading : Type 0 → Type 0

@@ -98,7 +98,7 @@ network_at ms = do
   known ← all_known ms
   few ← within_limits ms
   orgs ← each next_org 0 [] (entries_at (codes "org") ms)
-  hosts ← each next_host 0 [] (entries_at (codes "instance") ms)
+  hosts ← each (next_host orgs) 0 [] (entries_at (codes "instance") ms)
   keys ← each (next_key orgs hosts) 0 [] (entries_at (codes "key") ms)
   links ← each (next_link orgs hosts) 0 [] (entries_at (codes "link") ms)
   Ok (record { instances = instances_of orgs keys links hosts })

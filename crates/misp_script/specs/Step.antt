@@ -3,7 +3,7 @@ use Rattle.std.specs.Prelude.{ℕ, ◌<◌, ◌&&◌, ◌||◌, Bool, nat_le, na
 use Rattle.std.specs.List.{list_all}
 use Rattle.std.specs.Result.{result_ok}
 use Rattle.hex.specs.Hex.{decode_of}
-use Rattle.misp_ids.specs.declared.label.Way.{Way}
+use Rattle.misp_ids.specs.declared.label.Direction.{Direction}
 use Rattle.misp_ids.specs.declared.uid.Uid.{Uid}
 use Rattle.misp_ids.specs.declared.uid.OrgId.{OrgId}
 use Rattle.misp_ids.specs.Names.{is_inst_name}
@@ -42,11 +42,11 @@ pub record GroupData : Type 0 where
   pub add : Bool
   pub body : List ℕ
 
--- a synchronisation of an instance over one of its links: the place of the instance, the way, and
+-- a synchronisation of an instance over one of its links: the place of the instance, the direction,
 -- the name of the link
 pub record SyncData : Type 0 where
   pub at : ℕ
-  pub way : Way
+  pub direction : Direction
   pub link : List ℕ
 
 pub data CommandData : Type 0 where
@@ -83,7 +83,7 @@ abbrev pub group_data : GroupLine → GroupData
 group_data g = record { at = g.at; org = g.org; add = g.add; body = g.body.now }
 
 abbrev pub sync_data : SyncLine → SyncData
-sync_data s = record { at = s.at; way = s.way; link = s.link }
+sync_data s = record { at = s.at; direction = s.direction; link = s.link }
 
 abbrev pub command_data : Command → CommandData
 command_data Command.Nothing = Nothing
@@ -201,12 +201,12 @@ group_of rosters line add left = do
   body ← rest_of line org.rest
   Ok (record { at = inst.0; org = named; add = add; body = body })
 
-unfoldable pub sync_of : List Roster → List ℕ → Way → Option (List ℕ) → Reading SyncData
-sync_of rosters line way left = do
+unfoldable pub sync_of : List Roster → List ℕ → Direction → Option (List ℕ) → Reading SyncData
+sync_of rosters line direction left = do
   inst ← next_instance rosters line left
   link ← next_field line inst.1.rest
   name ← kept link.place (name_of link.text)
-  no_field line link.rest >>= λ done. Ok (record { at = inst.0; way = way; link = name })
+  no_field line link.rest >>= λ done. Ok (record { at = inst.0; direction = direction; link = name })
 
 abbrev pub nothing_command : List ℕ → Option (List ℕ) → Reading CommandData
 nothing_command line left = no_field line left >>= λ done. Ok Nothing
@@ -222,8 +222,8 @@ abbrev pub group_command : List Roster → List ℕ → Bool → Option (List �
 group_command rosters line add left =
     group_of rosters line add left >>= λ group. Ok (Group group)
 
-abbrev pub sync_command : List Roster → List ℕ → Way → Option (List ℕ) → Reading CommandData
-sync_command rosters line way left = sync_of rosters line way left >>= λ sync. Ok (Sync sync)
+abbrev pub sync_command : List Roster → List ℕ → Direction → Option (List ℕ) → Reading CommandData
+sync_command rosters line direction left = sync_of rosters line direction left >>= λ sync. Ok (Sync sync)
 
 abbrev pub command_of : List Roster → List ℕ → Verb → Option (List ℕ) → Reading CommandData
 command_of rosters line Verb.Nothing left = nothing_command line left
@@ -231,8 +231,8 @@ command_of rosters line Verb.Request left = request_command rosters line left
 command_of rosters line Verb.Raw left = raw_command rosters line left
 command_of rosters line Verb.AddGroup left = group_command rosters line true left
 command_of rosters line Verb.EditGroup left = group_command rosters line false left
-command_of rosters line Verb.Pull left = sync_command rosters line Way.Pull left
-command_of rosters line Verb.Push left = sync_command rosters line Way.Push left
+command_of rosters line Verb.Pull left = sync_command rosters line Direction.Pull left
+command_of rosters line Verb.Push left = sync_command rosters line Direction.Push left
 
 -- a time, a word, and a verb with its fields
 unfoldable pub step_of : List Roster → List ℕ → Reading StepData

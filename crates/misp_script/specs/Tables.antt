@@ -58,6 +58,16 @@ org_at before it = do
 abbrev pub next_org : ℕ → List OrgFields → Data → Reading (List OrgFields)
 next_org n before d = org_at before (entry_of (codes "org") n d) >>= λ org. Ok (before ++ org ∷ [])
 
+-- the organisation that a member names
+abbrev pub known_org_at : List OrgFields → Body → List ℕ → Reading OrgId
+known_org_at orgs it name =
+    text_at it name >>= λ text. said it name DescNeed.Known (org_named orgs text)
+
+-- the same, where there is the member
+abbrev pub known_org_or_none_at : List OrgFields → Body → List ℕ → Reading (Option OrgId)
+known_org_or_none_at orgs it name =
+    if has it name then (known_org_at orgs it name >>= λ org. Ok (Some org)) else Ok None
+
 -- ---- instances
 
 abbrev pub host_name_of : List ℕ → Option (List ℕ)
@@ -70,17 +80,45 @@ abbrev pub host_name_at : Body → Reading (List ℕ)
 host_name_at it =
     text_at it (codes "name") >>= λ text. said it (codes "name") DescNeed.Name (host_name_of text)
 
-unfoldable pub host_at : List Host → Body → Reading Host
-host_at before it = do
+unfoldable pub host_at : List OrgFields → List Host → Body → Reading Host
+host_at orgs before it = do
   name ← host_name_at it
   new ← refused_if (has_host before name) it (codes "name") DescNeed.Distinct
   address ← text_or_none_at it (codes "address")
-  no_more ← no_other it (codes "name" ∷ codes "address" ∷ [])
-  Ok (record { name = name; address = address })
+  org ← known_org_or_none_at orgs it (codes "host")
+  no_more ← no_other it (codes "name" ∷ codes "address" ∷ codes "host" ∷ [])
+  Ok (record { name = name; address = address; org = org })
 
-abbrev pub next_host : ℕ → List Host → Data → Reading (List Host)
-next_host n before d =
-    host_at before (entry_of (codes "instance") n d) >>= λ host. Ok (before ++ host ∷ [])
+abbrev pub next_host : List OrgFields → ℕ → List Host → Data → Reading (List Host)
+next_host orgs n before d =
+    host_at orgs before (entry_of (codes "instance") n d) >>= λ host. Ok (before ++ host ∷ [])
+
+-- ---- instances of one host
+
+-- the instance of this name
+abbrev pub host_named : List Host → List ℕ → Option Host
+host_named hosts name = find (λ h. bytes_eq h.name name) hosts
+
+-- the organisation that hosts it, if the description says it
+abbrev pub hosting_org : List Host → List ℕ → Option OrgId
+hosting_org hosts name = option_map_or (λ h. h.org) (host_named hosts name) None
+
+-- both are said, and they are one
+abbrev pub is_one_org : Option OrgId → Option OrgId → Bool
+is_one_org (Some a) (Some b) = a.0.0 == b.0.0
+is_one_org a b = false
+
+-- one organisation hosts the instances of these names
+abbrev pub have_one_host : List Host → List ℕ → List ℕ → Bool
+have_one_host hosts a b = is_one_org (hosting_org hosts a) (hosting_org hosts b)
+
+-- what stands between two instances is internal only where one organisation hosts both
+unfoldable pub internal_at : List Host → Body → List ℕ → List ℕ → Reading Bool
+internal_at hosts it at peer = do
+  internal ← flag_or_at it (codes "internal") false
+  one ← refused_if (internal && not (have_one_host hosts at peer)) it
+      (codes "internal") DescNeed.Host
+  Ok internal
 
 -- ---- keys
 
@@ -109,10 +147,6 @@ abbrev pub known_host_at : List Host → Body → List ℕ → Reading (List ℕ
 known_host_at hosts it name =
     text_at it name >>= λ text. said it name DescNeed.Known (host_of hosts text)
 
-abbrev pub known_org_at : List OrgFields → Body → List ℕ → Reading OrgId
-known_org_at orgs it name =
-    text_at it name >>= λ text. said it name DescNeed.Known (org_named orgs text)
-
 abbrev pub api_key_at : Body → Reading (List ℕ)
 api_key_at it = text_at it (codes "key") >>= λ text. said it (codes "key") DescNeed.Key (key_of text)
 
@@ -129,6 +163,19 @@ partner_at hosts it Role.Sync =
     known_host_at hosts it (codes "partner") >>= λ partner. Ok (Some partner)
 partner_at hosts it role = no_partner_at it
 
+-- what has no partner is not internal
+unfoldable pub not_internal_at : Body → Reading Bool
+not_internal_at it = do
+  internal ← flag_or_at it (codes "internal") false
+  none ← refused_if internal it (codes "partner") DescNeed.Present
+  Ok internal
+
+-- whether a key is internal: one of an instance that its partner's host hosts, too
+abbrev pub key_internal_at :
+    List Host → Body → List ℕ → Option (List ℕ) → Reading Bool
+key_internal_at hosts it at (Some partner) = internal_at hosts it at partner
+key_internal_at hosts it at None = not_internal_at it
+
 unfoldable pub key_at : List OrgFields → List Host → List HostKey → Body → Reading HostKey
 key_at orgs hosts before it = do
   at ← known_host_at hosts it (codes "instance")
@@ -137,9 +184,21 @@ key_at orgs hosts before it = do
   org ← known_org_at orgs it (codes "org")
   role ← role_at it
   partner ← partner_at hosts it role
+  internal ← key_internal_at hosts it at partner
   no_more ← no_other it
-      (codes "instance" ∷ codes "key" ∷ codes "org" ∷ codes "role" ∷ codes "partner" ∷ [])
-  Ok (record { at = at; key = record { key = key; org = org; role = role; partner = partner } })
+      (codes "instance" ∷ codes "key" ∷ codes "org" ∷ codes "role" ∷ codes "partner"
+      ∷ codes "internal" ∷ [])
+  Ok (record {
+    at = at;
+    key = record {
+      key = key;
+      org = org;
+      role = role;
+      partner = partner;
+      revoked = false;
+      internal = internal;
+    };
+  })
 
 abbrev pub next_key : List OrgFields → List Host → ℕ → List HostKey → Data → Reading (List HostKey)
 next_key orgs hosts n before d =
@@ -171,9 +230,10 @@ link_at orgs hosts before it = do
   holder ← known_org_at orgs it (codes "holder")
   push_org ← known_org_at orgs it (codes "push_org")
   on ← flag_or_at it (codes "on") true
+  internal ← internal_at hosts it at peer
   no_more ← no_other it
       (codes "name" ∷ codes "at" ∷ codes "to" ∷ codes "key" ∷ codes "holder"
-      ∷ codes "push_org" ∷ codes "on" ∷ [])
+      ∷ codes "push_org" ∷ codes "on" ∷ codes "internal" ∷ [])
   Ok (record {
     at = at;
     link = record {
@@ -183,6 +243,7 @@ link_at orgs hosts before it = do
       holder = holder;
       push_org = push_org;
       on = on;
+      internal = internal;
     };
   })
 

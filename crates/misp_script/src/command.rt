@@ -10,7 +10,7 @@ ghost use Rattle.misp_script.specs.Step.{IsPlaced, verb_of, is_visible, visible_
 use crate::directory::Directory;
 use crate::field::{BadLine, Field, kept, next_field, no_field};
 use crate::step::{Command, GroupLine, RawLine, RequestLine, SyncLine};
-use misp_ids::{InstId, OrgId, Uid, Way};
+use misp_ids::{Direction, InstId, OrgId, Uid};
 use std::str;
 
 /// The verb of a line.
@@ -248,11 +248,11 @@ fn group<'a>(
 fn sync<'a>(
     line: &[u8],
     directory: &Directory,
-    way: Way,
+    direction: Direction,
     before: &Field<'a>,
 ) -> Result<Command<'a>, BadLine>
     ensures command { Shows command_data result
-        (sync_command directory.now line.now way (field_of before.now).rest) }
+        (sync_command directory.now line.now direction (field_of before.now).rest) }
     ensures placed { IfOk result
         (λ command. IsPlaced (length directory.now) (command_data command)) }
 {
@@ -260,7 +260,11 @@ fn sync<'a>(
     let link_field = next_field(line, &inst)?;
     let link = kept(link_field.place, InstId::from_bytes(link_field.text))?;
     no_field(line, &link_field)?;
-    Ok(Command::Sync(SyncLine { at, way, link }))
+    Ok(Command::Sync(SyncLine {
+        at,
+        direction,
+        link,
+    }))
 }
 
 /// The command of a verb, whose fields are after it.
@@ -281,7 +285,7 @@ pub(crate) fn command<'a>(
         Verb::Raw => raw(line, directory, before),
         Verb::AddGroup => group(line, directory, true, before),
         Verb::EditGroup => group(line, directory, false, before),
-        Verb::Pull => sync(line, directory, Way::Pull, before),
-        Verb::Push => sync(line, directory, Way::Push, before),
+        Verb::Pull => sync(line, directory, Direction::Pull, before),
+        Verb::Push => sync(line, directory, Direction::Push, before),
     }
 }

@@ -4,7 +4,7 @@ ghost use Rattle.std.specs.Prelude.{◌≡◌, IfOk};
 ghost use Rattle.misp_script.specs.Directory.{directory_of};
 
 use crate::directory::{Directory, Roster};
-use misp_ids::{InstId, Items, NoMemory, Text};
+use misp_ids::{InstId, Items, NoMemory, OrgId, Text};
 use misp_orgs::{Admin, KeyRecord, Link};
 use std::alloc::Global;
 
@@ -40,6 +40,8 @@ impl Description {
 pub(crate) struct Host {
     pub(crate) name: InstId,
     pub(crate) address: Text,
+    /// The organisation that hosts it, if the description says it.
+    pub(crate) org: Option<OrgId>,
 }
 
 /// A key, and the instance whose key it is.

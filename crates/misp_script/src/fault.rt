@@ -28,6 +28,8 @@ pub enum DescNeed {
     Known,
     /// A value that no entry before has.
     Distinct,
+    /// Two instances that one organisation hosts.
+    Host,
 }
 
 impl DescNeed {
@@ -49,6 +51,7 @@ impl DescNeed {
             DescNeed::Role => "role",
             DescNeed::Known => "known",
             DescNeed::Distinct => "distinct",
+            DescNeed::Host => "host",
         }
     }
 }

@@ -1,6 +1,6 @@
 //! The list `instance`.
 
-ghost use Rattle.std.specs.Prelude.{◌≡◌, List, [], ◌∷◌, ◌++◌, Ok, map, IfErr, OnOk};
+ghost use Rattle.std.specs.Prelude.{◌≡◌, ◌==◌, ◌&&◌, List, [], ◌∷◌, ◌++◌, Ok, map, option_map, IfErr, OnOk};
 ghost use Rattle.misp_script.specs.declared.description.Host.{Host as HostData};
 ghost use Rattle.misp_script.specs.declared.fault.DescFault.TheVariants.{NoMemory};
 ghost use Rattle.misp_script.specs.Known.{NamesHosts};
@@ -8,12 +8,13 @@ ghost use Rattle.toml.specs.View.{view};
 ghost use Rattle.misp_script.specs.Faults.{Gives};
 ghost use Rattle.misp_script.specs.Entries.{each};
 ghost use Rattle.misp_script.specs.Seen.{body_of};
-ghost use Rattle.misp_script.specs.Tables.{has_host, host_of, host_name_at, host_at, next_host};
+ghost use Rattle.misp_script.specs.Tables.{has_host, host_of, host_name_at, host_at, next_host, host_named, hosting_org, is_one_org, have_one_host, internal_at};
 
 use crate::description::Host;
 use crate::fault::{DescFault, DescNeed};
 use crate::listed::Listed;
-use misp_ids::{InstId, Text};
+use crate::org_table::{OrgList, known_org_or_none};
+use misp_ids::{InstId, OrgId, Text};
 use std::alloc::Global;
 use std::collections::BTreeMap;
 use std::marker::Model;
@@ -117,22 +118,24 @@ pub(crate) fn host_name(it: &Listed<'_>) -> Result<InstId, DescFault>
 
 /// An instance, after those that stand before it in the list.
 #[tactic(auto, unfolding(crate::specs::Tables::host_at))]
-fn host(before: &[Host], it: &Listed<'_>) -> Result<Host, DescFault>
-    ensures { Gives result (host_at before.now (body_of it.now)) }
+fn host(orgs: &OrgList, before: &[Host], it: &Listed<'_>) -> Result<Host, DescFault>
+    ensures { Gives result (host_at orgs.now before.now (body_of it.now)) }
 {
     let name = host_name(it)?;
     it.refused_if(has_host(before, &name), "name", DescNeed::Distinct)?;
     let address = it.text_or_none("address")?;
-    it.no_other(&["name", "address"])?;
+    let org = known_org_or_none(orgs, it, "host")?;
+    it.no_other(&["name", "address", "host"])?;
     Ok(Host {
         name,
         address: Text::of(String::from_str(it.alloc, address)?),
+        org,
     })
 }
 
 /// The instances of the list.
-pub(crate) fn hosts(alloc: Global, list: &[Value]) -> Result<HostList, DescFault>
-    ensures { Gives result (each next_host 0 [] (map view list.now)) }
+pub(crate) fn hosts(alloc: Global, orgs: &OrgList, list: &[Value]) -> Result<HostList, DescFault>
+    ensures { Gives result (each (next_host orgs.now) 0 [] (map view list.now)) }
 {
     let mut hosts = HostList::new(alloc);
     for (index, value) in list.iter().enumerate() {
@@ -142,8 +145,59 @@ pub(crate) fn hosts(alloc: Global, list: &[Value]) -> Result<HostList, DescFault
             index,
             value,
         };
-        let next = host(hosts.as_slice(), &it)?;
+        let next = host(orgs, hosts.as_slice(), &it)?;
         hosts = hosts.with(alloc, next)?;
     }
     Ok(hosts)
+}
+
+// The instance of a name.
+fn host_named<'a>(hosts: &'a [Host], name: &InstId) -> Option<&'a Host>
+    ensures { option_map (λ host. host.now) result ≡ host_named hosts.now name.now }
+{
+    hosts.iter().find(|host| host.name.text() == name.text())
+}
+
+// The organisation that hosts it.
+fn hosting_org(hosts: &[Host], name: &InstId) -> Option<OrgId>
+    ensures { result ≡ hosting_org hosts.now name.now }
+{
+    match host_named(hosts, name) {
+        Some(host) => host.org,
+        None => None,
+    }
+}
+
+fn is_one_org(a: Option<OrgId>, b: Option<OrgId>) -> bool
+    ensures { result ≡ is_one_org a b }
+{
+    match (a, b) {
+        (Some(a), Some(b)) => a.0.0 == b.0.0,
+        _ => false,
+    }
+}
+
+// Whether one organisation hosts both instances.
+fn have_one_host(hosts: &HostList, a: &InstId, b: &InstId) -> bool
+    ensures { result ≡ have_one_host hosts.now a.now b.now }
+{
+    let hosts = hosts.as_slice();
+    is_one_org(hosting_org(hosts, a), hosting_org(hosts, b))
+}
+
+/// Whether what stands between two instances is internal. It is only where one organisation hosts
+/// both.
+#[tactic(auto, unfolding(crate::specs::Tables::internal_at))]
+pub(crate) fn internal(
+    hosts: &HostList,
+    it: &Listed<'_>,
+    at: &InstId,
+    peer: &InstId,
+) -> Result<bool, DescFault>
+    ensures { Gives result (internal_at hosts.now (body_of it.now) at.now peer.now) }
+{
+    let internal = it.flag_or("internal", false)?;
+    let apart = internal && !have_one_host(hosts, at, peer);
+    it.refused_if(apart, "internal", DescNeed::Host)?;
+    Ok(internal)
 }

@@ -5,15 +5,15 @@ ghost use Rattle.toml.specs.View.{view};
 ghost use Rattle.misp_script.specs.Faults.{Gives};
 ghost use Rattle.misp_script.specs.Seen.{Shows, body_of};
 ghost use Rattle.misp_script.specs.Entries.{each};
-ghost use Rattle.misp_script.specs.Tables.{role_of, has_key, known_host_at, known_org_at, api_key_at, role_at, no_partner_at, partner_at, key_at, next_key};
+ghost use Rattle.misp_script.specs.Tables.{role_of, has_key, known_host_at, api_key_at, role_at, no_partner_at, partner_at, not_internal_at, key_internal_at, key_at, next_key};
 
 use crate::description::HostKey;
 use crate::fault::{DescFault, DescNeed};
-use crate::host_table::HostList;
+use crate::host_table::{HostList, internal};
 use crate::listed::Listed;
-use crate::org_table::OrgList;
+use crate::org_table::{OrgList, known_org};
 use crate::pairs::{Pairs, has_pair, put_pair};
-use misp_ids::{ApiKey, InstId, OrgId};
+use misp_ids::{ApiKey, InstId};
 use misp_orgs::{KeyRecord, Role};
 use std::alloc::Global;
 use std::collections::BTreeSet;
@@ -104,13 +104,6 @@ pub(crate) fn known_host(hosts: &HostList, it: &Listed<'_>, name: &str) -> Resul
     it.said(name, DescNeed::Known, hosts.named(text))
 }
 
-pub(crate) fn known_org(orgs: &OrgList, it: &Listed<'_>, name: &str) -> Result<OrgId, DescFault>
-    ensures { Gives result (known_org_at orgs.now (body_of it.now) name.now) }
-{
-    let text = it.text(name)?;
-    it.said(name, DescNeed::Known, orgs.named(text))
-}
-
 pub(crate) fn api_key(it: &Listed<'_>) -> Result<ApiKey, DescFault>
     ensures { Gives result (api_key_at (body_of it.now)) }
 {
@@ -145,6 +138,30 @@ fn partner(hosts: &HostList, it: &Listed<'_>, role: Role) -> Result<Option<InstI
     }
 }
 
+#[tactic(auto, unfolding(crate::specs::Tables::not_internal_at))]
+fn not_internal(it: &Listed<'_>) -> Result<bool, DescFault>
+    ensures { Gives result (not_internal_at (body_of it.now)) }
+{
+    let internal = it.flag_or("internal", false)?;
+    it.refused_if(internal, "partner", DescNeed::Present)?;
+    Ok(internal)
+}
+
+/// Whether a key is internal. One without a partner is not.
+fn key_internal(
+    hosts: &HostList,
+    it: &Listed<'_>,
+    at: &InstId,
+    partner: &Option<InstId>,
+) -> Result<bool, DescFault>
+    ensures { Gives result (key_internal_at hosts.now (body_of it.now) at.now partner.now) }
+{
+    match partner {
+        Some(partner) => internal(hosts, it, at, partner),
+        None => not_internal(it),
+    }
+}
+
 /// A key, after those that stand before it in the list.
 #[tactic(auto, unfolding(crate::specs::Tables::key_at))]
 fn key(
@@ -162,7 +179,8 @@ fn key(
     let org = known_org(orgs, it, "org")?;
     let role = role(it)?;
     let partner = partner(hosts, it, role)?;
-    it.no_other(&["instance", "key", "org", "role", "partner"])?;
+    let internal = key_internal(hosts, it, &at, &partner)?;
+    it.no_other(&["instance", "key", "org", "role", "partner", "internal"])?;
     Ok(HostKey {
         at,
         key: KeyRecord {
@@ -170,6 +188,8 @@ fn key(
             org,
             role,
             partner,
+            revoked: false,
+            internal,
         },
     })
 }

@@ -9,10 +9,10 @@ ghost use Rattle.misp_script.specs.Tables.{has_link, host_in, is_taken, link_at,
 
 use crate::description::HostLink;
 use crate::fault::{DescFault, DescNeed};
-use crate::host_table::{HostList, host_name};
-use crate::key_table::{api_key, known_host, known_org};
+use crate::host_table::{HostList, host_name, internal};
+use crate::key_table::{api_key, known_host};
 use crate::listed::Listed;
-use crate::org_table::OrgList;
+use crate::org_table::{OrgList, known_org};
 use crate::pairs::{Pairs, has_pair, put_pair};
 use misp_ids::InstId;
 use misp_orgs::Link;
@@ -122,7 +122,10 @@ fn link(
     let holder = known_org(orgs, it, "holder")?;
     let push_org = known_org(orgs, it, "push_org")?;
     let on = it.flag_or("on", true)?;
-    it.no_other(&["name", "at", "to", "key", "holder", "push_org", "on"])?;
+    let internal = internal(hosts, it, &at, &peer)?;
+    it.no_other(&[
+        "name", "at", "to", "key", "holder", "push_org", "on", "internal",
+    ])?;
     Ok(HostLink {
         at,
         link: Link {
@@ -132,6 +135,7 @@ fn link(
             holder,
             push_org,
             on,
+            internal,
         },
     })
 }

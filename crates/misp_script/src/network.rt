@@ -105,7 +105,7 @@ fn network(alloc: Global, table: &Table) -> Result<Description, DescFault>
     all_known(alloc, table)?;
     within_limits(alloc, table)?;
     let orgs = orgs(alloc, entries(table, "org"))?;
-    let hosts = hosts(alloc, entries(table, "instance"))?;
+    let hosts = hosts(alloc, &orgs, entries(table, "instance"))?;
     let keys = keys(alloc, &orgs, &hosts, entries(table, "key"))?;
     let links = links(alloc, &orgs, &hosts, entries(table, "link"))?;
     let instances = instances(

@@ -11,7 +11,7 @@ ghost use Rattle.toml.specs.View.{view};
 ghost use Rattle.misp_script.specs.Faults.{Gives};
 ghost use Rattle.misp_script.specs.Seen.{Shows, body_of};
 ghost use Rattle.misp_script.specs.Entries.{each};
-ghost use Rattle.misp_script.specs.Tables.{is_org_name, org_named, has_name, has_number, org_name_at, uuid_at, org_at, next_org};
+ghost use Rattle.misp_script.specs.Tables.{is_org_name, org_named, has_name, has_number, org_name_at, uuid_at, org_at, next_org, known_org_at, known_org_or_none_at};
 
 use crate::fault::{DescFault, DescNeed};
 use crate::listed::Listed;
@@ -142,6 +142,29 @@ fn uuid(it: &Listed<'_>) -> Result<Uid, DescFault>
 {
     let text = it.text("uuid")?;
     it.said("uuid", DescNeed::Uuid, Uid::read(text))
+}
+
+/// The organisation that a member names.
+pub(crate) fn known_org(orgs: &OrgList, it: &Listed<'_>, name: &str) -> Result<OrgId, DescFault>
+    ensures { Gives result (known_org_at orgs.now (body_of it.now) name.now) }
+{
+    let text = it.text(name)?;
+    it.said(name, DescNeed::Known, orgs.named(text))
+}
+
+/// The same, where there is the member.
+pub(crate) fn known_org_or_none(
+    orgs: &OrgList,
+    it: &Listed<'_>,
+    name: &str,
+) -> Result<Option<OrgId>, DescFault>
+    ensures { Gives result (known_org_or_none_at orgs.now (body_of it.now) name.now) }
+{
+    if !it.has(name) {
+        return Ok(None);
+    }
+    let org = known_org(orgs, it, name)?;
+    Ok(Some(org))
 }
 
 /// An organisation, after those that stand before it in the list.

@@ -1,6 +1,6 @@
 //! The steps of a script.
 
-use misp_ids::{InstId, OrgId, Stamp, Way};
+use misp_ids::{Direction, InstId, OrgId, Stamp};
 
 /// What a line of a script says.
 #[derive(Clone, Copy, PartialEq, Eq)]
@@ -61,7 +61,7 @@ pub struct GroupLine<'a> {
 pub struct SyncLine {
     /// The place of the instance in the description, from 0.
     pub at: usize,
-    pub way: Way,
+    pub direction: Direction,
     /// The name of the link. There may be no such link.
     pub link: InstId,
 }

@@ -4,6 +4,7 @@ use Rattle.misp_elem.specs.Prelude.{IsAttributeBody, IsText, text_limit}
 use Rattle.misp_elem.specs.Contents.{IsProposalBody, IsProposed, IsRemoval, least_kind}
 use Rattle.misp_elem.specs.Key.{place_kind}
 use Rattle.misp_elem.specs.declared.content.AttributeBody.{AttributeBody}
+use Rattle.misp_elem.proofs.ShortTexts.{no_text}
 use Rattle.misp_model.proofs.Prelude.{Content, Element, EventId, IsContent, IsRow, IsStamp, IsUid, OrgId, Place, ProposalBody, ProposalName, Row, accepted, at_attribute, content_kind, false≢true, is_for_new, is_too_long}
 use Rattle.misp_model.proofs.Prelude.{judged_place, last_stamp, made, may_remove}
 use Rattle.misp_model.specs.Statements.{judged_at}
@@ -25,7 +26,7 @@ accepted_fits p b ok is h = by p.remove ok.1.1.0 ok.1.1.1.1.1.1 h
     by : (r : Bool) → IsText (least_kind r) 100 p.kind → IsProposed r (text_limit - length p.kind - length p.comment) p.kind p.value →
         is_too_long (Content.Attribute (cond r (record b { deleted = true }) changed)) ≡ false → IsAttributeBody (cond r (record b { deleted = true }) changed)
     by true kind value g = is
-    by false kind value g = attribute_fits changed _ _ _ kind ok.1.1.1.0 ok.1.1.1.1.1.0 value is.1.1.1.1.1.1 g
+    by false kind value g = attribute_fits changed _ _ _ _ kind ok.1.1.1.0 ok.1.1.1.1.1.0 value is.1.1.1.1.1.1.0 is.1.1.1.1.1.1.1.0 is.1.1.1.1.1.1.1.1 g
 
 accepted_content : (p : ProposalBody) (may : Bool) (c : Content) → IsProposalBody true p → IsContent may c → is_too_long (at_attribute (accepted p) c) ≡ false → IsContent may (at_attribute (accepted p) c)
 unfolding at_attribute
@@ -62,7 +63,7 @@ made_fits p ok = by p.remove ok.0 ok.1.1.0 ok.1.1.1.1.1.1
   where
     by : (r : Bool) → IsRemoval false r → IsText (least_kind r) 100 p.kind → IsProposed r (text_limit - length p.kind - length p.comment) p.kind p.value → IsAttributeBody (made p)
     by true may kind value = absurd (false≢true may)
-    by false may kind value = (kind, (ok.1.1.1.0, (tt, (ok.1.1.1.1.1.0, (tt, (value, (omega arith, tt)))))))
+    by false may kind value = (kind, (ok.1.1.1.0, (tt, (ok.1.1.1.1.1.0, (tt, (value, ((omega arith, tt), (no_text _, (tt, tt)))))))))
 
 new_place : (n : ProposalName) → is_for_new n ≡ true → judged_place n ≡ Place.Attribute n.uuid
 unfolding is_for_new judged_place judged_at

@@ -18,7 +18,7 @@ use crate::admitting::alone;
 use crate::seeing::{is_for_new, name_of};
 use misp_copies::{ChangeFault, finished, label_of};
 use misp_elem::{AttributeBody, Content, KeyForm, Place, ProposalBody, Row, RowFields};
-use misp_ids::{EventId, Items, Label, NoMemory, OrgId, Stamp};
+use misp_ids::{EventId, Items, Label, NoMemory, OrgId, Stamp, Text};
 use misp_model::NamedProposal;
 use std::alloc::Global;
 
@@ -40,6 +40,9 @@ fn made(alloc: Global, body: &ProposalBody) -> Result<AttributeBody, NoMemory>
         deleted: false,
         value,
         tags: Items::of(Vec::new(alloc)),
+        object_relation: Text::of(String::new(alloc)),
+        first_seen: None,
+        last_seen: None,
     })
 }
 

@@ -14,7 +14,7 @@ stands_there : (r : Row) → stands_under (raw_row r) r ≡ true
 unfolding stands_under raw_row
 stands_there r = and_from _ _ (same_event-refl (event_of r.key)) ((bytes_eq-Decides (name_bytes r) (name_bytes r)).1 refl)
 
-row_again : (r : Row) → IsRow r → row_in (raw_row r) ≡ Some r
+pub row_again : (r : Row) → IsRow r → row_in (raw_row r) ≡ Some r
 unfolding row_in raw_row
 row_again r is = ap (row_read (raw_row r)) (row_of_again r is) ∙ ap (λ b. cond b (Some r) None) (stands_there r)
 

@@ -5,3 +5,7 @@ pub mod OwnerRows
 pub mod RowNames
 pub mod Storable
 pub mod SoFar
+pub mod OwnNames
+pub mod Renewed
+pub mod Rewriting
+pub mod Opened

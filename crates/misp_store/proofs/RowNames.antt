@@ -1,7 +1,7 @@
 -- The bytes of a row have its name after their first, and how long that name is.
-use Rattle.std.proofs.Common.{◌≡◌, ℕ, ◌+◌, ◌-◌, List, [], ◌∷◌, ◌++◌, length, take, drop, false, refl, sym, ap, ◌∙◌, arith, bytes_eq, length-append, append_assoc, take_all, take_at}
+use Rattle.std.proofs.Common.{◌≡◌, ℕ, ◌+◌, ◌-◌, List, [], ◌∷◌, ◌++◌, length, take, drop, false, refl, sym, ap, inl, inr, ◌∙◌, arith, bytes_eq, length-append, append_assoc, take_all, take_at}
 use Rattle.misp_lists.proofs.Prelude.{bytes_eq-Decides, false_from_ne_true}
-use Rattle.misp_elem.specs.Spelling.{content, flags, inst_name, key, label, place, proposal_name, row, stamp, uid}
+use Rattle.misp_elem.specs.Spelling.{Spells, flags, inst_name, key, label, place, proposal_name, stamp, uid}
 use Rattle.misp_elem.specs.declared.key.KeyForm.{KeyForm}
 use Rattle.misp_elem.specs.declared.key.KeyForm.TheVariants.{Element, Proposal, Reference, Sighting, Verdict}
 use Rattle.misp_elem.specs.declared.key.ProposalName.{ProposalName}
@@ -51,13 +51,18 @@ name_long r = before r.owner.0 (key r.key)
 
 -- ---- where it is
 
--- what follows the name
-abbrev after_name : Row → List ℕ
-after_name r = stamp r.stamp ++ (label r.label ++ (flags (r.held, r.carried) ++ content r.content))
+-- what follows the name, where the content is spelled by these bytes
+abbrev after_name : List ℕ → Row → List ℕ
+after_name content r = stamp r.stamp ++ (label r.label ++ (flags (r.held, r.carried) ++ content))
 
-name_first : (r : Row) → drop 1 (row r) ≡ name_bytes r ++ after_name r
+name_first : (content : List ℕ) (r : Row) → uid r.owner.0 ++ (key r.key ++ after_name content r) ≡ name_bytes r ++ after_name content r
 unfolding name_bytes
-name_first r = sym (append_assoc (uid r.owner.0) (key r.key) (after_name r))
+name_first content r = sym (append_assoc (uid r.owner.0) (key r.key) (after_name content r))
+
+-- in either form
+name_there : (bytes : List ℕ) (r : Row) → Spells bytes r → (rest : List ℕ) × (drop 1 bytes ≡ name_bytes r ++ rest)
+name_there bytes r (inl second) = (_, ap (drop 1) second ∙ name_first _ r)
+name_there bytes r (inr first) = (_, ap (drop 1) first.1 ∙ name_first _ r)
 
 -- all bytes after the first
 pub after_first : (bytes : List ℕ) → take (length bytes - 1) (drop 1 bytes) ≡ drop 1 bytes
@@ -65,9 +70,10 @@ after_first [] = refl
 after_first (b ∷ bytes) = take_all (length (b ∷ bytes) - 1) bytes (omega arith)
 
 -- of names of this length that of the row is there
-pub named : (r : Row) (name rest : List ℕ) → rest ≡ drop 1 (row r) → length name ≡ length (name_bytes r) → bytes_eq name (take (length name) rest) ≡ bytes_eq name (name_bytes r)
-named r name rest e long =
-    ap (bytes_eq name) (ap (take (length name)) (e ∙ name_first r) ∙ take_at (name_bytes r) (after_name r) (length name) (sym long))
+pub named : (r : Row) (name bytes : List ℕ) → Spells bytes r → length name ≡ length (name_bytes r) → bytes_eq name (take (length name) (drop 1 bytes)) ≡ bytes_eq name (name_bytes r)
+named r name bytes spells long =
+    let there = name_there bytes r spells in
+    ap (bytes_eq name) (ap (take (length name)) there.1 ∙ take_at (name_bytes r) there.0 (length name) (sym long))
 
 -- and no other name is of another length
 pub other_long : (r : Row) (name : List ℕ) → (length name ≡ length (name_bytes r) → ⊥) → false ≡ bytes_eq name (name_bytes r)

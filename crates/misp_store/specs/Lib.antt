@@ -4,5 +4,6 @@ pub mod Loading
 pub mod Prelude
 pub mod Raw
 pub mod Reach
+pub mod Renewing
 pub mod Seen
 pub mod Sharing

@@ -7,7 +7,7 @@ use Rattle.misp_format.specs.Prelude.{AllByRecursion, GroupId, IsGroup, group_in
 use Rattle.misp_effects.specs.Prelude.{AdminRow, Group, Held, KeeperState, uid}
 use Rattle.misp_format.specs.WholeGroup.{group_text}
 use Rattle.misp_effects.specs.KeeperStates.{told}
-use Rattle.misp_store.specs.Raw.{onto}
+use Rattle.misp_store.specs.Raw.{onto, rows_in}
 
 -- ---- writing
 
@@ -94,13 +94,17 @@ HoldsGroups (Some held) groups = groups_in held.admin ≡ Ok groups
 -- ---- what keepers tell
 
 -- every row of the administration is a group
-abbrev pub is_sound : Held → Bool
-is_sound held = is_ok (groups_in held.admin)
+abbrev pub has_groups_alone : Held → Bool
+has_groups_alone held = is_ok (groups_in held.admin)
 
--- as far as the keepers tell, every row of the administration is a group
+-- every row of the administration is a group, and every row is read
+abbrev pub is_sound : Held → Bool
+is_sound held = has_groups_alone held && is_ok (rows_in held.rows)
+
+-- as far as the keepers tell, every row of the administration is a group, and every row is read
 abbrev pub may_be_sound : List KeeperState → Bool
 may_be_sound old = list_all (λ held. option_map_or is_sound held true) (told old)
 
--- as far as the keepers tell, a row of the administration is none
+-- as far as the keepers tell, a row of the administration is no group, or a row is not read
 abbrev pub may_be_unsound : List KeeperState → Bool
 may_be_unsound old = list_any (λ held. option_map_or (λ h. not (is_sound h)) held true) (told old)

@@ -8,6 +8,7 @@ mod laws;
 mod loading;
 mod naming;
 mod reach;
+mod renewing;
 mod rows;
 mod sharing;
 
@@ -16,3 +17,4 @@ pub use fault::LoadFault;
 pub use laws::{groups_are_held_as_their_rows, rows_are_held_as_their_bytes};
 pub use loading::{load, load_groups};
 pub use reach::Reach;
+pub use renewing::renew;

@@ -53,7 +53,7 @@ fn key_length(key: &KeyForm) -> usize
 
 /// Whether the row is held under its own name. Its bytes have the name, after their first.
 pub(crate) fn is_named(raw: &RawRow, row: &Row) -> bool
-    requires { raw.now.bytes ≡ spelling.row row.now }
+    requires { spelling.Spells raw.now.bytes row.now }
     ensures { result ≡ bytes_eq raw.now.name (name_bytes row.now) }
 {
     let name = raw.name.as_slice();

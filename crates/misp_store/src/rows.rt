@@ -1,6 +1,7 @@
 //! Rows as a keeper holds them.
 
 ghost use Rattle.std.specs.Prelude.{◌≡◌, ◌&&◌, ◌++◌, ◌∷◌, Some, None, Ok, map, option_map, [], IfOk, IfErr, IsErr, OnOk};
+ghost use Rattle.misp_elem.specs.Row.{IsRow};
 ghost use Rattle.misp_elem.specs.Spelling as spelling;
 ghost use Rattle.misp_ids.specs.Same.{same_event};
 ghost use Rattle.misp_elem.specs.Parents.{event_of};
@@ -31,7 +32,7 @@ fn is_at_event(raw: &RawRow, row: &Row) -> bool
 // Whether the row is held under its own event and name.
 #[tactic(auto, unfolding(crate::specs::Raw::stands_under))]
 fn stands_under(raw: &RawRow, row: &Row) -> bool
-    requires { raw.now.bytes ≡ spelling.row row.now }
+    requires { spelling.Spells raw.now.bytes row.now }
     ensures { result ≡ stands_under raw.now row.now }
 {
     is_at_event(raw, row) && is_named(raw, row)
@@ -46,9 +47,9 @@ fn bad_row<T>(raw: &RawRow) -> Result<T, RowFault>
     })
 }
 
-// The row that is held there.
+/// The row that is held there.
 #[tactic(auto, unfolding(crate::specs::Raw::row_in))]
-fn decode_row(alloc: Global, raw: &RawRow) -> Result<Row, RowFault>
+pub(crate) fn decode_row(alloc: Global, raw: &RawRow) -> Result<Row, RowFault>
     ensures ok { IfOk result (λ row. row_in raw.now ≡ Some row) }
     ensures bad { IfErr result (IsNoRow raw.now) }
 {
@@ -88,9 +89,11 @@ pub(crate) fn decode_rows(alloc: Global, raws: &[RawRow]) -> Result<Vec<Row>, Ro
     Ok(rows)
 }
 
+/// A row as a keeper holds it.
 #[tactic(auto, unfolding(crate::specs::Raw::raw_row, misp_model::specs::Machine::name_bytes))]
-fn raw_row(alloc: Global, row: &Row) -> Result<RawRow, NoMemory>
-    ensures { IfOk result (λ raw. raw ≡ raw_row row.now) }
+pub(crate) fn raw_row(alloc: Global, row: &Row) -> Result<RawRow, NoMemory>
+    ensures ok { IfOk result (λ raw. raw ≡ raw_row row.now) }
+    ensures row { IsRow row.now }
 {
     Ok(RawRow {
         event: event_of(row),

@@ -88,22 +88,22 @@ module _ (w : World) (r : Route) (are : AreRows (tables w.log r.from)) where
   owned = all_arrive (tables w.log r.from) (w.groups r.from) r (tables_are_tables w.log r.from) are
 
   -- the tables of a synchronisation that stopped have what the packages brought until then
-  pub partly_put : (n p : ℕ) (g : Bool)
-      → tables (synced_partly n w r g p).log r.into ≡ put_all (first_brought p w r (cond g (synced_groups w.groups r) w.groups r.into)) (tables w.log r.into)
+  pub partly_put : (p : ℕ) (g : Bool)
+      → tables (synced_partly w r g p).log r.into ≡ put_all (first_brought p w r (cond g (synced_groups w.groups r) w.groups r.into)) (tables w.log r.into)
   unfolding synced_partly first_brought takes
-  partly_put n p g =
+  partly_put p g =
       let groups : List Group = cond g (synced_groups w.groups r) w.groups r.into in
       let test : (Row → Bool) = is_taken r.into (tables w.log r.into) groups (arriving w r) in
       let ps : List (List Row) = packages (arriving w r) in
       let k : (k : ℕ) × (bringing p test [] ps ≡ take k ps) = first_ones test p [] ps in
-      ap (λ rs. tables (w.log ++ filter (λ v. list_any (is_row_of v.owner v.key) rs) (coming n w r)) r.into) (ap (brought test []) k.1 ∙ brought_through test k.0 [] ps)
-      ∙ stopped_here n k.0 w r g are
+      ap (λ rs. tables (w.log ++ filter (λ v. list_any (is_row_of v.owner v.key) rs) (coming w r)) r.into) (ap (brought test []) k.1 ∙ brought_through test k.0 [] ps)
+      ∙ stopped_here k.0 w r g are
       ∙ merged_packages r.into (tables w.log r.into) groups (arriving w r) table r.holder owned (take k.0 ps) (all_take (IsPackageOf (arriving w r)) k.0 ps (packages_are (arriving w r) table))
       ∙ ap (λ rs. put_all rs (tables w.log r.into)) (sym (ap (brought test []) k.1))
 
   -- and those of one that is done have what all brought
-  pub done_put : (n : ℕ) → tables (synced n w r).log r.into ≡ put_all (brought (takes w r (synced_groups w.groups r r.into)) [] (packages (arriving w r))) (tables w.log r.into)
+  pub done_put : tables (synced w r).log r.into ≡ put_all (brought (takes w r (synced_groups w.groups r r.into)) [] (packages (arriving w r))) (tables w.log r.into)
   unfolding synced takes
-  done_put n =
-      done_here n w r are
+  done_put =
+      done_here w r are
       ∙ merged_packages r.into (tables w.log r.into) (synced_groups w.groups r r.into) (arriving w r) table r.holder owned (packages (arriving w r)) (packages_are (arriving w r) table)

@@ -16,11 +16,13 @@ use Rattle.misp_history.specs.Answered.{PullsBy}
 use Rattle.misp_history.specs.History.{tables}
 use Rattle.misp_history.specs.Merging.{arrives, handed}
 use Rattle.misp_history.specs.Outcomes.{arriving, takes}
+use Rattle.misp_model.specs.Scene.{Partner}
 use Rattle.misp_history.specs.Passing.{Route}
 use Rattle.misp_history.proofs.Pulled.{pulled_is}
 use Rattle.misp_history.proofs.Steps.{with_groups_here}
 use Rattle.misp_store.specs.declared.reach.Reach.{Reach}
 use Rattle.misp_core.specs.Keeping.{act_at, caller_at}
+use Rattle.misp_core.specs.Partners.{partner_of}
 use Rattle.misp_core.specs.Prelude.{Ask, Caller, Host, Seen, scene_at}
 use Rattle.misp_core.specs.Taking.{groups_taken}
 use Rattle.misp_core.proofs.Pulled.{pulled_nobodys, pulled_none}
@@ -71,17 +73,17 @@ module _ (w : World) (peer : Host) (caller : Caller) where
   comes_nobodys : list_all (λ row. same_org row.owner nobody) comes ≡ true
   comes_nobodys = pulled_nobodys (scene_at peer 0 caller (w.groups peer.name)) (tables w.log peer.name)
 
-  module _ (here : Inst) (holder : OrgId) (dest : Inst) (partner : caller.partner ≡ Some dest) where
+  module _ (here : Inst) (holder : OrgId) (dest : Partner) (partner : partner_of caller ≡ Some dest) where
     abbrev route : Route
     route = pull_route here holder peer caller.org dest
 
     pulls : PullsBy route (scene 0 w (act_at peer 0 (caller, Ask.SyncEvents)) (caller_at peer.admin caller))
     unfolding scene
-    pulls = record { way = refl; at = refl; by = refl; partner = partner }
+    pulls = record { at = refl; by = refl; partner = partner }
 
     groups_there : groups_sent peer caller (w.groups peer.name) ≡ map uncarried (carried_by w route)
     unfolding pulled_groups
-    groups_there = ap (map uncarried) (λ i. elim (partner i) as (λ x. List Group) [ None ↦ [] | Some p ↦ filter (λ g. carries g caller.org p) (w.groups peer.name) ])
+    groups_there = ap (map uncarried) (λ i. elim (partner i) as (λ x. List Group) [ None ↦ [] | Some p ↦ filter (λ g. carries g caller.org p.inst) (w.groups peer.name) ])
 
     comes_handed : map (handed holder) comes ≡ arriving w route
     unfolding scene known_at arriving
@@ -123,10 +125,10 @@ module _ (w : World) (peer : Host) (caller : Caller) where
           (events_taken here holder (groups_then i) own (map (λ x. (event_of x.key, sent (event_of x.key))) (filter is_own (in_order stands_before (arriving w route))))))
           ∙ ap (behind (batch [] (groups_taken (w.groups here) (map uncarried (carried_by w route))))) events_come
 
-  module _ (here : Inst) (holder : OrgId) (own there : Seen) (sees : Sees w here peer own there) (none : caller.partner ≡ None) where
+  module _ (here : Inst) (holder : OrgId) (own there : Seen) (sees : Sees w here peer own there) (none : partner_of caller ≡ None) where
     no_groups : groups_sent peer caller (w.groups peer.name) ≡ []
     unfolding pulled_groups
-    no_groups = ap (map uncarried) (λ i. elim (none i) as (λ x. List Group) [ None ↦ [] | Some p ↦ filter (λ g. carries g caller.org p) (w.groups peer.name) ])
+    no_groups = ap (map uncarried) (λ i. elim (none i) as (λ x. List Group) [ None ↦ [] | Some p ↦ filter (λ g. carries g caller.org p.inst) (w.groups peer.name) ])
 
     no_events : with_packages there_scene ≡ []
     unfolding pulled_events in_order
@@ -143,10 +145,10 @@ module _ (w : World) (peer : Host) (caller : Caller) where
   -- by the partner of the key
   pub pulled_for : (here : Inst) (holder : OrgId) (own there : Seen) → Sees w here peer own there → AreRows (tables w.log peer.name)
       → all_pulled here holder own (groups_sent peer caller there.groups) (events_sent peer caller there.groups (there.rows Reach.All))
-      ≡ effect None (batches_by w (route_for here holder peer caller.org caller.partner))
-  pulled_for here holder own there sees are = one caller.partner refl
+      ≡ effect None (batches_by w (route_for here holder peer caller.org (partner_of caller)))
+  pulled_for here holder own there sees are = one (partner_of caller) refl
     where
-      one : (o : Option Inst) → caller.partner ≡ o
+      one : (o : Option Partner) → partner_of caller ≡ o
           → all_pulled here holder own (groups_sent peer caller there.groups) (events_sent peer caller there.groups (there.rows Reach.All))
           ≡ effect None (batches_by w (route_for here holder peer caller.org o))
       one None e = pulled_without here holder own there sees e

@@ -12,7 +12,7 @@ use Rattle.misp_effects.specs.Batches.{AreReadable, batch, put_batches}
 use Rattle.misp_format.specs.WholeGroup.{groups_text, uncarried}
 use Rattle.misp_model.specs.Permission.{no_permission}
 use Rattle.misp_model.specs.declared.package.PackageFields.{PackageFields as Package}
-use Rattle.misp_store.specs.Sharing.{groups_in, is_sound, or_none}
+use Rattle.misp_store.specs.Sharing.{groups_in, has_groups_alone, or_none}
 use Rattle.misp_store.proofs.GroupRows.{AreReadBack}
 use Rattle.misp_core.specs.HandedGroups.{group_batches}
 use Rattle.misp_core.specs.Prelude.{Caller, Effect, Group, Host, IsGroup, bare, groups_of, seen_in, spelled}
@@ -44,7 +44,7 @@ groups_fit [] fits = (record { rows = tt; groups = tt }, tt)
 groups_fit (g ∷ gs) fits = fits
 
 -- those of a keeper that holds no rows of administration but groups
-sound_read : (held : Held) → is_sound held ≡ true → groups_in held.admin ≡ Ok (groups_of held)
+sound_read : (held : Held) → has_groups_alone held ≡ true → groups_in held.admin ≡ Ok (groups_of held)
 sound_read held h = one (groups_in held.admin) h
   where
     one : (r : Result (List Group) (List ℕ)) → is_ok r ≡ true → r ≡ Ok (or_none r)
@@ -54,7 +54,7 @@ sound_read held h = one (groups_in held.admin) h
 abbrev pub with_them : List Group → Held → Held
 with_them gs held = put_batches (map spelled (batch [] gs ∷ [])) held
 
-groups_then : AreReadBack → (held : Held) (coming : List Group) → is_sound held ≡ true → AllByRecursion IsGroup (groups_taken (groups_of held) coming)
+groups_then : AreReadBack → (held : Held) (coming : List Group) → has_groups_alone held ≡ true → AllByRecursion IsGroup (groups_taken (groups_of held) coming)
     → groups_of (with_them (groups_taken (groups_of held) coming) held) ≡ take_groups (groups_of held) coming
 unfolding with_batch
 groups_then back held coming sound are =
@@ -131,7 +131,7 @@ module _ (peer : Host) (key : List ℕ) (gs : List Group) (there : Held) (sent :
     pub rows : (seen_in held).rows ≡ (seen_in there).rows
     pub takes : (s : Tally) → Takes coming (rest_of caller) there new s (with_groups s n) None
 
-  pub groups_ok : AreReadBack → is_sound there ≡ true → (n : ℕ) → IsToldOf peer key (HandGroups gs) (Ok n) there new → WereTaken n
+  pub groups_ok : AreReadBack → has_groups_alone there ≡ true → (n : ℕ) → IsToldOf peer key (HandGroups gs) (Ok n) there new → WereTaken n
   unfolding tally
   groups_ok back sound n told = by_short (is_short (groups_text gs)) refl
     where

@@ -17,7 +17,7 @@ use Rattle.misp_model.proofs.Prelude.{AreRows}
 use Rattle.misp_model.specs.Prelude.{Content, Row, Tag}
 use Rattle.misp_model.specs.declared.package.PackageFields.{PackageFields as Package}
 use Rattle.misp_package.specs.Spelling.{form, framed_row, framed_rows, number, spell_package}
-use Rattle.misp_package.proofs.FieldSizes.{flag_size, flags_size, key_size, label_size, optional_size, stamp_size, text_size as text_is, uid_size}
+use Rattle.misp_package.proofs.FieldSizes.{flag_size, flags_size, key_size, label_size, more_of, more_size, optional_size, stamp_size, text_size as text_is, uid_size}
 use Rattle.misp_sync.specs.Handing.{is_short}
 
 -- ---- names
@@ -143,19 +143,22 @@ content_size may (Content.Object b) h =
       flag_size b.deleted,
     )
 content_size may (Content.Attribute b) h =
+    let more : List ℕ = more_of b in
     omega (
       arith,
-      length-append (text b.kind) ((b.category ∷ []) ++ (flag b.to_ids ++ (text b.comment ++ (flag b.deleted ++ (text b.value ++ tags b.tags))))),
-      length-append (flag b.to_ids) (text b.comment ++ (flag b.deleted ++ (text b.value ++ tags b.tags))),
-      length-append (text b.comment) (flag b.deleted ++ (text b.value ++ tags b.tags)),
-      length-append (flag b.deleted) (text b.value ++ tags b.tags),
-      length-append (text b.value) (tags b.tags),
+      length-append (text b.kind) ((b.category ∷ []) ++ (flag b.to_ids ++ (text b.comment ++ (flag b.deleted ++ (text b.value ++ (tags b.tags ++ more)))))),
+      length-append (flag b.to_ids) (text b.comment ++ (flag b.deleted ++ (text b.value ++ (tags b.tags ++ more)))),
+      length-append (text b.comment) (flag b.deleted ++ (text b.value ++ (tags b.tags ++ more))),
+      length-append (flag b.deleted) (text b.value ++ (tags b.tags ++ more)),
+      length-append (text b.value) (tags b.tags ++ more),
+      length-append (tags b.tags) more,
+      more_size b,
       text_is b.kind,
       flag_size b.to_ids,
       text_is b.comment,
       flag_size b.deleted,
       text_is b.value,
-      each_size (text_limit - length b.kind - length b.comment - length b.value) b.tags h.1.1.1.1.1.1.1,
+      each_size (text_limit - length b.kind - length b.comment - length b.value) b.tags h.1.1.1.1.1.1.0.1,
     )
 content_size may (Content.Reference b) h =
     omega (

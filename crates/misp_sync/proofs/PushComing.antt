@@ -19,6 +19,7 @@ use Rattle.misp_history.specs.Acts.{World, synced_groups}
 use Rattle.misp_history.specs.History.{tables}
 use Rattle.misp_history.specs.Merging.{IsPackageOf, arrives, arriving_rows, handed, passing_rows}
 use Rattle.misp_history.specs.Outcomes.{arriving, takes}
+use Rattle.misp_model.specs.Passing.{route_to}
 use Rattle.misp_history.specs.Passing.{Route, element_passes, lets_out, passes, passes_at, passes_by, sent_copy}
 use Rattle.misp_history.proofs.ArrivedRows.{arriving_are_rows}
 use Rattle.misp_history.proofs.AsNew.{tables_are_tables}
@@ -32,7 +33,8 @@ use Rattle.misp_core.specs.Pulling.{carries_to}
 use Rattle.misp_core.specs.Taking.{groups_taken}
 use Rattle.misp_sync.specs.History.{push_route_to}
 use Rattle.misp_sync.specs.Pushed.{all_pushed, groups_carried, packages_of, packages_sent, parts_taken, rows_seen}
-use Rattle.misp_core.specs.Sending.{all_numbered, events_packed, push_route, rows_pushed}
+use Rattle.misp_sync.specs.Ways.{push_way}
+use Rattle.misp_core.specs.Sending.{all_numbered, events_packed, rows_pushed}
 use Rattle.misp_sync.proofs.Bringing.{owned, parts, table}
 use Rattle.misp_sync.proofs.Coming.{batches_by, carried_by, groups_after}
 use Rattle.misp_sync.proofs.Events.{Tells, events_are, own_apart}
@@ -81,7 +83,7 @@ packages_fit rows apart are =
 -- what arrives at nobody there, handed to a holder, is what arrives at the holder where the peer is
 module _ (rows : List Row) (groups : List Group) (here : Inst) (link : Link) (peer : Host) (holder : OrgId) where
   abbrev sends : Route
-  sends = push_route here link.push_org link.peer
+  sends = route_to (push_way link.internal) here link.push_org link.peer
 
   abbrev brings : Route
   brings = push_route_to here link peer holder
@@ -116,7 +118,7 @@ module _ (w : World) (here : Inst) (peer : Host) (link : Link) (holder : OrgId) 
 
   -- what is sent
   abbrev comes : List Row
-  comes = rows_pushed here (w.groups here) link.push_org link.peer (tables w.log here)
+  comes = rows_pushed (push_way link.internal) here (w.groups here) link.push_org link.peer (tables w.log here)
 
   -- the rows of an event that are
   abbrev sent : EventId → List (List Row)
@@ -135,8 +137,8 @@ module _ (w : World) (here : Inst) (peer : Host) (link : Link) (holder : OrgId) 
   comes_nobodys : list_all (λ row. same_org row.owner nobody) comes ≡ true
   unfolding arriving_rows arrived
   comes_nobodys =
-      all-map (λ row. same_org row.owner nobody) (arrived (push_route here link.push_org link.peer)) (λ row. same_org-refl nobody)
-      (passing_rows (tables w.log here) (w.groups here) (push_route here link.push_org link.peer))
+      all-map (λ row. same_org row.owner nobody) (arrived (route_to (push_way link.internal) here link.push_org link.peer)) (λ row. same_org-refl nobody)
+      (passing_rows (tables w.log here) (w.groups here) (route_to (push_way link.internal) here link.push_org link.peer))
 
   sent_handed : (e : EventId) → map (map (handed holder)) (sent e) ≡ packages (event_rows e (arriving w route))
   sent_handed e =
@@ -152,13 +154,13 @@ module _ (w : World) (here : Inst) (peer : Host) (link : Link) (holder : OrgId) 
 
   module _ (are : AreRows (tables w.log here)) where
     comes_apart : IsTable comes
-    comes_apart = arriving_table w.log (w.groups here) (push_route here link.push_org link.peer)
+    comes_apart = arriving_table w.log (w.groups here) (route_to (push_way link.internal) here link.push_org link.peer)
 
     nobody_is : IsUid nobody.0
     nobody_is = omega arith
 
     comes_are : AreRows comes
-    comes_are = arriving_are_rows (tables w.log here) (w.groups here) (push_route here link.push_org link.peer) (tables_are_tables w.log here) are nobody_is
+    comes_are = arriving_are_rows (tables w.log here) (w.groups here) (route_to (push_way link.internal) here link.push_org link.peer) (tables_are_tables w.log here) are nobody_is
 
     sent_fit : (e : EventId) → AllByRecursion Fits (sent e)
     sent_fit e = packages_fit (event_rows e comes) (part_is_table _ comes comes_apart) (rows_filtered _ comes comes_are)

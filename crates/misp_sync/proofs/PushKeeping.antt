@@ -1,6 +1,6 @@
 -- A push between two instances whose keepers hold what the history shows comes to what it comes to there, and leaves what it is to leave.
 use Rattle.std.proofs.Common.{◌≡◌, ℕ, false, true, List, Option, Some, None, refl, sym, ap, ◌∙◌, if◌then◌else◌, filter}
-use Rattle.misp_ids.specs.declared.label.Way.{Way}
+use Rattle.misp_ids.specs.declared.label.Direction.{Direction}
 use Rattle.misp_orgs.specs.Admin.{link_of, who_of}
 use Rattle.misp_orgs.specs.Roles.{permits}
 use Rattle.misp_orgs.specs.declared.link.Link.{Link}
@@ -93,27 +93,27 @@ push_told w here peer link own there keeps peers =
 
 -- the keeper of the peer holds what it is to hold after the act, whatever stopped it
 pub push_left : AreReadBack → (net : Net) (n now : ℕ) (w : World) (here peer : Host) (link : Inst) (own there : Held) (outcome : Outcome) → Keeps here.name w own → Keeps peer.name w there
-    → net Way.Push here.name link w.groups ≡ push_route_of here link peer (w.groups here.name) → AreReadable (under push_telling outcome (pushed here link peer (seen_in own) (seen_in there))).batches
+    → net Direction.Push here.name link w.groups w.made ≡ push_route_of here link peer (w.groups here.name) → AreReadable (under push_telling outcome (pushed here link peer (seen_in own) (seen_in there))).batches
     → Keeps peer.name (step_partly net n w (push_act here.name now link) (applied outcome)) (left spelled (under push_telling outcome (pushed here link peer (seen_in own) (seen_in there))) there)
 unfolding pushed
 push_left back net n now w here peer link own there outcome keeps peers e =
     let found : Option Link = link_of here.admin.links link in
-    left_under back net n now w Way.Push here.name link peer.name here.name there outcome (push_route_of here link peer (w.groups here.name))
+    left_under back net n now w Direction.Push here.name link peer.name here.name there outcome (push_route_of here link peer (w.groups here.name))
     (pushed_over here.name found peer (seen_in own) (seen_in there)).batches (under push_telling outcome (pushed here link peer (seen_in own) (seen_in there))).batches peers keeps.are_rows e
     (push_between here.name peer found (w.groups here.name))
     (push_comes here.name peer w keeps.are_rows (seen_in own) (seen_in there) (held_shows w here.name peer own there keeps peers) found)
     (push_under_is outcome (pushed here link peer (seen_in own) (seen_in there)))
 
 module _ (net : Net) (n now : ℕ) (w : World) (here peer : Host) (link j : Inst) (outcome : Outcome)
-    (e : net Way.Push here.name link w.groups ≡ push_route_of here link peer (w.groups here.name)) (apart : same_inst peer.name j ≡ false) where
+    (e : net Direction.Push here.name link w.groups w.made ≡ push_route_of here link peer (w.groups here.name)) (apart : same_inst peer.name j ≡ false) where
   -- no tables of another instance change
   pub push_tables : tables (step_partly net n w (push_act here.name now link) (applied outcome)).log j ≡ tables w.log j
   push_tables =
-      tables_after net n now w Way.Push here.name link peer.name here.name j outcome (push_route_of here link peer (w.groups here.name)) e
+      tables_after net n now w Direction.Push here.name link peer.name here.name j outcome (push_route_of here link peer (w.groups here.name)) e
       (push_between here.name peer (link_of here.admin.links link) (w.groups here.name)) apart
 
   -- and no groups
   pub push_groups : (step_partly net n w (push_act here.name now link) (applied outcome)).groups j ≡ w.groups j
   push_groups =
-      groups_after net n now w Way.Push here.name link peer.name here.name j outcome (push_route_of here link peer (w.groups here.name)) e
+      groups_after net n now w Direction.Push here.name link peer.name here.name j outcome (push_route_of here link peer (w.groups here.name)) e
       (push_between here.name peer (link_of here.admin.links link) (w.groups here.name)) apart

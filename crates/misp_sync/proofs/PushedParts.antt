@@ -15,7 +15,7 @@ use Rattle.misp_model.specs.declared.package.PackageFields.{PackageFields as Pac
 use Rattle.misp_groups.specs.Changes.{take_groups}
 use Rattle.misp_format.specs.WholeGroup.{uncarried}
 use Rattle.misp_store.specs.Loading.{NamesFault}
-use Rattle.misp_store.specs.Sharing.{is_sound}
+use Rattle.misp_store.specs.Sharing.{has_groups_alone}
 use Rattle.misp_store.specs.declared.fault.LoadFault.{LoadFault}
 use Rattle.misp_store.specs.declared.reach.Reach.{Reach}
 use Rattle.misp_store.proofs.GroupRows.{AreReadBack}
@@ -26,6 +26,7 @@ use Rattle.misp_sync.specs.Pulled.{bar_of, ends, reply_of, stop_in}
 use Rattle.misp_sync.specs.PushSteps.{IsHanded, IsToldOf, Pushes, StaysSo, held_of}
 use Rattle.misp_sync.specs.Pushed.{groups_carried, packages_of, packages_sent, parts_pushed, push_telling, pushed, pushed_over, pushed_through, rows_seen}
 use Rattle.misp_core.specs.Sending.{packages_pushed}
+use Rattle.misp_sync.specs.Ways.{push_way}
 use Rattle.misp_sync.specs.Serving.{Meet}
 use Rattle.misp_sync.specs.Steps.{IsUnread, Stand, Tell, stand, usable_link}
 use Rattle.misp_sync.specs.Telling.{stop_by}
@@ -42,7 +43,7 @@ use Rattle.misp_sync.proofs.Synced.{WhereTold, bar_told, where_told}
 
 -- those of rows that all are rows
 packages_so : (here : Inst) (link : Link) (groups : List Group) (read : Result (List Row) (List ℕ)) (parts : List Package) → is_ok read ≡ true
-    → ((rows : List Row) → read ≡ Ok rows → parts ≡ packages_pushed here groups link.push_org link.peer rows) → packages_of here link groups read ≡ Ok parts
+    → ((rows : List Row) → read ≡ Ok rows → parts ≡ packages_pushed (push_way link.internal) here groups link.push_org link.peer rows) → packages_of here link groups read ≡ Ok parts
 packages_so here link groups (Ok rows) parts ok all = ap Ok (sym (all rows refl))
 packages_so here link groups (Err name) parts ok all = absurd cc
 
@@ -51,7 +52,7 @@ abbrev pub PacksSo : Inst → Link → List Package → Held → Type 0
 PacksSo here link parts own = packages_sent here link (seen_in own) ≡ Ok parts
 
 pub packs_so : (here : Inst) (link : Link) (parts : List Package) (own : Option Held) → IfSome own (λ held. IsOk ((seen_in held).rows Reach.All))
-    → IfSome own (λ held. (rows : List Row) → (seen_in held).rows Reach.All ≡ Ok rows → parts ≡ packages_pushed here (groups_of held) link.push_org link.peer rows)
+    → IfSome own (λ held. (rows : List Row) → (seen_in held).rows Reach.All ≡ Ok rows → parts ≡ packages_pushed (push_way link.internal) here (groups_of held) link.push_org link.peer rows)
     → IfSome own (PacksSo here link parts)
 packs_so here link parts None read all = tt
 packs_so here link parts (Some held) read all = packages_so here link (groups_of held) ((seen_in held).rows Reach.All) parts read all
@@ -119,8 +120,8 @@ module _ (old : Stand) (link : Link) (gs : List Group) (mid : Option Standing) (
       pushes_then _ (rest_of (host_of peer) link.key (groups_carried link (seen_in own)) there (packages_sent old.here.name link (seen_in own)) (held_of mid) was.caller) (ends None)
       there (held_of mid) (held_of new) s (with_groups s n) u cause (was.takes s) later
     where
-      is_sound_there : is_sound there ≡ true
-      is_sound_there = subst (λ o. IfSome o (λ held. is_sound held ≡ true)) tell.there_is (subst (λ o. IfSome o HoldsGroupsAlone) tell.peer_is sound)
+      is_sound_there : has_groups_alone there ≡ true
+      is_sound_there = subst (λ o. IfSome o (λ held. has_groups_alone held ≡ true)) tell.there_is (subst (λ o. IfSome o HoldsGroupsAlone) tell.peer_is sound)
 
       was : WereTaken (host_of peer) link.key (groups_carried link (seen_in own)) there (packages_sent old.here.name link (seen_in own)) (held_of mid) n
       was =

@@ -11,7 +11,7 @@ use Rattle.misp_http.specs.Texts.{request_text}
 use Rattle.misp_package.specs.Spelling.{spell_package}
 use Rattle.misp_model.specs.Package.{IsPackage}
 use Rattle.misp_model.specs.declared.package.PackageFields.{PackageFields as Package}
-use Rattle.misp_store.specs.Sharing.{is_sound}
+use Rattle.misp_store.specs.Sharing.{has_groups_alone}
 use Rattle.misp_core.specs.Effects.{by_keeper}
 use Rattle.misp_core.specs.HandedGroups.{groups_handed}
 use Rattle.misp_core.specs.Prelude.{Ask, Caller, Did, Effect, Group, Held, Host, Refusal, RuleName, Seen, Standing, bare, host_of, refused, requested, seen_in, stop_in}
@@ -123,4 +123,4 @@ pub record MayBeHanded (key : List ℕ) (h : Handing) (old new : Standing) : Typ
 
 -- where the keeper tells, every row of the administration is a group
 abbrev pub HoldsGroupsAlone : Standing → Type 0
-HoldsGroupsAlone s = IfSome s.held (λ held. is_sound held ≡ true)
+HoldsGroupsAlone s = IfSome s.held (λ held. has_groups_alone held ≡ true)

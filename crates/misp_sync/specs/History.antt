@@ -1,44 +1,48 @@
 -- A pull and a push in a network: their acts of the history, and what of these was applied.
 use Rattle.std.specs.Prelude.{ℕ, zero, suc, false, true, List, filter, Option, None, Some, Ok, if◌then◌else◌}
-use Rattle.misp_ids.specs.declared.label.Way.{Way}
+use Rattle.misp_ids.specs.declared.label.Direction.{Direction}
 use Rattle.misp_orgs.specs.Admin.{link_of, who_of}
 use Rattle.misp_orgs.specs.Roles.{permits}
 use Rattle.misp_orgs.specs.declared.link.Link.{Link}
 use Rattle.misp_orgs.specs.declared.role.Perm.{Perm}
 use Rattle.misp_effects.specs.Effect.{Outcome, Stopped, Went}
 use Rattle.misp_format.specs.WholeGroup.{groups_text}
+use Rattle.misp_model.specs.Scene.{Partner}
 use Rattle.misp_history.specs.Outcomes.{Whole}
 use Rattle.misp_history.specs.Passing.{Route}
+use Rattle.misp_core.specs.Partners.{partner_of}
 use Rattle.misp_core.specs.Prelude.{Ask, Caller, Group, Host, Inst, OrgId, Seen, World, is_permitted, tables}
 use Rattle.misp_core.specs.Pulling.{carries_to}
 use Rattle.misp_sync.specs.Handing.{is_short}
+use Rattle.misp_sync.specs.Ways.{push_way}
 use Rattle.misp_history.specs.Acts as model
 use Rattle.misp_history.specs.Outcomes as parts
 
 -- ---- routes of pulls
 
--- of a pull from the peer, for an organisation, by a key for this instance, to this holder here
-abbrev pub pull_route : Inst → OrgId → Host → OrgId → Inst → Route
-pull_route here holder peer org dest =
+-- of a pull from the peer, for an organisation, to the partner of a key on the way there, and to
+-- this holder here
+abbrev pub pull_route : Inst → OrgId → Host → OrgId → Partner → Route
+pull_route here holder peer org partner =
     record {
-      way = Way.Pull;
+      way = partner.way;
       from = peer.name;
       «for» = org;
-      dest = dest;
+      dest = partner.inst;
       into = here;
       holder = holder;
     }
 
 -- a key with which nobody may pull there has none, and neither has one for no instance
-abbrev pub route_for : Inst → OrgId → Host → OrgId → Option Inst → Option Route
+abbrev pub route_for : Inst → OrgId → Host → OrgId → Option Partner → Option Route
 route_for here holder peer org None = None
-route_for here holder peer org (Some dest) = Some (pull_route here holder peer org dest)
+route_for here holder peer org (Some partner) = Some (pull_route here holder peer org partner)
 
 abbrev pub route_by : Inst → OrgId → Host → Option Caller → Option Route
 route_by here holder peer None = None
 route_by here holder peer (Some caller) =
-    if is_permitted caller Ask.SyncGroups then route_for here holder peer caller.org caller.partner
-    else None
+    if is_permitted caller Ask.SyncGroups then
+    route_for here holder peer caller.org (partner_of caller) else None
 
 -- a link that is not there or is off has none
 abbrev pub route_over : Inst → Option Link → Host → Option Route
@@ -55,7 +59,7 @@ route_of here link peer = route_over here.name (link_of here.admin.links link) p
 abbrev pub push_route_to : Inst → Link → Host → OrgId → Route
 push_route_to here link peer holder =
     record {
-      way = Way.Push;
+      way = push_way link.internal;
       from = here;
       «for» = link.push_org;
       dest = link.peer;
@@ -88,15 +92,16 @@ push_route_of here link peer groups =
 
 -- ---- acts
 
--- a synchronisation on this way
-abbrev pub sync_act : Way → Inst → ℕ → Inst → model.Act
-sync_act way here now link = record { at = here; now = now; command = model.Syncs way link }
+-- a synchronisation in this direction
+abbrev pub sync_act : Direction → Inst → ℕ → Inst → model.Act
+sync_act direction here now link =
+    record { at = here; now = now; command = model.Syncs direction link }
 
 abbrev pub pull_act : Inst → ℕ → Inst → model.Act
-pull_act = sync_act Way.Pull
+pull_act = sync_act Direction.Pull
 
 abbrev pub push_act : Inst → ℕ → Inst → model.Act
-push_act = sync_act Way.Push
+push_act = sync_act Direction.Push
 
 -- what was applied of an act: the first batch of a synchronisation has its groups, and each
 -- further one is a package

@@ -15,3 +15,4 @@ pub mod Serving
 pub mod Steps
 pub mod Telling
 pub mod Trail
+pub mod Ways

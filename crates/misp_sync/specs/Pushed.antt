@@ -26,6 +26,7 @@ use Rattle.misp_sync.specs.Handing.{is_short, too_large}
 use Rattle.misp_sync.specs.Pulled.{behind_all, ends, synced}
 use Rattle.misp_core.specs.Sending.{packages_pushed}
 use Rattle.misp_sync.specs.Telling.{peer_refused, stop_refusal}
+use Rattle.misp_sync.specs.Ways.{push_way}
 use Rattle.misp_sync.specs.declared.reply.SyncReply.{SyncReply}
 
 -- ---- what is sent
@@ -38,7 +39,7 @@ groups_carried link own = filter (carries_to link.push_org link.peer) own.groups
 abbrev pub packages_of : Inst → Link → List Group → Result (List Row) (List ℕ)
     → Result (List Package) Refusal
 packages_of here link groups (Ok rows) =
-    Ok (packages_pushed here groups link.push_org link.peer rows)
+    Ok (packages_pushed (push_way link.internal) here groups link.push_org link.peer rows)
 packages_of here link groups (Err name) = Err (bad_row name)
 
 -- the packages that are pushed of what is seen here

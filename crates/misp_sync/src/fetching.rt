@@ -27,8 +27,8 @@ use misp_elem::DecodeFault;
 use misp_format::a_group_is_read_from_its_text;
 use misp_groups::Group;
 use misp_ids::{ApiKey, EventId, Refusal};
-use misp_package::read_package;
 use misp_model::Package;
+use misp_package::read_package;
 use std::alloc::Global;
 
 // ---- groups

@@ -26,9 +26,9 @@ use misp_format::put_groups;
 use misp_groups::Group;
 use misp_http::request_bytes;
 use misp_ids::{ApiKey, NoMemory, Refusal, RuleName};
+use misp_model::Package;
 use misp_outside::WireFault;
 use misp_package::package_bytes;
-use misp_model::Package;
 use std::alloc::Global;
 
 // ---- requests

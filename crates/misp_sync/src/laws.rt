@@ -3,7 +3,7 @@
 ghost use Rattle.std.specs.Prelude.{◌≡◌, ℕ, false, true, List, Option};
 ghost use Rattle.std.specs.List.{list_all};
 ghost use Rattle.misp_ids.specs.Same.{Inst, same_inst};
-ghost use Rattle.misp_ids.specs.declared.label.Way.TheVariants as ways;
+ghost use Rattle.misp_ids.specs.declared.label.Direction.TheVariants as directions;
 ghost use Rattle.misp_outside.specs.Held.{Held};
 ghost use Rattle.misp_outside.specs.Wires as wires;
 ghost use Rattle.misp_effects.specs.Batches.{AreReadable};
@@ -28,7 +28,8 @@ use misp_format::a_group_is_read_from_its_text;
 
 /// Where the keepers of two instances hold their tables and groups, a pull of the one from the
 /// other comes to what the history says. Whatever stopped it, its keeper holds afterwards what it
-/// is to hold after the act. No tables and no groups elsewhere change.
+/// is to hold after the act. No tables and no groups elsewhere change, and nothing that was made of
+/// an administration.
 pub fn an_instance_pulls_by_the_history()
     ensures told { (w : World) (here peer : Host) (link : Inst) (own there : Held) →
         Keeps here.name w own → Keeps peer.name w there →
@@ -37,29 +38,34 @@ pub fn an_instance_pulls_by_the_history()
     ensures left { (net : Net) (n now : ℕ) (w : World) (here peer : Host) (link : Inst)
         (own there : Held) (outcome : Outcome) →
         Keeps here.name w own → Keeps peer.name w there →
-        net ways.Pull here.name link w.groups ≡ route_of here link peer →
+        net directions.Pull here.name link w.groups w.made ≡ route_of here link peer →
         AreReadable (under telling outcome
         (pulled here link peer (seen_in own) (seen_in there))).batches →
         Keeps here.name (step_partly net n w (pull_act here.name now link) (applied outcome))
         (left spelled (under telling outcome
         (pulled here link peer (seen_in own) (seen_in there))) own) }
     ensures elsewhere { (net : Net) (n now : ℕ) (w : World) (here peer : Host) (link j : Inst)
-        (outcome : Outcome) → net ways.Pull here.name link w.groups ≡ route_of here link peer →
+        (outcome : Outcome) →
+        net directions.Pull here.name link w.groups w.made ≡ route_of here link peer →
         same_inst here.name j ≡ false →
         tables (step_partly net n w (pull_act here.name now link) (applied outcome)).log j
         ≡ tables w.log j }
     ensures groups { (net : Net) (n now : ℕ) (w : World) (here peer : Host) (link j : Inst)
-        (outcome : Outcome) → net ways.Pull here.name link w.groups ≡ route_of here link peer →
+        (outcome : Outcome) →
+        net directions.Pull here.name link w.groups w.made ≡ route_of here link peer →
         same_inst here.name j ≡ false →
         (step_partly net n w (pull_act here.name now link) (applied outcome)).groups j
         ≡ w.groups j }
+    ensures made { (net : Net) (n now : ℕ) (w : World) (here link : Inst) (outcome : Outcome) →
+        (step_partly net n w (pull_act here now link) (applied outcome)).made ≡ w.made }
 {
     a_group_is_read_from_its_text();
 }
 
 /// Where the keepers of two instances hold their tables and groups, a push of the one to the other
 /// comes to what the history says. Whatever stopped it, the keeper of the other holds afterwards
-/// what it is to hold after the act. No tables and no groups elsewhere change.
+/// what it is to hold after the act. No tables and no groups elsewhere change, and nothing that was
+/// made of an administration.
 pub fn an_instance_pushes_by_the_history()
     ensures told { (w : World) (here peer : Host) (link : Inst) (own there : Held) →
         Keeps here.name w own → Keeps peer.name w there →
@@ -68,7 +74,8 @@ pub fn an_instance_pushes_by_the_history()
     ensures left { (net : Net) (n now : ℕ) (w : World) (here peer : Host) (link : Inst)
         (own there : Held) (outcome : Outcome) →
         Keeps here.name w own → Keeps peer.name w there →
-        net ways.Push here.name link w.groups ≡ push_route_of here link peer (w.groups here.name) →
+        net directions.Push here.name link w.groups w.made
+        ≡ push_route_of here link peer (w.groups here.name) →
         AreReadable (under push_telling outcome
         (pushed here link peer (seen_in own) (seen_in there))).batches →
         Keeps peer.name (step_partly net n w (push_act here.name now link) (applied outcome))
@@ -76,16 +83,20 @@ pub fn an_instance_pushes_by_the_history()
         (pushed here link peer (seen_in own) (seen_in there))) there) }
     ensures elsewhere { (net : Net) (n now : ℕ) (w : World) (here peer : Host) (link j : Inst)
         (outcome : Outcome) →
-        net ways.Push here.name link w.groups ≡ push_route_of here link peer (w.groups here.name) →
+        net directions.Push here.name link w.groups w.made
+        ≡ push_route_of here link peer (w.groups here.name) →
         same_inst peer.name j ≡ false →
         tables (step_partly net n w (push_act here.name now link) (applied outcome)).log j
         ≡ tables w.log j }
     ensures groups { (net : Net) (n now : ℕ) (w : World) (here peer : Host) (link j : Inst)
         (outcome : Outcome) →
-        net ways.Push here.name link w.groups ≡ push_route_of here link peer (w.groups here.name) →
+        net directions.Push here.name link w.groups w.made
+        ≡ push_route_of here link peer (w.groups here.name) →
         same_inst peer.name j ≡ false →
         (step_partly net n w (push_act here.name now link) (applied outcome)).groups j
         ≡ w.groups j }
+    ensures made { (net : Net) (n now : ℕ) (w : World) (here link : Inst) (outcome : Outcome) →
+        (step_partly net n w (push_act here now link) (applied outcome)).made ≡ w.made }
 {
     a_group_is_read_from_its_text();
 }

@@ -26,6 +26,7 @@ ghost use Rattle.misp_sync.specs.Serving.{Meet};
 ghost use Rattle.misp_sync.specs.Steps.{Tell, cause_of, stand, stop_told};
 ghost use Rattle.misp_sync.specs.Telling.{IsFetchCause};
 ghost use Rattle.misp_sync.specs.Trail.{GrowsBy, told_of};
+ghost use Rattle.misp_sync.specs.Ways.{push_way};
 ghost use Rattle.misp_sync.specs.declared.reply.SyncReply.{SyncReply as Told};
 ghost use Rattle.misp_sync.specs.declared.reply.SyncReply.TheVariants as replies;
 
@@ -37,10 +38,10 @@ use crate::reply::SyncReply;
 use crate::unread::unread;
 use misp_core::Instance;
 use misp_format::a_group_is_read_from_its_text;
-use misp_ids::{ApiKey, InstId, NoMemory, Refusal, RuleName};
+use misp_ids::{ApiKey, InstId, NoMemory, Refusal, RuleName, Way};
+use misp_model::Package;
 use misp_orgs::Link;
 use misp_outside::Keeper;
-use misp_model::Package;
 use std::alloc::Global;
 
 // Hands in packages, one after another.
@@ -78,6 +79,13 @@ fn hand_parts<W: PushWire>(
     Ok(())
 }
 
+// The way of a push: internal where the link is.
+fn push_way(internal: bool) -> Way
+    ensures { result ≡ push_way internal }
+{
+    if internal { Way::Internal } else { Way::Push }
+}
+
 // Hands in the packages of what passes here.
 fn hand_rows<K: Keeper, W: PushWire>(
     alloc: Global,
@@ -101,7 +109,8 @@ fn hand_rows<K: Keeper, W: PushWire>(
         (packages_sent instance.old.name link.now (seen_in own))) (ends None) there
         (held_of (W.peer wire.new)) tally.old tally.new (cause_of result) }
 {
-    match instance.pushed_packages(alloc, &link.push_org, &link.peer) {
+    let way = push_way(link.internal);
+    match instance.pushed_packages(alloc, way, &link.push_org, &link.peer) {
         Ok(parts) => hand_parts(alloc, wire, &link.key, &parts, tally),
         Err(fault) => Err(unread(alloc, fault)),
     }

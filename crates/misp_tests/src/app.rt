@@ -2,11 +2,11 @@
 
 mod cases;
 
-use crate::outside::{carry, idle_dial, idle_door, keepers, ran};
+use crate::outside::{carry, holding, idle_dial, idle_door, keepers, ran, tombstone};
 use cases::{CASES, Case, NAMES};
 use misp_app::Status;
-use misp_ids::{EventId, Items, Uid};
-use misp_outside::{AdminRow, Keeper, MemKeeper, MemSink, MemSource, RawBatch, RawRow};
+use misp_ids::Items;
+use misp_outside::{AdminRow, MemKeeper, MemSink, MemSource};
 use std::alloc::Global;
 use std::process::Abort;
 use std::test::Fail;
@@ -14,31 +14,6 @@ use std::test::Fail;
 /// The text with what its names stand for.
 fn named(alloc: Global, text: &str) -> Result<String, Fail> {
     misp_samples::filled(alloc, &NAMES, text)
-}
-
-// A row without bytes under the name of A.
-fn row(rt: &impl Abort, alloc: Global) -> RawRow {
-    let owner: u128 = 0xaaaa_aaaa_0000_4000_8000_0000_0000_0001;
-    let name = owner.to_be_bytes().as_slice().to_vec(alloc);
-    RawRow {
-        event: EventId(Uid(0xe100_0000_0000_4000_8000_0000_0000_0009)),
-        name: Items::of(name.expect(rt, "memory")),
-        bytes: Items::of(Vec::new(alloc)),
-    }
-}
-
-// A keeper that holds a row without bytes under the name of A and these rows of the administration,
-// and whose call of this number fails.
-fn first_keeper(rt: &impl Abort, alloc: Global, fails: u64, admin: Vec<AdminRow>) -> MemKeeper {
-    let rows = vec![in alloc; row(rt, alloc)].expect(rt, "memory");
-    let batch = RawBatch {
-        rows: Items::of(rows),
-        admin: Items::of(admin),
-    };
-    let fails = vec![in alloc; fails].expect(rt, "memory");
-    let mut first = MemKeeper::new(alloc, fails);
-    first.apply(batch).expect(rt, "a batch");
-    first
 }
 
 /// How a run ended, what was written, and how many batches each keeper has applied.
@@ -123,7 +98,7 @@ fn case_ended(
     case: &Case<'_>,
     admin: Vec<AdminRow>,
 ) -> Outcome {
-    let first = first_keeper(rt, alloc, case.fails[2], admin);
+    let first = holding(rt, alloc, case.fails[2], tombstone(rt, alloc, 2), admin);
     let mut keepers = keepers(rt, alloc, first);
     let (status, written) = ended(rt, alloc, text, case, &mut keepers);
     let batches = batches(rt, alloc, keepers.as_slice());

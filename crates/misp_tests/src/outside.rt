@@ -1,12 +1,62 @@
 //! What is outside of a run: streams, keepers, a door and a dial in memory.
 
 use misp_app::{KEEPERS, Status, run};
+use misp_ids::{EventId, Items, Uid};
 use misp_outside::{
-    Door, Keeper, MemCarry, MemDial, MemDoor, MemKeeper, MemSink, MemSource, StepClock,
+    AdminRow, Door, Keeper, MemCarry, MemDial, MemDoor, MemKeeper, MemSink, MemSource, RawBatch,
+    RawRow, StepClock,
 };
 use misp_words::Words;
 use std::alloc::Global;
 use std::process::Abort;
+
+/// The owner and the key of a tombstone of Alpha, which are its name.
+const OF_ALPHA: &[u8] = b"\xaa\xaa\xaa\xaa\0\0\x40\0\x80\0\0\0\0\0\0\x01\
+    \0\xe1\0\0\0\0\0\x40\0\x80\0\0\0\0\0\0\x09\0";
+
+/// Its stamp 1700000000, its label, its flags and its content.
+const DELETED: &[u8] = b"\0\0\0\0\x65\x53\xf1\0\0\0\x07";
+
+/// The bytes of the tombstone in this form.
+pub(super) fn tombstone_bytes(rt: &impl Abort, alloc: Global, form: u8) -> Vec<u8> {
+    let mut bytes = Vec::new(alloc);
+    bytes.push(form).expect(rt, "memory");
+    bytes.extend_from_slice(OF_ALPHA).expect(rt, "memory");
+    bytes.extend_from_slice(DELETED).expect(rt, "memory");
+    bytes
+}
+
+/// A row of these bytes under the event and the name of the tombstone.
+pub(super) fn row_of(rt: &impl Abort, alloc: Global, bytes: Vec<u8>) -> RawRow {
+    RawRow {
+        event: EventId(Uid(0xe100_0000_0000_4000_8000_0000_0000_0009)),
+        name: Items::of(OF_ALPHA.to_vec(alloc).expect(rt, "memory")),
+        bytes: Items::of(bytes),
+    }
+}
+
+/// The tombstone of Alpha for an event, in this form.
+pub(super) fn tombstone(rt: &impl Abort, alloc: Global, form: u8) -> RawRow {
+    row_of(rt, alloc, tombstone_bytes(rt, alloc, form))
+}
+
+/// A keeper that holds this row and these rows of the administration, and whose call of this number
+/// fails.
+pub(super) fn holding(
+    rt: &impl Abort,
+    alloc: Global,
+    fails: u64,
+    row: RawRow,
+    admin: Vec<AdminRow>,
+) -> MemKeeper {
+    let batch = RawBatch {
+        rows: Items::of(vec![in alloc; row].expect(rt, "memory")),
+        admin: Items::of(admin),
+    };
+    let mut keeper = MemKeeper::new(alloc, vec![in alloc; fails].expect(rt, "memory"));
+    keeper.apply(batch).expect(rt, "a batch");
+    keeper
+}
 
 /// As many keepers as a run asks for, of which this one is the first and the others hold nothing.
 pub(super) fn keepers(rt: &impl Abort, alloc: Global, first: MemKeeper) -> Vec<MemKeeper> {

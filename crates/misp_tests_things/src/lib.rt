@@ -6,6 +6,7 @@ mod elem;
 #[cfg(test)]
 mod http;
 #[cfg(test)]
+#[cfg(test)]
 mod outside;
 #[cfg(test)]
 mod records;

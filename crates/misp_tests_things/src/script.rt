@@ -22,13 +22,31 @@ const KEY: &str =
 const LINK: &str = "[[link]]\nname = 'l'\nat = 'one'\nto = 'two'\n\
      key = 'kkkkkkkkkkkkkkkkkkkkkkkkkkkkkkkkkkkkkkkk'\nholder = 'A'\npush_org = 'A'\n";
 
-const TABLES: [(&str, &str); 5] = [
+const OTHER: &str = "[[org]]\nname = 'B'\nuuid = 'bbbbbbbb-0000-4000-8000-000000000002'\n";
+
+const TABLES: [(&str, &str); 6] = [
     ("{org}", ORG),
+    ("{other}", OTHER),
     ("{host}", HOST),
     ("{two}", TWO),
     ("{key}", KEY),
     ("{link}", LINK),
 ];
+
+// Adds which of its keys and links are internal.
+fn show_internal(rt: &impl Abort, line: &mut String, entry: &Entry) {
+    for key in entry.admin.keys.as_slice() {
+        if key.internal {
+            add(rt, line, " key");
+        }
+    }
+    for link in entry.admin.links.as_slice() {
+        if link.internal {
+            add(rt, line, " link");
+        }
+    }
+    add(rt, line, ";");
+}
 
 // Adds what the instance has.
 fn show(rt: &impl Abort, line: &mut String, entry: &Entry) {
@@ -37,7 +55,8 @@ fn show(rt: &impl Abort, line: &mut String, entry: &Entry) {
     let orgs = entry.admin.orgs.as_slice().len();
     let keys = entry.admin.keys.as_slice().len();
     let links = entry.admin.links.as_slice().len();
-    write!(line, "{name}@{address} {orgs} {keys} {links};").expect(rt, "memory");
+    write!(line, "{name}@{address} {orgs} {keys} {links}").expect(rt, "memory");
+    show_internal(rt, line, entry);
 }
 
 fn show_all(rt: &impl Abort, line: &mut String, entries: &[Entry]) {
@@ -81,7 +100,7 @@ fn assert_shown(rt: &impl Abort, alloc: Global, text: &str, want: &str) {
 }
 
 /// Descriptions that are read, and each instance with the numbers of its organisations, keys
-/// and links.
+/// and links, and a word for each of them that is internal.
 const READ: [(&str, &str); 3] = [
     ("", ""),
     (
@@ -125,10 +144,17 @@ const BAD_ORGS: [(&str, &str); 8] = [
 ];
 
 /// Descriptions of which an instance has a fault.
-const BAD_INSTANCES: [(&str, &str); 3] = [
+const BAD_INSTANCES: [(&str, &str); 7] = [
     ("[[instance]]\nname = 'One'\n", "instance[0].name name"),
     ("{host}{host}", "instance[1].name distinct"),
     ("{host}address = 1\n", "instance[0].address text"),
+    ("{host}host = 'A'\n", "instance[0].host known"),
+    ("{org}{host}host = 1\n", "instance[0].host text"),
+    (
+        "{host}address = 1\nhost = 'A'\n",
+        "instance[0].address text",
+    ),
+    ("{host}host = 'A'\nx = 1\n", "instance[0].host known"),
 ];
 
 /// Descriptions of which a key has a fault.
@@ -155,6 +181,80 @@ const BAD_KEYS: [(&str, &str); 10] = [
         "key[1].key distinct",
     ),
     ("{org}{host}{key}role = 'user'\nx = 1\n", "key[0].x member"),
+];
+
+/// Descriptions of which a key is internal, or is said to be so.
+const INTERNAL_KEYS: [(&str, &str); 10] = [
+    (
+        "{org}{host}host = 'A'\n{two}host = 'A'\n{key}role = 'sync'\npartner = 'two'\n\
+         internal = true\n",
+        "one@ 1 1 0 key;two@ 1 0 0;",
+    ),
+    (
+        "{org}{host}{two}{key}role = 'sync'\npartner = 'two'\ninternal = false\n",
+        "one@ 1 1 0;two@ 1 0 0;",
+    ),
+    (
+        "{org}{host}{two}{key}role = 'sync'\npartner = 'two'\ninternal = 1\n",
+        "key[0].internal flag",
+    ),
+    (
+        "{org}{host}{two}{key}role = 'sync'\npartner = 'two'\ninternal = true\n",
+        "key[0].internal host",
+    ),
+    (
+        "{org}{host}host = 'A'\n{two}{key}role = 'sync'\npartner = 'two'\ninternal = true\n",
+        "key[0].internal host",
+    ),
+    (
+        "{org}{host}{two}host = 'A'\n{key}role = 'sync'\npartner = 'two'\ninternal = true\n",
+        "key[0].internal host",
+    ),
+    (
+        "{org}{other}{host}host = 'A'\n{two}host = 'B'\n{key}role = 'sync'\npartner = 'two'\n\
+         internal = true\nx = 1\n",
+        "key[0].internal host",
+    ),
+    (
+        "{org}{host}host = 'A'\n{key}role = 'user'\ninternal = true\nx = 1\n",
+        "key[0].partner present",
+    ),
+    (
+        "{org}{host}host = 'A'\n{key}role = 'user'\ninternal = false\nx = 1\n",
+        "key[0].x member",
+    ),
+    (
+        "{org}{host}{key}role = 'user'\npartner = 'one'\ninternal = 1\n",
+        "key[0].partner member",
+    ),
+];
+
+/// Descriptions of which a link is internal, or is said to be so.
+const INTERNAL_LINKS: [(&str, &str); 6] = [
+    (
+        "{org}{other}{host}host = 'B'\n{two}host = 'B'\n{link}internal = true\n",
+        "one@ 2 0 1 link;two@ 2 0 0;",
+    ),
+    (
+        "{org}{host}{two}{link}internal = false\n",
+        "one@ 1 0 1;two@ 1 0 0;",
+    ),
+    (
+        "{org}{host}{two}{link}internal = true\n",
+        "link[0].internal host",
+    ),
+    (
+        "{org}{other}{host}host = 'A'\n{two}host = 'B'\n{link}internal = true\nx = 1\n",
+        "link[0].internal host",
+    ),
+    (
+        "{org}{host}{two}{link}on = 1\ninternal = true\n",
+        "link[0].on flag",
+    ),
+    (
+        "{org}{host}{two}{link}internal = 'A'\n",
+        "link[0].internal flag",
+    ),
 ];
 
 /// Descriptions of which a link has a fault.
@@ -197,7 +297,9 @@ fn descriptions_are_read_or_their_first_fault_is_told(rt: HostRuntime) -> Result
         BAD_ORGS.as_slice(),
         BAD_INSTANCES.as_slice(),
         BAD_KEYS.as_slice(),
+        INTERNAL_KEYS.as_slice(),
         BAD_LINKS.as_slice(),
+        INTERNAL_LINKS.as_slice(),
     ];
     for table in &tables {
         for (text, told) in *table {

@@ -1,7 +1,7 @@
 //! The words of a command line.
 
 use crate::values::{add, string};
-use misp_ids::Way;
+use misp_ids::Direction;
 use misp_words::{Command, ServeWords, SyncWords, WordsFault, read_words};
 use std::alloc::Global;
 use std::fmt::Write;
@@ -17,11 +17,11 @@ fn show_serve(rt: &impl Abort, line: &mut String, words: &ServeWords<'_>) {
 fn show_sync(rt: &impl Abort, line: &mut String, words: &SyncWords) {
     let name = words.name.text();
     let link = words.link.text();
-    let way = match words.way {
-        Way::Pull => "pulls",
-        Way::Push => "pushes",
+    let direction = match words.direction {
+        Direction::Pull => "pulls",
+        Direction::Push => "pushes",
     };
-    write!(line, "{name} {way} over {link}").expect(rt, "memory");
+    write!(line, "{name} {direction} over {link}").expect(rt, "memory");
 }
 
 // What these words ask for, as a line.

@@ -5,7 +5,7 @@ use Rattle.std.specs.Str.Parse.{digits_value}
 use Rattle.std.proofs.lemmas.Bool.{eqb-true, false≢true, or_cases}
 use Rattle.misp_ids.specs.Names.{is_inst_name}
 use Rattle.misp_words.specs.Count.{count_of, is_numeral, within_limit}
-use Rattle.misp_words.specs.Words.{NoDashIsAccepted, Serve, ServeData, Sync, SyncData, begins_with_dash, command_named, command_with, serve_words, sync_words, way_of, with_count, with_way}
+use Rattle.misp_words.specs.Words.{NoDashIsAccepted, Serve, ServeData, Sync, SyncData, begins_with_dash, command_named, command_with, serve_words, sync_words, direction_of, with_count, with_direction}
 
 -- what holds of every word that has a dash first
 dashed : (P : List ℕ → Type 0) → ((bytes : List ℕ) → P (45 ∷ bytes)) → (word : List ℕ) → begins_with_dash word ≡ true → P word
@@ -40,12 +40,12 @@ module _ (word a b c : List ℕ) where
   dash_third : begins_with_dash b ≡ true → command_with word a b c ≡ None
   dash_third dash = asks_nothing
       (dashed (λ w. serve_words a w c ≡ None) (λ bytes. ap (λ t. if t then with_count a (45 ∷ bytes) (count_of c) else None) (and_no (is_inst_name a) false refl)) b dash)
-      (dashed (λ w. sync_words a w c ≡ None) (λ bytes. ap (λ t. if t then with_way a (45 ∷ bytes) (way_of c) else None) (and_no (is_inst_name a) false refl)) b dash)
+      (dashed (λ w. sync_words a w c ≡ None) (λ bytes. ap (λ t. if t then with_direction a (45 ∷ bytes) (direction_of c) else None) (and_no (is_inst_name a) false refl)) b dash)
 
   dash_last : begins_with_dash c ≡ true → command_with word a b c ≡ None
   dash_last dash = asks_nothing
       (if_none (is_inst_name a && not (begins_with_dash b)) (with_count a b (count_of c)) (ap (with_count a b) (dashed (λ w. count_of w ≡ None) no_count c dash)))
-      (if_none (is_inst_name a && is_inst_name b) (with_way a b (way_of c)) (ap (with_way a b) (dashed (λ w. way_of w ≡ None) (λ bytes. refl) c dash)))
+      (if_none (is_inst_name a && is_inst_name b) (with_direction a b (direction_of c)) (ap (with_direction a b) (dashed (λ w. direction_of w ≡ None) (λ bytes. refl) c dash)))
     where
       no_count : (bytes : List ℕ) → count_of (45 ∷ bytes) ≡ None
       no_count bytes = ap (λ t. if t then within_limit (digits_value 10 (45 ∷ bytes)) else None) (and_no (nat_le (length (45 ∷ bytes)) 7) (is_numeral (45 ∷ bytes)) refl)

@@ -2,7 +2,7 @@
 use Rattle.std.specs.Prelude.{◌≡◌, ℕ, Bool, true, false, not, ◌==◌, ◌&&◌, List, [], ◌∷◌, codes, bytes_eq, Option, Some, None, option_map, if◌then◌else◌}
 use Rattle.std.specs.List.{list_any}
 use Rattle.misp_ids.specs.Names.{is_inst_name}
-use Rattle.misp_ids.specs.declared.label.Way.{Way}
+use Rattle.misp_ids.specs.declared.label.Direction.{Direction}
 use Rattle.misp_words.specs.Count.{count_of}
 use Rattle.misp_words.specs.declared.command.Command.{Command}
 use Rattle.misp_words.specs.declared.command.Command.TheVariants as command
@@ -17,11 +17,11 @@ pub record ServeData : Type 0 where
   pub address : List ℕ
   pub count : ℕ
 
--- an instance, one of its links, and the way over it
+-- an instance, one of its links, and the direction over it
 pub record SyncData : Type 0 where
   pub name : List ℕ
   pub link : List ℕ
-  pub way : Way
+  pub direction : Direction
 
 pub data CommandData : Type 0 where
   Net Check : CommandData
@@ -32,7 +32,7 @@ abbrev pub serve_data : ServeWords → ServeData
 serve_data words = record { name = words.name; address = words.address.now; count = words.count }
 
 abbrev pub sync_data : SyncWords → SyncData
-sync_data words = record { name = words.name; link = words.link; way = words.way }
+sync_data words = record { name = words.name; link = words.link; direction = words.direction }
 
 abbrev pub command_data : Command → CommandData
 command_data command.Net = Net
@@ -59,23 +59,23 @@ serve_words name address count =
     then with_count name address (count_of count)
     else None
 
--- a way by its name
-abbrev pub way_of : List ℕ → Option Way
-way_of word =
-    if bytes_eq word (codes "pull") then Some Way.Pull
-    else if bytes_eq word (codes "push") then Some Way.Push
+-- a direction by its name
+abbrev pub direction_of : List ℕ → Option Direction
+direction_of word =
+    if bytes_eq word (codes "pull") then Some Direction.Pull
+    else if bytes_eq word (codes "push") then Some Direction.Push
     else None
 
--- an instance and a link with a way, where there is one
-abbrev pub with_way : List ℕ → List ℕ → Option Way → Option SyncData
-with_way name link None = None
-with_way name link (Some way) = Some (record { name = name; link = link; way = way })
+-- an instance and a link with a direction, where there is one
+abbrev pub with_direction : List ℕ → List ℕ → Option Direction → Option SyncData
+with_direction name link None = None
+with_direction name link (Some direction) = Some (record { name = name; link = link; direction = direction })
 
--- the name of an instance, the name of a link, and a way
+-- the name of an instance, the name of a link, and a direction
 abbrev pub sync_words : List ℕ → List ℕ → List ℕ → Option SyncData
-sync_words name link way =
+sync_words name link direction =
     if is_inst_name name && is_inst_name link
-    then with_way name link (way_of way)
+    then with_direction name link (direction_of direction)
     else None
 
 -- the command of this name that takes no words

@@ -1,11 +1,11 @@
 //! What the words ask for.
 
 ghost use Rattle.std.specs.Prelude.{◌≡◌, map, option_map, string_bytes};
-ghost use Rattle.misp_words.specs.Words.{begins_with_dash, command_data, serve_data, serve_words, sync_data, sync_words, way_of, command_named, command_with, command_of};
+ghost use Rattle.misp_words.specs.Words.{begins_with_dash, command_data, serve_data, serve_words, sync_data, sync_words, direction_of, command_named, command_with, command_of};
 
 use crate::count::read_count;
 use crate::names::{CHECK, NET, SERVE, SYNC};
-use misp_ids::{InstId, Way};
+use misp_ids::{Direction, InstId};
 
 /// What the program is to do.
 #[derive(Clone, Copy, PartialEq, Eq)]
@@ -38,7 +38,7 @@ pub struct SyncWords {
     pub name: InstId,
     /// The link, which the instance need not have.
     pub link: InstId,
-    pub way: Way,
+    pub direction: Direction,
 }
 
 fn begins_with_dash(word: &str) -> bool
@@ -63,21 +63,29 @@ fn serve_words<'a>(name: &str, address: &'a str, count: &str) -> Option<ServeWor
     }
 }
 
-fn way_of(word: &str) -> Option<Way>
-    ensures { result ≡ way_of word.now }
+fn direction_of(word: &str) -> Option<Direction>
+    ensures { result ≡ direction_of word.now }
 {
     match word {
-        "pull" => Some(Way::Pull),
-        "push" => Some(Way::Push),
+        "pull" => Some(Direction::Pull),
+        "push" => Some(Direction::Push),
         _ => None,
     }
 }
 
-fn sync_words(name: &str, link: &str, way: &str) -> Option<SyncWords>
-    ensures { option_map sync_data result ≡ sync_words name.now link.now way.now }
+fn sync_words(name: &str, link: &str, direction: &str) -> Option<SyncWords>
+    ensures { option_map sync_data result ≡ sync_words name.now link.now direction.now }
 {
-    match (InstId::read(name), InstId::read(link), way_of(way)) {
-        (Some(name), Some(link), Some(way)) => Some(SyncWords { name, link, way }),
+    match (
+        InstId::read(name),
+        InstId::read(link),
+        direction_of(direction),
+    ) {
+        (Some(name), Some(link), Some(direction)) => Some(SyncWords {
+            name,
+            link,
+            direction,
+        }),
         _ => None,
     }
 }

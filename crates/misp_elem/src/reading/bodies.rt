@@ -11,6 +11,9 @@ use crate::content::{
 use crate::fault::{BadField, Stop};
 use crate::reading::Reader;
 use crate::reading::fields::room_after;
+use crate::reading::seen::earliest;
+use crate::reading::tags::room_after_tags;
+use crate::row::RowForm;
 use misp_ids::Text;
 use std::alloc::Global;
 
@@ -75,8 +78,12 @@ impl Reader<'_> {
     }
 
     #[tactic(auto, unfolding(crate::specs::ContentReading::attribute_body_at))]
-    pub(super) fn attribute_body(&mut self, alloc: Global) -> Result<AttributeBody, Stop>
-        ensures { Gives result self.new (attribute_body_at self.old) }
+    pub(super) fn attribute_body(
+        &mut self,
+        alloc: Global,
+        form: RowForm,
+    ) -> Result<AttributeBody, Stop>
+        ensures { Gives result self.new (attribute_body_at form self.old) }
     {
         let kind = self.text(alloc, 1, 100)?;
         let category = self.between(0, 15)?;
@@ -86,7 +93,12 @@ impl Reader<'_> {
         let deleted = self.flag()?;
         let after_comment = room_after(after_kind, &comment);
         let value = self.value(alloc, after_comment, kind.as_str())?;
-        let tags = self.tags(alloc, room_after(after_comment, &value))?;
+        let after_value = room_after(after_comment, &value);
+        let tags = self.tags(alloc, after_value)?;
+        let after_tags = room_after_tags(after_value, &tags);
+        let object_relation = self.relation(alloc, form, after_tags)?;
+        let first_seen = self.seen(form, 0)?;
+        let last_seen = self.seen(form, earliest(&first_seen))?;
         Ok(AttributeBody {
             kind,
             category,
@@ -95,6 +107,9 @@ impl Reader<'_> {
             deleted,
             value,
             tags,
+            object_relation,
+            first_seen,
+            last_seen,
         })
     }
 

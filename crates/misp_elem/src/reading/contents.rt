@@ -9,6 +9,7 @@ use crate::content::Content;
 use crate::fault::Stop;
 use crate::key::{KeyForm, Place};
 use crate::reading::Reader;
+use crate::row::RowForm;
 use std::alloc::Global;
 
 /// Whether a row of this key, label and flags may have a content of this kind.
@@ -46,11 +47,12 @@ impl Reader<'_> {
     pub(super) fn content(
         &mut self,
         alloc: Global,
+        form: RowForm,
         key: &KeyForm,
         label: u8,
         flags: (bool, bool),
     ) -> Result<Content, Stop>
-        ensures { Gives result self.new (content_at key.now label flags self.old) }
+        ensures { Gives result self.new (content_at form key.now label flags self.old) }
     {
         let bad = Stop::Bad(self.bad());
         let kind = self.byte()?;
@@ -60,7 +62,7 @@ impl Reader<'_> {
         match kind {
             0 => Ok(Content::Event(self.event_body(alloc)?)),
             1 => Ok(Content::Object(self.object_body(alloc)?)),
-            2 => Ok(Content::Attribute(self.attribute_body(alloc)?)),
+            2 => Ok(Content::Attribute(self.attribute_body(alloc, form)?)),
             3 => Ok(Content::Reference(self.reference_body(alloc)?)),
             4 => Ok(Content::Proposal(self.proposal_body(alloc, may_remove(key))?)),
             5 => Ok(Content::Verdict(self.flag()?)),

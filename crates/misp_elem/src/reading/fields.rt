@@ -3,11 +3,11 @@
 ghost use Rattle.std.specs.Prelude.{◌≡◌, ◌-◌, length, true, false, MatchOption};
 ghost use Rattle.std.specs.Int.{w32, w64};
 ghost use Rattle.misp_elem.specs.Fields.{is_text};
-ghost use Rattle.misp_elem.specs.Reading.{Reads, Gives, number_at, between_at, stamp_at, text_at, date_at, flag_at, optional_at};
+ghost use Rattle.misp_elem.specs.Reading.{Reads, Gives, number_at, between_at, stamp_at, text_at, date_at, flag_at, moment_at, optional_at, optional_moment_at};
 
 use crate::fault::{BadField, Stop};
 use crate::reading::Reader;
-use misp_dates::is_date;
+use misp_dates::{Moment, is_date};
 use misp_ids::{Stamp, Text, Uid};
 use std::alloc::Global;
 use std::str;
@@ -98,6 +98,29 @@ impl Reader<'_> {
     {
         if self.flag()? {
             Ok(Some(self.uid()?))
+        } else {
+            Ok(None)
+        }
+    }
+
+    #[tactic(auto, unfolding(crate::specs::Reading::moment_at))]
+    fn moment(&mut self, least: u64) -> Result<Moment, BadField>
+        ensures { Reads result self.new (moment_at least self.old) }
+    {
+        let bad = self.bad();
+        let number = self.u64()?;
+        if number < least {
+            return Err(bad);
+        }
+        Moment::new(number).ok_or(bad)
+    }
+
+    #[tactic(auto, unfolding(crate::specs::Reading::optional_moment_at))]
+    pub(super) fn optional_moment(&mut self, least: u64) -> Result<Option<Moment>, BadField>
+        ensures { Reads result self.new (optional_moment_at least self.old) }
+    {
+        if self.flag()? {
+            Ok(Some(self.moment(least)?))
         } else {
             Ok(None)
         }

@@ -6,12 +6,12 @@ ghost use Rattle.misp_elem.specs.Spelling as spelling;
 ghost use Rattle.misp_elem.specs.Row.{barred_labels, IsRow};
 ghost use Rattle.misp_ids.specs.Labels.{label_kind};
 ghost use Rattle.misp_elem.specs.Reading.{Reads, Gives, GivesAll, Answers, answer};
-ghost use Rattle.misp_elem.specs.RowReading.{group_at, label_at, flags_at, fields_at, row_at, row_of};
+ghost use Rattle.misp_elem.specs.RowReading.{group_at, label_at, flags_at, fields_at, form_at, row_at, row_of};
 
 use crate::fault::{BadField, DecodeFault, Stop};
 use crate::key::{KeyForm, Place};
 use crate::reading::Reader;
-use crate::row::{Row, RowFields};
+use crate::row::{Row, RowFields, RowForm};
 use misp_ids::{GroupId, Label};
 use std::alloc::Global;
 
@@ -73,15 +73,15 @@ impl Reader<'_> {
     }
 
     #[tactic(auto, unfolding(crate::specs::RowReading::fields_at))]
-    fn fields(&mut self, alloc: Global) -> Result<RowFields, Stop>
-        ensures { Gives result self.new (fields_at self.old) }
+    fn fields(&mut self, alloc: Global, form: RowForm) -> Result<RowFields, Stop>
+        ensures { Gives result self.new (fields_at form self.old) }
     {
         let owner = self.org()?;
         let key = self.key()?;
         let stamp = self.stamp()?;
         let label = self.label(barred(&key))?;
         let (held, carried) = self.flags()?;
-        let content = self.content(alloc, &key, label.kind(), (held, carried))?;
+        let content = self.content(alloc, form, &key, label.kind(), (held, carried))?;
         Ok(RowFields {
             owner,
             key,
@@ -93,12 +93,24 @@ impl Reader<'_> {
         })
     }
 
+    #[tactic(auto, unfolding(crate::specs::RowReading::form_at))]
+    fn form(&mut self) -> Result<RowForm, BadField>
+        ensures { Reads result self.new (form_at self.old) }
+    {
+        let bad = self.bad();
+        match self.byte()? {
+            1 => Ok(RowForm::First),
+            2 => Ok(RowForm::Second),
+            _ => Err(bad),
+        }
+    }
+
     #[tactic(auto, unfolding(crate::specs::RowReading::row_at))]
     fn row(&mut self, alloc: Global) -> Result<RowFields, Stop>
         ensures { Gives result self.new (row_at self.old) }
     {
-        self.between(1, 1)?;
-        self.fields(alloc)
+        let form = self.form()?;
+        self.fields(alloc, form)
     }
 }
 
@@ -115,12 +127,13 @@ fn whole_row(alloc: Global, bytes: &[u8]) -> Result<RowFields, Stop>
     Err(Stop::Bad(reader.bad()))
 }
 
-/// The row that the bytes spell, all of the bytes.
+/// The row that the bytes spell in one of the two forms, all of the bytes.
 pub fn decode(alloc: Global, bytes: &[u8]) -> Result<Row, DecodeFault>
-    // What is read is spelled so.
-    ensures found { IfOk result (λ r. IsRow r × (bytes.now ≡ spelling.row r)) }
+    // What is read is spelled so, in the second form, or in the first where that spells all of it.
+    ensures found { IfOk result (λ r. IsRow r × spelling.Spells bytes.now r) }
     // What is spelled so is read, unless memory runs out.
-    ensures only { (r : RowFields) → IsRow r → bytes.now ≡ spelling.row r → Answers result (Ok r) }
+    ensures only { (r : RowFields) → IsRow r → spelling.Spells bytes.now r →
+        Answers result (Ok r) }
     // The place of a fault is that of the first field that is not of its form.
     ensures exact { Answers result (answer bytes.now (row_of bytes.now)) }
 {

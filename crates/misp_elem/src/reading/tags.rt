@@ -1,7 +1,7 @@
 //! Reading tags.
 
-ghost use Rattle.std.specs.Prelude.{◌≡◌, []};
-ghost use Rattle.misp_elem.specs.Fields.{last_name, is_after};
+ghost use Rattle.std.specs.Prelude.{◌≡◌, ◌-◌, []};
+ghost use Rattle.misp_elem.specs.Fields.{last_name, is_after, tags_size};
 ghost use Rattle.misp_elem.specs.Reading.{Reads, Gives};
 ghost use Rattle.misp_elem.specs.ContentReading.{colour_at, tag_name_at, tag_at, tags_after, tags_at};
 
@@ -27,6 +27,18 @@ fn last_name(tags: &[Tag]) -> &[u8]
         Some(tag) => tag.name.as_str().as_bytes(),
         None => &[],
     }
+}
+
+/// How many bytes the names of these leave of the room that there was.
+#[tactic(auto, unfolding(crate::specs::Fields::tags_size))]
+pub(super) fn room_after_tags(room: usize, tags: &Items<Tag>) -> usize
+    ensures { result ≡ room - tags_size tags.now }
+{
+    let mut left = room;
+    for tag in tags.as_slice() {
+        left = room_after(left, &tag.name);
+    }
+    left
 }
 
 impl Reader<'_> {

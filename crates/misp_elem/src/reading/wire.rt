@@ -13,7 +13,7 @@ use crate::key::{Key, KeyForm};
 use crate::order::compare_keys;
 use crate::reading::Reader;
 use crate::reading::rows::barred;
-use crate::row::{Row, RowFields};
+use crate::row::{Row, RowFields, RowForm};
 use misp_ids::{EventId, OrgId};
 use std::alloc::Global;
 
@@ -119,7 +119,7 @@ impl Reader<'_> {
         let stamp = self.stamp()?;
         let label = self.label(barred(&key))?;
         let (held, carried) = self.carried()?;
-        let content = self.content(alloc, &key, label.kind(), (held, carried))?;
+        let content = self.content(alloc, RowForm::Second, &key, label.kind(), (held, carried))?;
         Ok(RowFields {
             owner,
             key,
@@ -140,7 +140,7 @@ impl Reader<'_> {
     ) -> Result<RowFields, Stop>
         ensures { Gives result self.new (row_on_wire event before self.old) }
     {
-        self.between(1, 1)?;
+        self.between(2, 2)?;
         self.fields_on_wire(alloc, event, before)
     }
 }
@@ -163,7 +163,7 @@ fn whole_row(
     Err(Stop::Bad(reader.bad()))
 }
 
-/// The row that the bytes spell, all of the bytes, as it stands on the wire among those of the
+/// The row that the bytes spell in the second form, all of the bytes, as it stands on the wire among those of the
 /// event: the event's own row where none is before it, else one with a key after that before.
 pub fn decode_on_wire(
     alloc: Global,

@@ -3,11 +3,14 @@
 ghost use Rattle.std.specs.Prelude.{◌≡◌, ◌++◌, true, OnOk};
 ghost use Rattle.misp_elem.specs.Contents.{IsEventBody, IsObjectBody, IsAttributeBody, IsReferenceBody, IsProposalBody, IsSightingBody, IsContent};
 ghost use Rattle.misp_elem.specs.Spelling as spelling;
+ghost use Rattle.misp_elem.specs.declared.row.RowForm.TheVariants.{Second};
 
 use crate::content::{
     AttributeBody, Content, EventBody, ObjectBody, ProposalBody, ReferenceBody, SightingBody,
 };
-use crate::writing::fields::{put_byte, put_flag, put_optional_uid, put_stamp, put_text, put_u64};
+use crate::writing::fields::{
+    put_byte, put_flag, put_optional_moment, put_optional_uid, put_stamp, put_text, put_u64,
+};
 use crate::writing::put_uid;
 use crate::writing::tags::put_tags;
 use std::alloc::AllocError;
@@ -44,7 +47,7 @@ fn put_object_body(out: &mut Vec<u8>, body: &ObjectBody) -> Result<(), AllocErro
 
 fn put_attribute_body(out: &mut Vec<u8>, body: &AttributeBody) -> Result<(), AllocError>
     requires { IsAttributeBody body.now }
-    ensures { OnOk result (out.new.items ≡ out.old.items ++ spelling.attribute_body body.now) }
+    ensures { OnOk result (out.new.items ≡ out.old.items ++ spelling.attribute_body Second body.now) }
 {
     put_text(out, &body.kind)?;
     put_byte(out, body.category)?;
@@ -52,7 +55,11 @@ fn put_attribute_body(out: &mut Vec<u8>, body: &AttributeBody) -> Result<(), All
     put_text(out, &body.comment)?;
     put_flag(out, body.deleted)?;
     put_text(out, &body.value)?;
-    put_tags(out, body.tags.as_slice())
+    put_tags(out, body.tags.as_slice())?;
+    put_text(out, &body.object_relation)?;
+    put_optional_moment(out, body.first_seen)?;
+    put_optional_moment(out, body.last_seen)?;
+    Ok(())
 }
 
 fn put_reference_body(out: &mut Vec<u8>, body: &ReferenceBody) -> Result<(), AllocError>

@@ -4,6 +4,7 @@ ghost use Rattle.std.specs.Prelude.{◌≡◌, ◌<◌, ◌^◌, ◌++◌, ◌�
 ghost use Rattle.misp_elem.specs.Spelling as spelling;
 
 use crate::writing::put_uid;
+use misp_dates::Moment;
 use misp_ids::{Stamp, Text, Uid};
 use std::alloc::AllocError;
 
@@ -48,6 +49,21 @@ pub(super) fn put_u64(out: &mut Vec<u8>, number: u64) -> Result<(), AllocError>
     ensures { OnOk result (out.new.items ≡ out.old.items ++ spelling.stamp number) }
 {
     out.extend_from_slice(&number.to_be_bytes())
+}
+
+pub(super) fn put_optional_moment(
+    out: &mut Vec<u8>,
+    moment: Option<Moment>,
+) -> Result<(), AllocError>
+    ensures { OnOk result (out.new.items ≡ out.old.items ++ spelling.optional_moment moment) }
+{
+    match moment {
+        None => put_byte(out, 0),
+        Some(moment) => {
+            put_byte(out, 1)?;
+            put_u64(out, moment.get())
+        }
+    }
 }
 
 pub(super) fn put_stamp(out: &mut Vec<u8>, stamp: Stamp) -> Result<(), AllocError>

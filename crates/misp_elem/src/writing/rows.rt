@@ -45,7 +45,7 @@ fn put_flags(out: &mut Vec<u8>, held: bool, carried: bool) -> Result<(), AllocEr
 fn put_row(out: &mut Vec<u8>, row: &Row) -> Result<(), AllocError>
     ensures { OnOk result (out.new.items ≡ out.old.items ++ spelling.row row.now) }
 {
-    put_byte(out, 1)?;
+    put_byte(out, 2)?;
     put_uid(out, row.owner.0)?;
     put_key(out, &row.key.form)?;
     put_stamp(out, row.stamp)?;
@@ -57,7 +57,7 @@ fn put_row(out: &mut Vec<u8>, row: &Row) -> Result<(), AllocError>
 /// Room that the rows of most attributes fit into.
 const ROW_ROOM: usize = 128;
 
-/// The one spelling of a row.
+/// The spelling of a row, in the second form.
 pub fn encode(alloc: Global, row: &Row) -> Result<Vec<u8>, NoMemory>
     ensures { IfOk result (λ v. v.items ≡ spelling.row row.now) }
 {

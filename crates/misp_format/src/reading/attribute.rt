@@ -21,6 +21,7 @@ use crate::reading::label::label;
 use crate::reading::members::Members;
 use crate::reading::path::Path;
 use crate::reading::readers::is_file;
+use crate::reading::seen::seen;
 use crate::reading::tag::{tags, tags_size};
 use misp_elem::{AttributeBody, Content, Draft, Place};
 use misp_fields::{self as fields, Need, member};
@@ -103,6 +104,7 @@ fn size(body: &AttributeBody) -> usize
         .saturating_add(body.comment.as_str().len())
         .saturating_add(body.value.as_str().len())
         .saturating_add(tags_size(body.tags.as_slice()))
+        .saturating_add(body.object_relation.as_str().len())
 }
 
 fn place_in(object: Option<ElemId>, uuid: ElemId) -> Place
@@ -137,6 +139,8 @@ pub(crate) fn attribute(
     let deleted = it.flag("deleted", false)?;
     no_file(&it)?;
     let value = self::value(&it, kind.as_str())?;
+    let seen = seen(&it)?;
+    let object_relation = it.text("object_relation")?;
     let tags = tags(&it)?;
     let body = AttributeBody {
         kind,
@@ -146,6 +150,9 @@ pub(crate) fn attribute(
         deleted,
         value,
         tags,
+        object_relation,
+        first_seen: seen.first,
+        last_seen: seen.last,
     };
     let bytes = size(&body);
     let body = it.short(body, bytes)?;

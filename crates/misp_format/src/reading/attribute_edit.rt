@@ -16,6 +16,7 @@ use crate::reading::edit::{given_label, given_size, given_stamp, given_text};
 use crate::reading::event::unwrapped;
 use crate::reading::members::Members;
 use crate::reading::path::Path;
+use crate::reading::seen::given_seen;
 use misp_fields::member;
 use misp_ids::Text;
 use misp_model::{AttributeEdit, AttributeEditFields};
@@ -76,6 +77,7 @@ pub fn read_attribute_edit(alloc: Global, value: &Value) -> Result<AttributeEdit
     let label = given_label(&it, 5)?;
     let comment = given_text(&it, "comment")?;
     let kind_value = kind_value(&it)?;
+    let seen = given_seen(&it)?;
     let stamp = given_stamp(&it, "timestamp")?;
     let bytes = given_size(&comment).saturating_add(pair_size(&kind_value));
     let fields = AttributeEditFields {
@@ -85,6 +87,7 @@ pub fn read_attribute_edit(alloc: Global, value: &Value) -> Result<AttributeEdit
         to_ids,
         comment,
         kind_value,
+        seen,
     };
     let fields = it.short(fields, bytes)?;
     Ok(AttributeEdit::of(fields))

@@ -4,7 +4,7 @@ ghost use Rattle.std.specs.Prelude.{◌≡◌, ◌<◌, ◌≤◌, ◌^◌, true
 ghost use Rattle.serde_json.specs.Data.{no_items};
 ghost use Rattle.serde_json.specs.View.{view, items_of};
 ghost use Rattle.misp_fields.specs.declared.need.Need.TheVariants as needs;
-ghost use Rattle.misp_fields.specs.Fields.{text_of, number_of, flag_of, uuid_of, optional_uuid_of, list_of};
+ghost use Rattle.misp_fields.specs.Fields.{text_of, number_of, flag_of, uuid_of, optional_uuid_of, moment_of, list_of};
 ghost use Rattle.misp_format.specs.declared.fault.FormatFault.TheVariants as faults;
 ghost use Rattle.misp_format.specs.Path.{member_path};
 ghost use Rattle.misp_format.specs.Members.{path_text, body_of};
@@ -15,6 +15,7 @@ ghost use Rattle.misp_format.specs.Rows.{Gives, Shows, row, must_be, at, body_at
 use crate::fault::FormatFault;
 use crate::reading::path::Path;
 use crate::reading::readers::{inst_name, number_within};
+use misp_elem::Moment;
 use misp_fields::{self as fields, Need, member};
 use misp_ids::{InstId, Text, Uid};
 use serde_json::Value;
@@ -221,6 +222,26 @@ impl<'a> Members<'a> {
                 Ok(_) => self.refused(name, Need::Range),
                 Err(need) => self.refused(name, need),
             },
+            None => self.refused(name, Need::Present),
+        }
+    }
+
+    /// A moment, or none where the text is empty or absent.
+    pub(crate) fn moment(&self, name: &str) -> Result<Option<Moment>, FormatFault>
+        ensures { Gives result (row (body_of self.now) name.now moment_of (Ok None)) }
+    {
+        match member(self.value, name) {
+            Some(value) => self.kept(name, fields::moment(value)),
+            None => Ok(None),
+        }
+    }
+
+    /// The same, which may not be absent.
+    pub(crate) fn needed_moment(&self, name: &str) -> Result<Option<Moment>, FormatFault>
+        ensures { Gives result (row (body_of self.now) name.now moment_of must_be) }
+    {
+        match member(self.value, name) {
+            Some(value) => self.kept(name, fields::moment(value)),
             None => self.refused(name, Need::Present),
         }
     }

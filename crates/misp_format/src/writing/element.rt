@@ -3,8 +3,8 @@
 ghost use Rattle.std.specs.Prelude.{◌≡◌, ◌++◌, IfOk, OnOk, codes, string_bytes};
 ghost use Rattle.misp_format.specs.Fields.{list_data};
 ghost use Rattle.misp_format.specs.Names.{names_in};
-ghost use Rattle.misp_format.specs.Tokens.{put_value, put_members, put_attribute_lists, put_object_lists};
-ghost use Rattle.misp_format.specs.Written.{colour_text, tag_data, attribute_texts, attribute_with, attribute_data, object_texts, object_with, object_data};
+ghost use Rattle.misp_format.specs.Tokens.{put_value, put_members, put_attribute_lists, put_object_lists, put_seen_and_part};
+ghost use Rattle.misp_format.specs.Written.{colour_text, tag_data, attribute_rest, attribute_texts, attribute_with, attribute_data, object_texts, object_with, object_data};
 
 use crate::kinds::category_name;
 use crate::writing::group_names::{GroupNames, put_sharing_group};
@@ -109,6 +109,16 @@ fn put_attribute_lists(
     Ok(())
 }
 
+// When it was first and last seen, and its part in an object, each where there is one.
+fn put_seen_and_part(out: &mut Writer, body: &AttributeBody) -> Result<(), NoMemory>
+    ensures { OnOk result (out.new ≡ put_seen_and_part body.now out.old) }
+{
+    out.moment_if_known("first_seen", &body.first_seen)?;
+    out.moment_if_known("last_seen", &body.last_seen)?;
+    out.text_if_any("object_relation", body.object_relation.as_str())
+}
+
+#[tactic(auto, using(crate::proofs::Texts::attribute_texts_put))]
 fn put_attribute_texts(
     out: &mut Writer,
     attribute: &VisibleAttribute,
@@ -121,6 +131,19 @@ fn put_attribute_texts(
     out.text("comment", body.comment.as_str())?;
     out.flag("deleted", body.deleted)?;
     out.number("distribution", label_number(&attribute.row.label))?;
+    put_seen_and_part(out, body)?;
+    put_attribute_rest(out, attribute, body)
+}
+
+// Its last texts.
+fn put_attribute_rest(
+    out: &mut Writer,
+    attribute: &VisibleAttribute,
+    body: &AttributeBody,
+) -> Result<(), NoMemory>
+    ensures { OnOk result (out.new
+        ≡ put_members (attribute_rest attribute.now body.now) out.old) }
+{
     out.number("timestamp", attribute.row.stamp.get())?;
     out.flag("to_ids", body.to_ids)?;
     out.text("type", body.kind.as_str())?;

@@ -4,10 +4,12 @@ ghost use Rattle.std.specs.Prelude.{◌≡◌, ◌++◌, OnOk};
 ghost use Rattle.json.specs.Print.{print};
 ghost use Rattle.json.specs.Token as tokens;
 ghost use Rattle.serde_json.specs.Data.{null, string, boolean};
-ghost use Rattle.misp_format.specs.Fields.{number_data, count_data, uuid_data, optional_uuid_data, org_data};
-ghost use Rattle.misp_format.specs.Tokens.{behind, push, put_value, put_member};
+ghost use Rattle.misp_dates.specs.Moments.{moment_text};
+ghost use Rattle.misp_format.specs.Fields.{number_data, count_data, uuid_data, optional_uuid_data, moment_if_known, text_if_any, org_data};
+ghost use Rattle.misp_format.specs.Tokens.{behind, push, put_value, put_member, put_some};
 
 use json::Writer as TokenWriter;
+use misp_elem::Moment;
 use misp_ids::{NoMemory, OrgId, Uid};
 use std::alloc::Global;
 use std::marker::Model;
@@ -145,6 +147,42 @@ impl Writer {
             Some(uuid) => self.uuid(name, uuid),
             None => self.text(name, ""),
         }
+    }
+
+    fn moment(&mut self, name: &str, moment: &Moment) -> Result<(), NoMemory>
+        ensures { OnOk result (self.new
+            ≡ put_member name.now (string (moment_text moment.now)) self.old) }
+    {
+        let _microseconds = moment.get();
+        match str::from_utf8(&moment.text()) {
+            Ok(text) => self.text(name, text),
+            Err(_) => unreachable!(),
+        }
+    }
+
+    /// A moment, where it is known.
+    pub(crate) fn moment_if_known(
+        &mut self,
+        name: &str,
+        moment: &Option<Moment>,
+    ) -> Result<(), NoMemory>
+        ensures { OnOk result (self.new
+            ≡ put_some name.now (moment_if_known moment.now) self.old) }
+    {
+        match moment {
+            Some(moment) => self.moment(name, moment),
+            None => Ok(()),
+        }
+    }
+
+    /// A text, where it is not empty.
+    pub(crate) fn text_if_any(&mut self, name: &str, text: &str) -> Result<(), NoMemory>
+        ensures { OnOk result (self.new ≡ put_some name.now (text_if_any text.now) self.old) }
+    {
+        if text.is_empty() {
+            return Ok(());
+        }
+        self.text(name, text)
     }
 
     /// An organisation, and the name that it is known by.

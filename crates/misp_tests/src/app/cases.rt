@@ -3,7 +3,7 @@
 use misp_app::Status;
 
 /// What the names in the texts of the table stand for, in the order in which they are put in.
-pub(super) const NAMES: [(&str, &str); 45] = [
+pub(super) const NAMES: [(&str, &str); 49] = [
     (
         "{net}",
         "[[org]]\nname = 'Alpha'\nuuid = '{oa}'\n[[org]]\nname = 'Beta'\nuuid = '{ob}'\n\
@@ -63,6 +63,32 @@ pub(super) const NAMES: [(&str, &str); 45] = [
          'Attribute':[{part}]}}",
     ),
     (
+        "{seen}",
+        "{'Event':{'uuid':'{e1}','info':'Wave','date':'2023-11-14','distribution':'1',\
+         'Object':[{'uuid':'{u2}','name':'domain-ip','Attribute':[{'uuid':'{u1}','type':'domain',\
+         'value':'x','first_seen':'2023-11-15T00:13:20.5+02:00','object_relation':'domain'}]}]}}",
+    ),
+    (
+        "{dated}",
+        "{'Event':{'uuid':'{e2}','info':'Wave','date':'2023-11-14','Attribute':[\
+         {'uuid':'{u1}','type':'text','value':'x','first_seen':'2023-11-14'}]}}",
+    ),
+    (
+        "{shown seen}",
+        "200 {'Event':{'Attribute':[],'Object':[{'Attribute':[{'ShadowAttribute':[],\
+         'Sighting':[],'Tag':[],'category':'Other','comment':'','deleted':false,\
+         'distribution':'5','first_seen':'2023-11-14T22:13:20.500000+00:00',\
+         'object_relation':'domain','timestamp':'1700000000','to_ids':false,'type':'domain',\
+         'uuid':'{u1}','value':'x'}],'ObjectReference':[],'comment':'','deleted':false,\
+         'description':'','distribution':'5','meta-category':'','name':'domain-ip',\
+         'template_uuid':'','template_version':'0','timestamp':'1700000000','uuid':'{u2}'}],\
+         'Org':{'name':'Alpha','uuid':'{oa}'},'Orgc':{'name':'Alpha','uuid':'{oa}'},\
+         'ShadowAttribute':[],'Tag':[],'analysis':'0','attribute_count':'1',\
+         'date':'2023-11-14','distribution':'1','extends_uuid':'','info':'Wave',\
+         'publish_timestamp':'0','published':false,'threat_level_id':'4',\
+         'timestamp':'1700000000','uuid':'{e1}'}}",
+    ),
+    (
         "{nameless}",
         "{'Event':{'uuid':'{e1}','info':'','date':'2023-11-14','distribution':'1',\
          'Attribute':[{part}]}}",
@@ -103,10 +129,7 @@ pub(super) const NAMES: [(&str, &str); 45] = [
         "{no keeper}",
         "503 {'name':'KeeperFault','place':'','rule':26}",
     ),
-    (
-        "{no row}",
-        "500 {'name':'BadRow','place':'aaaaaaaa000040008000000000000001','rule':28}",
-    ),
+    ("{gone}", "409 {'name':'EventGone','place':'','rule':13}"),
     (
         "{not creator}",
         "403 {'name':'NotCreator','place':'','rule':31}",
@@ -117,6 +140,7 @@ pub(super) const NAMES: [(&str, &str); 45] = [
     ("{e2}", "e1000000-0000-4000-8000-000000000002"),
     ("{e9}", "e1000000-0000-4000-8000-000000000009"),
     ("{u1}", "a1000000-0000-4000-8000-000000000001"),
+    ("{u2}", "a1000000-0000-4000-8000-000000000002"),
     ("{g1}", "91000000-0000-4000-8000-000000000001"),
     ("{ka}", "AAAAAAAAAAAAAAAAAAAAAAAAAAAAAAAAAAAAAAAA"),
     ("{kb}", "BBBBBBBBBBBBBBBBBBBBBBBBBBBBBBBBBBBBBBBB"),
@@ -127,9 +151,9 @@ pub(super) const NAMES: [(&str, &str); 45] = [
 ];
 
 /// A source under words, filled with `x` up to a length, over keepers of which the first holds one
-/// row, which is none. The read, the write and the call of that keeper with these numbers fail, and
-/// none at 0; its call 1 put the row. Afterwards it has applied so many batches, and the others
-/// none.
+/// row, the tombstone of Alpha for {e9}. The read, the write and the call of that keeper with these
+/// numbers fail, and none at 0; its call 1 put the row, and the calls 2 and 3 open the instance.
+/// Afterwards it has applied so many batches, and the others none.
 #[derive(Drop)]
 pub(super) struct Case<'a> {
     pub(super) words: &'a str,
@@ -143,7 +167,7 @@ pub(super) struct Case<'a> {
 
 const NONE: [u64; 3] = [0, 0, 0];
 
-pub(super) const CASES: [Case<'static>; 26] = [
+pub(super) const CASES: [Case<'static>; 28] = [
     Case {
         words: "net",
         source: "{net}---\n{A adds} {wave}\n{B views}{e1}\n",
@@ -171,6 +195,18 @@ pub(super) const CASES: [Case<'static>; 26] = [
         status: Status::Done,
         written: "1 {saved}\n2 409 {'name':'EventExists','place':'','rule':12}\n3 {saved}\n",
         batches: 3,
+    },
+    // Moments are shown in UTC, and the part of an attribute in its object; a date is no moment.
+    Case {
+        words: "net",
+        source: "{net}---\n{A adds} {seen}\n{B views}{e1}\n{A adds} {dated}\n",
+        len: 0,
+        fails: NONE,
+        status: Status::Done,
+        written: "1 200 {'elements':3,'event':'{e1}','timestamp':'1700000000'}\n2 {shown seen}\n\
+                  3 400 {'name':'BadField','place':'Event.Attribute[0].first_seen moment',\
+                  'rule':7}\n",
+        batches: 2,
     },
     // Each rule before those that follow.
     Case {
@@ -328,7 +364,7 @@ pub(super) const CASES: [Case<'static>; 26] = [
         words: "net",
         source: "{net}---\n{B views}{e1}\n{B views}{e1}\n",
         len: 0,
-        fails: [0, 0, 3],
+        fails: [0, 0, 4],
         status: Status::Done,
         written: "1 {no keeper}\n2 {hidden}\n",
         batches: 1,
@@ -337,17 +373,26 @@ pub(super) const CASES: [Case<'static>; 26] = [
         words: "net",
         source: "{net}---\n{A adds} {wave}\n{B views}{e1}\n{A adds} {wave}\n",
         len: 0,
-        fails: [0, 0, 4],
+        fails: [0, 0, 5],
         status: Status::Done,
         written: "1 {no keeper}\n2 {hidden}\n3 {saved}\n",
         batches: 2,
     },
-    // A load of the administration that fails.
+    // A load of the administration that fails, and one of all rows.
     Case {
         words: "net",
         source: "{net}---\n{B views}{e1}\n",
         len: 0,
         fails: [0, 0, 2],
+        status: Status::KeeperFault,
+        written: "",
+        batches: 1,
+    },
+    Case {
+        words: "net",
+        source: "{net}---\n{B views}{e1}\n",
+        len: 0,
+        fails: [0, 0, 3],
         status: Status::KeeperFault,
         written: "",
         batches: 1,
@@ -391,7 +436,7 @@ pub(super) const CASES: [Case<'static>; 26] = [
                   4 {shown shared}\n5 {hidden}\n",
         batches: 3,
     },
-    // The row that the keeper holds under the name of A is none. An addition by B doesn't read it.
+    // What a keeper holds counts: A has deleted the event, and B, who cannot see that, may add it.
     Case {
         words: "net",
         source: "{net}---\n{B views}{e9}\n{A adds} {'uuid':'{e9}','info':'x','date':'2023-11-14'}\n\
@@ -399,7 +444,7 @@ pub(super) const CASES: [Case<'static>; 26] = [
         len: 0,
         fails: NONE,
         status: Status::Done,
-        written: "1 {no row}\n2 {no row}\n3 {hidden}\n\
+        written: "1 {hidden}\n2 {gone}\n3 {hidden}\n\
                   4 200 {'elements':1,'event':'{e9}','timestamp':'1700000000'}\n",
         batches: 2,
     },

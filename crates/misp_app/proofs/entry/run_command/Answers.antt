@@ -11,10 +11,11 @@ use Rattle.misp_app.specs.Status.{Wrote}
 use Rattle.misp_app.specs.Source.{described, host_named, HasFailed, IsTold, IsUnsound, OthersStay}
 use Rattle.misp_app.proofs.Endings.{out_of_memory, read_ends}
 use Rattle.misp_app.proofs.Finishing.{of_left, status_read}
-use Rattle.misp_app.proofs.Hosted.{none_read, one_keeper, served_here, unread_memory, words_read}
+use Rattle.misp_net.proofs.Openings.{kept_or_opened}
+use Rattle.misp_app.proofs.Hosted.{none_read, one_keeper, served_here, serves_unchecked, unread_memory, words_read}
 use Rattle.misp_app.proofs.Netted.{read_ended, unread}
 use Rattle.misp_app.specs.Synchronising.{HasSynced, IsCutSync, dialled, peer_address}
-use Rattle.misp_app.proofs.Synchronised.{no_line_read, not_read, sync_read, synced_here}
+use Rattle.misp_app.proofs.Synchronised.{no_line_read, not_read, sync_read, synced_here, syncs_unchecked}
 use Rattle.misp_app.proofs.entry.run_command.Goals as goal
 
 -- ---- a script was run
@@ -161,3 +162,13 @@ returns-in-Sync-clause-others g c =
     of_left (g.S.Source.left c.args.source.now) c.in-Ok-read_all.bytes.items c.deref-in-Sync.result.now
     (λ left. OthersStay (described left) (map g.K.Keeper.state c.args.keepers.now.items) (map g.K.Keeper.state c.sync_source.new.keepers.items))
     c.in-Ok-read_all.ensures.bytes c.deref-in-Sync.ensures.value c.sync_source.ensures.others
+
+-- ---- no instance was opened
+
+pub returns-in-Sync-clause-unopened : goal.returns-in-Sync-clause-unopened
+returns-in-Sync-clause-unopened g c = λ is.
+    (syncs_unchecked _ c.in-Ok.command.now c.in-Sync.words c.in-Ok.ensures.read c.in-Sync.is, kept_or_opened _ _ (c.sync_source.ensures.unopened is))
+
+pub returns-clause-unopened : goal.returns-clause-unopened
+returns-clause-unopened g c = λ is.
+    (serves_unchecked _ c.in-Ok.command.now c.in-Serve.words c.in-Ok.ensures.read c.in-Serve.is, kept_or_opened _ _ (c.serve_source.ensures.unopened is))

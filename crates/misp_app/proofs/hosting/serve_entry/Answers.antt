@@ -2,7 +2,7 @@ use Rattle.std.proofs.Common.{map, take, refl, sym, ap, subst, arith}
 use Rattle.std.proofs.lemmas.List.{length-map}
 use Rattle.misp_effects.proofs.KeeperStates.{all_kept}
 use Rattle.misp_net.specs.Hosts.{described_host}
-use Rattle.misp_net.proofs.Openings.{sound_kept}
+use Rattle.misp_net.proofs.Openings.{opened_of_them}
 use Rattle.misp_app.specs.Hosting.{HasServed}
 use Rattle.misp_app.proofs.Hosted.{memory_alone, none_served}
 use Rattle.misp_app.proofs.hosting.serve_entry.Goals as goal
@@ -31,9 +31,10 @@ returns-clause-served g c = λ time word back coming ready has. record {
   end = c.serve-served.new.instance;
   how = c.serve-served.result;
   host_is = c.in-Ok-open_first.ensures.host;
-  opened = c.in-Ok-open_first.ensures.opened;
+  begun = opened_of_them _ _ c.in-Ok-open_first.ensures.opened;
+  opened = λ more. c.in-Ok-open_first.ensures.opened;
   closed = ap (take 1) c.close_first.ensures.keepers;
-  sound = λ more. sound_kept _ _ c.in-Ok-open_first.ensures.opened c.in-Ok-open_first.ensures.sound;
+  sound = λ more. c.in-Ok-open_first.ensures.sound;
   how_is = sym c.serving_status.ensures;
   served = c.serve-served.ensures.served time (record { instance = c.in-Ok-open_first.instance; word = word; back = back }) coming ready.time_is
       (record { instance_is = refl; word_is = ready.word_is; back_is = ready.back_is }) ready.coming_is ready.told;

@@ -1,6 +1,6 @@
 use Rattle.std.proofs.Common.{◌≡◌, Some, length, map, take, refl, arith}
 use Rattle.std.proofs.lemmas.List.{length-map}
-use Rattle.misp_effects.proofs.KeeperStates.{all_kept}
+use Rattle.misp_effects.proofs.KeeperStates.{all_kept, first_kept}
 use Rattle.misp_net.specs.Hosts.{described_host}
 use Rattle.misp_words.specs.Words.{serve_data}
 use Rattle.misp_app.specs.Source.{host_named}
@@ -23,3 +23,7 @@ pub returns-in-Ok-Some-clause-status : goal.returns-in-Ok-Some-clause-status
 returns-in-Ok-Some-clause-status g c =
     let said : Some (described_host c.in-Ok-Some.entry) ≡ host_named c.args.words.now.name c.args.net = rw c.in-Ok-Some.field-0-is at c.in-Ok-Some.ensures.host in
     host_ends (serve_data c.args.words.now) _ c.serve_entry.result c.serve_entry.ensures.ends (named_done c.args.words.now.name c.args.net (described_host c.in-Ok-Some.entry) said)
+
+-- the others are as they were
+pub returns-in-Ok-Some-clause-unopened : goal.returns-in-Ok-Some-clause-unopened
+returns-in-Ok-Some-clause-unopened g c = λ is. first_kept 1 _ _ (c.serve_entry.ensures.unopened is) c.serve_entry.ensures.others

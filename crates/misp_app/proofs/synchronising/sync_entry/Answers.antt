@@ -1,5 +1,4 @@
 use Rattle.std.proofs.Common.{take, ap, inl, inr, refl}
-use Rattle.misp_net.proofs.Openings.{sound_kept}
 use Rattle.misp_app.proofs.Synchronised.{no_line}
 use Rattle.misp_app.proofs.synchronising.sync_entry.Goals as goal
 
@@ -20,7 +19,7 @@ returns-clause-synced g c = λ has. record {
     host_is = c.in-Ok.ensures.host;
     opened = c.in-Ok.ensures.opened;
     closed = ap (take 1) c.close_first.ensures.keepers;
-    sound = sound_kept _ _ c.in-Ok.ensures.opened c.in-Ok.ensures.sound;
+    sound = c.in-Ok.ensures.sound;
     syncs = c.sync_over-reply.ensures;
   };
   ends = c.tell_reply.ensures.status has;
@@ -36,7 +35,7 @@ returns-clause-cut g c = λ is. inr (
     host_is = c.in-Ok.ensures.host;
     opened = c.in-Ok.ensures.opened;
     closed = ap (take 1) c.close_first.ensures.keepers;
-    sound = sound_kept _ _ c.in-Ok.ensures.opened c.in-Ok.ensures.sound;
+    sound = c.in-Ok.ensures.sound;
     syncs = c.sync_over-reply.ensures;
   },
 )

@@ -1,5 +1,5 @@
 -- The law is the lemmas of proofs/Headline.antt.
-use Rattle.misp_erasure.proofs.Headline.{erasure, same_to_it, erased_run, erased_tables, erased_groups}
+use Rattle.misp_erasure.proofs.Headline.{erasure, same_to_it, erased_run, erased_tables, erased_groups, erased_made}
 use Rattle.misp_erasure.proofs.promise.erasure.Goals as goal
 
 pub returns : goal.returns
@@ -9,4 +9,5 @@ returns c = record {
   states = λ o net acts. erased_run o net acts;
   tables = λ o net acts more i. erased_tables o net acts more i;
   groups = λ o net acts more. erased_groups o net acts more;
+  made = λ o net acts more. erased_made o net acts more;
 }

@@ -4,4 +4,4 @@ use Rattle.misp_history.specs.Acts.{synced}
 use Rattle.misp_history.proofs.synchronising.a_second_synchronisation.Goals as goal
 
 pub returns : goal.returns
-returns c = record { here = again_here; elsewhere = λ n m w r. synced_elsewhere m (synced n w r) r; groups = again_groups_here; taken = λ n. again_taken n n; counted = λ n. again_counted n n }
+returns c = record { here = again_here; elsewhere = λ w r. synced_elsewhere (synced w r) r; groups = again_groups_here; taken = again_taken; counted = again_counted }

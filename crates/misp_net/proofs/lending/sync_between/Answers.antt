@@ -15,8 +15,8 @@ returns-clause-synced g c =
       mine = c.sync_with-reply.new.own;
       theirs = from.theirs;
       went = λ d.
-          subst (λ a. HasSynced c.args.way c.args.link.now a (slice_index_or xs peer d) c.sync_with-reply.new.own from.theirs c.sync_with-reply.result) (c.take_out-mine.ensures.out d)
-          (subst (λ b. HasSynced c.args.way c.args.link.now c.take_out-mine.result b c.sync_with-reply.new.own from.theirs c.sync_with-reply.result)
+          subst (λ a. HasSynced c.args.direction c.args.link.now a (slice_index_or xs peer d) c.sync_with-reply.new.own from.theirs c.sync_with-reply.result) (c.take_out-mine.ensures.out d)
+          (subst (λ b. HasSynced c.args.direction c.args.link.now c.take_out-mine.result b c.sync_with-reply.new.own from.theirs c.sync_with-reply.result)
           (ap (λ l. slice_index_or l place d) c.take_out-mine.ensures.rest ∙ lent xs own peer place c.requires.own c.requires.apart c.place_without-place.ensures.below c.place_without-place.ensures.above d)
           (from.went d));
       left =
@@ -33,8 +33,8 @@ returns-clause-passed g c = λ d.
     let place = c.place_without-place.result in
     let before = g.C.Carry.passed c.args.carry.now in
     let after = g.C.Carry.passed c.sync_with-reply.new.carry in
-    subst (λ a. HasCarriedSync c.args.way c.args.link.now a (slice_index_or xs peer d) c.sync_with-reply.result before after) (c.take_out-mine.ensures.out d)
-    (subst (λ b. HasCarriedSync c.args.way c.args.link.now c.take_out-mine.result b c.sync_with-reply.result before after)
+    subst (λ a. HasCarriedSync c.args.direction c.args.link.now a (slice_index_or xs peer d) c.sync_with-reply.result before after) (c.take_out-mine.ensures.out d)
+    (subst (λ b. HasCarriedSync c.args.direction c.args.link.now c.take_out-mine.result b c.sync_with-reply.result before after)
     (ap (λ l. slice_index_or l place d) c.take_out-mine.ensures.rest ∙ lent xs own peer place c.requires.own c.requires.apart c.place_without-place.ensures.below c.place_without-place.ensures.above d)
     (c.sync_with-reply.ensures.passed d))
 

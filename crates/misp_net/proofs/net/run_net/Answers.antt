@@ -1,14 +1,14 @@
-use Rattle.std.proofs.Common.{◌≡◌, ℕ, List, ◌++◌, length, map, take, drop, true, vec_len, Err, refl, sym, ◌∙◌, ap, subst, arith, length-append}
+use Rattle.std.proofs.Common.{◌≡◌, ℕ, List, ◌++◌, length, map, take, drop, true, vec_len, Err, refl, sym, ◌∙◌, ap, subst, inl, inr, arith, length-append}
 use Rattle.std.proofs.lemmas.List.{length-map}
 use Rattle.misp_script.specs.Directory.{roster_names}
 use Rattle.misp_effects.specs.KeeperStates.{OneFailed}
 use Rattle.misp_store.specs.Sharing.{may_be_unsound}
-use Rattle.misp_effects.proofs.KeeperStates.{all_kept, kept_told, kept_take}
+use Rattle.misp_effects.proofs.KeeperStates.{all_kept}
 use Rattle.misp_net.specs.Prelude.{AreKept, Description, KeeperState, Standing, described_host, described_hosts, hosts_of, state_of, states_of}
-use Rattle.misp_net.proofs.Openings.{if_err, memory_stopped, opening_stopped}
+use Rattle.misp_net.specs.Opening.{opened_states}
+use Rattle.misp_net.proofs.Openings.{if_err, kept_or_opened, memory_stopped, opening_stopped, take_opened}
 use Rattle.misp_net.specs.Asking.{names_of}
 use Rattle.misp_net.proofs.Asking.{names_described}
-use Rattle.misp_net.proofs.Scripts.{none_ran}
 use Rattle.misp_net.proofs.Privacy.{is_net_run}
 use Rattle.misp_net.proofs.SyncLaw.{both_laws}
 use Rattle.misp_net.proofs.Fronts.{AreInFront, opened_long, run_in_front, cut_in_front, others_kept}
@@ -16,12 +16,12 @@ use Rattle.misp_net.proofs.net.run_net.Goals as goal
 
 -- the instances are before the other keepers, before and after
 in_front : (net : Description) (opened ran : List Standing) (rest olds news : List KeeperState) (count : ℕ) → count ≡ length net.instances → hosts_of opened ≡ described_hosts net
-    → AreKept (take count olds) (states_of opened) → rest ≡ drop count olds → length ran ≡ length opened → news ≡ states_of ran ++ rest
+    → AreKept (opened_states (take count olds)) (states_of opened) → rest ≡ drop count olds → length ran ≡ length opened → news ≡ states_of ran ++ rest
     → AreInFront (hosts_of opened) (described_hosts net) (states_of opened) (states_of ran) rest olds news (length net.instances)
 in_front net opened ran rest olds news count long hosts kept left many is = record {
   same = hosts;
   long = opened_long opened net.instances hosts;
-  kept = subst (λ n. AreKept (take n olds) (states_of opened)) long kept;
+  kept = subst (λ n. AreKept (opened_states (take n olds)) (states_of opened)) long kept;
   left = subst (λ n. rest ≡ drop n olds) long left;
   still = length-map ran state_of ∙ many ∙ sym (length-map opened state_of);
   is = is;
@@ -66,7 +66,7 @@ returns-in_err-lines-clause-stopped g c =
     (c.into_vec.result.ok.0 ∙ ap length c.into_vec.ensures) (c.in_ok-instances.ensures.hosts ∙ ap (map described_host) c.into_vec.ensures)
     c.in_ok-instances.ensures.opened c.in_ok-instances.ensures.rest
     (omega (arith, c.run_lines-lines.ensures.places, c.run_lines-lines.new.instances.ok.0, c.in_ok-instances.instances.ok.0)) c.close_all.ensures in
-    memory_stopped _ _ _ _ _ _ (cut_in_front front (rw (← c.in_ok-directory.ensures) c.in_err-lines.ensures.cut)) c.from_residual-in_err-lines.result c.from_residual-in_err-lines.ensures.1
+    memory_stopped _ _ _ _ _ _ (inr (cut_in_front front (rw (← c.in_ok-directory.ensures) c.in_err-lines.ensures.cut))) c.from_residual-in_err-lines.result c.from_residual-in_err-lines.ensures.1
 
 -- ---- the directory has the names of the instances, and there are as many keepers as before
 
@@ -116,24 +116,23 @@ returns-in_err-lines-clause-places g c =
 
 -- ---- the instances do not open, or memory ran out
 
--- each keeper tells what it told
+-- each keeper tells what it told, or is open
 pub returns-in_err-instances-clause-kept : goal.returns-in_err-instances-clause-kept
 returns-in_err-instances-clause-kept g c =
-    let same = kept_told _ _ c.in_err-instances.ensures.back in
-    if_err c.from_residual-in_err-instances.result (λ fault unopened. same)
+    if_err c.from_residual-in_err-instances.result (λ fault unopened. c.in_err-instances.ensures.back)
 
 pub returns-in_err-directory-clause-stopped : goal.returns-in_err-directory-clause-stopped
-returns-in_err-directory-clause-stopped g c = memory_stopped _ _ _ _ _ _ (none_ran _ _ _ _ _ (all_kept _)) c.from_residual.result c.from_residual.ensures.1
+returns-in_err-directory-clause-stopped g c = memory_stopped _ _ _ _ _ _ (inl (kept_or_opened _ _ (all_kept _), refl)) c.from_residual.result c.from_residual.ensures.1
 
 pub returns-in_err-routes-clause-stopped : goal.returns-in_err-routes-clause-stopped
-returns-in_err-routes-clause-stopped g c = memory_stopped _ _ _ _ _ _ (none_ran _ _ _ _ _ (all_kept _)) c.from_residual-in_err-routes.result c.from_residual-in_err-routes.ensures.1
+returns-in_err-routes-clause-stopped g c = memory_stopped _ _ _ _ _ _ (inl (kept_or_opened _ _ (all_kept _), refl)) c.from_residual-in_err-routes.result c.from_residual-in_err-routes.ensures.1
 
 pub returns-in_err-instances-clause-stopped : goal.returns-in_err-instances-clause-stopped
 returns-in_err-instances-clause-stopped g c =
     let long : vec_len c.into_vec.result ≡ length c.args.net.instances = c.into_vec.result.ok.0 ∙ ap length c.into_vec.ensures in
     let olds = map g.K.Keeper.state c.args.keepers.now.items in
     let news = map g.K.Keeper.state c.open_all.new.keepers.items in
-    opening_stopped _ _ _ _ _ _ (none_ran _ _ _ _ _ (kept_take (length c.args.net.instances) _ _ c.in_err-instances.ensures.back))
+    opening_stopped _ _ _ _ _ _ (inl (take_opened (length c.args.net.instances) _ _ c.in_err-instances.ensures.back, refl))
     c.from_residual-in_err-instances.result (Err c.in_err-instances.field-0.0) c.in_err-instances.field-0.0 refl c.from_residual-in_err-instances.ensures.1
     (λ is. subst (λ n. OneFailed (take n olds) (take n news)) long (c.in_err-instances.ensures.keeper is))
     (λ is. subst (λ n. may_be_unsound (take n olds) ≡ true) long (c.in_err-instances.ensures.bad_row is))

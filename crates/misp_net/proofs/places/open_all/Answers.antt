@@ -2,15 +2,15 @@ use Rattle.std.proofs.Common.{rules, ◌≡◌, ◌+◌, [], ◌∷◌, ◌++◌
 use Rattle.std.proofs.lemmas.List.{length-map, length_push, map_push}
 use Rattle.std.proofs.lemmas.Iterator.Adapters.{YieldsList-from_vec}
 use Rattle.std.proofs.lemmas.Iterator.Consumers.{YieldsList-turn, YieldsList-end}
-use Rattle.misp_effects.proofs.KeeperStates.{AreBack, all_kept, next_kept, back_kept, back_others, back_failed, back_told}
+use Rattle.misp_effects.proofs.KeeperStates.{AreBack, all_kept, back_others, back_failed, back_told}
 use Rattle.misp_net.specs.declared.places.NetFault.{NetFault}
 use Rattle.misp_net.specs.Prelude.{described_host, host_of, hosts_of, state_of, states_of}
-use Rattle.misp_net.proofs.Openings.{sound_kept, sound_more, if_err}
+use Rattle.misp_net.proofs.Openings.{back_opened, if_err, kept_or_opened, next_opened, sound_next}
 use Rattle.misp_net.proofs.places.open_all.Given.{Over}
 use Rattle.misp_net.proofs.places.open_all.Goals as goal
 
 pub returns-in_err-instances-clause-back : goal.returns-in_err-instances-clause-back
-returns-in_err-instances-clause-back g c = if_err c.from_residual.result (λ fault. all_kept _)
+returns-in_err-instances-clause-back g c = if_err c.from_residual.result (λ fault. kept_or_opened _ _ (all_kept _))
 
 -- one more is opened
 pub loop-entry-preserved : goal.loop-entry-preserved
@@ -29,13 +29,13 @@ loop-entry-preserved g c =
           ∙ sym (map_push described_host c.loop-entry.yielded c.in-Some.entry);
       opened =
           rw (split, more)
-          (next_kept (length c.loop-entry.yielded) olds (states_of before) _ (state_of one) c.loop-entry.invariant.rest c.loop-entry.invariant.opened c.in-Ok.ensures.opened);
+          (next_opened (length c.loop-entry.yielded) olds (states_of before) _ (state_of one) c.loop-entry.invariant.rest c.loop-entry.invariant.opened c.in-Ok.ensures.opened);
       rest =
           c.in-Ok.ensures.rest
           ∙ ap (drop 1) c.loop-entry.invariant.rest
           ∙ drop-drop 1 (length c.loop-entry.yielded) olds
           ∙ ap (λ n. drop n olds) (sym more);
-      sound = rw split (sound_more (states_of before) (state_of one) c.loop-entry.invariant.sound c.in-Ok.ensures.sound);
+      sound = rw more (sound_next (length c.loop-entry.yielded) olds _ c.loop-entry.invariant.rest c.loop-entry.invariant.sound c.in-Ok.ensures.sound);
       count = search rules;
       room = search rules;
       others = search rules;
@@ -61,7 +61,7 @@ are_back g c =
     }
 
 pub returns-in-Err-clause-back : goal.returns-in-Err-clause-back
-returns-in-Err-clause-back g c = back_kept (are_back g c) c.loop-entry.invariant.opened c.in-Err.ensures.back c.in-Err.ensures.others
+returns-in-Err-clause-back g c = back_opened (are_back g c) c.loop-entry.invariant.opened c.in-Err.ensures.back c.in-Err.ensures.others
 
 pub returns-in-Err-clause-others : goal.returns-in-Err-clause-others
 returns-in-Err-clause-others g c = back_others (are_back g c) c.in-Err.ensures.others
@@ -98,4 +98,4 @@ returns-clause-sound g c =
     let road = YieldsList-from_vec {s = c.into_iter-entry-iterator.result} c.args.entries.items (search rules) (search rules) in
     let ends = YieldsList-end road c.loop-entry.yielded c.loop-entry.entry-iterator c.loop-entry.yielded_by c.next.result c.next.new.self c.in-None.is c.next.ensures.steps in
     let all : length c.loop-entry.yielded ≡ vec_len c.args.entries = omega (arith, ends.1, c.args.entries.ok.0) in
-    rw (← all) (sound_kept _ _ c.loop-entry.invariant.opened c.loop-entry.invariant.sound)
+    rw (← all) c.loop-entry.invariant.sound

@@ -48,5 +48,5 @@ returns-clause-packed c = λ table ours.
     let first : sorted_by key_order (passing_rows c.args.rows.now c.args.via.now.groups.now (route_of c.args.via.now)) ≡ own ∷ others =
     ap (sorted_by key_order) (sym (c.in_ok-list.ensures.passing table ours)) ∙ sym packable.0 ∙ ap (map (λ r. r.now)) (sym c.as_slice.ensures.value ∙ c.in-Some-split_first.ensures.cases.0) in
     c.in_ok-packages.ensures.packed
-    ∙ ap (map (λ (part : List Row). map on_wire (own ∷ part))) (ap rows_in c.as_slice-2.ensures.value ∙ rows_cut c.in_ok-parts.parts.items c.in-Some-split_first.others.now c.in_ok-parts.ensures)
+    ∙ ap (map (λ (part : List Row). map (on_wire c.args.via.now.way) (own ∷ part))) (ap rows_in c.as_slice-2.ensures.value ∙ rows_cut c.in_ok-parts.parts.items c.in-Some-split_first.others.now c.in_ok-parts.ensures)
     ∙ sym (packed_are c.args.rows.now c.args.via.now.groups.now c.args.via.now c.args.event.now table c.in_ok-list.ensures.rows ours own others first)

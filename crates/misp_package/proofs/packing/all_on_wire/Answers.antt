@@ -13,6 +13,6 @@ pub loop-row-preserved : goal.loop-row-preserved
 loop-row-preserved c = record {
   wired =
       c.in_ok-push-2.ensures.items
-      ∙ wire_more c.args.own.now c.args.others.now c.loop-row.row-index c.row-item.result c.in_ok-on_wire-2.field-0 c.loop-row.rows.items c.loop-row-test.true c.row-item.is c.loop-row.invariant.wired c.in_ok-on_wire-2.ensures.wired;
-  rows = wired_more c.args.own.now c.args.others.now c.loop-row.row-index c.row-item.result c.loop-row-test.true c.row-item.is c.loop-row.invariant.rows c.on_wire-in-loop-row.ensures.row;
+      ∙ wire_more c.args.way c.args.own.now c.args.others.now c.loop-row.row-index c.row-item.result c.in_ok-on_wire-2.field-0 c.loop-row.rows.items c.loop-row-test.true c.row-item.is c.loop-row.invariant.wired c.in_ok-on_wire-2.ensures.wired;
+  rows = wired_more c.args.way c.args.own.now c.args.others.now c.loop-row.row-index c.row-item.result c.loop-row-test.true c.row-item.is c.loop-row.invariant.rows c.on_wire-in-loop-row.ensures.row;
 }

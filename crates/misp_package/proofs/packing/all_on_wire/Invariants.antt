@@ -5,6 +5,6 @@ use Rattle.misp_package.proofs.packing.all_on_wire.Given as goal
 
 abbrev pub invariant-loop-row : goal.invariant-loop-row
 invariant-loop-row l = record {
-  wired : l.rows.items ≡ map on_wire (l.own ∷ map (λ r. r.now) (take l.row-index l.others));
-  rows : AreRows (map on_wire (l.own ∷ map (λ r. r.now) (take l.row-index l.others)));
+  wired : l.rows.items ≡ map (on_wire l.way) (l.own ∷ map (λ r. r.now) (take l.row-index l.others));
+  rows : AreRows (map (on_wire l.way) (l.own ∷ map (λ r. r.now) (take l.row-index l.others)));
 }

@@ -9,9 +9,9 @@ all_on_wire-requires c = whole_rows c.args.event.now (c.args.own.now ∷ map (λ
 
 pub of-requires-2 : goal.of-requires-2
 of-requires-2 c =
-    let is : c.of.result ≡ map on_wire (c.args.own.now ∷ map (λ r. r.now) c.args.others.now) = c.of.ensures ∙ c.in_ok-rows.ensures.wired in
+    let is : c.of.result ≡ map (on_wire c.args.way) (c.args.own.now ∷ map (λ r. r.now) c.args.others.now) = c.of.ensures ∙ c.in_ok-rows.ensures.wired in
     let wired : IsWired c.args.event.now c.of.result =
-    subst (IsWired c.args.event.now) (sym is) (part_wired c.args.event.now c.args.own.now (map (λ r. r.now) c.args.others.now) c.requires.part c.in_ok-rows.ensures.rows) in record {
+    subst (IsWired c.args.event.now) (sym is) (part_wired c.args.way c.args.event.now c.args.own.now (map (λ r. r.now) c.args.others.now) c.requires.part c.in_ok-rows.ensures.rows) in record {
       event = search rules;
       part = c.requires.number;
       parts = search rules;

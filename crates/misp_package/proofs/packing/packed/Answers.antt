@@ -20,7 +20,7 @@ package-requires-clause-part c =
 pub loop-part-preserved : goal.loop-part-preserved
 loop-part-preserved c =
     let done = map (λ (p : Package). p.rows) c.loop-part.packages.items in
-    let wire : List Row → List Row = λ part. map on_wire (c.args.own.now ∷ part) in
+    let wire : List Row → List Row = λ part. map (on_wire c.args.way) (c.args.own.now ∷ part) in
     let lt = c.loop-part-test.true in
     let from_zero : length c.loop-part.packages.items ≡ 0 + length c.loop-part.packages.items = omega arith in record {
       number = ap (λ n. n + 1) c.loop-part.invariant.number;

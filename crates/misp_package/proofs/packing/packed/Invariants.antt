@@ -5,6 +5,6 @@ use Rattle.misp_package.proofs.packing.packed.Given as goal
 abbrev pub invariant-loop-part : goal.invariant-loop-part
 invariant-loop-part l = record {
   number : l.number ≡ l.part-index;
-  packed : map (λ p. p.rows) l.packages.items ≡ map (λ part. map on_wire (l.own ∷ part)) (rows_in (take l.part-index l.parts));
+  packed : map (λ p. p.rows) l.packages.items ≡ map (λ part. map (on_wire l.way) (l.own ∷ part)) (rows_in (take l.part-index l.parts));
   numbered : AreNumberedFrom 0 l.event l.count l.packages.items;
 }

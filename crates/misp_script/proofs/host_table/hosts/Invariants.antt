@@ -6,4 +6,4 @@ use Rattle.misp_script.proofs.host_table.hosts.Given as goal
 
 -- what is left to read, onto what was read, is all
 abbrev pub invariant-loop-index : goal.invariant-loop-index
-invariant-loop-index l = each next_host l.index l.hosts (map view (drop l.index l.list)) ≡ each next_host 0 [] (map view l.list)
+invariant-loop-index l = each (next_host l.orgs) l.index l.hosts (map view (drop l.index l.list)) ≡ each (next_host l.orgs) 0 [] (map view l.list)

@@ -13,7 +13,8 @@ returns-then-name-key_length c =
     omega (arith, c.if-name-key_length.true, ap length c.as_slice-name.ensures, size, name_long c.args.row.now) in
     c.starts_with.ensures.value
     ∙ (λ i. bytes_eq (c.as_slice-name.ensures i) (take (length (c.as_slice-name.ensures i)) (after_first c.as_slice-bytes.result.now i)))
-    ∙ named c.args.row.now c.args.raw.now.name _ (ap (drop 1) (c.as_slice-bytes.ensures ∙ c.requires)) long
+    ∙ ap (λ bytes. bytes_eq c.args.raw.now.name (take (length c.args.raw.now.name) (drop 1 bytes))) c.as_slice-bytes.ensures
+    ∙ named c.args.row.now c.args.raw.now.name c.args.raw.now.bytes c.requires long
 
 pub returns-else-name-key_length : goal.returns-else-name-key_length
 returns-else-name-key_length c =

@@ -1,5 +1,6 @@
 -- The laws are lemmas of proofs/Keeping.antt, proofs/Left.antt and proofs/Elsewhere.antt.
-use Rattle.misp_sync.proofs.Elsewhere.{groups_elsewhere, tables_elsewhere}
+use Rattle.misp_sync.proofs.Elsewhere.{groups_elsewhere, made_after, tables_elsewhere}
+use Rattle.misp_ids.specs.declared.label.Direction.{Direction}
 use Rattle.misp_sync.proofs.Keeping.{told_there}
 use Rattle.misp_sync.proofs.Left.{left_there}
 use Rattle.misp_sync.proofs.laws.an_instance_pulls_by_the_history.Goals as goal
@@ -10,4 +11,5 @@ returns c = record {
   left = left_there c.a_group_is_read_from_its_text.ensures;
   elsewhere = tables_elsewhere;
   groups = groups_elsewhere;
+  made = λ net n now w here link outcome. made_after w net n now Direction.Pull here link outcome;
 }

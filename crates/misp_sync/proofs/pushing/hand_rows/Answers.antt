@@ -26,7 +26,7 @@ returns-in-Err-clause-step g c =
 pub returns-in-Ok-clause-trail : goal.returns-in-Ok-clause-trail
 returns-in-Ok-clause-trail g c =
     parts_handed c.args.link.now c.args.instance.now (told_of (g.W.PushWire.peer c.args.wire.now)) (g.W.PushWire.trail c.args.wire.now) (g.W.PushWire.trail c.hand_parts.new.wire) c.args.tally.now c.hand_parts.new.tally (told_of (g.W.PushWire.peer c.hand_parts.new.wire))
-    c.in-Ok.parts.items c.hand_parts.result (packs_so c.args.instance.now.name c.args.link.now c.in-Ok.parts.items c.args.instance.now.held c.in-Ok.ensures.read c.in-Ok.ensures.packed)
+    c.in-Ok.parts.items c.hand_parts.result (packs_so c.args.instance.now.name c.args.link.now c.in-Ok.parts.items c.args.instance.now.held c.in-Ok.ensures.read (rw c.push_way-way.ensures at c.in-Ok.ensures.packed))
     (rw c.deref.ensures.value at c.hand_parts.ensures.trail) (rw c.deref.ensures.value at c.hand_parts.ensures.counts)
 
 pub returns-in-Err-clause-trail : goal.returns-in-Err-clause-trail
@@ -37,7 +37,7 @@ returns-in-Err-clause-trail g c =
 pub returns-in-Ok-clause-taken : goal.returns-in-Ok-clause-taken
 returns-in-Ok-clause-taken g c = λ caller own there peer tell who may.
     rows_read c.args.instance.now.name c.args.link.now c.in-Ok.parts.items c.args.instance.now.held c.args.link.now.key (g.W.PushWire.peer c.args.wire.now) (g.W.PushWire.peer c.hand_parts.new.wire) c.args.tally.now c.hand_parts.new.tally _
-    (packs_so c.args.instance.now.name c.args.link.now c.in-Ok.parts.items c.args.instance.now.held c.in-Ok.ensures.read c.in-Ok.ensures.packed)
+    (packs_so c.args.instance.now.name c.args.link.now c.in-Ok.parts.items c.args.instance.now.held c.in-Ok.ensures.read (rw c.push_way-way.ensures at c.in-Ok.ensures.packed))
     (rw c.deref.ensures.value at c.hand_parts.ensures.taken) caller own there peer tell.own_is tell.peer_is tell.there_is who may
 
 pub returns-in-Err-clause-taken : goal.returns-in-Err-clause-taken

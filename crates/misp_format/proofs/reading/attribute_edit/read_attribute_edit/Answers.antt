@@ -18,7 +18,7 @@ of-requires-2 c =
         given_row_keeps (IsBetween 0 15) it (codes "category") category_of category_ok _ c.in_ok-category.ensures,
         (
           text_given _ c.in_ok-comment.ensures.utf8 (omega (arith, short)),
-          (pair_given _ c.in_ok-kind_value.ensures.fits (omega (arith, short)), le-leb _ _ short),
+          (pair_given _ c.in_ok-kind_value.ensures.fits (omega (arith, short)), (c.in_ok-seen.ensures.fits, le-leb _ _ short)),
         ),
       ),
     )

@@ -1,0 +1,65 @@
+-- What is alike of synchronisations in both directions.
+use Rattle.std.proofs.Common.{◌≡◌, ℕ, Bool, List, [], Option, None, Some, refl, ap, inl, inr}
+use Rattle.std.proofs.lemmas.Bool.{cases_Bool}
+use Rattle.misp_ids.specs.Refusal.{bare}
+use Rattle.misp_ids.specs.declared.label.Direction.{Direction}
+use Rattle.misp_ids.specs.declared.refusal.Refusal.{Refusal}
+use Rattle.misp_ids.specs.declared.refusal.RuleName.TheVariants.{LinkOff, NoLink}
+use Rattle.misp_orgs.specs.Admin.{link_of}
+use Rattle.misp_orgs.specs.declared.link.Link.{Link}
+use Rattle.misp_effects.specs.Effect.{shown}
+use Rattle.misp_sync.specs.Counts.{no_count, tally}
+use Rattle.misp_sync.specs.Pulled.{bar_of, pulled}
+use Rattle.misp_sync.specs.Pushed.{pushed}
+use Rattle.misp_sync.specs.declared.reply.SyncReply.{SyncReply}
+use Rattle.misp_sync.specs.declared.reply.SyncReply.TheVariants as replies
+use Rattle.misp_net.specs.Meaning.{sync_telling}
+use Rattle.misp_net.specs.Prelude.{Effect, Host, Seen, Standing, Stop, Synced, state_of}
+use Rattle.misp_net.specs.Directions.{giver, synced_on, taker, telling_on}
+use Rattle.misp_effects.specs.Effect as effects
+
+-- what is had of the one that takes
+pub taker_of : {A B : Type 0} (f : A → B) (direction : Direction) (here there : A) → f (taker direction here there) ≡ taker direction (f here) (f there)
+taker_of f Direction.Pull here there = refl
+taker_of f Direction.Push here there = refl
+
+-- what holds of both holds of it
+pub taker_has : {A : Type 0} (P : A → Type 0) (direction : Direction) (here there : A) → P here → P there → P (taker direction here there)
+taker_has P Direction.Pull here there of_here of_there = of_here
+taker_has P Direction.Push here there of_here of_there = of_there
+
+-- what is held by an instance is what its keeper holds
+pub taker_held : (direction : Direction) (here there : Standing) → (taker direction (state_of here) (state_of there)).held ≡ (taker direction here there).held
+taker_held Direction.Pull here there = refl
+taker_held Direction.Push here there = refl
+
+pub giver_held : (direction : Direction) (here there : Standing) → (giver direction (state_of here) (state_of there)).held ≡ (giver direction here there).held
+giver_held Direction.Pull here there = refl
+giver_held Direction.Push here there = refl
+
+-- a stop is told as it is put out
+pub telling_shown : (direction : Direction) (stop : Stop) (n : ℕ) (lost : Bool) (e : Effect SyncReply)
+    → sync_telling direction stop n lost (shown Synced e) ≡ shown Synced (telling_on direction stop n lost e)
+telling_shown Direction.Pull stop n lost e = refl
+telling_shown Direction.Push stop n lost e = refl
+
+-- what a link bars comes to that, and puts no batch
+pub bar_comes : (direction : Direction) (here : Host) (name : List ℕ) (peer : Host) (own there : Seen) (link : Option Link) (why : Refusal) → link_of here.admin.links name ≡ link → bar_of link ≡ Some why
+    → synced_on direction here name peer own there ≡ effects.effect (replies.Stopped no_count why) []
+unfolding pulled pushed tally
+bar_comes Direction.Pull here name peer own there None why is bar = let same : bare NoLink ≡ why = cc in rw is (ap (λ r. effects.effect (replies.Stopped no_count r) []) same)
+bar_comes Direction.Push here name peer own there None why is bar = let same : bare NoLink ≡ why = cc in rw is (ap (λ r. effects.effect (replies.Stopped no_count r) []) same)
+bar_comes Direction.Pull here name peer own there (Some link) why is bar = elim (cases_Bool link.on) [
+  | inl on ↦ absurd (let no_ : None ≡ Some why = rw on at bar in cc)
+  | inr off ↦
+      let off_bar : Some (bare LinkOff) ≡ Some why = rw off at bar in
+      let same : bare LinkOff ≡ why = cc in
+      rw (is, off) (ap (λ r. effects.effect (replies.Stopped no_count r) []) same)
+]
+bar_comes Direction.Push here name peer own there (Some link) why is bar = elim (cases_Bool link.on) [
+  | inl on ↦ absurd (let no_ : None ≡ Some why = rw on at bar in cc)
+  | inr off ↦
+      let off_bar : Some (bare LinkOff) ≡ Some why = rw off at bar in
+      let same : bare LinkOff ≡ why = cc in
+      rw (is, off) (ap (λ r. effects.effect (replies.Stopped no_count r) []) same)
+]
