@@ -8,7 +8,7 @@ use Rattle.misp_model.specs.Answers.{newer, taken_rows}
 use Rattle.misp_model.specs.Package.{IsPackage, is_packed}
 use Rattle.misp_model.specs.declared.package.PackageFields.{PackageFields as Package}
 use Rattle.misp_model.proofs.Prelude.{map-map, slice_cmp}
-use Rattle.misp_history.proofs.Adding.{down_none}
+use Rattle.misp_levels.proofs.Steps.{down_none}
 use Rattle.misp_history.proofs.AsNew.{own_known}
 use Rattle.misp_history.proofs.Prelude.{AllByRecursion, EventId, Group, Inst, IsDistinct, IsTable, Key, OrgId, Row, Scene, Version, all-filter, and_from, and_parts, any_agree, any_cut, any_map, counted, counts, counts_row}
 use Rattle.misp_history.proofs.Prelude.{event_key, event_of, event_rows, false_from_ne_true, filter-map, filter_agree, handed, handed_in, has_copy, has_event, has_event_row, has_gone, has_home, is_made_at, is_newer_row, is_row_of}

@@ -1,6 +1,7 @@
 -- What a request that writes newer versions does to the tables: each is put in its place as a row.
 use Rattle.std.proofs.Common.{◌≡◌, ℕ, [], List, ◌∷◌, true, Bool, false, ap, leb, ◌++◌, ◌∙◌, cond, refl, arith, map, suc, ltb, not, ◌&&◌, filter, le-leb}
 use Rattle.misp_levels.specs.Levels.{lowering}
+use Rattle.misp_levels.proofs.Steps.{down_none}
 use Rattle.misp_history.proofs.Prelude.{AllByRecursion, Inst, IsDistinct, Label, Version, Written, all_implies, and_from, any_agree, any_never, content_now, event_key, event_of}
 use Rattle.misp_history.proofs.Prelude.{filter_all, fresh_row, has_path, is_handed_in, is_published, label_now, list_all, list_all-append, list_any, nat_tests, published_after, put, put_all, put_row}
 use Rattle.misp_history.proofs.Prelude.{released, row_of, same_cell, same_inst, same_inst-refl, same_key, same_org, stands_before, tables}
@@ -9,11 +10,6 @@ use Rattle.misp_model.proofs.Fresh.{not_handed_in}
 use Rattle.misp_history.proofs.Putting.{is_new_to, or_none, put_many, tables_more}
 
 -- ---- a version that was just written, as a row
-pub down_none : (l : Label) → down l 0 ≡ l
-unfolding down
-down_none Label.Own = refl
-down_none l = refl
-
 no_later : (a b c : Bool) (m n : ℕ) → leb n m ≡ true → (a && (b && (c && ltb m n))) ≡ false
 no_later a b c m n h = grind (arith, nat_tests)
 

@@ -4,7 +4,7 @@ use Rattle.misp_levels.specs.Levels.{lowering}
 use Rattle.misp_history.proofs.Prelude.{EventId, Group, Inst, IsDistinct, IsTable, OrgId, Row, Version, all-filter, all-map, all_implies, and_from, and_parts, any_agree, content_now, counted, counts, distinct_from_map, distinct_map}
 use Rattle.misp_history.proofs.Prelude.{event_key, event_of, filter_agree, handed, handed_in, has_copy, has_event, has_gone, has_home, has_path, in_one_cell, is_handed_in, is_row_of, is_statement, is_tombstone, is_welcome, known, label_now}
 use Rattle.misp_history.proofs.Prelude.{length-map, list_all, list_any, map_twice, merged, rows_taken, same_cell, same_inst, same_inst-refl, same_key, same_org, same_org-refl, same_org-sound, tables}
-use Rattle.misp_history.proofs.Adding.{down_none}
+use Rattle.misp_levels.proofs.Steps.{down_none}
 use Rattle.misp_history.proofs.Putting.{is_new_to}
 use Rattle.misp_history.proofs.Arriving.{settled, comes, come_merged, none_come, is_foreign, taken_told}
 use Rattle.misp_history.proofs.AsNew.{own_known, told_as_new}

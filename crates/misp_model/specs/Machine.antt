@@ -1,5 +1,5 @@
--- The tables as a keeper changes them, each row in the place of its owner's row of that key, and what
--- of them a request is about.
+-- The tables as a keeper changes them, each row in the place of its owner's row of that key, and
+-- what of them a request is about.
 use Rattle.std.specs.Prelude.{not, ◌&&◌, List, filter, [], ◌∷◌, false, Bool, cond, ℕ, ◌++◌, ltb, eqb, ◌||◌, true, Option, Some, None}
 use Rattle.std.specs.Ordering.{is_lt}
 use Rattle.misp_lists.specs.Order.{put}

@@ -163,8 +163,9 @@ fn whole_row(
     Err(Stop::Bad(reader.bad()))
 }
 
-/// The row that the bytes spell in the second form, all of the bytes, as it stands on the wire among those of the
-/// event: the event's own row where none is before it, else one with a key after that before.
+/// The row that the bytes spell in the second form, all of the bytes, as it stands on the wire among
+/// those of the event: the event's own row where none is before it, else one with a key after that
+/// before.
 pub fn decode_on_wire(
     alloc: Global,
     bytes: &[u8],
