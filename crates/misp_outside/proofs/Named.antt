@@ -49,7 +49,7 @@ begins_after (x ∷ front) (y ∷ a) begins =
 
 module _ (event : EventId) (front : List ℕ) where
   -- the row stands under the event and these bytes, or after them
-  abbrev stands_from : RawRow → Bool
+  abbrev pub stands_from : RawRow → Bool
   stands_from row = is_le (name_order (event.0.0, front) (raw_name row))
 
   abbrev named : RawRow → Bool
@@ -127,10 +127,10 @@ module _ (event : EventId) (front : List ℕ) where
     | inr before ↦ rw before (kept_from rows)
   ]
 
-  abbrev part : Key → Cells → Cells
+  abbrev pub part : Key → Cells → Cells
   part low cells = entries_between (key_order nat_cmp) (Included low) Unbounded cells
 
-  part_rows : (low : Key) (cells : Cells) → low.0 ≡ event.0.0 → low.1.items ≡ front → raw_rows (part low cells) ≡ filter stands_from (raw_rows cells)
+  pub part_rows : (low : Key) (cells : Cells) → low.0 ≡ event.0.0 → low.1.items ≡ front → raw_rows (part low cells) ≡ filter stands_from (raw_rows cells)
   unfolding raw_rows
   part_rows low [] here is = refl
   part_rows low (cell ∷ cells) here is =

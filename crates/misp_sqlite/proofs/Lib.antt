@@ -6,6 +6,7 @@ pub mod Inside
 pub mod Landings
 pub mod Loads
 pub mod Meanings
+pub mod Nexts
 pub mod Openings
 pub mod Puts
 pub mod Puttings

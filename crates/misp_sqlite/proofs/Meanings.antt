@@ -1,18 +1,17 @@
 -- What the texts mean, by computing.
 use Rattle.std.proofs.Common.{◌≡◌, List, ℕ, [], ◌∷◌, codes, false, Ok, refl}
-use Rattle.sqlite_value.specs.declared.keys.Key.{Key}
-use Rattle.sqlite_sql.specs.Term.{Term}
+use Rattle.sqlite_sql.specs.Query.{Query}
 use Rattle.sqlite.specs.Compile.{table_defined_by}
 use Rattle.sqlite.specs.Command.TheVariants.{CreateTable, Select}
 use Rattle.sqlite_tied.specs.Compute.{everything}
 use Rattle.sqlite.specs.Listing.{understood, reads_listing}
 use Rattle.sqlite.proofs.Callers.{IsPlain, command_of, statement_of}
-use Rattle.misp_sqlite.specs.Kept.{kept, kept_schema, no_schema, selection, one_query, between_query, all_query, put_command}
-use Rattle.misp_sqlite.specs.Texts.{create_text, put_text, one_text, between_text, all_text}
+use Rattle.misp_sqlite.specs.Kept.{kept, kept_schema, no_schema, one_query, between_query, next_query, all_query, put_command}
+use Rattle.misp_sqlite.specs.Texts.{create_text, put_text, one_text, between_text, next_text, all_text}
 
 -- the text is a selection over the table, and reads none of SQLite's own
-pub record Selects (sql : List ℕ) (terms columns : List Term) (order : List (Term × Key)) (names : List (List ℕ)) : Type 0 where
-  pub means : command_of (understood kept_schema sql) ≡ Select (record { lets = []; body = selection terms columns order }) names
+pub record Selects (sql : List ℕ) (q : Query) (names : List (List ℕ)) : Type 0 where
+  pub means : command_of (understood kept_schema sql) ≡ Select (record { lets = []; body = q }) names
   pub unlisted : reads_listing kept_schema sql ≡ false
   pub plain : IsPlain (understood kept_schema sql)
 
@@ -20,15 +19,19 @@ pub record Selects (sql : List ℕ) (terms columns : List Term) (order : List (T
 abbrev three : List (List ℕ)
 three = codes "kind" ∷ codes "name" ∷ codes "bytes" ∷ []
 
-pub one_is : Selects one_text one_query.filter one_query.project one_query.order three
+pub one_is : Selects one_text one_query three
 unfolding understood everything
 one_is = record { means = refl; unlisted = refl; plain = (refl, refl) }
 
-pub between_is : Selects between_text between_query.filter between_query.project between_query.order three
+pub between_is : Selects between_text between_query three
 unfolding understood everything
 between_is = record { means = refl; unlisted = refl; plain = (refl, refl) }
 
-pub all_is : Selects all_text all_query.filter all_query.project all_query.order (codes "event" ∷ three)
+pub next_is : Selects next_text next_query three
+unfolding understood everything
+next_is = record { means = refl; unlisted = refl; plain = (refl, refl) }
+
+pub all_is : Selects all_text all_query (codes "event" ∷ three)
 unfolding understood everything
 all_is = record { means = refl; unlisted = refl; plain = (refl, refl) }
 

@@ -1,9 +1,10 @@
 -- What a query leaves of a connection.
-use Rattle.std.proofs.Common.{◌≡◌, ℕ, List, [], ◌∷◌, Option, None, Some, refl, sym, subst, ◌∙◌, inl, inr, IsTrue, IsSome, arith}
+use Rattle.std.proofs.Common.{◌≡◌, ℕ, pos, List, [], ◌∷◌, Option, None, Some, refl, sym, subst, ◌∙◌, inl, inr, IsTrue, IsSome, arith}
 use Rattle.sqlite_value.specs.declared.keys.Key.{Key}
 use Rattle.sqlite_value.specs.declared.value.Value.TheVariants.{Blob}
 use Rattle.sqlite_value.specs.Order.{Row}
 use Rattle.sqlite_sql.specs.Term.{Term}
+use Rattle.sqlite_sql.specs.Query.{Query}
 use Rattle.sqlite_schema.specs.declared.command.Returning.{Returning}
 use Rattle.sqlite.specs.declared.error.Error.{Error}
 use Rattle.sqlite.specs.Clock.{timed}
@@ -11,12 +12,12 @@ use Rattle.sqlite.specs.Listing.{understood}
 use Rattle.sqlite.specs.State.{State, IsUnchanged, IsRolledBack, IsNotRun, ShowsRows, FailsToShow, FailsToQuery, Shown, Survives, CommitsShowing}
 use Rattle.sqlite.proofs.Callers.{IsPlain}
 use Rattle.sqlite.proofs.StateLemmas.{survives_weaker}
-use Rattle.misp_sqlite.specs.Kept.{selection, one_query, between_query, all_query}
+use Rattle.misp_sqlite.specs.Kept.{selection, one_query, between_query, next_query, all_query}
 use Rattle.misp_sqlite.specs.Standing.{IsReady, ShowsSame}
-use Rattle.misp_sqlite.specs.Stored.{IsSelected}
-use Rattle.misp_sqlite.specs.Texts.{one_text, between_text, all_text}
-use Rattle.misp_sqlite.proofs.Answers.{selects}
-use Rattle.misp_sqlite.proofs.Meanings.{Selects, one_is, between_is, all_is}
+use Rattle.misp_sqlite.specs.Stored.{IsPaged, IsSelected}
+use Rattle.misp_sqlite.specs.Texts.{one_text, between_text, next_text, all_text}
+use Rattle.misp_sqlite.proofs.Answers.{answers, paged, selects}
+use Rattle.misp_sqlite.proofs.Meanings.{Selects, one_is, between_is, next_is, all_is}
 
 module _ (sql : List ℕ) (params : Row) (old new : State) where
   shown_same : (rows : List Row) → IsPlain (understood old.now.schema sql) → Shown sql params old new rows → ShowsSame old new
@@ -64,15 +65,15 @@ survives_still s = record {
 }
 
 -- a selection commits nothing
-pub selection_survives : (sql : List ℕ) (terms columns : List Term) (order : List (Term × Key)) (names : List (List ℕ)) → Selects sql terms columns order names
+pub selection_survives : (sql : List ℕ) (q : Query) (names : List (List ℕ)) → Selects sql q names
     → (params : Row) (old new : State) → IsReady old → Survives old new (CommitsShowing sql params old) → Survives old new (λ _. ⊥)
 unfolding CommitsShowing
-selection_survives sql terms columns order names is params old new ready =
+selection_survives sql q names is params old new ready =
     let plain = subst (λ s. IsPlain (understood s sql)) (sym ready.table) is.plain in
     survives_weaker old new (CommitsShowing sql params old) (λ _. ⊥) (λ clean db h. none_some h.0.returning (subst IsPlain h.1.is plain).0 h.2)
 
 -- what a selection answers, and that it leaves what it found
-pub selection_found : (sql : List ℕ) (terms columns : List Term) (order : List (Term × Key)) (names : List (List ℕ)) → Selects sql terms columns order names
+pub selection_found : (sql : List ℕ) (terms columns : List Term) (order : List (Term × Key)) (names : List (List ℕ)) → Selects sql (selection terms columns order) names
     → (params : Row) (old new : State) (rows : List Row) → IsReady old → Shown sql params old new rows
     → IsSelected (selection terms columns order) params (old.now.trees 0) rows × ShowsSame old new
 selection_found sql terms columns order names is params old new rows ready h = (
@@ -88,6 +89,14 @@ pub between_found : (event from until : List ℕ) (old new : State) (rows : List
     → IsSelected between_query (Blob event ∷ Blob from ∷ Blob until ∷ []) (old.now.trees 0) rows × ShowsSame old new
 between_found event from until old new =
     selection_found between_text between_query.filter between_query.project between_query.order _ between_is (Blob event ∷ Blob from ∷ Blob until ∷ []) old new
+
+pub next_found : (event from : List ℕ) (old new : State) (rows : List Row) → IsReady old → Shown next_text (Blob event ∷ Blob from ∷ []) old new rows
+    → IsPaged next_query (Blob event ∷ Blob from ∷ []) (old.now.trees 0) rows × ShowsSame old new
+next_found event from old new rows ready h =
+    let params = Blob event ∷ Blob from ∷ [] in (
+      paged (pos 2) next_query.filter next_query.project next_query.order old.now.trees params rows (answers next_text next_query _ next_is params old new rows ready.table h),
+      shown_same next_text params old new rows (subst (λ s. IsPlain (understood s next_text)) (sym ready.table) next_is.plain) h,
+    )
 
 pub all_found : (old new : State) (rows : List Row) → IsReady old → Shown all_text [] old new rows → IsSelected all_query [] (old.now.trees 0) rows × ShowsSame old new
 all_found old new = selection_found all_text all_query.filter all_query.project all_query.order _ all_is [] old new

@@ -95,11 +95,11 @@ bytes_same xs ys h = (bytes_eq-Decides xs ys).1 h
 
 -- ---- orders
 
-raw_on : (a b c : RawRow) → comes_before a b ≡ true → comes_before b c ≡ true → comes_before a c ≡ true
+pub raw_on : (a b c : RawRow) → comes_before a b ≡ true → comes_before b c ≡ true → comes_before a c ≡ true
 unfolding comes_before
 raw_on a b c h k = ap is_lt ((total raw_name).trans a b c (less_of _ h) (less_of _ k))
 
-raw_past : (w x y : RawRow) → comes_before w y ≡ true → comes_before x y ≡ false → comes_before w x ≡ true
+pub raw_past : (w x y : RawRow) → comes_before w y ≡ true → comes_before x y ≡ false → comes_before w x ≡ true
 unfolding comes_before
 raw_past w x y h k = true_from_ne_false _ (λ e. false≢true (sym ((ranks_by names_total raw_name).chain w x y e k) ∙ h))
 
@@ -164,7 +164,7 @@ module _ (n : ℕ) (fits : n < 2 ^ 128) where
   unfolding event_in event_bytes
   read_back = from_be_bytes-to_be_bytes_16 n fits
 
-  is_its : (r : Row) → IsOf n r → event_in (bytes (column r 1)) ≡ n
+  pub is_its : (r : Row) → IsOf n r → event_in (bytes (column r 1)) ≡ n
   is_its r of = ap event_in of.same ∙ read_back
 
   -- a row of an event is one of this event where it has its bytes
@@ -182,7 +182,7 @@ module _ (n : ℕ) (fits : n < 2 ^ 128) where
     abbrev from : Row → RawRow
     from r = raw_from n (column r 1) (column r 2)
 
-    wanted_raw : (r : Row) → wanted r ≡ true → is_event_row (shown r) ≡ true → is_raw r ≡ true
+    pub wanted_raw : (r : Row) → wanted r ≡ true → is_event_row (shown r) ≡ true → is_raw r ≡ true
     wanted_raw r w fine =
         let p = of r w in
         let shape = and_parts (kind_in (column r 2) == 0) (is_blob (column r 3) && is_blob (column r 4)) fine in

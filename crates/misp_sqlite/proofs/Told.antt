@@ -21,14 +21,14 @@ use Rattle.misp_sqlite.proofs.Values.{tied}
 
 -- ---- values
 
-blob_is : (v : Value) → is_blob v ≡ true → v ≡ Blob (bytes v)
+pub blob_is : (v : Value) → is_blob v ≡ true → v ≡ Blob (bytes v)
 blob_is Null h = absurd cc
 blob_is (Int n) h = absurd cc
 blob_is (Real x) h = absurd cc
 blob_is (Text t) h = absurd cc
 blob_is (Blob b) h = refl
 
-kind_is : (v : Value) (k : ℕ) → k < 256 → kind_in v ≡ k → v ≡ Int (pos k)
+pub kind_is : (v : Value) (k : ℕ) → k < 256 → kind_in v ≡ k → v ≡ Int (pos k)
 kind_is Null k low h = absurd (omega arith)
 kind_is (Int (pos n)) k low h = ap (λ m. Int (pos m)) h
 kind_is (Int (negsuc n)) k low h = absurd (omega arith)

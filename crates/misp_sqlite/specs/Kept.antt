@@ -1,5 +1,5 @@
 -- The table of kept rows, and what the statements mean over it.
-use Rattle.std.specs.Prelude.{true, false, [], ◌∷◌, Some, None, codes, List, pos, negsuc}
+use Rattle.std.specs.Prelude.{true, false, [], ◌∷◌, Some, None, codes, List, ℤ, pos, negsuc}
 use Rattle.sqlite_value.specs.declared.keys.Collation.TheVariants.{Binary}
 use Rattle.sqlite_value.specs.declared.keys.Key.{Key}
 use Rattle.sqlite_value.specs.declared.value.Value.TheVariants.{Null, Int, Blob as Bytes}
@@ -47,12 +47,13 @@ no_schema = record { tables = []; indexes = []; views = [] }
 abbrev pub kept_schema : Schema
 kept_schema = created no_schema kept
 
-abbrev rising : Key
+abbrev pub rising : Key
 rising = record { collation = Binary; descending = false }
 
--- the rows of the table that pass all of the terms, shown as the columns, in the order of some
-abbrev pub selection : List Term → List Term → List (Term × Key) → Query
-selection terms columns order = record {
+-- the rows of the table that pass all of the terms, shown as the columns, in the order of some, and
+-- no more than so many of them; below 0, all
+abbrev pub selection_within : ℤ → List Term → List Term → List (Term × Key) → Query
+selection_within most terms columns order = record {
   from = inner 0 end;
   filter = terms;
   group = None;
@@ -60,9 +61,13 @@ selection terms columns order = record {
   distinct = false;
   collations = [];
   order = order;
-  limit = lit (Int (negsuc 0));
+  limit = lit (Int most);
   offset = lit (Int (pos 0));
 }
+
+-- all rows of the table that pass
+abbrev pub selection : List Term → List Term → List (Term × Key) → Query
+selection terms columns order = selection_within (negsuc 0) terms columns order
 
 -- it has a rowid
 abbrev numbered : Term
@@ -83,6 +88,11 @@ one_query = selection (has_event ∷ numbered ∷ []) (col 1 2 ∷ col 1 3 ∷ c
 -- the rows of an event whose names are in a range
 abbrev pub between_query : Query
 between_query = selection (has_event ∷ has_kind ∷ op2 (Compare Ge Binary) (col 1 3) (col 0 1) ∷ op2 (Compare Lt Binary) (col 1 3) (col 0 2) ∷ numbered ∷ [])
+    (col 1 2 ∷ col 1 3 ∷ col 1 4 ∷ []) ((col 1 2, rising) ∷ (col 1 3, rising) ∷ [])
+
+-- the first two of the rows of an event whose names are not before the given one
+abbrev pub next_query : Query
+next_query = selection_within (pos 2) (has_event ∷ has_kind ∷ op2 (Compare Ge Binary) (col 1 3) (col 0 1) ∷ numbered ∷ [])
     (col 1 2 ∷ col 1 3 ∷ col 1 4 ∷ []) ((col 1 2, rising) ∷ (col 1 3, rising) ∷ [])
 
 -- the rows of all events

@@ -1,5 +1,5 @@
 -- What the rows of the table stand for.
-use Rattle.std.specs.Prelude.{ℕ, pos, negsuc, Bool, true, false, not, nat_lt, ◌&&◌, ◌==◌, List, [], ◌∷◌, map, filter, bytes_eq, IsPermutation}
+use Rattle.std.specs.Prelude.{ℕ, pos, negsuc, ◌≡◌, Bool, true, false, not, nat_lt, ◌&&◌, ◌==◌, List, [], ◌∷◌, map, filter, bytes_eq, IsPermutation, IsSorted}
 use Rattle.std.specs.Int.{w128, to_be_bytes, from_be_bytes}
 use Rattle.std.specs.List.{list_all}
 use Rattle.sqlite_value.specs.declared.value.Value.{Value}
@@ -7,7 +7,7 @@ use Rattle.sqlite_value.specs.declared.value.Value.TheVariants.{Null, Int, Real,
 use Rattle.sqlite_value.specs.Order.{Row, bytes, column}
 use Rattle.sqlite_sql.specs.Ops.{is_null}
 use Rattle.sqlite_sql.specs.Term.{holds, eval_all}
-use Rattle.sqlite_sql.specs.Query.{Query}
+use Rattle.sqlite_sql.specs.Query.{Query, Output, output, output_cmp, page}
 use Rattle.misp_lists.specs.Order.{in_order}
 use Rattle.misp_ids.specs.declared.uid.EventId.{EventId}
 use Rattle.misp_outside.specs.declared.row.RawRow.{RawRow}
@@ -114,3 +114,14 @@ shown_of q params r = eval_all q.project (params ∷ r ∷ [])
 -- the rows that are wanted, in some order
 abbrev pub IsSelected : Query → Row → List Row → List Row → Type 0
 IsSelected q params stored rows = IsPermutation (map (shown_of q params) (filter (is_wanted q params) stored)) rows
+
+-- what the query sorts the row by, and what it shows of it
+abbrev pub output_of : Query → Row → Row → Output
+output_of q params r = output q (params ∷ r ∷ [])
+
+-- of the rows that are wanted, in an order that the query allows, those that it asks for
+pub record IsPaged (q : Query) (params : Row) (stored rows : List Row) : Type 0 where
+  pub ordered : List Output
+  pub same : IsPermutation (map (output_of q params) (filter (is_wanted q params) stored)) ordered
+  pub sorted : IsSorted (output_cmp q) ordered
+  pub shown : rows ≡ page q params (map (λ o. o.1) ordered)

@@ -13,5 +13,8 @@ one_text = codes "SELECT kind, name, bytes FROM kept_row WHERE event = ?1 AND ro
 abbrev pub between_text : List ℕ
 between_text = codes "SELECT kind, name, bytes FROM kept_row WHERE event = ?1 AND kind = 0 AND name >= ?2 AND name < ?3 AND rowid IS NOT NULL ORDER BY kind, name"
 
+abbrev pub next_text : List ℕ
+next_text = codes "SELECT kind, name, bytes FROM kept_row WHERE event = ?1 AND kind = 0 AND name >= ?2 AND rowid IS NOT NULL ORDER BY kind, name LIMIT 2"
+
 abbrev pub all_text : List ℕ
 all_text = codes "SELECT event, kind, name, bytes FROM kept_row WHERE event <> x'' AND rowid IS NOT NULL ORDER BY event, kind, name"

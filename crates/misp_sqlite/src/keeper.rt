@@ -5,12 +5,13 @@ ghost use Rattle.sqlite.specs.Held.{state as shown_by};
 ghost use Rattle.sqlite.specs.State.{HasCleanDisk, Survives};
 ghost use Rattle.misp_lists.specs.Order.{ascend};
 ghost use Rattle.misp_outside.specs.Causes.{HasCause, StaysUnless};
-ghost use Rattle.misp_outside.specs.Held.{admin_before, comes_before, nothing_held, rows_named, rows_of, with_batch};
+ghost use Rattle.misp_outside.specs.Held.{admin_before, comes_before, next_row, nothing_held, rows_named, rows_of, with_batch};
 ghost use Rattle.misp_sqlite.specs.Standing.{Finds, HasBatch, LeavesWhole, ShowsSame, kept_of};
 ghost use Rattle.misp_sqlite.specs.Stored.{held_in};
 
 use crate::loading::{admin_rows, all_rows, event_rows};
 use crate::named::named_rows;
+use crate::next::next_row;
 use crate::opening::make_table;
 use crate::putting::put_batch;
 use misp_ids::EventId;
@@ -121,6 +122,30 @@ impl<A: Alter + Drop> Keeper for SqliteKeeper<A> {
             (result ≡ Err KeeperFault.Failed) }
     {
         let answer = named_rows(&mut self.connection, alloc, event.0.0, front);
+        self.faults = counted(&answer, self.faults);
+        answer
+    }
+
+    /// It reads at most one row more: the one after it.
+    fn load_next(
+        &mut self,
+        alloc: Global,
+        event: &EventId,
+        from: &[u8],
+    ) -> Result<Option<RawRow>, KeeperFault>
+        ensures found { HasCleanDisk (shown_by A.Store (connection_of self.new)) →
+            IfOk result (λ found. found ≡ next_row event.now from.now
+            (kept_of (shown_by A.Store (connection_of self.old))).rows) }
+        ensures same { ShowsSame (shown_by A.Store (connection_of self.old))
+            (shown_by A.Store (connection_of self.new)) }
+        ensures survives { Survives (shown_by A.Store (connection_of self.old))
+            (shown_by A.Store (connection_of self.new)) (λ _. ⊥) }
+        ensures cause { HasCause (faults_of self.old) (faults_of self.new)
+            (result ≡ Err KeeperFault.Failed) }
+        ensures stays { StaysUnless (faults_of self.old) (faults_of self.new)
+            (result ≡ Err KeeperFault.Failed) }
+    {
+        let answer = next_row(&mut self.connection, alloc, event.0.0, from);
         self.faults = counted(&answer, self.faults);
         answer
     }

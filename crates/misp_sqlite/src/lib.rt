@@ -5,6 +5,7 @@ mod fault;
 mod keeper;
 mod loading;
 mod named;
+mod next;
 mod opening;
 mod putting;
 mod schema;

@@ -21,6 +21,11 @@ pub(crate) const BETWEEN: &str = "SELECT kind, name, bytes FROM kept_row \
     WHERE event = ?1 AND kind = 0 AND name >= ?2 AND name < ?3 AND rowid IS NOT NULL \
     ORDER BY kind, name";
 
+/// The first of the rows of an event whose names are not before the given one, and the one after it.
+pub(crate) const NEXT: &str = "SELECT kind, name, bytes FROM kept_row \
+    WHERE event = ?1 AND kind = 0 AND name >= ?2 AND rowid IS NOT NULL \
+    ORDER BY kind, name LIMIT 2";
+
 /// The rows of all events.
 pub(crate) const ALL: &str = "SELECT event, kind, name, bytes FROM kept_row \
     WHERE event <> x'' AND rowid IS NOT NULL \

@@ -1,7 +1,7 @@
 mod dials;
 mod doors;
 
-use crate::values::{assert_bytes, assert_text, bytes, text};
+use crate::values::{add, assert_bytes, assert_text, bytes, text};
 use misp_ids::{EventId, Items, LAST_SECOND, Uid};
 use misp_outside::{
     AdminRow, Carry, Clock, Keeper, KeeperFault, MemKeeper, MemSink, MemSource, RawBatch, RawRow,
@@ -89,6 +89,20 @@ fn counted_of_one<K: Keeper>(rt: &impl Abort, alloc: Global, keeper: &mut K) -> 
     [rows, named.expect(rt, "rows").len()]
 }
 
+// The first row of event 1 from each of some names on, in a line.
+pub(crate) fn next_of_one<K: Keeper>(rt: &impl Abort, alloc: Global, keeper: &mut K) -> String {
+    let event = EventId(Uid(1));
+    let mut line = String::new(alloc);
+    for from in ["", "a", "aa", "b", "c"] {
+        let found = keeper.load_next(alloc, &event, from.as_bytes());
+        match found.expect(rt, "a row or none") {
+            Some(row) => show(rt, &mut line, &row),
+            None => add(rt, &mut line, "none;"),
+        }
+    }
+    line
+}
+
 // How many rows there are, and how many of the administration.
 fn counted<K: Keeper>(rt: &impl Abort, alloc: Global, keeper: &mut K) -> [usize; 2] {
     let all = keeper.load_all(alloc).expect(rt, "rows").len();
@@ -103,6 +117,9 @@ fn each_load_answers_its_rows(rt: HostRuntime) {
     assert_put(&rt, alloc, &mut keeper, &rows, Ok(()));
     assert_eq!(rt; counted_of_one(&rt, alloc, &mut keeper), [2, 1]);
     assert_eq!(rt; counted(&rt, alloc, &mut keeper), [3, 2]);
+    let line = next_of_one(&rt, alloc, &mut keeper);
+    assert_text(&rt, line.as_str(), "1 a x;1 a x;1 b y;1 b y;none;");
+    drop(line);
     drop(keeper);
 }
 

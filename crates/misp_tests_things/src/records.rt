@@ -3,10 +3,10 @@
 
 mod stops;
 
-use crate::outside::{batch, held};
+use crate::outside::{batch, held, next_of_one};
 use crate::values::{assert_text, text};
-use misp_ids::{EventId, Uid};
-use misp_outside::{AdminRow, Keeper, KeeperFault, RawBatch};
+use misp_ids::{EventId, Items, Uid};
+use misp_outside::{AdminRow, Keeper, KeeperFault, RawBatch, RawRow};
 use misp_sqlite::SqliteKeeper;
 use sqlite::{Alter, Connection, Error, FileStore, Files, Options};
 use sqlite_disk::{Disk, Fuse, Memory};
@@ -152,18 +152,88 @@ fn rows_stay_where_files_are_closed_and_opened(rt: HostRuntime) {
     drop(line);
 }
 
-// Which loads fail: that of event 1, that of its rows whose names begin with `a`, that of all rows,
-// and that of the administration.
-fn failing<K: Keeper>(alloc: Global, keeper: &mut K) -> [bool; 4] {
+fn next_over<A: Alter + Drop>(rt: &impl Abort, alloc: Global, connection: Connection<A>) -> String {
+    let mut keeper = SqliteKeeper::open(connection).expect(rt, "a keeper");
+    let line = next_of_one(rt, alloc, &mut keeper);
+    drop(keeper);
+    line
+}
+
+#[test]
+fn the_next_row_is_loaded(rt: HostRuntime) {
+    let alloc = rt.alloc();
+    let files = made(&rt, alloc);
+    let connection = connected(alloc, files).ok().expect(&rt, "a connection");
+    let line = next_over(&rt, alloc, connection);
+    assert_text(&rt, line.as_str(), "1 a x;1 a x;1 b y;1 b y;none;");
+    drop(line);
+}
+
+// A row of event 1 with a name of one byte.
+fn short_row(rt: &impl Abort, alloc: Global, byte: u8) -> RawRow {
+    RawRow {
+        event: EventId(Uid(1)),
+        name: Items::of(vec![in alloc; byte].expect(rt, "memory")),
+        bytes: Items::of(vec![in alloc; byte].expect(rt, "memory")),
+    }
+}
+
+// Files with 200 rows of event 1.
+fn long(rt: &impl Abort, alloc: Global) -> Disks {
+    let mut rows = Vec::new(alloc);
+    for byte in 0..200u8 {
+        rows.push(short_row(rt, alloc, byte)).expect(rt, "memory");
+    }
+    let batch = RawBatch {
+        rows: Items::of(rows),
+        admin: Items::of(Vec::new(alloc)),
+    };
+    let (is_put, files) = run(rt, alloc, made(rt, alloc), batch);
+    assert!(rt; is_put);
+    files
+}
+
+// Whether the first row from a name on is loaded where a statement may take 20 steps, and whether
+// all rows of the event are.
+fn loaded_in_few_steps<A: Alter + Drop>(
+    rt: &impl Abort,
+    alloc: Global,
+    mut connection: Connection<A>,
+) -> [bool; 2] {
+    connection.set_step_limit(Some(20));
+    let mut keeper = SqliteKeeper::open(connection).expect(rt, "a keeper");
+    let event = EventId(Uid(1));
+    let next = keeper.load_next(alloc, &event, &[100]).is_ok();
+    let all = keeper.load_event(alloc, &event).is_ok();
+    drop(keeper);
+    [next, all]
+}
+
+#[test]
+fn the_next_row_is_loaded_without_the_others(rt: HostRuntime) {
+    let alloc = rt.alloc();
+    let files = long(&rt, alloc);
+    let connection = connected(alloc, files).ok().expect(&rt, "a connection");
+    let loaded = loaded_in_few_steps(&rt, alloc, connection);
+    assert_eq!(rt; loaded, [true, false]);
+}
+
+// Which loads fail: that of event 1, that of its rows whose names begin with `a`, that of the first
+// from `a` on, that of all rows, and that of the administration.
+fn failing<K: Keeper>(alloc: Global, keeper: &mut K) -> [bool; 5] {
     let event = EventId(Uid(1));
     let rows = matches!(keeper.load_event(alloc, &event), Err(KeeperFault::Failed));
     let named = matches!(
         keeper.load_named(alloc, &event, b"a"),
         Err(KeeperFault::Failed)
     );
+    let next = matches!(
+        keeper.load_next(alloc, &event, b"a"),
+        Err(KeeperFault::Failed)
+    );
     let all = matches!(keeper.load_all(alloc), Err(KeeperFault::Failed));
     let admin = matches!(keeper.load_admin(alloc), Err(KeeperFault::Failed));
-    [rows, named, all, admin]
+    [rows, named, next, all, admin]
 }
 
 // It has no clause, so that no caller's proof carries what the statements do.
@@ -176,7 +246,7 @@ fn failing_over<A: Alter + Drop>(
     alloc: Global,
     mut connection: Connection<A>,
     statements: &str,
-) -> [bool; 4] {
+) -> [bool; 5] {
     execute(&mut connection, statements).expect(rt, "run statements");
     match SqliteKeeper::open(connection) {
         Ok(mut keeper) => {
@@ -186,7 +256,7 @@ fn failing_over<A: Alter + Drop>(
         }
         Err(fault) => {
             assert_eq!(rt; fault, KeeperFault::Failed);
-            [true; 4]
+            [true; 5]
         }
     }
 }
@@ -197,7 +267,7 @@ fn failing_after<D: Disk + Drop>(
     alloc: Global,
     files: Files<D>,
     statements: &str,
-) -> [bool; 4] {
+) -> [bool; 5] {
     let connection = connected(alloc, files).ok().expect(rt, "a connection");
     failing_over(rt, alloc, connection, statements)
 }
@@ -205,25 +275,25 @@ fn failing_after<D: Disk + Drop>(
 // Statements, and which loads fail after them. The first four make another database, which no
 // keeper opens. Then come a row under three bytes, one of another kind under event 1, and one of
 // the administration whose kind is no byte.
-const OTHERS: [(&str, [bool; 4]); 7] = [
-    ("CREATE TABLE other (a INTEGER) STRICT", [true; 4]),
-    ("CREATE INDEX other ON kept_row (bytes)", [true; 4]),
-    ("CREATE VIEW other AS SELECT bytes FROM kept_row", [true; 4]),
+const OTHERS: [(&str, [bool; 5]); 7] = [
+    ("CREATE TABLE other (a INTEGER) STRICT", [true; 5]),
+    ("CREATE INDEX other ON kept_row (bytes)", [true; 5]),
+    ("CREATE VIEW other AS SELECT bytes FROM kept_row", [true; 5]),
     (
         "DROP TABLE kept_row; CREATE TABLE kept_row (event, kind, name, bytes)",
-        [true; 4],
+        [true; 5],
     ),
     (
         "INSERT INTO kept_row VALUES (x'010203', 0, x'61', x'62')",
-        [false, false, true, false],
+        [false, false, false, true, false],
     ),
     (
         "INSERT INTO kept_row VALUES (x'00000000000000000000000000000001', 1, x'61', x'62')",
-        [true, false, true, false],
+        [true, false, false, true, false],
     ),
     (
         "INSERT INTO kept_row VALUES (x'', 256, x'61', x'62')",
-        [false, false, false, true],
+        [false, false, false, false, true],
     ),
 ];
 

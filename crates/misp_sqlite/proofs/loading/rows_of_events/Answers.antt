@@ -23,12 +23,12 @@ returns-in-Err-clause-same g c is_open =
 
 pub returns-in-Ok-clause-survives : goal.returns-in-Ok-clause-survives
 returns-in-Ok-clause-survives g c =
-    selection_survives all_text all_query.filter all_query.project all_query.order _ all_is [] (state g.A.Store c.args.connection.now) (state g.A.Store c.query_all.new.self)
+    selection_survives all_text all_query _ all_is [] (state g.A.Store c.args.connection.now) (state g.A.Store c.query_all.new.self)
     (c.is_ready.ensures c.if-not-is_ready.false) c.query_all.ensures.survives
 
 pub returns-in-Err-clause-survives : goal.returns-in-Err-clause-survives
 returns-in-Err-clause-survives g c =
-    selection_survives all_text all_query.filter all_query.project all_query.order _ all_is [] (state g.A.Store c.args.connection.now) (state g.A.Store c.query_all.new.self)
+    selection_survives all_text all_query _ all_is [] (state g.A.Store c.args.connection.now) (state g.A.Store c.query_all.new.self)
     (c.is_ready.ensures c.if-not-is_ready.false) c.query_all.ensures.survives
 
 pub returns-then-not-is_ready-clause-survives : goal.returns-then-not-is_ready-clause-survives

@@ -24,12 +24,12 @@ returns-in-Err-clause-same g c is_open =
 
 pub returns-in-Ok-clause-survives : goal.returns-in-Ok-clause-survives
 returns-in-Ok-clause-survives g c =
-    selection_survives one_text one_query.filter one_query.project one_query.order _ one_is (Blob c.args.event.now ∷ []) (state g.A.Store c.args.connection.now) (state g.A.Store c.query_all.new.self)
+    selection_survives one_text one_query _ one_is (Blob c.args.event.now ∷ []) (state g.A.Store c.args.connection.now) (state g.A.Store c.query_all.new.self)
     (c.is_ready.ensures c.if-not-is_ready.false) c.query_all.ensures.survives
 
 pub returns-in-Err-clause-survives : goal.returns-in-Err-clause-survives
 returns-in-Err-clause-survives g c =
-    selection_survives one_text one_query.filter one_query.project one_query.order _ one_is (Blob c.args.event.now ∷ []) (state g.A.Store c.args.connection.now) (state g.A.Store c.query_all.new.self)
+    selection_survives one_text one_query _ one_is (Blob c.args.event.now ∷ []) (state g.A.Store c.args.connection.now) (state g.A.Store c.query_all.new.self)
     (c.is_ready.ensures c.if-not-is_ready.false) c.query_all.ensures.survives
 
 pub returns-then-not-is_ready-clause-survives : goal.returns-then-not-is_ready-clause-survives
