@@ -1,16 +1,17 @@
 -- What is left of a judging is accepted over the kept rows, and brings there what is kept.
 use Rattle.std.proofs.Common.{◌≡◌, List, [], ◌∷◌, ◌++◌, Bool, false, arith, true, cond, sym, ◌∙◌, ap, refl, filter, Some, None, not, ◌&&◌, Option}
 use Rattle.misp_elem.proofs.Same.{target_kept}
-use Rattle.misp_model.specs.Prelude.{Content, Element, EventId, IsClosed, Judge, Key, Label, Proposal, ProposalBody, ProposalName, Row, Rule, Scene, Verdict, Version, acceptance, accepted, ask_rules, at_attribute, bars, body_seen, brings}
-use Rattle.misp_model.specs.Prelude.{cut, cut_rows, event_key, event_of, first_rule, granted, is_accepted, is_for_new, is_least, is_proposal_of, is_taken, is_too_long, judge_rules, judge_writes, judged_place, made, own_row_is, parents}
-use Rattle.misp_model.specs.Prelude.{same_key, uuid_at, written}
-use Rattle.misp_model.proofs.Plain_requests.{refuses, accepted_is, Follows, same_rules, own_any_cut}
-use Rattle.misp_model.proofs.Prelude.{and_parts, any_within, cut_scene, event_kept, find_within, not-true, same_key-keeps}
-use Rattle.misp_model.specs.Statements.{proposal_row, proposal_body, can_judge}
+use Rattle.misp_model.specs.Prelude.{Content, Element, EventId, IsClosed, Judge, Key, Label, Proposal, ProposalBody, ProposalName, Rule, Scene, Verdict, Version, acceptance, ask_rules, bars, body_seen, brings, cut, cut_rows, event_key}
+use Rattle.misp_model.specs.Prelude.{event_of, first_rule, is_accepted, is_for_new, is_proposal_of, is_taken, judge_rules, judge_writes, judged_place, made, parents, uuid_at, written}
+use Rattle.misp_model.proofs.Plain_requests.{refuses, accepted_is, Follows, same_rules}
+use Rattle.misp_model.proofs.Prelude.{cut_scene, event_kept, not-true}
+use Rattle.misp_model.specs.Statements.{can_judge}
 use Rattle.misp_model.specs.Closed.{where_kept, HasPair}
-use Rattle.misp_model.proofs.Knowing.{granted_cut}
-use Rattle.misp_model.proofs.Moving.{is_least_cut}
-use Rattle.misp_model.proofs.Scenes.{own_live_cut, own_row_is_cut, is_at_limit_cut, is_taken_cut, changed_row_cut, changed_row_kept, bars_cut}
+use Rattle.misp_model.proofs.Knowing.{by_key}
+use Rattle.misp_model.proofs.LookedRows.{looked_rows}
+use Rattle.misp_model.proofs.LookedScenes.{looked_scene}
+use Rattle.misp_model.proofs.LookedJudging.{body_seen_looked, can_judge_looked, change, change_looked, too_long, too_long_looked}
+use Rattle.misp_model.proofs.Scenes.{bars_cut, changed_row_kept, is_at_limit_cut, is_taken_cut, own_any_cut}
 
 -- a rule that refuses less
 pub refuses_less : (pre : List (Bool × Rule)) (x y : Bool) (rule : Rule) (post : List (Bool × Rule)) → (x ≡ false → y ≡ false) →
@@ -52,58 +53,31 @@ module _ (keep : Key → Bool) (c : IsClosed keep) (s : Scene) (e : EventId) (n 
   verdict_event_kept h = event_kept keep c verdict h
 
   pub can_judge_cut : keep verdict ≡ true → can_judge (cut_scene keep s) e n ≡ can_judge s e n
-  unfolding can_judge cut_scene cut_rows
-  can_judge_cut h =
-      rw (
-        own_live_cut keep c s (Element e n.target) (verdict_target_kept h),
-        any_within (λ row. same_key row.key (Proposal e n) && granted (cut_rows keep s.rows) s.groups s.at s.by row)
-            (λ row. same_key row.key (Proposal e n) && granted s.rows s.groups s.at s.by row) (λ row. keep row.key)
-            (λ row g. ap (λ b. same_key row.key (Proposal e n) && b) (granted_cut keep c s.rows s.groups s.at s.by row g))
-            (λ row g. same_key-keeps keep row.key (Proposal e n) (and_parts _ _ g).0 (proposal_kept h)) s.rows,
-      ) refl
-
-  proposal_row_cut : keep verdict ≡ true → proposal_row (cut_scene keep s) e n ≡ proposal_row s e n
-  unfolding proposal_row cut_scene cut_rows
-  proposal_row_cut h =
-      find_within (λ row. same_key row.key (Proposal e n) && is_least (cut_rows keep s.rows) s.groups s.at s.by row)
-      (λ row. same_key row.key (Proposal e n) && is_least s.rows s.groups s.at s.by row) (λ row. keep row.key)
-      (λ row g. ap (λ b. same_key row.key (Proposal e n) && b) (is_least_cut keep c s.rows s.groups s.at s.by row g))
-      (λ row g. same_key-keeps keep row.key (Proposal e n) (and_parts _ _ g).0 (proposal_kept h)) s.rows
+  unfolding cut_scene cut_rows looked_scene looked_rows
+  can_judge_cut h = can_judge_looked (λ w. keep) s (by_key keep c s.by) e n (λ w. proposal_kept h) (verdict_target_kept h)
 
   pub body_seen_cut : keep verdict ≡ true → body_seen (cut_scene keep s) e n ≡ body_seen s e n
-  unfolding body_seen
-  body_seen_cut h = ap (λ (o : Option Row). elim o as (λ x. Option ProposalBody) [ None ↦ None | Some row ↦ proposal_body row.content ]) (proposal_row_cut h)
-
-  acceptance_cut : (p : ProposalBody) → keep judged ≡ true → acceptance (cut_scene keep s) e n p ≡ acceptance s e n p
-  unfolding acceptance written cut_scene
-  acceptance_cut p h = ap (cond (is_for_new n) (written s judged s.now Label.Inherit (Content.Attribute (made p)) ∷ [])) (changed_row_cut keep c s judged _ _ h)
+  unfolding cut_scene cut_rows looked_scene looked_rows
+  body_seen_cut h = body_seen_looked (λ w. keep) s (by_key keep c s.by) e n (λ w. proposal_kept h)
 
   acceptance_kept : (p : ProposalBody) (b : Bool) → keep judged ≡ b → cut keep (acceptance s e n p) ≡ cond b (acceptance s e n p) []
   unfolding acceptance written cut
   acceptance_kept p b h =
       choice_kept (λ (v : Version). keep v.key) b (is_for_new n) _ _ (ap (λ t. cond t (written s judged s.now Label.Inherit (Content.Attribute (made p)) ∷ []) []) h) (changed_row_kept keep c s judged _ _ b h)
 
-  -- the change that goes with the verdict
-  abbrev pub change : Scene → Option ProposalBody → List Version
-  change t o = elim o as (λ x. List Version) [ None ↦ [] | Some p ↦ acceptance t e n p ]
-
-  change_kept : (o : Option ProposalBody) (b : Bool) → keep judged ≡ b → cut keep (change s o) ≡ cond b (change s o) []
+  change_kept : (o : Option ProposalBody) (b : Bool) → keep judged ≡ b → cut keep (change e n s o) ≡ cond b (change e n s o) []
   unfolding cut
   change_kept None true h = refl
   change_kept None false h = refl
   change_kept (Some p) b h = acceptance_kept p b h
 
-  pub change_cut : (o : Option ProposalBody) → keep judged ≡ true → change (cut_scene keep s) o ≡ change s o
-  change_cut None h = refl
-  change_cut (Some p) h = acceptance_cut p h
+  pub change_cut : (o : Option ProposalBody) → keep judged ≡ true → change e n (cut_scene keep s) o ≡ change e n s o
+  unfolding cut_scene cut_rows looked_scene looked_rows
+  change_cut o h = change_looked (λ w. keep) s (by_key keep c s.by) e n o h
 
-  -- the texts that an acceptance makes too long
-  abbrev pub too_long : Scene → Option ProposalBody → Bool
-  too_long t o = elim o as (λ x. Bool) [ None ↦ false | Some p ↦ own_row_is t judged (λ row. is_too_long (at_attribute (accepted p) row.content)) ]
-
-  pub too_long_cut : (o : Option ProposalBody) → keep judged ≡ true → too_long (cut_scene keep s) o ≡ too_long s o
-  too_long_cut None h = refl
-  too_long_cut (Some p) h = own_row_is_cut keep c s judged _ h
+  pub too_long_cut : (o : Option ProposalBody) → keep judged ≡ true → too_long e n (cut_scene keep s) o ≡ too_long e n s o
+  unfolding cut_scene cut_rows looked_scene looked_rows
+  too_long_cut o h = too_long_looked (λ w. keep) s (by_key keep c s.by) e n o h
 
   taken_less : (b : Bool) → (b && is_taken s e (uuid_at e (judged_place n))) ≡ false → (b && is_taken (cut_scene keep s) e (uuid_at e (judged_place n))) ≡ false
   taken_less true h = is_taken_cut keep c s e _ h
@@ -135,6 +109,6 @@ module _ (keep : Key → Bool) (c : IsClosed keep) (s : Scene) (e : EventId) (n 
       record {
         accepted = is_accepted_where _ (rules_less k j (none_refuses _ h));
         brought =
-            ap (λ vs. written s verdict s.now Label.Inherit (Content.Verdict true) ∷ vs) (ap (change (cut_scene keep s)) (body_seen_cut k) ∙ change_cut (body_seen s e n) j ∙ sym (change_kept (body_seen s e n) true j))
+            ap (λ vs. written s verdict s.now Label.Inherit (Content.Verdict true) ∷ vs) (ap (change e n (cut_scene keep s)) (body_seen_cut k) ∙ change_cut (body_seen s e n) j ∙ sym (change_kept (body_seen s e n) true j))
             ∙ sym (rw k refl);
       }

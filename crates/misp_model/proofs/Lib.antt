@@ -4,6 +4,13 @@ pub mod Knowing
 pub mod KnownRows
 pub mod KnownShown
 pub mod Local
+pub mod Looked
+pub mod LookedAsks
+pub mod LookedCopy
+pub mod LookedJudging
+pub mod LookedKeys
+pub mod LookedRows
+pub mod LookedScenes
 pub mod Moving
 pub mod NameOrder
 pub mod Numbers
@@ -15,6 +22,7 @@ pub mod Passing
 pub mod Plain_requests
 pub mod Prelude
 pub mod RowRanks
+pub mod SameAnswers
 pub mod Scenes
 pub mod ShownHere
 pub mod Spelled

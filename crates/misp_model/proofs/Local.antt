@@ -1,11 +1,13 @@
 -- What is asked of one event looks at that event's rows alone: the lemmas on kept rows, with the event's keys as the kept ones.
-use Rattle.std.proofs.Common.{◌≡◌, true, refl, ap, ◌∙◌, List, ℕ, eqb, ◌&&◌, ◌||◌}
-use Rattle.std.proofs.lemmas.Bool.{and_from, and_parts}
-use Rattle.misp_lists.proofs.Lists.{any_cut}
+use Rattle.std.proofs.Common.{◌≡◌, true, refl, ap, ◌∙◌, List, ℕ}
+use Rattle.std.proofs.lemmas.Bool.{and_from}
 use Rattle.misp_elem.proofs.Same.{of_event}
 use Rattle.misp_model.specs.Prelude.{Element, EventId, Group, Inst, IsClosed, Key, OrgId, Place, Proposal, Reference, Row, Scene, Sighting, Verdict, above, cut_rows, event_of, granted, is_proposal_of, is_taken, list_all, parents}
-use Rattle.misp_model.specs.Prelude.{same_event, same_org, takes_uuid, up_to}
-use Rattle.misp_model.proofs.Knowing.{granted_cut}
+use Rattle.misp_model.specs.Prelude.{same_event, up_to}
+use Rattle.misp_model.proofs.Knowing.{by_key, granted_cut}
+use Rattle.misp_model.proofs.LookedRows.{looked_rows}
+use Rattle.misp_model.proofs.LookedScenes.{looked_scene}
+use Rattle.misp_model.proofs.LookedCopy.{is_taken_looked}
 use Rattle.misp_model.proofs.Scenes.{cut_scene}
 
 above_of : (e f : EventId) (p : Place) → same_event f e ≡ true → list_all (of_event e) (above f p) ≡ true
@@ -48,7 +50,5 @@ granted_here e rows groups i o row h = granted_cut (of_event e) (event_is_closed
 
 -- and so is whether a uuid is taken
 pub is_taken_here : (e : EventId) (s : Scene) (u : ℕ) → is_taken (cut_scene (of_event e) s) e u ≡ is_taken s e u
-unfolding is_taken cut_scene cut_rows of_event
-is_taken_here e s u =
-    ap (λ b. eqb e.0.0 u || b) (any_cut (λ (row : Row). same_org row.owner s.by && (same_event (event_of row.key) e && takes_uuid u row.key)) (λ row. same_event (event_of row.key) e)
-    (λ row h. (and_parts _ _ (and_parts _ _ h).1).0) s.rows)
+unfolding cut_scene cut_rows looked_scene looked_rows of_event
+is_taken_here e s u = is_taken_looked (λ w. of_event e) s (by_key (of_event e) (event_is_closed e) s.by) e (λ k h. h) u

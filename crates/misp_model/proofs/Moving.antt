@@ -1,21 +1,15 @@
 -- What passes of a history that was cut is what is kept of what passes, and so for what counts.
-use Rattle.std.proofs.Common.{◌≡◌, List, Bool, true, refl, ap, ltb, ◌&&◌, ◌||◌}
-use Rattle.misp_model.proofs.Prelude.{Group, Inst, IsClosed, Key, OrgId, Row, Version, and_parts, any_within, counted, counts, cut_rows, event_kept, event_key, event_of, filter_cut, granted, has_event, is_least, is_statement, is_welcome}
+use Rattle.std.proofs.Common.{◌≡◌, List, Bool, true, refl, ap, ◌&&◌, ◌||◌}
+use Rattle.misp_model.proofs.Prelude.{Group, Inst, IsClosed, Key, OrgId, Row, Version, and_parts, any_within, counted, counts, cut_rows, event_kept, event_key, event_of, filter_cut, has_event, is_least, is_statement, is_welcome}
 use Rattle.misp_model.proofs.Prelude.{same_key, same_key-keeps}
 use Rattle.misp_model.specs.Closed.{cut}
-use Rattle.misp_model.proofs.Knowing.{has_copy_cut, has_home_cut, has_gone_cut, granted_cut}
+use Rattle.misp_model.proofs.Knowing.{by_key, has_copy_cut, has_home_cut, has_gone_cut}
+use Rattle.misp_model.proofs.LookedRows.{is_least_looked, looked_rows}
 
 module _ (keep : Key → Bool) (c : IsClosed keep) (rows : List Row) (groups : List Group) where
   pub is_least_cut : (i : Inst) (o : OrgId) (row : Row) → keep row.key ≡ true → is_least (cut_rows keep rows) groups i o row ≡ is_least rows groups i o row
-  unfolding is_least cut_rows
-  is_least_cut i o row h =
-      rw (
-        granted_cut keep c rows groups i o row h,
-        any_within (λ r. same_key r.key row.key && ltb r.owner.0.0 row.owner.0.0 && granted (cut_rows keep rows) groups i o r)
-            (λ r. same_key r.key row.key && ltb r.owner.0.0 row.owner.0.0 && granted rows groups i o r) (λ r. keep r.key)
-            (λ r e. ap (λ b. same_key r.key row.key && ltb r.owner.0.0 row.owner.0.0 && b) (granted_cut keep c rows groups i o r e))
-            (λ r e. same_key-keeps keep r.key row.key (and_parts _ _ (and_parts _ _ e).0).0 h) rows,
-      ) refl
+  unfolding cut_rows looked_rows
+  is_least_cut i o row h = is_least_looked o (λ w. keep) (by_key keep c o) rows groups i row (λ w. h)
 
   pub is_welcome_cut : (v : Version) → keep v.key ≡ true → is_welcome (cut_rows keep rows) groups v ≡ is_welcome rows groups v
   unfolding is_welcome

@@ -3,14 +3,14 @@ use Rattle.std.proofs.Common.{◌≡◌, [], refl, List, Bool, ◌∷◌, true, 
 use Rattle.std.proofs.lemmas.List.Elements.{filter-append}
 use Rattle.misp_lists.proofs.Lists.{find_first, filter_none}
 use Rattle.misp_elem.proofs.Same.{target_kept}
-use Rattle.misp_model.specs.Prelude.{Ask, Change, Content, Delete, DeleteEvent, DeleteReference, EditAttribute, EditEvent, EditObject, Element, ElemId, EventId, IsClosed, Key, Label, Place, Proposal, ProposalDraft, Propose, Publish}
-use Rattle.misp_model.specs.Prelude.{Reference, Row, Rule, Scene, Sight, Sighting, SightingDraft, Stamp, Tag, TakePart, TimeLimit, Verdict, Version, as_deleted, as_published, ask_rules, at_publishing, at_tags, brings, change_rules}
-use Rattle.misp_model.specs.Prelude.{change_writes, changed, changed_row, counted, cut, cut_rows, edit_rules, event_key, event_of, first_rule, handed_in, has_tag, is_accepted, is_held_in, is_live, is_newer_than, is_row_of, is_too_long}
-use Rattle.misp_model.specs.Prelude.{last_stamp, let_out, let_out_row, list_any, own_reference, own_row_is, parents, proposal_key, propose_rules, propose_writes, row_passes, same_event, same_org, sight_rules, sight_writes, sighting_key}
-use Rattle.misp_model.specs.Prelude.{taken_rows, untagged, written}
+use Rattle.misp_model.specs.Prelude.{Ask, Change, Delete, DeleteEvent, DeleteReference, EditAttribute, EditEvent, EditObject, ElemId, Element, EventId, IsClosed, Key, Place, ProposalDraft, Propose, Publish, Row, Rule, Scene, Sight}
+use Rattle.misp_model.specs.Prelude.{SightingDraft, Tag, TakePart, TimeLimit, Version, as_deleted, as_published, ask_rules, at_publishing, at_tags, brings, change_rules, change_writes, changed, changed_row, counted, cut, cut_rows}
+use Rattle.misp_model.specs.Prelude.{event_key, event_of, first_rule, handed_in, has_tag, is_accepted, is_held_in, is_live, last_stamp, let_out, let_out_row, list_any, own_reference, own_row_is, parents, proposal_key, propose_rules}
+use Rattle.misp_model.specs.Prelude.{propose_writes, row_passes, same_event, same_org, sight_rules, sight_writes, sighting_key, taken_rows, untagged, written}
 use Rattle.misp_model.specs.Closed.{where_kept, is_empty}
-use Rattle.misp_model.proofs.Prelude.{and_parts, any_cut, cut_scene, event_kept, false≢true, filter-map, filter_cut, find_passes, is_live_cut, same_event-sound, same_key-keeps}
-use Rattle.misp_model.proofs.Scenes.{holds_copy_cut, holds_tombstone_cut, sees_cut, own_live_cut, own_row_is_cut, is_at_limit_cut, changed_row_cut, changed_row_kept, bars_cut, sees_target_cut, sees_live_cut, wants_unusable_cut}
+use Rattle.misp_model.proofs.Prelude.{and_parts, cut_scene, event_kept, false≢true, filter-map, filter_cut, find_passes, is_live_cut, same_event-sound}
+use Rattle.misp_model.proofs.Scenes.{bars_cut, changed_row_cut, changed_row_kept, edit_rules_cut, holds_copy_cut, holds_tombstone_cut, is_at_limit_cut, own_any_cut, own_live_cut, own_row_is_cut, sees_cut, sees_live_cut, sees_target_cut}
+use Rattle.misp_model.proofs.LookedCopy.{reference_event}
 use Rattle.misp_model.specs.declared.edit.AttributeEditFields.{AttributeEditFields as AttributeEdit}
 use Rattle.misp_model.specs.declared.package.PackageFields.{PackageFields as Package}
 use Rattle.misp_model.specs.declared.edit.EventEditFields.{EventEditFields as EventEdit}
@@ -56,31 +56,13 @@ module _ (keep : Key → Bool) (c : IsClosed keep) (s : Scene) where
   unfolding is_accepted
   same_rules a b e h = ap (λ rs. elim (first_rule rs) [ None ↦ true | Some r ↦ false ]) e ∙ h
 
-  -- the caller has a row of a kept key
-  pub own_any_cut : (k : Key) → keep k ≡ true → list_any (is_row_of s.by k) (cut_rows keep s.rows) ≡ list_any (is_row_of s.by k) s.rows
-  unfolding cut_rows is_row_of
-  own_any_cut k h = any_cut (is_row_of s.by k) (λ row. keep row.key) (λ row e. same_key-keeps keep row.key k (and_parts _ _ e).1 h) s.rows
-
-  -- the rules of an edit of a kept row
-  pub edit_rules_cut : (e : EventId) (k : Key) (fits here : Bool) (l : Option Label) (t : Option Stamp) (f : Content → Content) →
-      keep k ≡ true → keep (event_key e) ≡ true → here ≡ fits → edit_rules (cut_scene keep s) e k here l t f ≡ edit_rules s e k fits l t f
-  unfolding edit_rules
-  edit_rules_cut e k fits here l t f h g fit =
-      rw (
-        bars_cut keep c s e here fits g fit,
-        is_at_limit_cut keep c s k h,
-        wants_unusable_cut keep c s l,
-        own_row_is_cut keep c s k (is_newer_than t) h,
-        own_row_is_cut keep c s k (λ row. is_too_long (f row.content)) h,
-      ) refl
-
   pub edit_event_follows : (e : EventId) (edit : EventEdit) (b : Bool) → keep (event_key e) ≡ b →
       is_accepted s (Ask.Change (EditEvent e edit)) ≡ true → Follows keep s (Ask.Change (EditEvent e edit)) (where_kept b (Ask.Change (EditEvent e edit)))
   unfolding where_kept brings change_writes ask_rules change_rules
   edit_event_follows e edit false k h = changed_row_kept keep c s (event_key e) _ _ false k
   edit_event_follows e edit true k h =
       record {
-        accepted = same_rules (Ask.Change (EditEvent e edit)) (Ask.Change (EditEvent e edit)) (edit_rules_cut e (event_key e) _ _ _ _ _ k k refl) h;
+        accepted = same_rules (Ask.Change (EditEvent e edit)) (Ask.Change (EditEvent e edit)) (edit_rules_cut keep c s e (event_key e) _ _ _ _ _ k k refl) h;
         brought = changed_row_cut keep c s (event_key e) _ _ k ∙ sym (changed_row_kept keep c s (event_key e) _ _ true k);
       }
 
@@ -90,7 +72,7 @@ module _ (keep : Key → Bool) (c : IsClosed keep) (s : Scene) where
   edit_follows e p edit false k h = changed_row_kept keep c s (Element e p) _ _ false k
   edit_follows e p edit true k h =
       record {
-        accepted = same_rules (Ask.Change (EditAttribute e p edit)) (Ask.Change (EditAttribute e p edit)) (edit_rules_cut e (Element e p) _ _ _ _ _ k (event_of_place_kept keep c e p k) (own_live_cut keep c s (Element e p) k)) h;
+        accepted = same_rules (Ask.Change (EditAttribute e p edit)) (Ask.Change (EditAttribute e p edit)) (edit_rules_cut keep c s e (Element e p) _ _ _ _ _ k (event_of_place_kept keep c e p k) (own_live_cut keep c s (Element e p) k)) h;
         brought = changed_row_cut keep c s (Element e p) _ _ k ∙ sym (changed_row_kept keep c s (Element e p) _ _ true k);
       }
 
@@ -102,7 +84,7 @@ module _ (keep : Key → Bool) (c : IsClosed keep) (s : Scene) where
       record {
         accepted =
             same_rules (Ask.Change (EditObject e x edit)) (Ask.Change (EditObject e x edit))
-            (edit_rules_cut e (Element e (Place.Object x)) _ _ _ _ _ k (event_of_place_kept keep c e (Place.Object x) k) (own_live_cut keep c s (Element e (Place.Object x)) k)) h;
+            (edit_rules_cut keep c s e (Element e (Place.Object x)) _ _ _ _ _ k (event_of_place_kept keep c e (Place.Object x) k) (own_live_cut keep c s (Element e (Place.Object x)) k)) h;
         brought = changed_row_cut keep c s (Element e (Place.Object x)) _ _ k ∙ sym (changed_row_kept keep c s (Element e (Place.Object x)) _ _ true k);
       }
 
@@ -112,7 +94,7 @@ module _ (keep : Key → Bool) (c : IsClosed keep) (s : Scene) where
   delete_element_follows e p false k h = changed_row_kept keep c s (Element e p) _ _ false k
   delete_element_follows e p true k h =
       record {
-        accepted = same_rules (Ask.Change (Delete e p)) (Ask.Change (Delete e p)) (edit_rules_cut e (Element e p) _ _ _ _ _ k (event_of_place_kept keep c e p k) (own_live_cut keep c s (Element e p) k)) h;
+        accepted = same_rules (Ask.Change (Delete e p)) (Ask.Change (Delete e p)) (edit_rules_cut keep c s e (Element e p) _ _ _ _ _ k (event_of_place_kept keep c e p k) (own_live_cut keep c s (Element e p) k)) h;
         brought = changed_row_cut keep c s (Element e p) _ _ k ∙ sym (changed_row_kept keep c s (Element e p) _ _ true k);
       }
 
@@ -122,7 +104,7 @@ module _ (keep : Key → Bool) (c : IsClosed keep) (s : Scene) where
   tag_follows e p tag false k h = changed_row_kept keep c s (Element e p) _ _ false k
   tag_follows e p tag true k h =
       record {
-        accepted = same_rules (Ask.Change (Change.Tag e p tag)) (Ask.Change (Change.Tag e p tag)) (edit_rules_cut e (Element e p) _ _ _ _ _ k (event_of_place_kept keep c e p k) (own_live_cut keep c s (Element e p) k)) h;
+        accepted = same_rules (Ask.Change (Change.Tag e p tag)) (Ask.Change (Change.Tag e p tag)) (edit_rules_cut keep c s e (Element e p) _ _ _ _ _ k (event_of_place_kept keep c e p k) (own_live_cut keep c s (Element e p) k)) h;
         brought = changed_row_cut keep c s (Element e p) _ _ k ∙ sym (changed_row_kept keep c s (Element e p) _ _ true k);
       }
 
@@ -149,15 +131,6 @@ module _ (keep : Key → Bool) (c : IsClosed keep) (s : Scene) where
             (λ i. cond (own_row_is_cut keep c s (Element e p) (has_tag name) k i) (changed_row_cut keep c s (Element e p) (λ row. row.label) (at_tags (untagged name)) k i) [])
             ∙ sym (untag_writes (own_row_is s (Element e p) (has_tag name)) e p name true k);
       }
-
-  -- a reference that is named by its object and uuid
-  pub reference_event : (e : EventId) (x u : ElemId) (k : Key) → is_reference_named e x u k ≡ true → same_event (event_of k) e ≡ true
-  unfolding is_reference_named event_of
-  reference_event e x u (Element f p) h = absurd (false≢true h)
-  reference_event e x u (Reference f y t v) h = (and_parts _ _ (and_parts _ _ h).0).0
-  reference_event e x u (Proposal f n) h = absurd (false≢true h)
-  reference_event e x u (Verdict f n i o) h = absurd (false≢true h)
-  reference_event e x u (Sighting f t i o v) h = absurd (false≢true h)
 
   own_reference_cut : (e : EventId) (x u : ElemId) (row : Row) → own_reference s e x u ≡ Some row → keep row.key ≡ true → own_reference (cut_scene keep s) e x u ≡ Some row
   unfolding own_reference cut_scene cut_rows
@@ -217,7 +190,7 @@ module _ (keep : Key → Bool) (c : IsClosed keep) (s : Scene) where
             (rw (
               sees_live_cut keep c s (Element e t) (target_kept keep e t (c.above _ k)),
               holds_tombstone_cut keep c s e (event_kept keep c _ k),
-              own_any_cut (sighting_key s e t d) k,
+              own_any_cut keep c s (sighting_key s e t d) k,
             ) refl) h;
         brought = rw k refl;
       }
@@ -289,7 +262,7 @@ module _ (keep : Key → Bool) (c : IsClosed keep) (s : Scene) where
             (rw (
               sees_target_cut keep c s d.event d.target (target_kept keep d.event d.target (c.above _ k)),
               holds_tombstone_cut keep c s d.event (event_kept keep c _ k),
-              own_any_cut (proposal_key s d) k,
+              own_any_cut keep c s (proposal_key s d) k,
             ) refl) h;
         brought = rw k refl;
       }

@@ -11,6 +11,7 @@ pub mod Arrival
 pub mod Changing
 pub mod Closed
 pub mod Edits
+pub mod Looking
 pub mod Machine
 pub mod Numbers
 pub mod Packing

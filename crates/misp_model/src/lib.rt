@@ -7,6 +7,8 @@ mod change;
 mod edit;
 mod known_rows;
 mod laws;
+mod looking;
+mod looks;
 mod one_event;
 mod package;
 mod parts;
@@ -24,6 +26,8 @@ pub use known_rows::known_rows_answer_as_all;
 pub use laws::{
     each_key_has_its_own_spelling, rows_stand_in_the_order_of_their_bytes, the_first_rule_decides,
 };
+pub use looking::a_request_looks_at_no_other_rows;
+pub use looks::Looks;
 pub use one_event::{
     an_event_is_asked_from_its_own_rows, an_event_is_known_from_its_own_rows,
     an_event_is_seen_from_its_own_rows,
