@@ -119,7 +119,7 @@ of_rule (Some rule) g = refl
 by_command : (host : Host) (now : ℕ) (caller : Caller) (command : Command) (seen : Seen) → AsksBuilt command
     → rule_of (command_effect host now caller command seen).reply ≡ first_ground (command_grounds host now caller command seen)
 unfolding first_ground
-by_command host now caller (Command.Asks ask) seen built = by_rows host now (caller, ask) seen.groups (seen.rows (reach_of caller.org ask)) built
+by_command host now caller (Command.Asks ask) seen built = by_rows host now (caller, ask) seen.groups (seen.rows (reach_of host.name caller.org ask)) built
 by_command host now caller (Command.TakesGroups groups) seen built = refl
 by_command host now caller (Command.Shares add g) seen built = of_rule (why_not add seen.groups caller.org g.id) _ ∙ why_first add seen.groups caller.org g.id
 

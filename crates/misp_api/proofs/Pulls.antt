@@ -46,7 +46,7 @@ over_none host now it groups (Ok rows) is = ap row_batches (writes_none _ it.1 i
 over_none host now it groups (Err name) is = refl
 
 command_none : (host : Host) (now : ℕ) (caller : Caller) (command : Command) (seen : Seen) → is_pulling command ≡ true → (command_effect host now caller command seen).batches ≡ []
-command_none host now caller (Command.Asks ask) seen is = over_none host now (caller, ask) seen.groups (seen.rows (reach_of caller.org ask)) is
+command_none host now caller (Command.Asks ask) seen is = over_none host now (caller, ask) seen.groups (seen.rows (reach_of host.name caller.org ask)) is
 command_none host now caller (Command.TakesGroups groups) seen is = absurd cc
 command_none host now caller (Command.Shares add g) seen is = absurd cc
 

@@ -73,7 +73,7 @@ sharing_grounds add groups by id =
 -- refused by none of these
 abbrev pub command_grounds : Host → ℕ → Caller → Command → Seen → List Ground
 command_grounds host now caller (Command.Asks ask) seen =
-    row_grounds host now (caller, ask) seen.groups (seen.rows (reach_of caller.org ask))
+    row_grounds host now (caller, ask) seen.groups (seen.rows (reach_of host.name caller.org ask))
 command_grounds host now caller (Command.TakesGroups groups) seen = []
 command_grounds host now caller (Command.Shares add g) seen =
     sharing_grounds add seen.groups caller.org g.id

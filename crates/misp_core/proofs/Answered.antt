@@ -21,7 +21,7 @@ module _ (host : Host) (now : ℕ) (it : Asked) where
   pub by_role : (seen : Seen) (may : Bool) → is_permitted it.0 it.1 ≡ may → requested host now it seen ≡ (if may then asked_where host now it seen else refused (forbidden it.1))
   by_role seen may is = ap (λ b. if b then asked_where host now it seen else refused (forbidden it.1)) is
 
-  is_unread : (seen : Seen) (fault : LoadFault) → is_permitted it.0 it.1 ≡ true → NamesFault (seen.rows (reach_of it.0.org it.1)) fault → IsUnread fault (requested host now it seen)
+  is_unread : (seen : Seen) (fault : LoadFault) → is_permitted it.0 it.1 ≡ true → NamesFault (seen.rows (reach_of host.name it.0.org it.1)) fault → IsUnread fault (requested host now it seen)
   is_unread seen (LoadFault.BadRow name) may names = by_role seen true may ∙ ap (asked_over host now it seen.groups) names
   is_unread seen LoadFault.KeeperFault may names = tt
   is_unread seen LoadFault.NoMemory may names = tt
@@ -33,7 +33,7 @@ module _ (host : Host) (now : ℕ) (it : Asked) where
       is_planned (Err why) (requested host now it (seen_in held)) (subst (λ (e : Effect Reply). Plans (Err why) e) (sym (by_role (seen_in held) false may)) plans)
 
   -- so is what is permitted, where the rows are not read
-  pub unread_planned : (old : Option Held) (fault : LoadFault) (why : NoPlan) → is_permitted it.0 it.1 ≡ true → IfSome old (λ held. NamesFault ((seen_in held).rows (reach_of it.0.org it.1)) fault)
+  pub unread_planned : (old : Option Held) (fault : LoadFault) (why : NoPlan) → is_permitted it.0 it.1 ≡ true → IfSome old (λ held. NamesFault ((seen_in held).rows (reach_of host.name it.0.org it.1)) fault)
       → ((e : Effect Reply) → IsUnread fault e → IsPlanned (Err why) e) → IfSome old (λ held. IsPlanned (Err why) (requested host now it (seen_in held)))
   unread_planned old fault why may names plans =
       IfSome_then old names (λ held named. plans (requested host now it (seen_in held)) (is_unread (seen_in held) fault may named))
@@ -51,7 +51,7 @@ module _ (host : Host) (now : ℕ) (it : Asked) where
 
   -- what is permitted is planned over the rows that it reads, with the groups that are held
   pub planned_over : (groups : List Group) (rows : List Row) (planned : Result Plan NoPlan) (held : Held) → is_permitted it.0 it.1 ≡ true → HoldsGroups (Some held) groups
-      → (seen_in held).rows (reach_of it.0.org it.1) ≡ Ok rows → Plans planned (asked host.admin (seeing (scene_where groups (pulls it.1)) rows) it.1)
+      → (seen_in held).rows (reach_of host.name it.0.org it.1) ≡ Ok rows → Plans planned (asked host.admin (seeing (scene_where groups (pulls it.1)) rows) it.1)
       → IsPlanned planned (requested host now it (seen_in held))
   planned_over groups rows planned held may holds found is =
       is_planned planned (requested host now it (seen_in held))
@@ -59,7 +59,7 @@ module _ (host : Host) (now : ℕ) (it : Asked) where
 
   -- the same where the keeper may not tell what it holds
   pub asked_planned : (groups : List Group) (rows : List Row) (planned : Result Plan NoPlan) (old : Option Held) → is_permitted it.0 it.1 ≡ true → HoldsGroups old groups
-      → IfSome old (λ held. (seen_in held).rows (reach_of it.0.org it.1) ≡ Ok rows) → IfSome old (λ held. IsTable rows)
+      → IfSome old (λ held. (seen_in held).rows (reach_of host.name it.0.org it.1) ≡ Ok rows) → IfSome old (λ held. IsTable rows)
       → (IsTable rows → Plans planned (asked host.admin (seeing (scene_where groups (pulls it.1)) rows) it.1))
       → IfSome old (λ held. IsPlanned planned (requested host now it (seen_in held)))
   asked_planned groups rows planned None may holds found table is = tt

@@ -16,7 +16,9 @@ use Rattle.misp_history.proofs.Puts.{put_ask}
 use Rattle.misp_history.proofs.HandedIn.{handed_merged}
 use Rattle.misp_history.specs.Merging.{merged}
 use Rattle.misp_edit.proofs.OwnCopy.{named_rows}
+use Rattle.misp_model.specs.declared.looks.Looks.{Looks}
 use Rattle.misp_store.specs.Raw.{raw_row, rows_in}
+use Rattle.misp_store.specs.Seen.{rows_looked}
 use Rattle.misp_store.specs.Sharing.{or_none}
 use Rattle.misp_store.specs.declared.reach.Reach.{Reach}
 use Rattle.misp_store.proofs.HeldRows.{rows_again, rows_of_event, rows_kept, rows_put, rows_put_held}
@@ -25,6 +27,7 @@ use Rattle.misp_core.specs.Prelude.{groups_in, groups_of, left, list_all, put_ba
 use Rattle.misp_core.specs.Effects.{row_batches, asked}
 use Rattle.misp_core.specs.Answers.{rows_brought}
 use Rattle.misp_core.specs.Keeping.{caller_at, act_at}
+use Rattle.misp_core.proofs.LookedRows.{looked_held, named_looked, named_looked_kept}
 use Rattle.misp_core.proofs.HandedRows.{handed_table, newer_rows, taken_known}
 use Rattle.misp_core.proofs.Alike.{rows_of_name, named_rows_kept, table_within, own_alike, asked_as}
 use Rattle.misp_history.specs.Acts as model
@@ -48,6 +51,13 @@ module _ (here : Inst) (w : World) (held : Held) (keeps : Keeps here w held) whe
       ∙ ap rows_in (rows_of_name o e (tables w.log here))
       ∙ rows_again _ (named_rows_kept o e (tables w.log here) keeps.are_rows)
 
+  -- what is looked at of what is held is the rows so named
+  looked_read : (l : Looks) → rows_in (rows_looked l held.rows) ≡ Ok (named_looked l (tables w.log here))
+  looked_read l =
+      ap (λ raws. rows_in (rows_looked l raws)) keeps.rows
+      ∙ ap rows_in (looked_held l (tables w.log here))
+      ∙ rows_again _ (named_looked_kept l (tables w.log here) keeps.are_rows)
+
   -- what is held of an event is that event's rows
   event_read : (e : EventId) → rows_in (rows_of e held.rows) ≡ Ok (event_rows e (tables w.log here))
   event_read e =
@@ -64,6 +74,7 @@ module _ (here : Inst) (w : World) (held : Held) (keeps : Keeps here w held) whe
   unfolding rows_in
   read_there Reach.Nothing = refl
   read_there (Reach.Own o e) = own_read o e
+  read_there (Reach.Looked l) = looked_read l
   read_there (Reach.Event e) = event_read e
   read_there Reach.All = ap rows_in keeps.rows ∙ rows_again _ keeps.are_rows
 
@@ -71,7 +82,7 @@ module _ (w : World) (host : Host) (now : ℕ) (it : Asked) (held : Held) (built
   -- what it comes to is what it comes to over all rows of the instance, with its groups
   pub over_all : asked_where host now it (seen_in held) ≡ asked_over host now it (w.groups host.name) (Ok (tables w.log host.name))
   over_all =
-      (λ i. asked_over host now it (groups_there host.name w held keeps i) (read_there host.name w held keeps (reach_of it.0.org it.1) i))
+      (λ i. asked_over host now it (groups_there host.name w held keeps i) (read_there host.name w held keeps (reach_of host.name it.0.org it.1) i))
       ∙ own_alike host.admin (tables w.log host.name) (scene_at host now it.0 (w.groups host.name)) it.1 built
 
   -- and what the history says, whatever the number of the act

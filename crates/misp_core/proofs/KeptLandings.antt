@@ -63,17 +63,17 @@ module _ (here : Inst) (by : Caller) (rows : List Row) where
     is = landing_own l here by.org p.event rows made.is;
   }
 
-  made_beside : (held : Option Held) (ask : Ask) (l : Landing) → IfSome held (λ h. (seen_in h).rows (reach_of by.org ask) ≡ Ok rows) → IsLandedFor here by.org rows ask l → LandsBeside here held l
+  made_beside : (held : Option Held) (ask : Ask) (l : Landing) → IfSome held (λ h. (seen_in h).rows (reach_of here by.org ask) ≡ Ok rows) → IsLandedFor here by.org rows ask l → LandsBeside here held l
   made_beside None ask l found made = tt
   made_beside (Some h) (Ask.TakePart p) l found made = landed_whole h p l found made
   made_beside (Some h) ask l found made = absurd made
 
-  all_made : (held : Option Held) (ask : Ask) (new : Option Landing) → IfSome held (λ h. (seen_in h).rows (reach_of by.org ask) ≡ Ok rows) → IfSome new (IsLandedFor here by.org rows ask) → IfSome new (LandsBeside here held)
+  all_made : (held : Option Held) (ask : Ask) (new : Option Landing) → IfSome held (λ h. (seen_in h).rows (reach_of here by.org ask) ≡ Ok rows) → IfSome new (IsLandedFor here by.org rows ask) → IfSome new (LandsBeside here held)
   all_made held ask None found made = tt
   all_made held ask (Some l) found made = made_beside held ask l found made
 
   -- what is kept once an ask is planned is so still
-  pub still_lands : (held : Option Held) (ask : Ask) (old new : Option Landing) → IfSome held (λ h. (seen_in h).rows (reach_of by.org ask) ≡ Ok rows) → IfSome old (LandsBeside here held)
+  pub still_lands : (held : Option Held) (ask : Ask) (old new : Option Landing) → IfSome held (λ h. (seen_in h).rows (reach_of here by.org ask) ≡ Ok rows) → IfSome old (LandsBeside here held)
       → StaysOrLands here by.org rows ask old new → IfSome new (LandsBeside here held)
   still_lands held ask old new found lands (inl same) = subst (λ (o : Option Landing). IfSome o (LandsBeside here held)) (sym same) lands
   still_lands held ask old new found lands (inr made) = all_made held ask new found made

@@ -1,16 +1,15 @@
 -- Rows of an event, as they are read of a keeper that was given rows of it.
-use Rattle.std.proofs.Common.{◌≡◌, ℕ, ◌==◌, ◌&&◌, ◌||◌, Bool, true, false, not, cond, bytes_eq, List, [], ◌∷◌, filter, map, Option, Some, None, Result, Ok, Err, refl, sym, ap, subst, ◌∙◌, arith}
+use Rattle.std.proofs.Common.{◌≡◌, ℕ, ◌==◌, ◌&&◌, ◌||◌, Bool, true, false, not, cond, bytes_eq, List, [], ◌∷◌, filter, map, Option, Some, None, Result, Ok, refl, sym, ap, subst, ◌∙◌, arith}
 use Rattle.std.specs.List.{list_all}
 use Rattle.misp_lists.proofs.Prelude.{put}
 use Rattle.misp_lists.proofs.Lists.{any_of_kept}
 use Rattle.misp_lists.proofs.Ordering.{any_put}
 use Rattle.misp_outside.specs.Held.{comes_before, put_raw, put_rows, rows_of, same_raw}
 use Rattle.misp_outside.specs.declared.row.RawRow.{RawRow}
-use Rattle.misp_elem.specs.Prelude.{row_of}
 use Rattle.misp_model.proofs.NameOrder.{same_in_bytes}
-use Rattle.misp_model.proofs.Prelude.{AreRows, EventId, IsRow, Row, and_parts, bytes_eq-Decides, event_of, list_any, name_bytes, put_all, put_row, same_event, same_event-sound, same_key, same_org, stands_before}
+use Rattle.misp_model.proofs.Prelude.{AreRows, EventId, IsRow, Row, and_parts, event_of, list_any, name_bytes, put_all, put_row, same_event, same_key, same_org, stands_before}
 use Rattle.misp_model.specs.Machine.{event_number}
-use Rattle.misp_store.specs.Raw.{onto, raw_row, row_in, row_read, rows_in, stands_under}
+use Rattle.misp_store.specs.Raw.{onto, raw_row, row_in, rows_in}
 use Rattle.misp_store.proofs.HeldRows.{rows_again, rows_filtered}
 use Rattle.misp_store.proofs.OwnNames.{event_under, name_under}
 use Rattle.misp_store.proofs.TableRows.{onto_parts}

@@ -1,5 +1,5 @@
 -- What a request is answered where nothing stops it, and what it writes.
-use Rattle.std.specs.Prelude.{◌≡◌, ℕ, true, false, cond, is_some, List, [], map, length, fold, max, unwrap_or}
+use Rattle.std.specs.Prelude.{◌≡◌, ℕ, true, cond, is_some, List, [], map, length, fold, max, unwrap_or}
 use Rattle.hex.specs.Hex.{encode_lower}
 use Rattle.misp_ids.specs.Refusal.{bare}
 use Rattle.misp_orgs.specs.Keys.{CallerFields as Caller}
@@ -14,7 +14,8 @@ use Rattle.misp_history.specs.Merging.{handed}
 use Rattle.misp_copies.specs.Scenes.{scene_of}
 use Rattle.misp_view.specs.Naming.{group_names}
 use Rattle.misp_edit.specs.Refusals.{refusal_of}
-use Rattle.misp_store.specs.Prelude.{Admin, Refusal, RuleName, reach_of}
+use Rattle.misp_store.specs.Prelude.{Admin, Refusal, RuleName}
+use Rattle.misp_store.specs.Reach.{wide_reach}
 use Rattle.misp_store.specs.declared.reach.Reach.{Reach}
 use Rattle.misp_core.specs.Partners.{partner_of}
 use Rattle.misp_core.specs.Standing.{Host}
@@ -74,7 +75,7 @@ abbrev pub event_saved : EventId → List Version → Reply
 event_saved event vs =
     Reply.Ok (Answer.Saved (length vs) event (greatest (map (λ v. v.stamp) vs)))
 
--- of what was read the event
+-- of the event of a place
 abbrev pub saved : Reach → List Version → Reply
 saved (Reach.Event event) vs = event_saved event vs
 saved (Reach.Own org event) vs = event_saved event vs
@@ -98,7 +99,7 @@ reply_of admin s ask (model.Shares groups) = Reply.Ok (Answer.Groups groups)
 reply_of admin s ask (model.Parts events) =
     Reply.Ok (Answer.Parts (map event_parts events))
 reply_of admin s ask (model.Packed p) = Reply.Ok (Answer.Part p)
-reply_of admin s ask (model.Saved vs) = saved (reach_of s.by ask) vs
+reply_of admin s ask (model.Saved vs) = saved (wide_reach s.by ask) vs
 reply_of admin s ask (model.Taken n) = Reply.Ok (Answer.Taken n)
 reply_of admin s ask _ = Reply.Refused (bare RuleName.NoRoute)
 

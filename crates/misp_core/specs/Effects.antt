@@ -81,7 +81,7 @@ asked_over host now it groups (Err name) = refused (bad_row name)
 -- what is asked, where this is seen
 abbrev pub asked_where : Host → ℕ → Asked → Seen → Effect Reply
 asked_where host now it seen =
-    asked_over host now it seen.groups (seen.rows (reach_of it.0.org it.1))
+    asked_over host now it seen.groups (seen.rows (reach_of host.name it.0.org it.1))
 
 -- a request, where this is seen: the role of the caller must permit what it asks
 abbrev pub requested : Host → ℕ → Asked → Seen → Effect Reply

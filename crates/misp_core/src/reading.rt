@@ -1,14 +1,16 @@
 //! What a permitted request comes to, by what is kept for it, or over the rows that are read.
 
-ghost use Rattle.std.specs.Prelude.{◌≡◌, true, IfOk, IfSome};
+ghost use Rattle.std.specs.Prelude.{◌≡◌, true, Ok, Err, IfOk, IfErr, IfSome};
 ghost use Rattle.misp_outside.specs.Causes.{HasCause, StaysUnless};
 ghost use Rattle.misp_model.specs.Machine.{pulls};
 ghost use Rattle.misp_model.specs.Permission.{is_permitted};
+ghost use Rattle.misp_model.specs.View.{IsTable};
+ghost use Rattle.misp_store.specs.Loading.{NamesFault};
 ghost use Rattle.misp_store.specs.Seen.{seen_in};
 ghost use Rattle.misp_core.specs.Ahead.{IsBeside};
 ghost use Rattle.misp_core.specs.Answers.{IsBuilt};
 ghost use Rattle.misp_core.specs.Effects.{by_keeper, requested};
-ghost use Rattle.misp_core.specs.Handing.{host_at};
+ghost use Rattle.misp_core.specs.Handing.{host_at, reach_at};
 ghost use Rattle.misp_core.specs.Planning.{IsPlanned, stop_planned};
 ghost use Rattle.misp_core.specs.Sound.{IsSoundAnswer};
 
@@ -19,11 +21,42 @@ use crate::handing_in::{is_landed, plan_kept};
 use crate::planning::{NoPlan, Plan};
 use crate::pulling::show_part;
 use crate::site::{Site, asker};
+use misp_elem::{NoMemory, Row};
 use misp_model::Ask;
 use misp_outside::Keeper;
 use misp_package::Landing;
-use misp_store::{Reach, load};
+use misp_store::{LoadFault, Reach, load};
 use std::alloc::Global;
+
+// The rows that an ask looks at.
+fn rows_for<K: Keeper>(
+    keeper: &mut K,
+    alloc: Global,
+    site: &Site<'_>,
+    ask: &Ask,
+) -> Result<Vec<Row>, LoadFault>
+    ensures found { IfOk result (λ found. IfSome (K.state keeper.old).held (λ held.
+        (seen_in held).rows (reach_at site.now ask.now) ≡ Ok found.items)) }
+    ensures table { IfOk result (λ found. IfSome (K.state keeper.old).held
+        (λ _. IsTable found.items)) }
+    ensures bad { IfErr result (λ fault. IfSome (K.state keeper.old).held
+        (λ held. NamesFault ((seen_in held).rows (reach_at site.now ask.now)) fault)) }
+    ensures held { (K.state keeper.new).held ≡ (K.state keeper.old).held }
+    ensures cause { HasCause (K.state keeper.old).faults (K.state keeper.new).faults
+        (result ≡ Err LoadFault.KeeperFault) }
+    ensures stays { StaysUnless (K.state keeper.old).faults (K.state keeper.new).faults
+        (result ≡ Err LoadFault.KeeperFault) }
+{
+    let org = asker(site.caller);
+    match Reach::of(alloc, site.here, &org, ask) {
+        Ok(reach) => {
+            let rows = load(keeper, alloc, &reach);
+            drop(reach);
+            rows
+        }
+        Err(NoMemory) => Err(LoadFault::NoMemory),
+    }
+}
 
 /// What is planned for a request that the role of its caller permits. Nothing is read where what is
 /// kept beside the keeper answers it.
@@ -59,8 +92,7 @@ pub(crate) fn plan_permitted<K: Keeper>(
         drop(ask);
         return plan;
     }
-    let org = asker(site.caller);
-    match load(keeper, alloc, &Reach::of(&org, &ask)) {
+    match rows_for(keeper, alloc, site, &ask) {
         Ok(rows) => plan_request(alloc, site, ask, rows, ahead, landed),
         Err(fault) => {
             drop(ask);

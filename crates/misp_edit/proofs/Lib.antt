@@ -15,6 +15,7 @@ pub mod RowEdits
 pub mod TaggedRows
 pub mod ShortRows
 pub mod LimitLemmas
+pub mod Looked
 pub mod TombstoneLemmas
 pub mod TagPlaces
 pub mod OneEventRefusals

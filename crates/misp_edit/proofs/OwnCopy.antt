@@ -69,7 +69,7 @@ add b = Ask.Change (AddEvent b)
 
 module _ (b : Submission) (s : Scene) where
   -- the same surroundings with what the caller has of the event alone
-  abbrev mine : Scene
+  abbrev pub mine : Scene
   mine = record s { rows = filter (is_of_copy s.by b.event) s.rows }
 
   taken_mine : (u : ℕ) → is_taken mine b.event u ≡ is_taken s b.event u
@@ -99,13 +99,13 @@ module _ (b : Submission) (s : Scene) where
   has_target_mine r = λ i. elim (target_mine r.referenced i) as (λ x. Bool) [ Some t ↦ true | None ↦ false ]
 
   -- the first clash is the same
-  clash_mine : first_clash mine b ≡ first_clash s b
+  pub clash_mine : first_clash mine b ≡ first_clash s b
   unfolding first_clash is_clash read_uuids numbered_uuids
   clash_mine = λ i. option_map (λ p. p.1) (find (λ p. taken_mine p.1 i || list_any (eqb p.1) p.0) (with_those_before [] (map (λ p. p.1) (in_order is_read_before (map (λ d. (d.number, uuid_at b.event d.place)) b.parts
       ++ map (λ r. (r.number, r.uuid.0.0)) (filter (λ r. has_target_mine r i) b.references))))))
 
   -- and so is the first unusable label
-  unusable_mine : first_unusable mine b ≡ first_unusable s b
+  pub unusable_mine : first_unusable mine b ≡ first_unusable s b
   unfolding first_unusable
   unusable_mine = λ i. find (λ l. (sym (usable_is mine l) ∙ usable_is s l) i) (labels_of b)
 
@@ -156,7 +156,7 @@ module _ (o : OrgId) (e : EventId) where
       (subst (λ (w : OrgId). starts_with nat_eq (name_bytes r) (uid w.0) ≡ true) (same_org-sound r.owner o (and_parts _ _ own).0) begins)
 
   -- and all of it is known
-  own_is_known : (rows : List Row) (groups : List Group) (i : Inst) → copy o e (known rows groups i o) ≡ copy o e rows
+  pub own_is_known : (rows : List Row) (groups : List Group) (i : Inst) → copy o e (known rows groups i o) ≡ copy o e rows
   unfolding known is_known is_of_copy
   own_is_known rows groups i =
       filter_within (is_of_copy o e) (is_of_copy o e) (is_known rows groups i o) (λ row h. refl)

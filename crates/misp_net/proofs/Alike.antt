@@ -83,8 +83,8 @@ asked_alike host now c d ask groups (Err name) org partner = refl
 ask_alike : (host : Host) (now : ℕ) (c d : Caller) (x y : Ask) (here : Seen) → c.org ≡ d.org → partner_of c ≡ partner_of d → x ≡ y
     → command_effect host now c (Command.Asks x) here ≡ command_effect host now d (Command.Asks y) here
 ask_alike host now c d x y here org partner same =
-    asked_alike host now c d x here.groups (here.rows (reach_of c.org x)) org partner
-    ∙ (λ i. asked_over host now (d, same i) here.groups (here.rows (reach_of (org i) (same i))))
+    asked_alike host now c d x here.groups (here.rows (reach_of host.name c.org x)) org partner
+    ∙ (λ i. asked_over host now (d, same i) here.groups (here.rows (reach_of host.name (org i) (same i))))
 
 command_alike : (host : Host) (now : ℕ) (c d : Caller) (x y : Command) (here : Seen) → command_at host c x ≡ command_at host d y → command_effect host now c x here ≡ command_effect host now d y here
 command_alike host now c d (Command.Asks x) (Command.Asks y) here same =

@@ -9,3 +9,14 @@ pub mod OwnNames
 pub mod Renewed
 pub mod Rewriting
 pub mod Opened
+pub mod Cuts
+pub mod Fronts
+pub mod LookedNames
+pub mod NamedRows
+pub mod OwnersSought
+pub mod OwnerSteps
+pub mod KeysInOrder
+pub mod LookedRows
+pub mod Sought
+pub mod KeysLooked
+pub mod SoughtNames

@@ -1,5 +1,5 @@
 -- A row that is read is held under its own event and name.
-use Rattle.std.proofs.Common.{◌≡◌, ℕ, Bool, true, false, refl, subst, cond, Option, Some, None, Result, Ok, Err, bytes_eq}
+use Rattle.std.proofs.Common.{◌≡◌, ℕ, Bool, true, false, refl, subst, cond, Some, None, Result, Ok, Err}
 use Rattle.misp_ids.proofs.Same.{same_event-sound}
 use Rattle.misp_elem.specs.Prelude.{row_of}
 use Rattle.misp_effects.specs.Prelude.{RawRow}

@@ -1,5 +1,5 @@
 -- Rows that are put anew: they stay in their places, and say what they said.
-use Rattle.std.proofs.Common.{◌≡◌, ℕ, ◌+◌, ◌<◌, List, [], ◌∷◌, ◌++◌, Bool, true, false, refl, sym, ap, subst, ◌∙◌, map, cond, filter, take, drop, get_or, length, Option, Some, None, option_map, is_some, Result, Ok, Err, IfSome, IsOk, IsTrue, inl, inr, Less, Equal, is_lt, nat_cmp}
+use Rattle.std.proofs.Common.{◌≡◌, ℕ, List, [], ◌∷◌, ◌++◌, true, false, refl, sym, ap, subst, ◌∙◌, map, filter, length, Option, Some, None, option_map, is_some, Result, Ok, Err, IfSome, IsOk, IsTrue, inl, inr, is_lt}
 use Rattle.std.specs.Option.{option_map_or}
 use Rattle.std.proofs.lemmas.Bool.{cases_Bool}
 use Rattle.std.proofs.lemmas.Cmp.{tied_itself}

@@ -1,10 +1,10 @@
 -- Rows that are put anew one after another: what is had so far.
-use Rattle.std.proofs.Common.{◌≡◌, ℕ, ◌+◌, ◌<◌, ◌≤◌, List, [], ◌∷◌, ◌++◌, Bool, true, false, refl, sym, ap, subst, ◌∙◌, cond, inl, inr, map, take, drop, get_or, length, Option, Some, None, Err, IsOk, take_all}
+use Rattle.std.proofs.Common.{◌≡◌, ℕ, ◌+◌, ◌<◌, ◌≤◌, List, [], ◌∷◌, ◌++◌, refl, sym, ap, subst, ◌∙◌, cond, inl, inr, map, take, drop, get_or, length, Option, Some, None, Err, IsOk, take_all}
 use Rattle.std.proofs.lemmas.Bool.{cases_Bool}
 use Rattle.std.proofs.lemmas.List.{drop_all, drop_more, take_more}
 use Rattle.misp_effects.specs.Prelude.{RawRow}
 use Rattle.misp_store.specs.Decoding.{IsNoRow, NamesBadRow}
-use Rattle.misp_store.specs.Raw.{row_in, rows_in}
+use Rattle.misp_store.specs.Raw.{rows_in}
 use Rattle.misp_store.specs.Renewing.{IsRead, is_old, put_anew, renewed_row, rewritten}
 use Rattle.misp_store.specs.declared.fault.RowFault.{RowFault}
 use Rattle.misp_store.proofs.Renewed.{Reads, more_anew, reads_all, reads_bad, reads_next}

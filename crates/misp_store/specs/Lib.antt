@@ -5,5 +5,6 @@ pub mod Prelude
 pub mod Raw
 pub mod Reach
 pub mod Renewing
+pub mod Seeking
 pub mod Seen
 pub mod Sharing

@@ -13,20 +13,26 @@ ghost use Rattle.misp_groups.specs.Group.{IsGroup};
 ghost use Rattle.misp_outside.specs.declared.row.AdminRow.{AdminRow};
 ghost use Rattle.misp_outside.specs.Held.{rows_of, rows_named, put_rows, put_admin};
 ghost use Rattle.misp_model.specs.Machine.{put_all, event_rows};
+ghost use Rattle.misp_model.specs.declared.looks.Looks.{Looks};
+ghost use Rattle.misp_model.specs.Looking.{rows_seen_by};
 ghost use Rattle.misp_groups.specs.Changes.{put_group};
 ghost use Rattle.misp_store.specs.Raw.{raw_row, rows_in, owner_rows};
+ghost use Rattle.misp_store.specs.Seeking.{HasKeys};
+ghost use Rattle.misp_store.specs.Seen.{rows_looked};
 ghost use Rattle.misp_store.specs.Sharing.{group_row, groups_in};
 
 use misp_format::a_group_is_read_from_its_text;
 
-/// What a keeper holds of rows is read as those rows, told by event and by owner as they
-/// are, and put among others where the tables put it.
+/// What a keeper holds of rows is read as those rows, told by event, by owner and by what is looked
+/// at as they are, and put among others where the tables put it.
 pub fn rows_are_held_as_their_bytes()
     ensures read { (rows : List Row) → AreRows rows → rows_in (map raw_row rows) ≡ Ok rows }
     ensures of_event { (e : EventId) (rows : List Row) →
         rows_of e (map raw_row rows) ≡ map raw_row (event_rows e rows) }
     ensures of_owner { (o : OrgId) (e : EventId) (rows : List Row) → IsUid o.0 → AreRows rows →
         rows_named e (uid o.0) (map raw_row rows) ≡ map raw_row (owner_rows o e rows) }
+    ensures looked { (l : Looks) (rows : List Row) → HasKeys l → AreRows rows →
+        rows_looked l (map raw_row rows) ≡ map raw_row (rows_seen_by l (event_rows l.event rows)) }
     ensures put { (vs rows : List Row) → AreRows vs → AreRows rows →
         put_rows (map raw_row vs) (map raw_row rows) ≡ map raw_row (put_all vs rows) }
     ensures kept { (vs rows : List Row) → AreRows vs → AreRows rows → AreRows (put_all vs rows) }

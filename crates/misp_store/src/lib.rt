@@ -6,10 +6,12 @@ mod batches;
 mod fault;
 mod laws;
 mod loading;
+mod looking;
 mod naming;
 mod reach;
 mod renewing;
 mod rows;
+mod seeking;
 mod sharing;
 
 pub use batches::spell;

@@ -6,12 +6,14 @@ ghost use Rattle.misp_outside.specs.Causes.{HasCause, StaysUnless};
 ghost use Rattle.misp_lists.specs.Order.{ascend};
 ghost use Rattle.misp_outside.specs.Held.{comes_before};
 ghost use Rattle.misp_store.specs.Loading.{NamesFault};
+ghost use Rattle.misp_store.specs.Seeking.{IsInOrder};
 ghost use Rattle.misp_store.specs.Seen.{rows_within, seen_in};
 ghost use Rattle.misp_store.specs.Sharing.{HoldsGroups, groups_in};
 
 use crate::fault::LoadFault;
 use crate::reach::Reach;
 use crate::rows::decode_rows;
+use crate::seeking::seek;
 use crate::sharing::decode_groups;
 use misp_elem::Row;
 use misp_groups::Groups;
@@ -25,6 +27,7 @@ fn held_within<K: Keeper>(
     alloc: Global,
     reach: &Reach,
 ) -> Result<Vec<RawRow>, KeeperFault>
+    requires { IsInOrder reach.now }
     ensures found { IfOk result (λ found. IfSome (K.state keeper.old).held
         (λ held. found.items ≡ rows_within reach.now held.rows)) }
     ensures order { IfOk result (λ found. IfSome (K.state keeper.old).held
@@ -39,6 +42,7 @@ fn held_within<K: Keeper>(
     match reach {
         Reach::Nothing => Ok(Vec::new(alloc)),
         Reach::Own(org, event) => keeper.load_named(alloc, event, org.0.0.to_be_bytes().as_slice()),
+        Reach::Looked(looks) => seek(keeper, alloc, looks),
         Reach::Event(event) => keeper.load_event(alloc, event),
         Reach::All => keeper.load_all(alloc),
     }
@@ -46,6 +50,7 @@ fn held_within<K: Keeper>(
 
 /// The rows that the keeper holds within a reach.
 pub fn load<K: Keeper>(keeper: &mut K, alloc: Global, reach: &Reach) -> Result<Vec<Row>, LoadFault>
+    requires { IsInOrder reach.now }
     ensures found { IfOk result (λ found. IfSome (K.state keeper.old).held
         (λ held. (seen_in held).rows reach.now ≡ Ok found.items)) }
     ensures table { IfOk result (λ found. IfSome (K.state keeper.old).held

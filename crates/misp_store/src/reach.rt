@@ -1,18 +1,23 @@
 //! How much of what is held is read.
 
-ghost use Rattle.std.specs.Prelude.{◌≡◌};
+ghost use Rattle.std.specs.Prelude.{◌≡◌, IfOk};
 ghost use Rattle.misp_model.specs.Machine.{event_changed};
-ghost use Rattle.misp_store.specs.Reach.{change_reach, reach_of};
+ghost use Rattle.misp_store.specs.Reach.{reach_of, wide_change_reach, wide_reach};
+ghost use Rattle.misp_store.specs.Seeking.{IsInOrder, IsOfKeys};
 
-use misp_ids::{EventId, OrgId};
-use misp_model::{Ask, Change};
+use crate::looking::looks;
+use misp_elem::NoMemory;
+use misp_ids::{EventId, InstId, OrgId};
+use misp_model::{Ask, Change, Looks};
+use std::alloc::Global;
 
-/// How much of the rows of events is read: none, those that one organisation has of one event, all
-/// of one event, or all.
-#[derive(Clone, Copy, PartialEq, Eq)]
+/// How much of the rows of events is read: none, those that one organisation has of one event,
+/// those of one event that are looked at, all of one event, or all.
+#[derive(Drop)]
 pub enum Reach {
     Nothing,
     Own(OrgId, EventId),
+    Looked(Looks),
     Event(EventId),
     All,
 }
@@ -37,9 +42,9 @@ fn event_changed(change: &Change) -> EventId
     }
 }
 
-// How much of what is held a change by an organisation reads.
-fn change_reach(by: &OrgId, change: &Change) -> Reach
-    ensures { result ≡ change_reach by.now change.now }
+// Where a change by an organisation reads.
+fn wide_change_reach(by: &OrgId, change: &Change) -> Reach
+    ensures { result ≡ wide_change_reach by.now change.now }
 {
     match change {
         Change::AddEvent(submission) => Reach::Own(*by, submission.event),
@@ -47,21 +52,33 @@ fn change_reach(by: &OrgId, change: &Change) -> Reach
     }
 }
 
+// Where an ask of an organisation reads.
+fn wide_reach(by: &OrgId, ask: &Ask) -> Reach
+    ensures { result ≡ wide_reach by.now ask.now }
+{
+    match ask {
+        Ask::View { event, .. } | Ask::Judge { event, .. } | Ask::Sight { event, .. } => {
+            Reach::Event(*event)
+        }
+        Ask::SyncPart { event, .. } => Reach::Event(*event),
+        Ask::Change(change) => wide_change_reach(by, change),
+        Ask::Propose(draft) => Reach::Event(draft.fields.event),
+        Ask::Index | Ask::SyncEvents => Reach::All,
+        Ask::Groups | Ask::SyncGroups => Reach::Nothing,
+        Ask::TakePart(part) => Reach::Event(part.fields.event),
+    }
+}
+
 impl Reach {
-    /// How much of what is held an ask of an organisation reads.
-    pub fn of(by: &OrgId, ask: &Ask) -> Reach
-        ensures { result ≡ reach_of by.now ask.now }
+    /// How much of what is held an ask of an organisation at an instance reads.
+    pub fn of(alloc: Global, here: &InstId, by: &OrgId, ask: &Ask) -> Result<Reach, NoMemory>
+        ensures value { IfOk result (λ reach. reach ≡ reach_of here.now by.now ask.now) }
+        ensures order { IfOk result IsInOrder }
+        ensures keys { IfOk result IsOfKeys }
     {
-        match ask {
-            Ask::View { event, .. } | Ask::Judge { event, .. } | Ask::Sight { event, .. } => {
-                Reach::Event(*event)
-            }
-            Ask::SyncPart { event, .. } => Reach::Event(*event),
-            Ask::Change(change) => change_reach(by, change),
-            Ask::Propose(draft) => Reach::Event(draft.fields.event),
-            Ask::Index | Ask::SyncEvents => Reach::All,
-            Ask::Groups | Ask::SyncGroups => Reach::Nothing,
-            Ask::TakePart(part) => Reach::Event(part.fields.event),
+        match looks(alloc, here, by, ask)? {
+            Some(looks) => Ok(Reach::Looked(looks)),
+            None => Ok(wide_reach(by, ask)),
         }
     }
 }

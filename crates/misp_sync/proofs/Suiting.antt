@@ -52,7 +52,7 @@ suits_over peer now caller query groups (Err name) = tt
 
 suits_asked : (peer : Host) (now : ℕ) (caller : Caller) (query : Query) (seen : Seen) (b : Bool)
     → Suits query (if b then asked_where peer now (caller, ask_of query) seen else refused (forbidden (ask_of query))).reply
-suits_asked peer now caller query seen true = suits_over peer now caller query seen.groups (seen.rows (reach_of caller.org (ask_of query)))
+suits_asked peer now caller query seen true = suits_over peer now caller query seen.groups (seen.rows (reach_of peer.name caller.org (ask_of query)))
 suits_asked peer now caller query seen false = tt
 
 suits_by : (peer : Host) (now : ℕ) (caller : Option Caller) (query : Query) (seen : Seen) → Suits query (queried_by peer now caller query seen).reply

@@ -12,6 +12,8 @@ mod records;
 #[cfg(test)]
 mod serving;
 #[cfg(test)]
+mod spoiling;
+#[cfg(test)]
 mod stopping;
 #[cfg(test)]
 mod synchronising;

@@ -49,7 +49,7 @@ returns-then-is_landed-clause-cause g c = record {
 pub returns-in-Ok-clause-planned : goal.returns-in-Ok-clause-planned
 returns-in-Ok-clause-planned g c =
     asked_planned (host_at c.args.site.now) c.args.site.now.moment (c.args.site.now.caller.now, c.args.ask) c.args.site.now.groups.now c.in-Ok.rows.items c.plan_request.result _
-    c.requires.permitted c.requires.beside.groups (rw (← c.asker-org.ensures, ← c.of.ensures) c.in-Ok.ensures.found) c.in-Ok.ensures.table c.plan_request.ensures.plan
+    c.requires.permitted c.requires.beside.groups c.in-Ok.ensures.found c.in-Ok.ensures.table c.plan_request.ensures.plan
 
 pub returns-in-Ok-clause-beside : goal.returns-in-Ok-clause-beside
 returns-in-Ok-clause-beside g c =
@@ -57,10 +57,10 @@ returns-in-Ok-clause-beside g c =
     (record {
       groups = c.requires.beside.groups;
       ahead = still_answers (host_at c.args.site.now) _ c.args.site.now.groups.now c.in-Ok.rows.items c.args.site.now.moment c.args.site.now.caller.now c.args.ask _ _ c.requires.permitted c.requires.beside.groups
-          (rw (← c.asker-org.ensures, ← c.of.ensures) c.in-Ok.ensures.found) c.in-Ok.ensures.table
+          c.in-Ok.ensures.found c.in-Ok.ensures.table
           (left_answers (host_at c.args.site.now) _ _ _ c.requires.beside.ahead c.take_kept.ensures.left) c.plan_request.ensures.kept;
       landed = still_lands c.args.site.now.here.now c.args.site.now.caller.now c.in-Ok.rows.items _ c.args.ask _ _
-          (rw (← c.asker-org.ensures, ← c.of.ensures) c.in-Ok.ensures.found) c.requires.beside.landed c.plan_request.ensures.landed;
+          c.in-Ok.ensures.found c.requires.beside.landed c.plan_request.ensures.landed;
     })
 
 pub returns-in-Ok-clause-cause : goal.returns-in-Ok-clause-cause
@@ -77,7 +77,7 @@ returns-in-Ok-clause-stays g c = λ not_. c.in-Ok.ensures.stays (λ is. absurd c
 pub returns-in-Err-clause-planned : goal.returns-in-Err-clause-planned
 returns-in-Err-clause-planned g c =
     unread_planned (host_at c.args.site.now) c.args.site.now.moment (c.args.site.now.caller.now, c.args.ask) _ c.in-Err.fault c.unread.result
-    c.requires.permitted (rw (← c.asker-org.ensures, ← c.of.ensures) c.in-Err.ensures.bad) c.unread.ensures.plans
+    c.requires.permitted c.in-Err.ensures.bad c.unread.ensures.plans
 
 pub returns-in-Err-clause-beside : goal.returns-in-Err-clause-beside
 returns-in-Err-clause-beside g c =

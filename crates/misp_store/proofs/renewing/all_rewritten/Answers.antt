@@ -1,4 +1,4 @@
-use Rattle.std.proofs.Common.{rules, sym, ap, ◌∙◌, arith}
+use Rattle.std.proofs.Common.{rules, sym, ◌∙◌, arith}
 use Rattle.misp_store.proofs.Renewed.{none_anew, reads_first}
 use Rattle.misp_store.proofs.Rewriting.{anew_all, anew_next, bad_here, read_all, reads_more}
 use Rattle.misp_store.proofs.renewing.all_rewritten.Goals as goal

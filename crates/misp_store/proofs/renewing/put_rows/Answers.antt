@@ -1,4 +1,4 @@
-use Rattle.std.proofs.Common.{◌≡◌, ◌<◌, [], length, sym, ap, ◌∙◌, option_map, arith}
+use Rattle.std.proofs.Common.{◌≡◌, [], sym, ap, ◌∙◌, option_map, arith}
 use Rattle.misp_outside.specs.Held.{with_batch}
 use Rattle.misp_store.specs.Renewing.{rows_alone}
 use Rattle.misp_store.proofs.Opened.{none_of}

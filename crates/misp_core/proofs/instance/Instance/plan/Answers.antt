@@ -30,3 +30,6 @@ returns-clause-forbidden g c = λ no.
 
 pub plan_permitted-requires-clause-permitted : goal.plan_permitted-requires-clause-permitted
 plan_permitted-requires-clause-permitted g c = rw (← c.caller.view_is, ← c.permission_for-perm.ensures) (sym c.if-not-may.ensures)
+
+pub returns-clause-planned : goal.returns-clause-planned
+returns-clause-planned g c = rw (← c.self.view_is) c.plan_permitted.ensures.planned

@@ -1,0 +1,175 @@
+-- What is sought in what a keeper tells, where it tells it: what is found so far, and what is left.
+use Rattle.std.proofs.Common.{◌≡◌, ℕ, ◌+◌, ◌-◌, ◌^◌, ◌<◌, ◌≤◌, max, List, [], ◌∷◌, ◌++◌, inl, inr, refl, sym, ap, subst, ◌∙◌, ◌⊎◌, arith, filter, drop, length, get_or, Option, Some, None, IfSome, IsTrue, SomeIff, bytes_eq, append-nil, append_assoc}
+use Rattle.std.specs.Int.{w128, to_be_bytes}
+use Rattle.std.proofs.lemmas.Bool.{cases_lt}
+use Rattle.std.proofs.lemmas.List.{drop_all, drop_more}
+use Rattle.misp_lists.specs.Order.{ascend}
+use Rattle.misp_lists.proofs.Bytes.{IsBytes}
+use Rattle.misp_lists.proofs.Lists.{none_not_some}
+use Rattle.misp_lists.proofs.Ordering.{ascend_kept}
+use Rattle.misp_outside.specs.Held.{Held, comes_before, next_row}
+use Rattle.misp_elem.specs.Prelude.{IsUid}
+use Rattle.misp_elem.specs.Spelling.{name, uid}
+use Rattle.misp_effects.specs.Prelude.{RawRow}
+use Rattle.misp_model.proofs.Prelude.{EventId, Key, OrgId}
+use Rattle.misp_model.specs.declared.looks.Looks.{Looks}
+use Rattle.misp_store.specs.Seeking.{HasKeysInOrder, owner_number, rows_at, rows_from, rows_of_keys, rows_sought}
+use Rattle.misp_store.specs.Seen.{rows_looked}
+use Rattle.misp_store.proofs.NamedRows.{row_found, row_missing}
+use Rattle.misp_store.proofs.OwnersSought.{org}
+use Rattle.misp_store.proofs.OwnerSteps.{first_owner, from_first, last_owner, no_owner, owner_and_more}
+
+-- where it is known, what is held ascends
+abbrev pub Ascends : Option Held → Type 0
+Ascends held = IfSome held (λ told. IsTrue (ascend comes_before told.rows))
+
+-- ---- one name
+
+-- the row that is found, where this is its name
+pub row_added : (held : Option Held) (e : EventId) (bytes : List ℕ) (next : Option RawRow) (row : RawRow) (start now : List RawRow)
+    → IfSome held (λ told. next ≡ next_row e bytes told.rows) → Ascends held → next ≡ Some row → now ≡ start ++ filter (λ raw. bytes_eq raw.name bytes) (row ∷ [])
+    → IfSome held (λ told. now ≡ start ++ rows_at e bytes told.rows)
+row_added None e bytes next row start now found up some is = tt
+row_added (Some told) e bytes next row start now found up some is = is ∙ ap (λ t. start ++ t) (sym (row_found e bytes told.rows row up (sym found ∙ some)))
+
+-- and where none is found
+pub row_absent : (held : Option Held) (e : EventId) (bytes : List ℕ) (next : Option RawRow) (start : List RawRow)
+    → IfSome held (λ told. next ≡ next_row e bytes told.rows) → next ≡ None → IfSome held (λ told. start ≡ start ++ rows_at e bytes told.rows)
+row_absent None e bytes next start found none = tt
+row_absent (Some told) e bytes next start found none = sym (append-nil start) ∙ ap (λ t. start ++ t) (sym (row_missing e bytes told.rows (sym found ∙ none)))
+
+-- ---- some keys
+
+-- what is found, before the rows of the keys that are left
+abbrev pub KeysFound : Option Held → EventId → OrgId → List RawRow → List Key → List RawRow → List Key → Type 0
+KeysFound held e o start keys found left = IfSome held (λ told. found ++ rows_of_keys e o left told.rows ≡ start ++ rows_of_keys e o keys told.rows)
+
+pub keys_first : (held : Option Held) (e : EventId) (o : OrgId) (start : List RawRow) (keys : List Key) → KeysFound held e o start keys start keys
+keys_first None e o start keys = tt
+keys_first (Some told) e o start keys = refl
+
+first_key : (e : EventId) (o : OrgId) (k : Key) (ks : List Key) (raws : List RawRow) → rows_of_keys e o (k ∷ ks) raws ≡ rows_at e (name o k) raws ++ rows_of_keys e o ks raws
+unfolding rows_of_keys
+first_key e o k ks raws = refl
+
+no_key : (e : EventId) (o : OrgId) (raws : List RawRow) → rows_of_keys e o [] raws ≡ []
+unfolding rows_of_keys
+no_key e o raws = refl
+
+module _ (e : EventId) (o : OrgId) (start : List RawRow) (keys : List Key) (i : ℕ) where
+  pub keys_next : (held before : Option Held) (k : Key) (bytes : List ℕ) (found now : List RawRow) → i < length keys → k ≡ get_or keys i k → bytes ≡ name o k → before ≡ held
+      → KeysFound held e o start keys found (drop i keys) → IfSome before (λ told. now ≡ found ++ rows_at e bytes told.rows) → KeysFound held e o start keys now (drop (i + 1) keys)
+  keys_next None before k bytes found now inside here is same so_far added = tt
+  keys_next (Some told) before k bytes found now inside here is same so_far added =
+      let more : now ≡ found ++ rows_at e bytes told.rows = subst (λ (held : Option Held). IfSome held (λ told. now ≡ found ++ rows_at e bytes told.rows)) same added in
+      ap (λ t. t ++ rows_of_keys e o (drop (i + 1) keys) told.rows) (more ∙ ap (λ b. found ++ rows_at e b told.rows) is)
+      ∙ append_assoc found (rows_at e (name o k) told.rows) (rows_of_keys e o (drop (i + 1) keys) told.rows)
+      ∙ ap (λ t. found ++ t) (sym (first_key e o k (drop (i + 1) keys) told.rows) ∙ ap (λ ks. rows_of_keys e o ks told.rows) (sym first))
+      ∙ so_far
+    where
+      first : drop i keys ≡ k ∷ drop (i + 1) keys
+      first = drop_more keys i k inside ∙ ap (λ x. x ∷ drop (i + 1) keys) (sym here)
+
+  pub keys_done : (held : Option Held) (found : List RawRow) → length keys ≤ i → KeysFound held e o start keys found (drop i keys) → IfSome held (λ told. found ≡ start ++ rows_of_keys e o keys told.rows)
+  keys_done None found past so_far = tt
+  keys_done (Some told) found past so_far = sym (append-nil found) ∙ ap (λ t. found ++ t) (sym (ap (λ ks. rows_of_keys e o ks told.rows) (drop_all i keys past) ∙ no_key e o told.rows)) ∙ so_far
+
+-- ---- one owner after the other
+
+-- the number after that of an owner, or none
+abbrev pub IsAfter : ℕ → Option ℕ → Type 0
+IsAfter m next = (next ≡ Some (m + 1)) ⊎ ((next ≡ None) × (2 ^ 128 ≤ m + 1))
+
+pub after_of : (m : ℕ) (next : Option ℕ) → SomeIff next (m + 1 < 2 ^ 128) (m + 1) → IsAfter m next
+after_of m None h = inr (refl, elim (cases_lt (m + 1) (2 ^ 128)) [ inl lt ↦ absurd (h lt) | inr ge ↦ ge ])
+after_of m (Some x) h = inl (ap Some h.1)
+
+module _ (l : Looks) where
+  from_none : (raws : List RawRow) → rows_from l None raws ≡ []
+  unfolding rows_from
+  from_none raws = refl
+
+  -- the first owner that has a row
+  pub owner_next : (held : Option Held) (least : ℕ) (next : Option RawRow) (row : RawRow) → least < 2 ^ 128 → IsBytes row.name
+      → IfSome held (λ told. next ≡ next_row l.event (uid (org least).0) told.rows) → Ascends held → next ≡ Some row
+      → IfSome held (λ told. rows_from l (Some (owner_number row.name)) told.rows ≡ rows_from l (Some least) told.rows)
+  owner_next None least next row fits bytes found up some = tt
+  owner_next (Some told) least next row fits bytes found up some = first_owner l least fits told.rows row bytes up (sym found ∙ some)
+
+  pub owner_none : (held : Option Held) (least : ℕ) (next : Option RawRow) → least < 2 ^ 128
+      → IfSome held (λ told. next ≡ next_row l.event (uid (org least).0) told.rows) → next ≡ None
+      → IfSome held (λ told. rows_from l None told.rows ≡ rows_from l (Some least) told.rows)
+  unfolding rows_from
+  owner_none None least next fits found none = tt
+  owner_none (Some told) least next fits found none = sym (no_owner l least fits told.rows (sym found ∙ none))
+
+  -- from the greater of the two on
+  from_greater : (raws : List RawRow) (number least : ℕ) → rows_from l (Some number) raws ≡ rows_from l (Some least) raws → rows_from l (Some (max number least)) raws ≡ rows_from l (Some least) raws
+  from_greater raws number least e = elim (cases_lt number least) [
+    | inl lt ↦ ap (λ n. rows_from l (Some n) raws) (omega arith)
+    | inr ge ↦ ap (λ n. rows_from l (Some n) raws) (omega arith) ∙ e
+  ]
+
+  pub owner_added : (held : Option Held) (least number m : ℕ) (next : Option ℕ) (start now : List RawRow) → HasKeysInOrder l → m ≡ max number least → m < 2 ^ 128 → IsAfter m next → Ascends held
+      → IfSome held (λ told. rows_from l (Some number) told.rows ≡ rows_from l (Some least) told.rows)
+      → IfSome held (λ told. now ≡ start ++ rows_sought l (org m) told.rows)
+      → IfSome held (λ told. now ++ rows_from l next told.rows ≡ start ++ rows_from l (Some least) told.rows)
+  owner_added None least number m next start now sorted greatest fits after up same added = tt
+  owner_added (Some told) least number m next start now sorted greatest fits after up same added =
+      ap (λ t. t ++ rows_from l next told.rows) added
+      ∙ append_assoc start (rows_sought l (org m) told.rows) (rows_from l next told.rows)
+      ∙ ap (λ t. start ++ t) (whole after ∙ ap (λ n. rows_from l (Some n) told.rows) greatest ∙ from_greater told.rows number least same)
+    where
+      whole : IsAfter m next → rows_sought l (org m) told.rows ++ rows_from l next told.rows ≡ rows_from l (Some m) told.rows
+      whole (inl some) = ap (λ n. rows_sought l (org m) told.rows ++ rows_from l n told.rows) some ∙ owner_and_more l m fits sorted told.rows up
+      whole (inr last) =
+          ap (λ n. rows_sought l (org m) told.rows ++ rows_from l n told.rows) last.0
+          ∙ ap (λ t. rows_sought l (org m) told.rows ++ t) (from_none told.rows)
+          ∙ append-nil (rows_sought l (org m) told.rows) ∙ last_owner l m fits sorted told.rows up last.1
+
+  -- ---- all owners
+
+  -- what is found, before what is looked at of the owners that are left
+  abbrev pub OwnersFound : Option Held → List RawRow → Option ℕ → Type 0
+  OwnersFound held found left = IfSome held (λ told. found ++ rows_from l left told.rows ≡ rows_looked l told.rows)
+
+  pub owners_first : IsUid l.by.0 → (held : Option Held) (found : List RawRow) → found ≡ [] → OwnersFound held found (Some 0)
+  owners_first is None found none = tt
+  owners_first is (Some told) found none = ap (λ t. t ++ rows_from l (Some 0) told.rows) none ∙ from_first l is told.rows
+
+  pub owners_next : (held before : Option Held) (found now : List RawRow) (least : ℕ) (left : Option ℕ) → before ≡ held
+      → OwnersFound held found (Some least) → IfSome before (λ told. now ++ rows_from l left told.rows ≡ found ++ rows_from l (Some least) told.rows) → OwnersFound held now left
+  owners_next None before found now least left same so_far added = tt
+  owners_next (Some told) before found now least left same so_far added =
+      subst (λ (held : Option Held). IfSome held (λ told. now ++ rows_from l left told.rows ≡ found ++ rows_from l (Some least) told.rows)) same added ∙ so_far
+
+  pub owners_done : (held : Option Held) (found : List RawRow) → OwnersFound held found None → IfSome held (λ told. found ≡ rows_looked l told.rows)
+  owners_done None found so_far = tt
+  owners_done (Some told) found so_far = sym (append-nil found) ∙ ap (λ t. found ++ t) (sym (from_none told.rows)) ∙ so_far
+
+  -- what is found of rows that ascend does
+  pub found_ascends : (held : Option Held) (found : List RawRow) → Ascends held → IfSome held (λ told. found ≡ rows_looked l told.rows) → IfSome held (λ told. IsTrue (ascend comes_before found))
+  unfolding rows_looked
+  found_ascends None found up is = tt
+  found_ascends (Some told) found up is = ap (ascend comes_before) is ∙ ascend_kept comes_before _ told.rows up
+
+-- ---- what ascends
+
+-- what is held ascends, once a name has been sought
+abbrev pub AscendsOnce : Option Held → Option ℕ → Type 0
+AscendsOnce held left = (left ≡ Some 0) ⊎ Ascends held
+
+-- how many numbers of owners are left
+abbrev pub owners_left : Option ℕ → ℕ
+owners_left None = 0
+owners_left (Some least) = 2 ^ 128 - least
+
+-- after the last owner a name has been sought
+pub ascends_after : (held : Option Held) (left : Option ℕ) → left ≡ None → AscendsOnce held left → Ascends held
+ascends_after held left none (inl first) = absurd (none_not_some (sym none ∙ first))
+ascends_after held left none (inr up) = up
+
+-- the bytes of a number are those of its owner
+pub number_bytes : (n : ℕ) → to_be_bytes w128 n ≡ uid (org n).0
+unfolding uid
+number_bytes n = refl

@@ -1,0 +1,15 @@
+use Rattle.std.proofs.Common.{◌≡◌}
+use Rattle.misp_store.proofs.Sought.{AscendsOnce, OwnersFound, owners_left}
+use Rattle.misp_store.proofs.seeking.seek.Given as goal
+
+-- what is found, before what is looked at of the owners that are left; and the keeper is as it was
+abbrev pub invariant-loop-least : goal.invariant-loop-least
+invariant-loop-least g l = record {
+  found : OwnersFound l.looks (g.K.Keeper.state l.fn.keeper).held l.found.items l.least;
+  order : AscendsOnce (g.K.Keeper.state l.fn.keeper).held l.least;
+  held : (g.K.Keeper.state l.keeper).held ≡ (g.K.Keeper.state l.fn.keeper).held;
+  same : (g.K.Keeper.state l.keeper).faults ≡ (g.K.Keeper.state l.fn.keeper).faults;
+}
+
+abbrev pub decreases-loop-least : goal.decreases-loop-least
+decreases-loop-least g l = owners_left l.least
