@@ -89,6 +89,10 @@ impl<'a> StatementsByTarget<'a> {
     pub fn about(&self, alloc: Global, key: &Key) -> Result<Items<Row>, NoMemory>
         ensures { IfOk result (λ kept. kept ≡ filter (λ r. is_about key.now r.key) self.now) }
     {
-        copies_of(alloc, self.part(key))
+        let part = self.part(key);
+        if part.is_empty() {
+            return Ok(Items::of(Vec::new(alloc)));
+        }
+        copies_of(alloc, part)
     }
 }

@@ -21,10 +21,10 @@ use misp_ids::{EventId, NoMemory, Stamp};
 use misp_model::{AttributeEdit, AttributeEditFields, AttributePlace};
 use std::alloc::Global;
 
-fn edited_of(row: &Row, edit: &AttributeEditFields) -> Result<Content, NoMemory>
+fn edited_of(alloc: Global, row: &Row, edit: &AttributeEditFields) -> Result<Content, NoMemory>
     ensures { IfOk result (λ made. made ≡ at_attribute (edited edit.now) row.now.content) }
 {
-    edited_attribute(&row.content, edit)
+    edited_attribute(alloc, &row.content, edit)
 }
 
 // The row of an attribute edited, where it has not the last stamp.
@@ -46,7 +46,7 @@ fn edited_row(
 {
     let (_now, _held) = (now.get(), row.held);
     let label = label_after(label_of(row), edit.label);
-    match edited_of(row, edit) {
+    match edited_of(alloc, row, edit) {
         Ok(content) => finished(alloc, row, label, content, now),
         Err(NoMemory) => Err(ChangeFault::NoMemory),
     }

@@ -4,43 +4,44 @@ ghost use Rattle.std.specs.Prelude.{◌≡◌, true, IfOk, OnOk};
 ghost use Rattle.misp_model.specs.Edits.{given, edited, edited_event, edited_object};
 ghost use Rattle.misp_model.specs.Edits.{at_attribute, at_event, at_object, as_deleted};
 
-use misp_elem::{AttributeBody, Content, EventBody, ObjectBody, ReferenceBody};
+use misp_elem::{AttributeBody, Content, EventBody, ObjectBody, ReferenceBody, Shared};
 use misp_ids::{Label, NoMemory, Text};
 use misp_model::{AttributeEditFields, EventEditFields, ObjectEditFields};
+use std::alloc::Global;
 
-fn deleted_object(body: &ObjectBody) -> Result<ObjectBody, NoMemory>
+fn deleted_object(alloc: Global, body: &ObjectBody) -> Result<Shared<ObjectBody>, NoMemory>
     ensures { IfOk result (λ made. made ≡ record body.now { deleted = true }) }
 {
     let mut made = body.clone()?;
     made.deleted = true;
-    Ok(made)
+    Ok(Shared::of(alloc, made)?)
 }
 
-fn deleted_attribute(body: &AttributeBody) -> Result<AttributeBody, NoMemory>
+fn deleted_attribute(alloc: Global, body: &AttributeBody) -> Result<Shared<AttributeBody>, NoMemory>
     ensures { IfOk result (λ made. made ≡ record body.now { deleted = true }) }
 {
     let mut made = body.clone()?;
     made.deleted = true;
-    Ok(made)
+    Ok(Shared::of(alloc, made)?)
 }
 
-fn deleted_reference(body: &ReferenceBody) -> Result<ReferenceBody, NoMemory>
+fn deleted_reference(alloc: Global, body: &ReferenceBody) -> Result<Shared<ReferenceBody>, NoMemory>
     ensures { IfOk result (λ made. made ≡ record body.now { deleted = true }) }
 {
     let mut made = body.clone()?;
     made.deleted = true;
-    Ok(made)
+    Ok(Shared::of(alloc, made)?)
 }
 
 /// The element deleted.
 #[tactic(auto, unfolding(misp_model::specs::Edits::as_deleted))]
-pub(crate) fn deleted(content: &Content) -> Result<Content, NoMemory>
+pub(crate) fn deleted(alloc: Global, content: &Content) -> Result<Content, NoMemory>
     ensures { IfOk result (λ made. made ≡ as_deleted content.now) }
 {
     match content {
-        Content::Object(body) => Ok(Content::Object(deleted_object(body)?)),
-        Content::Attribute(body) => Ok(Content::Attribute(deleted_attribute(body)?)),
-        Content::Reference(body) => Ok(Content::Reference(deleted_reference(body)?)),
+        Content::Object(body) => Ok(Content::Object(deleted_object(alloc, body)?)),
+        Content::Attribute(body) => Ok(Content::Attribute(deleted_attribute(alloc, body)?)),
+        Content::Reference(body) => Ok(Content::Reference(deleted_reference(alloc, body)?)),
         _ => Ok(content.clone()?),
     }
 }
@@ -92,14 +93,15 @@ fn put_attribute(body: &mut AttributeBody, edit: &AttributeEditFields) -> Result
 
 // The attribute after an edit.
 fn attribute_after(
+    alloc: Global,
     body: &AttributeBody,
     edit: &AttributeEditFields,
-) -> Result<AttributeBody, NoMemory>
+) -> Result<Shared<AttributeBody>, NoMemory>
     ensures { IfOk result (λ made. made ≡ edited edit.now body.now) }
 {
     let mut made = body.clone()?;
     match put_attribute(&mut made, edit) {
-        Ok(()) => Ok(made),
+        Ok(()) => Ok(Shared::of(alloc, made)?),
         Err(NoMemory) => {
             drop(made);
             Err(NoMemory)
@@ -110,13 +112,14 @@ fn attribute_after(
 /// The element after an edit of an attribute.
 #[tactic(auto, unfolding(misp_model::specs::Edits::at_attribute))]
 pub(crate) fn edited_attribute(
+    alloc: Global,
     content: &Content,
     edit: &AttributeEditFields,
 ) -> Result<Content, NoMemory>
     ensures { IfOk result (λ made. made ≡ at_attribute (edited edit.now) content.now) }
 {
     match content {
-        Content::Attribute(body) => Ok(Content::Attribute(attribute_after(body, edit)?)),
+        Content::Attribute(body) => Ok(Content::Attribute(attribute_after(alloc, body, edit)?)),
         _ => Ok(content.clone()?),
     }
 }
@@ -141,12 +144,16 @@ fn put_event(body: &mut EventBody, edit: &EventEditFields) -> Result<(), NoMemor
 }
 
 // The event after an edit.
-fn event_after(body: &EventBody, edit: &EventEditFields) -> Result<EventBody, NoMemory>
+fn event_after(
+    alloc: Global,
+    body: &EventBody,
+    edit: &EventEditFields,
+) -> Result<Shared<EventBody>, NoMemory>
     ensures { IfOk result (λ made. made ≡ edited_event edit.now body.now) }
 {
     let mut made = body.clone()?;
     match put_event(&mut made, edit) {
-        Ok(()) => Ok(made),
+        Ok(()) => Ok(Shared::of(alloc, made)?),
         Err(NoMemory) => {
             drop(made);
             Err(NoMemory)
@@ -156,11 +163,15 @@ fn event_after(body: &EventBody, edit: &EventEditFields) -> Result<EventBody, No
 
 /// The element after an edit of an event.
 #[tactic(auto, unfolding(misp_model::specs::Edits::at_event))]
-pub(crate) fn edited_event(content: &Content, edit: &EventEditFields) -> Result<Content, NoMemory>
+pub(crate) fn edited_event(
+    alloc: Global,
+    content: &Content,
+    edit: &EventEditFields,
+) -> Result<Content, NoMemory>
     ensures { IfOk result (λ made. made ≡ at_event (edited_event edit.now) content.now) }
 {
     match content {
-        Content::Event(body) => Ok(Content::Event(event_after(body, edit)?)),
+        Content::Event(body) => Ok(Content::Event(event_after(alloc, body, edit)?)),
         _ => Ok(content.clone()?),
     }
 }
@@ -175,12 +186,16 @@ fn put_object(body: &mut ObjectBody, edit: &ObjectEditFields) -> Result<(), NoMe
 }
 
 // The object after an edit.
-fn object_after(body: &ObjectBody, edit: &ObjectEditFields) -> Result<ObjectBody, NoMemory>
+fn object_after(
+    alloc: Global,
+    body: &ObjectBody,
+    edit: &ObjectEditFields,
+) -> Result<Shared<ObjectBody>, NoMemory>
     ensures { IfOk result (λ made. made ≡ edited_object edit.now body.now) }
 {
     let mut made = body.clone()?;
     match put_object(&mut made, edit) {
-        Ok(()) => Ok(made),
+        Ok(()) => Ok(Shared::of(alloc, made)?),
         Err(NoMemory) => {
             drop(made);
             Err(NoMemory)
@@ -190,11 +205,15 @@ fn object_after(body: &ObjectBody, edit: &ObjectEditFields) -> Result<ObjectBody
 
 /// The element after an edit of an object.
 #[tactic(auto, unfolding(misp_model::specs::Edits::at_object))]
-pub(crate) fn edited_object(content: &Content, edit: &ObjectEditFields) -> Result<Content, NoMemory>
+pub(crate) fn edited_object(
+    alloc: Global,
+    content: &Content,
+    edit: &ObjectEditFields,
+) -> Result<Content, NoMemory>
     ensures { IfOk result (λ made. made ≡ at_object (edited_object edit.now) content.now) }
 {
     match content {
-        Content::Object(body) => Ok(Content::Object(object_after(body, edit)?)),
+        Content::Object(body) => Ok(Content::Object(object_after(alloc, body, edit)?)),
         _ => Ok(content.clone()?),
     }
 }

@@ -20,10 +20,10 @@ use misp_elem::{Content, Place, Row};
 use misp_ids::{EventId, NoMemory, Stamp};
 use std::alloc::Global;
 
-fn deleted_of(row: &Row) -> Result<Content, NoMemory>
+fn deleted_of(alloc: Global, row: &Row) -> Result<Content, NoMemory>
     ensures { IfOk result (λ made. made ≡ as_deleted row.now.content) }
 {
-    deleted(&row.content)
+    deleted(alloc, &row.content)
 }
 
 /// The row deleted, where it has not the last stamp. It is never too long.
@@ -36,7 +36,7 @@ pub(crate) fn deleted_row(alloc: Global, row: &Row, now: Stamp) -> Result<Vec<Ro
     ensures are_rows { IfOk result (λ made. AreRows made.items) }
 {
     let (_now, _held) = (now.get(), row.held);
-    match deleted_of(row) {
+    match deleted_of(alloc, row) {
         Ok(content) => finished(alloc, row, label_of(row), content, now),
         Err(NoMemory) => Err(ChangeFault::NoMemory),
     }

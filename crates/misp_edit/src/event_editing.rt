@@ -22,10 +22,10 @@ use misp_ids::{EventId, NoMemory, Stamp};
 use misp_model::{EventEdit, EventEditFields};
 use std::alloc::Global;
 
-fn edited_of(row: &Row, edit: &EventEditFields) -> Result<Content, NoMemory>
+fn edited_of(alloc: Global, row: &Row, edit: &EventEditFields) -> Result<Content, NoMemory>
     ensures { IfOk result (λ made. made ≡ at_event (edited_event edit.now) row.now.content) }
 {
-    edited_event(&row.content, edit)
+    edited_event(alloc, &row.content, edit)
 }
 
 // The row of an event edited, where it has not the last stamp and is no tombstone.
@@ -51,7 +51,7 @@ fn edited_row(
         return Err(ChangeFault::NoMemory);
     }
     let label = label_after(label_of(row), edit.label);
-    match edited_of(row, edit) {
+    match edited_of(alloc, row, edit) {
         Ok(content) => finished(alloc, row, label, content, now),
         Err(NoMemory) => Err(ChangeFault::NoMemory),
     }

@@ -14,7 +14,7 @@ ghost use Rattle.misp_edit.specs.Rows.{held_row, part_row, reference_row, row_wi
 use crate::targets::Targets;
 use misp_dates::date_of;
 use misp_elem::{
-    Content, Draft, EventBody, EventDraft, KeyForm, Place, ReferenceDraft, Row, RowFields,
+    Content, Draft, EventBody, EventDraft, KeyForm, Place, ReferenceDraft, Row, RowFields, Shared,
     Submission,
 };
 use misp_ids::{EventId, Label, NoMemory, OrgId, Stamp, Text};
@@ -215,7 +215,7 @@ fn event_row(
     ensures is_row { IfOk result IsRow }
 {
     let place = Place::Event;
-    let body = new_body(alloc, draft, owner, name, now)?;
+    let body = Shared::of(alloc, new_body(alloc, draft, owner, name, now)?)?;
     let key = KeyForm::Element { event, place };
     Ok(held_row(owner, key, now, label, Content::Event(body)))
 }

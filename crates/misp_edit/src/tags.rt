@@ -5,7 +5,7 @@ ghost use Rattle.std.specs.List.{list_any, position, position_or_len};
 ghost use Rattle.misp_lists.specs.Order.{is_less};
 ghost use Rattle.misp_model.specs.Edits.{at_tags, tagged, untagged, has_tag};
 
-use misp_elem::{AttributeBody, Content, EventBody, Row, Tag};
+use misp_elem::{AttributeBody, Content, EventBody, Row, Shared, Tag};
 use misp_ids::{Items, NoMemory, Text};
 use std::alloc::Global;
 
@@ -93,20 +93,28 @@ pub(crate) fn has_tag(row: &Row, name: &Text) -> bool
     }
 }
 
-fn event_with(body: &EventBody, tags: Vec<Tag>) -> Result<EventBody, NoMemory>
+fn event_with(
+    alloc: Global,
+    body: &EventBody,
+    tags: Vec<Tag>,
+) -> Result<Shared<EventBody>, NoMemory>
     ensures { IfOk result (λ made. made ≡ record body.now { tags = tags.items }) }
 {
     let mut made = body.clone()?;
     made.tags = Items::of(tags);
-    Ok(made)
+    Ok(Shared::of(alloc, made)?)
 }
 
-fn attribute_with(body: &AttributeBody, tags: Vec<Tag>) -> Result<AttributeBody, NoMemory>
+fn attribute_with(
+    alloc: Global,
+    body: &AttributeBody,
+    tags: Vec<Tag>,
+) -> Result<Shared<AttributeBody>, NoMemory>
     ensures { IfOk result (λ made. made ≡ record body.now { tags = tags.items }) }
 {
     let mut made = body.clone()?;
     made.tags = Items::of(tags);
-    Ok(made)
+    Ok(Shared::of(alloc, made)?)
 }
 
 /// The element with the tag.
@@ -117,11 +125,11 @@ pub(crate) fn with_tag(alloc: Global, content: &Content, tag: &Tag) -> Result<Co
     match content {
         Content::Event(body) => {
             let tags = tagged(alloc, tag, body.tags.as_slice())?;
-            Ok(Content::Event(event_with(body, tags)?))
+            Ok(Content::Event(event_with(alloc, body, tags)?))
         }
         Content::Attribute(body) => {
             let tags = tagged(alloc, tag, body.tags.as_slice())?;
-            Ok(Content::Attribute(attribute_with(body, tags)?))
+            Ok(Content::Attribute(attribute_with(alloc, body, tags)?))
         }
         _ => Ok(content.clone()?),
     }
@@ -139,11 +147,11 @@ pub(crate) fn without_tag(
     match content {
         Content::Event(body) => {
             let tags = untagged(alloc, name, body.tags.as_slice())?;
-            Ok(Content::Event(event_with(body, tags)?))
+            Ok(Content::Event(event_with(alloc, body, tags)?))
         }
         Content::Attribute(body) => {
             let tags = untagged(alloc, name, body.tags.as_slice())?;
-            Ok(Content::Attribute(attribute_with(body, tags)?))
+            Ok(Content::Attribute(attribute_with(alloc, body, tags)?))
         }
         _ => Ok(content.clone()?),
     }

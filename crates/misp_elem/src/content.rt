@@ -1,5 +1,6 @@
 //! What a row says of what its key names.
 
+use crate::shared::Shared;
 use misp_dates::Moment;
 use misp_ids::{Items, OrgId, Stamp, Text, Uid};
 
@@ -87,14 +88,14 @@ pub struct SightingBody {
 /// What a row says of what its key names.
 #[derive(Drop)]
 pub enum Content {
-    Event(EventBody),
-    Object(ObjectBody),
-    Attribute(AttributeBody),
-    Reference(ReferenceBody),
-    Proposal(ProposalBody),
+    Event(Shared<EventBody>),
+    Object(Shared<ObjectBody>),
+    Attribute(Shared<AttributeBody>),
+    Reference(Shared<ReferenceBody>),
+    Proposal(Shared<ProposalBody>),
     /// Whether a proposal was accepted.
     Verdict(bool),
-    Sighting(SightingBody),
+    Sighting(Shared<SightingBody>),
     /// The tombstone of a deleted event.
     Gone,
 }

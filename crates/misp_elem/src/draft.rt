@@ -2,6 +2,7 @@
 
 use crate::content::{Content, ReferenceBody, Tag};
 use crate::key::Place;
+use crate::shared::Shared;
 use misp_ids::{ElemId, EventId, Items, Label, Text, Uid};
 use std::marker::Model;
 
@@ -40,7 +41,7 @@ pub struct ReferenceDraft {
     pub object: ElemId,
     pub uuid: ElemId,
     pub referenced: ElemId,
-    pub body: ReferenceBody,
+    pub body: Shared<ReferenceBody>,
 }
 
 impl Model for ReferenceDraft {

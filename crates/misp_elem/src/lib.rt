@@ -12,6 +12,7 @@ mod key_list;
 mod order;
 mod reading;
 mod row;
+mod shared;
 mod visible;
 mod writing;
 
@@ -29,5 +30,6 @@ pub use misp_ids::NoMemory;
 pub use order::compare_keys;
 pub use reading::{decode, decode_key, decode_on_wire};
 pub use row::{Row, RowFields};
+pub use shared::Shared;
 pub use visible::{VisibleAttribute, VisibleEvent, VisibleObject};
 pub use writing::{encode, encode_key, encode_name};

@@ -43,9 +43,9 @@ fn all_on_wire(alloc: Global, way: Way, own: &Row, others: &[&Row]) -> Result<Ve
         (AreRows (map (on_wire way) (own.now ∷ map (λ r. r.now) others.now))) }
 {
     let mut rows = Vec::with_capacity(alloc, others.len().saturating_add(1))?;
-    rows.push(on_wire(way, own)?)?;
+    rows.push(on_wire(alloc, way, own)?)?;
     for row in others {
-        rows.push(on_wire(way, row)?)?;
+        rows.push(on_wire(alloc, way, row)?)?;
     }
     Ok(rows)
 }

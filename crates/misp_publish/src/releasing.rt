@@ -14,20 +14,32 @@ ghost use Rattle.misp_publish.specs.declared.fault.PublishFault.TheVariants as f
 
 use crate::fault::PublishFault;
 use misp_copies::{event_row, is_itself, is_owned};
-use misp_elem::{Content, KeyForm, Row, RowFields};
+use misp_elem::{Content, EventBody, KeyForm, Row, RowFields, Shared};
 use misp_ids::{EventId, Label, NoMemory, OrgId, Stamp};
 use std::alloc::Global;
 
+// The event, published at this moment.
+fn published_body(
+    alloc: Global,
+    body: &EventBody,
+    now: Stamp,
+) -> Result<Shared<EventBody>, NoMemory>
+    ensures { IfOk result (λ made. made ≡ record body.now { publish_stamp = now }) }
+{
+    let mut made = body.clone()?;
+    made.publish_stamp = now;
+    Ok(Shared::of(alloc, made)?)
+}
+
 // The content, published at this moment.
 #[tactic(auto, unfolding(misp_model::specs::Edits::at_publishing))]
-fn published(content: &Content, now: Stamp) -> Result<Content, NoMemory>
+fn published(alloc: Global, content: &Content, now: Stamp) -> Result<Content, NoMemory>
     ensures { IfOk result (λ made. made ≡ asking.at_publishing now content.now) }
 {
-    let mut copy = content.clone()?;
-    if let Content::Event(body) = &mut copy {
-        body.publish_stamp = now;
+    match content {
+        Content::Event(body) => Ok(Content::Event(published_body(alloc, body, now)?)),
+        _ => Ok(content.clone()?),
     }
-    Ok(copy)
 }
 
 fn owner_of(row: &Row) -> OrgId
@@ -48,20 +60,20 @@ fn label_of(row: &Row) -> Label
     row.label
 }
 
-fn published_content(row: &Row, now: Stamp) -> Result<Content, NoMemory>
+fn published_content(alloc: Global, row: &Row, now: Stamp) -> Result<Content, NoMemory>
     ensures { IfOk result (λ made. made ≡ asking.at_publishing now row.now.content) }
 {
-    published(&row.content, now)
+    published(alloc, &row.content, now)
 }
 
 // The event's own row, published at this moment under this stamp.
 #[tactic(auto, unfolding(crate::specs::Release::at_stamp))]
-fn published_row(row: &Row, stamp: Stamp, now: Stamp) -> Result<Row, NoMemory>
+fn published_row(alloc: Global, row: &Row, stamp: Stamp, now: Stamp) -> Result<Row, NoMemory>
     ensures value { IfOk result (λ made. made ≡ at_stamp stamp now row.now) }
     ensures is_row { IfOk result IsRow }
 {
     let (_stamp, _now, _held) = (stamp.get(), now.get(), row.held);
-    let content = published_content(row, now)?;
+    let content = published_content(alloc, row, now)?;
     let (owner, key, label) = (owner_of(row), key_of(row), label_of(row));
     Ok(Row::of(RowFields {
         owner,
@@ -142,7 +154,7 @@ pub(crate) fn release_event(
         None => return Err(PublishFault::TimeLimit),
     };
     let mut made = Vec::with_capacity(alloc, 1)?;
-    made.push(published_row(own, stamp, now)?)?;
+    made.push(published_row(alloc, own, stamp, now)?)?;
     Ok(with_cleared(made, rows, owner, event)?)
 }
 

@@ -17,7 +17,7 @@ ghost use Rattle.misp_statements.specs.Judging.{accepted_rows, changed_rows, hel
 use crate::admitting::alone;
 use crate::seeing::{is_for_new, name_of};
 use misp_copies::{ChangeFault, finished, label_of};
-use misp_elem::{AttributeBody, Content, KeyForm, Place, ProposalBody, Row, RowFields};
+use misp_elem::{AttributeBody, Content, KeyForm, Place, ProposalBody, Row, RowFields, Shared};
 use misp_ids::{EventId, Items, Label, NoMemory, OrgId, Stamp, Text};
 use misp_model::NamedProposal;
 use std::alloc::Global;
@@ -26,13 +26,13 @@ use std::alloc::Global;
 
 // A new attribute as the proposal makes it.
 #[tactic(auto, unfolding(misp_model::specs::Statements::made))]
-fn made(alloc: Global, body: &ProposalBody) -> Result<AttributeBody, NoMemory>
+fn made(alloc: Global, body: &ProposalBody) -> Result<Shared<AttributeBody>, NoMemory>
     ensures { IfOk result (λ attribute. attribute ≡ made body.now) }
 {
     let kind = body.kind.clone()?;
     let comment = body.comment.clone()?;
     let value = body.value.clone()?;
-    Ok(AttributeBody {
+    let made = AttributeBody {
         kind,
         category: body.category,
         to_ids: body.to_ids,
@@ -43,7 +43,8 @@ fn made(alloc: Global, body: &ProposalBody) -> Result<AttributeBody, NoMemory>
         object_relation: Text::of(String::new(alloc)),
         first_seen: None,
         last_seen: None,
-    })
+    };
+    Ok(Shared::of(alloc, made)?)
 }
 
 // Makes the attribute as the proposal asks: deleted, or with the proposal's texts.
@@ -64,12 +65,16 @@ fn accept(body: &ProposalBody, attribute: &mut AttributeBody) -> Result<(), NoMe
 }
 
 // The attribute as the proposal makes it.
-fn accepted(body: &ProposalBody, own: &AttributeBody) -> Result<AttributeBody, NoMemory>
+fn accepted(
+    alloc: Global,
+    body: &ProposalBody,
+    own: &AttributeBody,
+) -> Result<Shared<AttributeBody>, NoMemory>
     ensures { IfOk result (λ attribute. attribute ≡ accepted body.now own.now) }
 {
     let mut attribute = own.clone()?;
     match accept(body, &mut attribute) {
-        Ok(()) => Ok(attribute),
+        Ok(()) => Ok(Shared::of(alloc, attribute)?),
         Err(NoMemory) => {
             drop(attribute);
             Err(NoMemory)
@@ -78,19 +83,23 @@ fn accepted(body: &ProposalBody, own: &AttributeBody) -> Result<AttributeBody, N
 }
 
 #[tactic(auto, unfolding(misp_model::specs::Edits::at_attribute))]
-fn accepted_content(body: &ProposalBody, content: &Content) -> Result<Content, NoMemory>
+fn accepted_content(
+    alloc: Global,
+    body: &ProposalBody,
+    content: &Content,
+) -> Result<Content, NoMemory>
     ensures { IfOk result (λ made. made ≡ at_attribute (accepted body.now) content.now) }
 {
     match content {
-        Content::Attribute(own) => Ok(Content::Attribute(accepted(body, own)?)),
+        Content::Attribute(own) => Ok(Content::Attribute(accepted(alloc, body, own)?)),
         _ => Ok(content.clone()?),
     }
 }
 
-fn accepted_of(body: &ProposalBody, row: &Row) -> Result<Content, NoMemory>
+fn accepted_of(alloc: Global, body: &ProposalBody, row: &Row) -> Result<Content, NoMemory>
     ensures { IfOk result (λ made. made ≡ at_attribute (accepted body.now) row.now.content) }
 {
-    accepted_content(body, &row.content)
+    accepted_content(alloc, body, &row.content)
 }
 
 // ---- rows
@@ -180,7 +189,7 @@ fn changed_row(
     ensures are_rows { IfOk result (λ made. AreRows made.items) }
 {
     let (_now, _held) = (now.get(), row.held);
-    match accepted_of(body, row) {
+    match accepted_of(alloc, body, row) {
         Ok(content) => finished(alloc, row, label_of(row), content, now),
         Err(NoMemory) => Err(ChangeFault::NoMemory),
     }

@@ -17,7 +17,7 @@ ghost use Rattle.misp_statements.specs.Saving.{Saves};
 use crate::admitting::{admitted, alone, statement_row};
 use crate::targets::{has_own, sees_target};
 use misp_copies::{ChangeFault, Viewer, has_gone};
-use misp_elem::{Content, Key, KeyForm, ProposalBody, ProposalName, Row};
+use misp_elem::{Content, Key, KeyForm, ProposalBody, ProposalName, Row, Shared};
 use misp_ids::{InstId, NoMemory, OrgId, Stamp, Text};
 use misp_model::{ProposalDraft, ProposalDraftFields};
 use std::alloc::Global;
@@ -56,15 +56,16 @@ fn may_propose(
 }
 
 // The body, under the name of its organisation.
-fn named(body: &ProposalBody, name: &Text) -> Result<ProposalBody, NoMemory>
+fn named(alloc: Global, body: &ProposalBody, name: &Text) -> Result<Shared<ProposalBody>, NoMemory>
     ensures { IfOk result (λ made. made ≡ named name.now body.now) }
 {
     let mut made = body.clone()?;
     made.by_name = name.clone()?;
-    Ok(made)
+    Ok(Shared::of(alloc, made)?)
 }
 
 fn proposal_row(
+    alloc: Global,
     draft: &ProposalDraftFields,
     at: InstId,
     by: OrgId,
@@ -78,7 +79,7 @@ fn proposal_row(
     ensures is_row { IfOk result IsRow }
 {
     let _now = now.get();
-    let content = Content::Proposal(named(&draft.body, name)?);
+    let content = Content::Proposal(named(alloc, &draft.body, name)?);
     let key = proposal_key(draft, at, by);
     Ok(statement_row(by, now, key.form, content))
 }
@@ -105,7 +106,7 @@ pub fn propose(
     match may_propose(draft, who, rows) {
         Err(fault) => Err(fault),
         Ok(()) => {
-            let row = proposal_row(draft, who.here, who.org, name, now)?;
+            let row = proposal_row(alloc, draft, who.here, who.org, name, now)?;
             Ok(alone(alloc, row)?)
         }
     }

@@ -19,7 +19,7 @@ ghost use Rattle.misp_statements.specs.Saving.{Saves};
 use crate::admitting::{admitted, alone, statement_row};
 use crate::targets::{has_own, sees_live};
 use misp_copies::{ChangeFault, Viewer, has_gone};
-use misp_elem::{Content, Key, KeyForm, Place, Row, SightingBody};
+use misp_elem::{Content, Key, KeyForm, Place, Row, Shared, SightingBody};
 use misp_ids::{ElemId, EventId, InstId, NoMemory, OrgId, Stamp, Text};
 use misp_model::{AttributePlace, SightingDraft, SightingDraftFields};
 use std::alloc::Global;
@@ -74,23 +74,26 @@ fn date_of(given: Option<Stamp>, now: Stamp) -> Stamp
 }
 
 fn sighting_body(
+    alloc: Global,
     draft: &SightingDraftFields,
     name: &Text,
     now: Stamp,
-) -> Result<SightingBody, NoMemory>
+) -> Result<Shared<SightingBody>, NoMemory>
     ensures value { IfOk result (λ made. made ≡ sighting_body name.now now draft.now) }
     ensures is_date { IfOk result (λ made. IsStamp made.date) }
 {
     let date = date_of(draft.date, now);
-    Ok(SightingBody {
+    let made = SightingBody {
         by_name: name.clone()?,
         kind: draft.kind,
         date,
         source: draft.source.clone()?,
-    })
+    };
+    Ok(Shared::of(alloc, made)?)
 }
 
 fn sighting_row(
+    alloc: Global,
     event: EventId,
     target: Place,
     draft: &SightingDraftFields,
@@ -107,7 +110,7 @@ fn sighting_row(
     ensures is_row { IfOk result IsRow }
 {
     let _now = now.get();
-    let content = Content::Sighting(sighting_body(draft, name, now)?);
+    let content = Content::Sighting(sighting_body(alloc, draft, name, now)?);
     let key = sighting_key(event, target, at, by, draft.uuid);
     Ok(statement_row(by, now, key.form, content))
 }
@@ -139,7 +142,7 @@ pub fn sight(
     match may_sight(event, target, draft, who, rows) {
         Err(fault) => Err(fault),
         Ok(()) => {
-            let row = sighting_row(*event, target, draft, who.here, who.org, name, now)?;
+            let row = sighting_row(alloc, *event, target, draft, who.here, who.org, name, now)?;
             Ok(alone(alloc, row)?)
         }
     }

@@ -10,6 +10,7 @@ use crate::fault::Stop;
 use crate::key::{KeyForm, Place};
 use crate::reading::Reader;
 use crate::row::RowForm;
+use crate::shared::Shared;
 use std::alloc::Global;
 
 /// Whether a row of this key, label and flags may have a content of this kind.
@@ -60,13 +61,16 @@ impl Reader<'_> {
             return Err(bad);
         }
         match kind {
-            0 => Ok(Content::Event(self.event_body(alloc)?)),
-            1 => Ok(Content::Object(self.object_body(alloc)?)),
-            2 => Ok(Content::Attribute(self.attribute_body(alloc, form)?)),
-            3 => Ok(Content::Reference(self.reference_body(alloc)?)),
-            4 => Ok(Content::Proposal(self.proposal_body(alloc, may_remove(key))?)),
+            0 => Ok(Content::Event(Shared::of(alloc, self.event_body(alloc)?)?)),
+            1 => Ok(Content::Object(Shared::of(alloc, self.object_body(alloc)?)?)),
+            2 => Ok(Content::Attribute(Shared::of(alloc, self.attribute_body(alloc, form)?)?)),
+            3 => Ok(Content::Reference(Shared::of(alloc, self.reference_body(alloc)?)?)),
+            4 => Ok(Content::Proposal(Shared::of(
+                alloc,
+                self.proposal_body(alloc, may_remove(key))?,
+            )?)),
             5 => Ok(Content::Verdict(self.flag()?)),
-            6 => Ok(Content::Sighting(self.sighting_body(alloc)?)),
+            6 => Ok(Content::Sighting(Shared::of(alloc, self.sighting_body(alloc)?)?)),
             7 => Ok(Content::Gone),
             _ => Err(bad),
         }

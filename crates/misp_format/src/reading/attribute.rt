@@ -155,7 +155,7 @@ pub(crate) fn attribute(
         last_seen: seen.last,
     };
     let bytes = size(&body);
-    let body = it.short(body, bytes)?;
+    let body = it.shared(body, bytes)?;
     Ok(Draft {
         number,
         place: place_in(object, ElemId(uuid)),

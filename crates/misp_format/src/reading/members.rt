@@ -15,7 +15,7 @@ ghost use Rattle.misp_format.specs.Rows.{Gives, Shows, row, must_be, at, body_at
 use crate::fault::FormatFault;
 use crate::reading::path::Path;
 use crate::reading::readers::{inst_name, number_within};
-use misp_elem::Moment;
+use misp_elem::{Moment, Shared};
 use misp_fields::{self as fields, Need, member};
 use misp_ids::{InstId, Text, Uid};
 use serde_json::Value;
@@ -106,6 +106,15 @@ impl<'a> Members<'a> {
                 Err(fault)
             }
         }
+    }
+
+    /// The same with counted owners.
+    pub(crate) fn shared<T: Drop>(&self, read: T, bytes: usize) -> Result<Shared<T>, FormatFault>
+        ensures same { IfOk result (λ kept. kept ≡ read) }
+        ensures gives { Shows (λ _. tt) result (unless_long (body_of self.now) bytes) }
+    {
+        let read = self.short(read, bytes)?;
+        Ok(Shared::of(self.alloc, read)?)
     }
 
     pub(crate) fn uuid(&self, name: &str, absent: Uid) -> Result<Uid, FormatFault>

@@ -57,7 +57,7 @@ fn object(it: &Members<'_>, uuid: ElemId, number: u32) -> Result<Draft, FormatFa
         deleted,
     };
     let bytes = size(&body);
-    let body = it.short(body, bytes)?;
+    let body = it.shared(body, bytes)?;
     Ok(Draft {
         number,
         place: Place::Object(uuid),

@@ -71,9 +71,10 @@ fn reference_body(
 {
     let path = Path::Body("ObjectReference");
     let mut elements = Elements::none_from(alloc, 0);
-    if let Some(object) = object {
-        elements.push_reference(reference(alloc, &path, object, word, 0, value)?)?;
-    }
+    let Some(object) = object else {
+        return Ok(elements);
+    };
+    elements.push_reference(reference(alloc, &path, object, word, 0, value)?)?;
     Ok(elements)
 }
 

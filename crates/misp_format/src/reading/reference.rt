@@ -52,7 +52,7 @@ pub(crate) fn reference(
         deleted,
     };
     let bytes = size(&body);
-    let body = it.short(body, bytes)?;
+    let body = it.shared(body, bytes)?;
     Ok(ReferenceDraft {
         number,
         object,
