@@ -7,7 +7,7 @@ use Rattle.misp_model.specs.Pulling.{pulled_part}
 use Rattle.misp_model.specs.declared.package.PackageFields.{PackageFields}
 use Rattle.misp_edit.specs.Refusals.{named}
 use Rattle.misp_core.specs.Prelude.{Admin, Ask, Asked, Caller, Did, Effect, EventId, FormatFault, Group, Held, Host, IsBuilt, OrgId, Row, RuleName, Scene, Seen, Standing, View, ask_rules, asked_over, host_of}
-use Rattle.misp_core.specs.Prelude.{option_map_or, reach_of, refused, reply_in, rule_number, scene_at, seeing, seen_in, stop_in}
+use Rattle.misp_core.specs.Prelude.{option_map_or, read_where, refused, reply_in, rule_number, scene_at, seeing, seen_in, stop_in}
 use Rattle.misp_core.specs.Answers.{reply_of}
 use Rattle.misp_core.specs.Saving.{IsOfEvent}
 use Rattle.misp_core.specs.Administering.{effect_by}
@@ -119,7 +119,7 @@ of_rule (Some rule) g = refl
 by_command : (host : Host) (now : ℕ) (caller : Caller) (command : Command) (seen : Seen) → AsksBuilt command
     → rule_of (command_effect host now caller command seen).reply ≡ first_ground (command_grounds host now caller command seen)
 unfolding first_ground
-by_command host now caller (Command.Asks ask) seen built = by_rows host now (caller, ask) seen.groups (seen.rows (reach_of host.name caller.org ask)) built
+by_command host now caller (Command.Asks ask) seen built = by_rows host now (caller, ask) seen.groups (read_where host now (caller, ask) seen) built
 by_command host now caller (Command.TakesGroups groups) seen built = refl
 by_command host now caller (Command.Shares add g) seen built = of_rule (why_not add seen.groups caller.org g.id) _ ∙ why_first add seen.groups caller.org g.id
 

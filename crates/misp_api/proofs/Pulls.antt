@@ -6,14 +6,13 @@ use Rattle.misp_model.specs.Scene.{Scene}
 use Rattle.misp_effects.specs.Batches.{put_batches}
 use Rattle.misp_effects.specs.Effect.{Outcome, Stopped, Went, left, under}
 use Rattle.misp_core.specs.Answers.{writes_in}
-use Rattle.misp_core.specs.Effects.{asked_over, row_batches, telling}
+use Rattle.misp_core.specs.Effects.{asked_over, read_where, row_batches, telling}
 use Rattle.misp_core.specs.Planning.{IsBarred, unplanned}
 use Rattle.misp_core.specs.Prelude.{Row, spelled}
 use Rattle.misp_core.specs.Sound.{IsSound, IsSoundAnswer}
 use Rattle.misp_core.specs.Text.{reply_text}
 use Rattle.misp_core.specs.declared.planning.Plan.{Plan}
 use Rattle.misp_core.specs.declared.planning.NoPlan.{NoPlan}
-use Rattle.misp_store.specs.Prelude.{reach_of}
 use Rattle.misp_store.specs.Seen.{Seen}
 use Rattle.misp_api.specs.Commands.{is_pulling}
 use Rattle.misp_api.specs.Prelude.{Ask, Asked, AskFault, Caller, Command, Commanded, Effect, Group, Held, Host, Reading, Reply, RequestData, Standing, barred, command_effect, fault_reply, form_of, is_allowed, read_of, replied, seen_in}
@@ -46,7 +45,7 @@ over_none host now it groups (Ok rows) is = ap row_batches (writes_none _ it.1 i
 over_none host now it groups (Err name) is = refl
 
 command_none : (host : Host) (now : ℕ) (caller : Caller) (command : Command) (seen : Seen) → is_pulling command ≡ true → (command_effect host now caller command seen).batches ≡ []
-command_none host now caller (Command.Asks ask) seen is = over_none host now (caller, ask) seen.groups (seen.rows (reach_of host.name caller.org ask)) is
+command_none host now caller (Command.Asks ask) seen is = over_none host now (caller, ask) seen.groups (read_where host now (caller, ask) seen) is
 command_none host now caller (Command.TakesGroups groups) seen is = absurd cc
 command_none host now caller (Command.Shares add g) seen is = absurd cc
 

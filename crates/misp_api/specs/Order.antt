@@ -7,7 +7,7 @@ use Rattle.misp_ids.specs.declared.uid.OrgId.{OrgId}
 use Rattle.misp_groups.specs.Audience.{is_known_group, known_group}
 use Rattle.misp_model.specs.Scene.{Rule}
 use Rattle.misp_edit.specs.Refusals.{named}
-use Rattle.misp_core.specs.Prelude.{Asked, Group, Held, Host, Row, RuleName, Seen, ask_rules, option_map_or, reach_of, rule_number, scene_at, seeing, seen_in, stop_in}
+use Rattle.misp_core.specs.Prelude.{Asked, Group, Held, Host, Row, RuleName, Seen, ask_rules, option_map_or, read_where, rule_number, scene_at, seeing, seen_in, stop_in}
 use Rattle.misp_api.specs.Commands.{Commanded, is_allowed}
 use Rattle.misp_api.specs.Prelude.{Caller, Command, Reading, Reply, RequestData, Route, caller_in, command_of, read_of}
 use Rattle.misp_api.specs.Route.{method_of, route_at}
@@ -73,7 +73,7 @@ sharing_grounds add groups by id =
 -- refused by none of these
 abbrev pub command_grounds : Host → ℕ → Caller → Command → Seen → List Ground
 command_grounds host now caller (Command.Asks ask) seen =
-    row_grounds host now (caller, ask) seen.groups (seen.rows (reach_of host.name caller.org ask))
+    row_grounds host now (caller, ask) seen.groups (read_where host now (caller, ask) seen)
 command_grounds host now caller (Command.TakesGroups groups) seen = []
 command_grounds host now caller (Command.Shares add g) seen =
     sharing_grounds add seen.groups caller.org g.id

@@ -4,13 +4,14 @@ use Rattle.misp_model.proofs.Prelude.{IfSome_then, IsTable}
 use Rattle.misp_store.specs.Loading.{NamesFault}
 use Rattle.misp_store.specs.Sharing.{HoldsGroups, or_none}
 use Rattle.misp_store.specs.declared.fault.LoadFault.{LoadFault}
-use Rattle.misp_core.specs.Prelude.{Ask, Asked, Effect, Group, Held, Host, IsPlanned, Plan, Plans, Refusal, Reply, Row, Seen, Standing, asked_over, asked_where, forbidden, is_permitted, reach_of, refused, requested, scene_at, seeing}
+use Rattle.misp_core.specs.Prelude.{Ask, Asked, Effect, Group, Held, Host, IsPlanned, Plan, Plans, Refusal, Reply, Row, Seen, Standing, asked_over, asked_where, forbidden, is_permitted, read_where, refused, requested, scene_at, seeing}
 use Rattle.misp_core.specs.Prelude.{Scene, seen_in}
 use Rattle.misp_core.specs.Answers.{bad_row, bare_scene}
 use Rattle.misp_core.specs.Effects.{asked, by_keeper}
 use Rattle.misp_core.specs.Partners.{partner_of}
 use Rattle.misp_core.specs.Planning.{IsBarred, stop_planned}
 use Rattle.misp_core.specs.Handing.{IsUnread, TellsFault}
+use Rattle.misp_core.specs.Reading.{rows_read}
 use Rattle.misp_core.specs.declared.planning.NoPlan.{NoPlan}
 use Rattle.misp_core.proofs.Alike.{partner_asked}
 use Rattle.misp_model.specs.Machine.{pulls}
@@ -21,7 +22,7 @@ module _ (host : Host) (now : ℕ) (it : Asked) where
   pub by_role : (seen : Seen) (may : Bool) → is_permitted it.0 it.1 ≡ may → requested host now it seen ≡ (if may then asked_where host now it seen else refused (forbidden it.1))
   by_role seen may is = ap (λ b. if b then asked_where host now it seen else refused (forbidden it.1)) is
 
-  is_unread : (seen : Seen) (fault : LoadFault) → is_permitted it.0 it.1 ≡ true → NamesFault (seen.rows (reach_of host.name it.0.org it.1)) fault → IsUnread fault (requested host now it seen)
+  is_unread : (seen : Seen) (fault : LoadFault) → is_permitted it.0 it.1 ≡ true → NamesFault (read_where host now it seen) fault → IsUnread fault (requested host now it seen)
   is_unread seen (LoadFault.BadRow name) may names = by_role seen true may ∙ ap (asked_over host now it seen.groups) names
   is_unread seen LoadFault.KeeperFault may names = tt
   is_unread seen LoadFault.NoMemory may names = tt
@@ -33,10 +34,14 @@ module _ (host : Host) (now : ℕ) (it : Asked) where
       is_planned (Err why) (requested host now it (seen_in held)) (subst (λ (e : Effect Reply). Plans (Err why) e) (sym (by_role (seen_in held) false may)) plans)
 
   -- so is what is permitted, where the rows are not read
-  pub unread_planned : (old : Option Held) (fault : LoadFault) (why : NoPlan) → is_permitted it.0 it.1 ≡ true → IfSome old (λ held. NamesFault ((seen_in held).rows (reach_of host.name it.0.org it.1)) fault)
+  pub unread_planned : (groups : List Group) (old : Option Held) (fault : LoadFault) (why : NoPlan) → is_permitted it.0 it.1 ≡ true → HoldsGroups old groups
+      → IfSome old (λ held. NamesFault (rows_read (bare_scene host now it.0 groups) it.1 (seen_in held).rows) fault)
       → ((e : Effect Reply) → IsUnread fault e → IsPlanned (Err why) e) → IfSome old (λ held. IsPlanned (Err why) (requested host now it (seen_in held)))
-  unread_planned old fault why may names plans =
-      IfSome_then old names (λ held named. plans (requested host now it (seen_in held)) (is_unread (seen_in held) fault may named))
+  unread_planned groups None fault why may holds names plans = tt
+  unread_planned groups (Some held) fault why may holds names plans =
+      plans (requested host now it (seen_in held))
+      (is_unread (seen_in held) fault may
+      (subst (λ (gs : List Group). NamesFault (rows_read (bare_scene host now it.0 gs) it.1 (seen_in held).rows) fault) (sym (ap or_none holds)) names))
 
   -- the scene for an ask, with the partner of the caller's key where it is one of a pull
   abbrev scene_where : List Group → Bool → Scene
@@ -49,17 +54,24 @@ module _ (host : Host) (now : ℕ) (it : Asked) where
   with_partner groups rows planned false is plans =
       subst (λ (e : Effect Reply). Plans planned e) (sym (partner_asked (partner_of it.0) (seeing (bare_scene host now it.0 groups) rows) host.admin it.1 is)) plans
 
+  -- what is read with the groups that are held
+  pub over_found : (held : Held) (groups : List Group) (rows : List Row) → HoldsGroups (Some held) groups → rows_read (bare_scene host now it.0 groups) it.1 (seen_in held).rows ≡ Ok rows
+      → asked_where host now it (seen_in held) ≡ asked_over host now it groups (Ok rows)
+  over_found held groups rows holds found =
+      (λ i. asked_over host now it (ap or_none holds i) (rows_read (bare_scene host now it.0 (ap or_none holds i)) it.1 (seen_in held).rows))
+      ∙ ap (asked_over host now it groups) found
+
   -- what is permitted is planned over the rows that it reads, with the groups that are held
   pub planned_over : (groups : List Group) (rows : List Row) (planned : Result Plan NoPlan) (held : Held) → is_permitted it.0 it.1 ≡ true → HoldsGroups (Some held) groups
-      → (seen_in held).rows (reach_of host.name it.0.org it.1) ≡ Ok rows → Plans planned (asked host.admin (seeing (scene_where groups (pulls it.1)) rows) it.1)
+      → rows_read (bare_scene host now it.0 groups) it.1 (seen_in held).rows ≡ Ok rows → Plans planned (asked host.admin (seeing (scene_where groups (pulls it.1)) rows) it.1)
       → IsPlanned planned (requested host now it (seen_in held))
   planned_over groups rows planned held may holds found is =
       is_planned planned (requested host now it (seen_in held))
-      (subst (λ (e : Effect Reply). Plans planned e) (sym (by_role (seen_in held) true may ∙ (λ i. asked_over host now it (ap or_none holds i) (found i)))) (with_partner groups rows planned (pulls it.1) refl is))
+      (subst (λ (e : Effect Reply). Plans planned e) (sym (by_role (seen_in held) true may ∙ over_found held groups rows holds found)) (with_partner groups rows planned (pulls it.1) refl is))
 
   -- the same where the keeper may not tell what it holds
   pub asked_planned : (groups : List Group) (rows : List Row) (planned : Result Plan NoPlan) (old : Option Held) → is_permitted it.0 it.1 ≡ true → HoldsGroups old groups
-      → IfSome old (λ held. (seen_in held).rows (reach_of host.name it.0.org it.1) ≡ Ok rows) → IfSome old (λ held. IsTable rows)
+      → IfSome old (λ held. rows_read (bare_scene host now it.0 groups) it.1 (seen_in held).rows ≡ Ok rows) → IfSome old (λ held. IsTable rows)
       → (IsTable rows → Plans planned (asked host.admin (seeing (scene_where groups (pulls it.1)) rows) it.1))
       → IfSome old (λ held. IsPlanned planned (requested host now it (seen_in held)))
   asked_planned groups rows planned None may holds found table is = tt

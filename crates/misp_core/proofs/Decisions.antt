@@ -18,7 +18,7 @@ use Rattle.misp_copies.specs.declared.change_fault.ChangeFault.{ChangeFault}
 use Rattle.misp_edit.specs.Refusals.{named, place_of, refusal_of, label_place, uuid_place, rule_named}
 use Rattle.misp_edit.specs.declared.fault.AddFault.{AddFault}
 use Rattle.misp_store.specs.Reach.{wide_reach}
-use Rattle.misp_core.specs.Prelude.{Admin, Answer, Ask, Asked, Effect, EventId, Group, Host, IsBuilt, IsRefused, OrgId, Plan, Refusal, Reply, Row, RuleName, Scene, View, ask_rules, asked_over, asked_where, bare, fresh_row, reach_of}
+use Rattle.misp_core.specs.Prelude.{Admin, Answer, Ask, Asked, Effect, EventId, Group, Host, IsBuilt, IsRefused, OrgId, Plan, Refusal, Reply, Row, RuleName, Scene, View, ask_rules, asked_over, asked_where, bare, fresh_row, read_where}
 use Rattle.misp_core.specs.Prelude.{refused, reply_in, scene_at, seeing, writes_in}
 use Rattle.misp_core.specs.Answers.{reply_of, rows_brought, greatest, event_parts, event_saved, named_event, saved}
 use Rattle.misp_core.specs.declared.reply.EventParts.{EventParts}
@@ -264,4 +264,4 @@ refused_over host now it groups (Ok rows) built is = refused_alone host.admin (s
 refused_over host now it groups (Err name) built is = refl
 
 pub refused_puts_none : (host : Host) (now : ℕ) (it : Asked) (seen : store.Seen) → IsBuilt it.1 → IsRefused (asked_where host now it seen).reply → (asked_where host now it seen).batches ≡ []
-refused_puts_none host now it seen = refused_over host now it seen.groups (seen.rows (reach_of host.name it.0.org it.1))
+refused_puts_none host now it seen = refused_over host now it seen.groups (read_where host now it seen)

@@ -23,13 +23,15 @@ use Rattle.misp_store.specs.Sharing.{or_none}
 use Rattle.misp_store.specs.declared.reach.Reach.{Reach}
 use Rattle.misp_store.proofs.HeldRows.{rows_again, rows_of_event, rows_kept, rows_put, rows_put_held}
 use Rattle.misp_core.specs.Prelude.{AllByRecursion, AreReadable, Ask, Asked, Effect, EventId, Group, Held, Host, Inst, IsBuilt, IsGroup, IsStrictlySortedBy, Keeps, OrgId, Reply, Row, Scene, World, asked_over, asked_where}
-use Rattle.misp_core.specs.Prelude.{groups_in, groups_of, left, list_all, put_batches, reach_of, same_inst, scene_at, seen_in, spelled, step, tables, writes_in}
+use Rattle.misp_core.specs.Prelude.{groups_in, groups_of, left, list_all, put_batches, same_inst, seen_in, spelled, step, tables, writes_in}
 use Rattle.misp_core.specs.Effects.{row_batches, asked}
-use Rattle.misp_core.specs.Answers.{rows_brought}
+use Rattle.misp_core.specs.Answers.{bare_scene, rows_brought}
 use Rattle.misp_core.specs.Keeping.{caller_at, act_at}
-use Rattle.misp_core.proofs.LookedRows.{looked_held, named_looked, named_looked_kept}
+use Rattle.misp_store.proofs.NamedLooked.{looked_held, named_looked, named_looked_kept}
+use Rattle.misp_history.proofs.AsNew.{tables_are_tables}
+use Rattle.misp_core.specs.Reading.{rows_read}
 use Rattle.misp_core.proofs.HandedRows.{handed_table, newer_rows, taken_known}
-use Rattle.misp_core.proofs.Alike.{rows_of_name, named_rows_kept, table_within, own_alike, asked_as}
+use Rattle.misp_core.proofs.Alike.{rows_of_name, named_rows_kept, table_within, read_alike, asked_as}
 use Rattle.misp_history.specs.Acts as model
 
 -- a keeper that holds these rows and groups keeps an instance that has them
@@ -82,8 +84,9 @@ module _ (w : World) (host : Host) (now : ℕ) (it : Asked) (held : Held) (built
   -- what it comes to is what it comes to over all rows of the instance, with its groups
   pub over_all : asked_where host now it (seen_in held) ≡ asked_over host now it (w.groups host.name) (Ok (tables w.log host.name))
   over_all =
-      (λ i. asked_over host now it (groups_there host.name w held keeps i) (read_there host.name w held keeps (reach_of host.name it.0.org it.1) i))
-      ∙ own_alike host.admin (tables w.log host.name) (scene_at host now it.0 (w.groups host.name)) it.1 built
+      (λ i. asked_over host now it (groups_there host.name w held keeps i)
+      (rows_read (bare_scene host now it.0 (groups_there host.name w held keeps i)) it.1 (λ reach. read_there host.name w held keeps reach i)))
+      ∙ read_alike host now it.0 (w.groups host.name) (tables w.log host.name) keeps.are_rows (tables_are_tables w.log host.name) it.1 built
 
   -- and what the history says, whatever the number of the act
   pub told_there : (n : ℕ) → asked_where host now it (seen_in held) ≡ asked host.admin (scene n w (act_at host now it) (caller_at host.admin it.0)) it.1

@@ -13,7 +13,8 @@ use Rattle.misp_store.specs.declared.reach.Reach.{Reach}
 use Rattle.misp_core.specs.Answers.{bare_scene}
 use Rattle.misp_core.specs.KeptLanding.{GoesOn, IsLandedFor, IsLandedOf, IsLandingFor, IsWholeLanding, LandsBeside, PlansBy, StaysOrLands}
 use Rattle.misp_core.specs.Planning.{batch_of}
-use Rattle.misp_core.specs.Prelude.{Admin, Ask, EventId, Group, Held, Host, Inst, IsPlanned, OrgId, Plan, Row, Scene, is_permitted, reach_of, requested, seen_in, spelled}
+use Rattle.misp_core.specs.Reading.{rows_read}
+use Rattle.misp_core.specs.Prelude.{Admin, Ask, EventId, Group, Held, Host, Inst, IsPlanned, OrgId, Plan, Row, Scene, is_permitted, requested, seen_in, spelled}
 use Rattle.misp_core.specs.declared.planning.Batch.{Batch as Put}
 use Rattle.misp_core.specs.declared.planning.NoPlan.{NoPlan}
 use Rattle.misp_core.proofs.Answered.{planned_over}
@@ -54,7 +55,7 @@ landed_same l i w v p q xs ys same_owner same_package same_rows is =
     (subst (λ (r : Package). IsLandedOf i v r.event xs l) same_package (subst (λ (o : OrgId). IsLandedOf i o p.event xs l) same_owner is))
 
 -- where the keeper tells what it holds it is that of what is held
-module _ (here : Inst) (by : Caller) (rows : List Row) where
+module _ (here : Inst) (by : Caller) (rows : List Row) (s : Scene) where
   landed_whole : (h : Held) (p : Package) (l : Landing) → (seen_in h).rows (Reach.Event p.event) ≡ Ok rows → IsLandedOf here by.org p.event rows l → IsWholeLanding here h l
   landed_whole h p l found made = record {
     rows = rows;
@@ -63,17 +64,17 @@ module _ (here : Inst) (by : Caller) (rows : List Row) where
     is = landing_own l here by.org p.event rows made.is;
   }
 
-  made_beside : (held : Option Held) (ask : Ask) (l : Landing) → IfSome held (λ h. (seen_in h).rows (reach_of here by.org ask) ≡ Ok rows) → IsLandedFor here by.org rows ask l → LandsBeside here held l
+  made_beside : (held : Option Held) (ask : Ask) (l : Landing) → IfSome held (λ h. rows_read s ask (seen_in h).rows ≡ Ok rows) → IsLandedFor here by.org rows ask l → LandsBeside here held l
   made_beside None ask l found made = tt
   made_beside (Some h) (Ask.TakePart p) l found made = landed_whole h p l found made
   made_beside (Some h) ask l found made = absurd made
 
-  all_made : (held : Option Held) (ask : Ask) (new : Option Landing) → IfSome held (λ h. (seen_in h).rows (reach_of here by.org ask) ≡ Ok rows) → IfSome new (IsLandedFor here by.org rows ask) → IfSome new (LandsBeside here held)
+  all_made : (held : Option Held) (ask : Ask) (new : Option Landing) → IfSome held (λ h. rows_read s ask (seen_in h).rows ≡ Ok rows) → IfSome new (IsLandedFor here by.org rows ask) → IfSome new (LandsBeside here held)
   all_made held ask None found made = tt
   all_made held ask (Some l) found made = made_beside held ask l found made
 
   -- what is kept once an ask is planned is so still
-  pub still_lands : (held : Option Held) (ask : Ask) (old new : Option Landing) → IfSome held (λ h. (seen_in h).rows (reach_of here by.org ask) ≡ Ok rows) → IfSome old (LandsBeside here held)
+  pub still_lands : (held : Option Held) (ask : Ask) (old new : Option Landing) → IfSome held (λ h. rows_read s ask (seen_in h).rows ≡ Ok rows) → IfSome old (LandsBeside here held)
       → StaysOrLands here by.org rows ask old new → IfSome new (LandsBeside here held)
   still_lands held ask old new found lands (inl same) = subst (λ (o : Option Landing). IfSome o (LandsBeside here held)) (sym same) lands
   still_lands held ask old new found lands (inr made) = all_made held ask new found made

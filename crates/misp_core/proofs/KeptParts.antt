@@ -9,8 +9,10 @@ use Rattle.misp_model.specs.declared.package.PackageFields.{PackageFields as Pac
 use Rattle.misp_store.specs.Sharing.{HoldsGroups, or_none}
 use Rattle.misp_store.specs.declared.reach.Reach.{Reach}
 use Rattle.misp_core.specs.Ahead.{AnswersAhead, IsKeptFor, IsLeftOf, IsPackedFor, StaysOrIsPacked, kept_part, part_told}
-use Rattle.misp_core.specs.Prelude.{Answer, Ask, EventId, Group, Held, Host, IsPlanned, Row, Scene, asked_over, groups_in, is_permitted, reach_of, requested, scene_at, seeing, seen_in}
+use Rattle.misp_core.specs.Prelude.{Answer, Ask, EventId, Group, Held, Host, IsPlanned, Row, Scene, asked_over, groups_in, is_permitted, requested, scene_at, seeing, seen_in}
 use Rattle.misp_core.specs.declared.ahead.Ahead.{Ahead}
+use Rattle.misp_core.specs.Answers.{bare_scene}
+use Rattle.misp_core.specs.Reading.{rows_read}
 use Rattle.misp_core.proofs.Answered.{by_role}
 use Rattle.misp_core.proofs.Decisions.{part_shown}
 
@@ -59,7 +61,7 @@ module _ (host : Host) where
         ∙ (λ i. asked_over host now (by, Ask.SyncPart e n) (ap or_none holds i) (found i))
         ∙ (part_shown host.admin (seeing (scene_at host now by groups) rows) e n p packed).is
 
-    packed_answers : (ask : Ask) (new : Option Ahead) → is_permitted by ask ≡ true → (seen_in h).rows (reach_of host.name by.org ask) ≡ Ok rows → IfSome new (IsPackedFor scene_then by ask) → IfSome new (AnswersAhead host (Some h))
+    packed_answers : (ask : Ask) (new : Option Ahead) → is_permitted by ask ≡ true → rows_read (bare_scene host moment by groups) ask (seen_in h).rows ≡ Ok rows → IfSome new (IsPackedFor scene_then by ask) → IfSome new (AnswersAhead host (Some h))
     packed_answers ask None may found packed = tt
     packed_answers (Ask.SyncPart e m) (Some a) may found packed = λ n p k. λ now.
         (λ i. requested host now (packed.caller i, Ask.SyncPart (packed.event i) n) (seen_in h)) ∙ part_answered e n p may found (packed.parts n p k) now
@@ -72,7 +74,7 @@ module _ (host : Host) where
 
   -- what is kept once an ask is planned are answers
   pub still_answers : (held : Option Held) (groups : List Group) (rows : List Row) (moment : ℕ) (by : Caller) (ask : Ask) (old new : Option Ahead) → is_permitted by ask ≡ true → HoldsGroups held groups
-      → IfSome held (λ h. (seen_in h).rows (reach_of host.name by.org ask) ≡ Ok rows) → IfSome held (λ h. IsTable rows) → IfSome old (AnswersAhead host held)
+      → IfSome held (λ h. rows_read (bare_scene host moment by groups) ask (seen_in h).rows ≡ Ok rows) → IfSome held (λ h. IsTable rows) → IfSome old (AnswersAhead host held)
       → (IsTable rows → StaysOrIsPacked (seeing (scene_at host moment by groups) rows) by ask old new) → IfSome new (AnswersAhead host held)
   still_answers None groups rows moment by ask old new may holds found table answers stays = unreported new
   still_answers (Some h) groups rows moment by ask old new may holds found table answers stays = one (stays table)

@@ -15,7 +15,7 @@ pub mod PutRead
 pub mod KeptLandings
 pub mod TakenRows
 pub mod Listed
-pub mod LookedRows
+pub mod LooksThen
 pub mod TakenGroups
 pub mod HandedGroups
 pub mod SharedGroups

@@ -7,9 +7,10 @@ use Rattle.misp_model.specs.declared.ask.Ask.{Ask}
 use Rattle.misp_model.specs.Scene.{Scene}
 use Rattle.misp_model.specs.Machine.{seeing}
 use Rattle.misp_model.specs.Permission.{is_permitted, forbidden}
-use Rattle.misp_store.specs.Prelude.{Admin, Batch, Effect, Group, Held, Here, KeeperFault, Refusal, Row, RuleName, Stop, reach_of, spelled}
+use Rattle.misp_store.specs.Prelude.{Admin, Batch, Effect, Group, Held, Here, KeeperFault, Refusal, Row, RuleName, Stop, spelled}
 use Rattle.misp_store.specs.Seen.{Seen}
-use Rattle.misp_core.specs.Answers.{Asked, scene_at, reply_in, writes_in, bad_row}
+use Rattle.misp_core.specs.Answers.{Asked, bad_row, bare_scene, reply_in, scene_at, writes_in}
+use Rattle.misp_core.specs.Reading.{rows_read}
 use Rattle.misp_core.specs.Standing.{Host}
 use Rattle.misp_core.specs.declared.reply.Reply.{Reply}
 
@@ -78,10 +79,13 @@ asked_over host now it groups (Ok rows) =
     asked host.admin (seeing (scene_at host now it.0 groups) rows) it.1
 asked_over host now it groups (Err name) = refused (bad_row name)
 
+-- what is read for what is asked, where this is seen
+abbrev pub read_where : Host → ℕ → Asked → Seen → Result (List Row) (List ℕ)
+read_where host now it seen = rows_read (bare_scene host now it.0 seen.groups) it.1 seen.rows
+
 -- what is asked, where this is seen
 abbrev pub asked_where : Host → ℕ → Asked → Seen → Effect Reply
-asked_where host now it seen =
-    asked_over host now it seen.groups (seen.rows (reach_of host.name it.0.org it.1))
+asked_where host now it seen = asked_over host now it seen.groups (read_where host now it seen)
 
 -- a request, where this is seen: the role of the caller must permit what it asks
 abbrev pub requested : Host → ℕ → Asked → Seen → Effect Reply

@@ -3,8 +3,7 @@ use Rattle.std.specs.Prelude.{◌≡◌, Err, List, cond}
 use Rattle.misp_model.specs.Machine.{pulls}
 use Rattle.misp_model.specs.declared.ask.Ask.{Ask}
 use Rattle.misp_store.specs.declared.fault.LoadFault.{LoadFault}
-use Rattle.misp_store.specs.declared.reach.Reach.{Reach}
-use Rattle.misp_core.specs.Prelude.{Effect, Host, Plans, Reply, Row, Scene, reach_of, refused}
+use Rattle.misp_core.specs.Prelude.{Effect, Host, Plans, Reply, Row, Scene, refused}
 use Rattle.misp_core.specs.declared.planning.NoPlan.{NoPlan}
 use Rattle.misp_core.specs.declared.site.Site.{Site}
 use Rattle.misp_core.specs.Answers.{bad_row, bare_scene}
@@ -17,10 +16,6 @@ knowing s rows = record s { rows = rows }
 -- who the instance is
 abbrev pub host_at : Site → Host
 host_at s = record { name = s.here.now; admin = s.admin.now }
-
--- how much an ask there reads
-abbrev pub reach_at : Site → Ask → Reach
-reach_at s ask = reach_of s.here.now s.caller.now.org ask
 
 -- the scene that the code hands on where an ask looks at no partner
 abbrev pub scene_in : Site → Scene

@@ -12,6 +12,7 @@ pub mod Partners
 pub mod Planning
 pub mod Prelude
 pub mod Pulling
+pub mod Reading
 pub mod Saving
 pub mod Sending
 pub mod Sharing

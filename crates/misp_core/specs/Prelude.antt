@@ -24,7 +24,7 @@ pub use Rattle.misp_store.specs.Sharing.{groups_of}
 pub use Rattle.misp_core.specs.Administering.{administered}
 unfoldable pub use Rattle.misp_core.specs.Answers.{reply_in, writes_in}
 pub use Rattle.misp_core.specs.Answers.{Asked, IsBuilt, scene_at}
-pub use Rattle.misp_core.specs.Effects.{Did, IsRefused, asked_over, asked_where, refused, refused_by, requested, stop_in}
+pub use Rattle.misp_core.specs.Effects.{Did, IsRefused, asked_over, asked_where, read_where, refused, refused_by, requested, stop_in}
 pub use Rattle.misp_core.specs.Keeping.{Keeps}
 pub use Rattle.misp_core.specs.Planning.{IsPlanned, Plans}
 pub use Rattle.misp_core.specs.Standing.{Host, Standing, host_of}

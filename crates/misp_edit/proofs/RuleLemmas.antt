@@ -24,7 +24,7 @@ use Rattle.misp_edit.proofs.TargetLemmas.{target_is}
 
 module _ (s : Scene) (b : Submission) where
   -- the clash of the definition, by the recursion
-  clash_is : first_clash s b ≡ clash_in (is_taken s b.event) (read_uuids s b)
+  pub clash_is : first_clash s b ≡ clash_in (is_taken s b.event) (read_uuids s b)
   unfolding first_clash is_clash
   clash_is = first_clash_is (is_taken s b.event) [] (read_uuids s b)
 

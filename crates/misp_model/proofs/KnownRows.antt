@@ -90,7 +90,7 @@ module _ (rows : List Row) (groups : List Group) (i : Inst) (o : OrgId) where
       (and_from _ _ (and_from _ _ ((λ j. has_copy rows (n.0 j) (event_of (n.1 j))) ∙ c) g) ((λ j. list_all (has_open rows groups i o (n.0 j)) (parents (n.1 j))) ∙ a))
 
   -- what is said of the organisation's own rows is said of those that it knows
-  own_any : (w : OrgId) → same_org w o ≡ true → (k : Key) (test : Row → Bool) →
+  pub own_any : (w : OrgId) → same_org w o ≡ true → (k : Key) (test : Row → Bool) →
       list_any (λ row. is_row_of w k row && test row) (known rows groups i o) ≡ list_any (λ row. is_row_of w k row && test row) rows
   unfolding known is_known
   own_any w mine k test =

@@ -9,7 +9,7 @@ use Rattle.misp_model.specs.Shown.{is_proposal_on, is_sighting_on, is_chosen, in
 use Rattle.misp_model.proofs.KnownRows.{granted_is_known, chosen_known, live_known}
 
 -- attributes, objects and references are no statements
-plain_is_none : (e : EventId) (k : Key) → is_plain_attribute e k ≡ true → is_statement k ≡ false
+pub plain_is_none : (e : EventId) (k : Key) → is_plain_attribute e k ≡ true → is_statement k ≡ false
 unfolding is_plain_attribute is_statement
 plain_is_none e (Element f p) h = refl
 plain_is_none e (Reference f x t u) h = refl
@@ -17,7 +17,7 @@ plain_is_none e (Proposal f n) h = absurd (false≢true h)
 plain_is_none e (Verdict f n i o) h = absurd (false≢true h)
 plain_is_none e (Sighting f t i o u) h = absurd (false≢true h)
 
-inner_is_none : (e : EventId) (y : ElemId) (k : Key) → is_attribute_of e y k ≡ true → is_statement k ≡ false
+pub inner_is_none : (e : EventId) (y : ElemId) (k : Key) → is_attribute_of e y k ≡ true → is_statement k ≡ false
 unfolding is_attribute_of is_statement
 inner_is_none e y (Element f p) h = refl
 inner_is_none e y (Reference f x t u) h = refl
@@ -25,7 +25,7 @@ inner_is_none e y (Proposal f n) h = absurd (false≢true h)
 inner_is_none e y (Verdict f n i o) h = absurd (false≢true h)
 inner_is_none e y (Sighting f t i o u) h = absurd (false≢true h)
 
-object_is_none : (e : EventId) (k : Key) → is_object e k ≡ true → is_statement k ≡ false
+pub object_is_none : (e : EventId) (k : Key) → is_object e k ≡ true → is_statement k ≡ false
 unfolding is_object is_statement
 object_is_none e (Element f p) h = refl
 object_is_none e (Reference f x t u) h = refl
@@ -33,7 +33,7 @@ object_is_none e (Proposal f n) h = absurd (false≢true h)
 object_is_none e (Verdict f n i o) h = absurd (false≢true h)
 object_is_none e (Sighting f t i o u) h = absurd (false≢true h)
 
-reference_is_none : (s : Scene) (w : OrgId) (e : EventId) (y : ElemId) (k : Key) → is_reference_of s w e y k ≡ true → is_statement k ≡ false
+pub reference_is_none : (s : Scene) (w : OrgId) (e : EventId) (y : ElemId) (k : Key) → is_reference_of s w e y k ≡ true → is_statement k ≡ false
 unfolding is_reference_of is_statement
 reference_is_none s w e y (Element f p) h = refl
 reference_is_none s w e y (Reference f x t u) h = refl

@@ -1,3 +1,4 @@
+pub mod EventParents
 pub mod Fresh
 pub mod Judging
 pub mod Knowing
@@ -6,11 +7,16 @@ pub mod KnownShown
 pub mod Local
 pub mod Looked
 pub mod LookedAsks
+pub mod LookedBodies
 pub mod LookedCopy
+pub mod LookedEnough
 pub mod LookedJudging
 pub mod LookedKeys
 pub mod LookedRows
 pub mod LookedScenes
+pub mod LookedTold
+pub mod LookedUuids
+pub mod LookedView
 pub mod Moving
 pub mod NameOrder
 pub mod Numbers

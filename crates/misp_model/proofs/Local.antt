@@ -1,36 +1,14 @@
 -- What is asked of one event looks at that event's rows alone: the lemmas on kept rows, with the event's keys as the kept ones.
-use Rattle.std.proofs.Common.{◌≡◌, true, refl, ap, ◌∙◌, List, ℕ}
-use Rattle.std.proofs.lemmas.Bool.{and_from}
+use Rattle.std.proofs.Common.{◌≡◌, true, ap, ◌∙◌, List, ℕ}
 use Rattle.misp_elem.proofs.Same.{of_event}
-use Rattle.misp_model.specs.Prelude.{Element, EventId, Group, Inst, IsClosed, Key, OrgId, Place, Proposal, Reference, Row, Scene, Sighting, Verdict, above, cut_rows, event_of, granted, is_proposal_of, is_taken, list_all, parents}
-use Rattle.misp_model.specs.Prelude.{same_event, up_to}
+use Rattle.misp_model.specs.Prelude.{Element, EventId, Group, Inst, IsClosed, Key, OrgId, Proposal, Reference, Row, Scene, Sighting, Verdict, cut_rows, event_of, granted, is_proposal_of, is_taken}
+use Rattle.misp_model.specs.Prelude.{same_event}
+use Rattle.misp_model.proofs.EventParents.{parents_of}
 use Rattle.misp_model.proofs.Knowing.{by_key, granted_cut}
 use Rattle.misp_model.proofs.LookedRows.{looked_rows}
 use Rattle.misp_model.proofs.LookedScenes.{looked_scene}
 use Rattle.misp_model.proofs.LookedCopy.{is_taken_looked}
 use Rattle.misp_model.proofs.Scenes.{cut_scene}
-
-above_of : (e f : EventId) (p : Place) → same_event f e ≡ true → list_all (of_event e) (above f p) ≡ true
-unfolding of_event event_of above
-above_of e f Place.Event h = refl
-above_of e f (Place.Object x) h = and_from _ _ h refl
-above_of e f (Place.Attribute x) h = and_from _ _ h refl
-above_of e f (Place.ObjectAttribute x a) h = and_from _ _ h (and_from _ _ h refl)
-
-up_to_of : (e f : EventId) (p : Place) → same_event f e ≡ true → list_all (of_event e) (up_to f p) ≡ true
-unfolding of_event event_of above up_to
-up_to_of e f Place.Event h = and_from _ _ h refl
-up_to_of e f (Place.Object x) h = and_from _ _ h (and_from _ _ h refl)
-up_to_of e f (Place.Attribute x) h = and_from _ _ h (and_from _ _ h refl)
-up_to_of e f (Place.ObjectAttribute x a) h = and_from _ _ h (and_from _ _ h (and_from _ _ h refl))
-
-parents_of : (e : EventId) (k : Key) → of_event e k ≡ true → list_all (of_event e) (parents k) ≡ true
-unfolding of_event event_of parents
-parents_of e (Element f p) h = above_of e f p h
-parents_of e (Reference f x t u) h = and_from _ _ h (up_to_of e f t h)
-parents_of e (Proposal f n) h = up_to_of e f n.target h
-parents_of e (Verdict f n i o) h = up_to_of e f n.target h
-parents_of e (Sighting f t i o u) h = up_to_of e f t h
 
 proposal_of_event : (e : EventId) (k p : Key) → of_event e k ≡ true → is_proposal_of k p → of_event e p ≡ true
 unfolding of_event event_of is_proposal_of
@@ -51,4 +29,4 @@ granted_here e rows groups i o row h = granted_cut (of_event e) (event_is_closed
 -- and so is whether a uuid is taken
 pub is_taken_here : (e : EventId) (s : Scene) (u : ℕ) → is_taken (cut_scene (of_event e) s) e u ≡ is_taken s e u
 unfolding cut_scene cut_rows looked_scene looked_rows of_event
-is_taken_here e s u = is_taken_looked (λ w. of_event e) s (by_key (of_event e) (event_is_closed e) s.by) e (λ k h. h) u
+is_taken_here e s u = is_taken_looked (λ w. of_event e) s (by_key (of_event e) (event_is_closed e) s.by) e u (λ k h g. h)

@@ -1,181 +1,176 @@
--- A request is refused, answered and written from the rows that it looks at as from all.
-use Rattle.std.proofs.Common.{◌≡◌, List, Bool, true, false, refl, ap, sym, ◌∙◌, subst, ◌&&◌, Option, Some, None}
-use Rattle.std.proofs.lemmas.Bool.{and_from, false≢true}
-use Rattle.misp_ids.proofs.Same.{same_event-refl}
-use Rattle.misp_model.specs.Prelude.{AddEvent, AddParts, Ask, Change, Delete, DeleteEvent, DeleteReference, EditAttribute, EditEvent, EditObject, Element, EventId, Groups, Index, Judge, Key, OrgId, Place, Proposal, ProposalName, Propose}
-use Rattle.misp_model.specs.Prelude.{Publish, Row, Scene, Sight, SyncEvents, SyncGroups, SyncPart, TakePart, Verdict, View, event_key, event_of, is_for_new, judged_place, known, parents, proposal_key, sighting_key, up_to}
+-- A request is refused, answered and written from the rows that it looks at as from all; and what it looks at first says what it looks at then.
+use Rattle.std.proofs.Common.{◌≡◌, List, [], ◌∷◌, Bool, inl, inr, option_map, true, false, refl, ap, cond, sym, ◌∙◌, subst, not, ◌&&◌, ◌||◌, Option, Some, None}
+use Rattle.std.proofs.lemmas.Bool.{and_from, false≢true, or_cases, or_right}
+use Rattle.misp_lists.proofs.Lists.{none_not_some, some_same}
+use Rattle.misp_ids.proofs.Same.{same_event-refl, same_org-refl}
+use Rattle.misp_elem.proofs.Same.{same_key-sound}
+use Rattle.misp_model.specs.Prelude.{AddEvent, AddParts, Ask, Change, Delete, DeleteEvent, DeleteReference, EditAttribute, EditEvent, EditObject, EventId, Groups, Index, IsTable, Judge, Key, OrgId, Place, Propose, Publish, Row, Scene, Sight, SyncEvents}
+use Rattle.misp_model.specs.Prelude.{SyncGroups, SyncPart, TakePart, View, event_key, event_of, has_copy, holds_copy, is_statement, is_tombstone, same_event, same_key, same_org, up_to}
+use Rattle.misp_model.specs.Shown.{event_row}
 use Rattle.misp_model.specs.Machine.{seeing}
-use Rattle.misp_model.specs.Statements.{judged_at}
-use Rattle.misp_model.specs.Looking.{at_copy, at_place, at_proposal, at_target, change_looks, is_own_key, looks_at, looks_of, proposal_keys, rows_seen_by}
+use Rattle.misp_model.specs.Looking.{at_event, at_shown, beside, change_looks, is_in_look, last_looks, looks_at, looks_of, more_for_change, more_looks, over, own_alone, rows_seen_by, uuids_in}
+use Rattle.misp_model.specs.declared.looks.Look.{Look}
 use Rattle.misp_model.specs.declared.looks.Looks.{Looks}
-use Rattle.misp_model.proofs.LookedRows.{IsClosedFor, known_looked, looked_rows}
+use Rattle.misp_model.proofs.KnownRows.{own_any}
+use Rattle.misp_model.proofs.LookedRows.{IsClosedFor, has_copy_looked, known_looked, looked_rows}
 use Rattle.misp_model.proofs.LookedScenes.{looked_scene}
-use Rattle.misp_model.proofs.LookedCopy.{HasCopy, parts_looked}
-use Rattle.misp_model.proofs.LookedJudging.{judge_looked}
-use Rattle.misp_model.proofs.LookedAsks.{delete_event_looked, delete_looked, delete_reference_looked, edit_attribute_looked, edit_event_looked, edit_object_looked, propose_looked, publish_looked, sight_looked, tag_looked, untag_looked}
-use Rattle.misp_model.proofs.LookedKeys.{closed_for, copy_closed, event_among, judging_closed, IsClosedLooks, last_among, own_looks, place_closed, proposal_among, proposal_target_among, shared_looks, target_among, target_closed}
+use Rattle.misp_model.proofs.LookedKeys.{IsClosedOwn, copy_own, own_looks, place_own, uuids_own}
+use Rattle.misp_model.proofs.LookedEnough.{AreEnough, IsEnough, change_enough, judge_enough, propose_enough, sight_enough}
+use Rattle.misp_model.proofs.LookedView.{view_row_looked, view_same}
 use Rattle.misp_model.proofs.SameAnswers.{IsSame, same_from}
 
--- the looks are closed, and what they leave is enough
-record IsEnough (s : Scene) (a : Ask) (l : Looks) : Type 0 where
-  closed : IsClosedFor s.by (looks_at l)
-  same : IsSame (looked_scene (looks_at l) s) s a
+-- ---- what a change looks at first
 
--- what is said of a request's looks, where it has any
-abbrev AreEnough : Scene → Ask → Option Looks → Type 0
-AreEnough s a None = Unit {0}
-AreEnough s a (Some l) = IsEnough s a l
+-- own rows alone, with the event's
+record IsAlone (o : OrgId) (l : Looks) : Type 0 where
+  of : l.of ≡ o
+  own : IsClosedOwn l.event l.own
+  others : l.others ≡ Look.Keys []
 
-module _ (s : Scene) (e : EventId) where
-  -- ---- a place
-  module _ (p : Place) where
-    abbrev there : Looks
-    there = at_place s.by e p
+abbrev AreAlone : OrgId → Option Looks → Type 0
+AreAlone o None = Unit {0}
+AreAlone o (Some l) = IsAlone o l
 
-    at_place_closed : IsClosedFor s.by (looks_at there)
-    at_place_closed = closed_for there (place_closed s.by e p)
+place_alone : (o : OrgId) (e : EventId) (p : Place) → IsAlone o (own_alone o e (Look.Keys (up_to e p)))
+place_alone o e p = record { of = refl; own = place_own e p; others = refl }
 
-    event_there : (w : OrgId) → looks_at there w (event_key e) ≡ true
-    event_there w = shared_looks there (place_closed s.by e p).both w (event_key e) (event_among e)
+copy_alone : (o : OrgId) (e : EventId) → IsAlone o (own_alone o e Look.All)
+copy_alone o e = record { of = refl; own = copy_own e; others = refl }
 
-    place_there : looks_at there s.by (Element e p) ≡ true
-    unfolding is_own_key
-    place_there = own_looks there (Element e p) (target_among e p)
+change_alone : (o : OrgId) (c : Change) → AreAlone o (change_looks o c)
+change_alone o (AddEvent b) = tt
+change_alone o (AddParts e b) = record { of = refl; own = uuids_own b.event (uuids_in b); others = refl }
+change_alone o (EditEvent e edit) = place_alone o e Place.Event
+change_alone o (EditAttribute e p edit) = place_alone o e p
+change_alone o (EditObject e x edit) = place_alone o e (Place.Object x)
+change_alone o (Delete e p) = place_alone o e p
+change_alone o (DeleteReference e x u) = copy_alone o e
+change_alone o (Change.Tag e p tag) = place_alone o e p
+change_alone o (Change.Untag e p name) = place_alone o e p
+change_alone o (DeleteEvent e) = place_alone o e Place.Event
+change_alone o (Publish e) = copy_alone o e
 
-    -- a request that the event's rows and the own row of the place are enough for
-    enough_there : (a : Ask) →
-        ((c : IsClosedFor s.by (looks_at there)) → ((w : OrgId) → looks_at there w (event_key e) ≡ true) → looks_at there s.by (Element e p) ≡ true → IsSame (looked_scene (looks_at there) s) s a) →
-        IsEnough s a there
-    enough_there a h = record { closed = at_place_closed; same = h at_place_closed event_there place_there }
+alone_of : (o : OrgId) (c : Change) (l : Looks) → change_looks o c ≡ Some l → IsAlone o l
+alone_of o c l h = subst (AreAlone o) h (change_alone o c)
 
-  -- ---- the own copy
-  abbrev copy : Looks
-  copy = at_copy s.by e
+-- the own row of the event is looked at
+own_event : (o : OrgId) (l : Looks) → IsAlone o l → looks_at l o (event_key l.event) ≡ true
+own_event o l a = subst (λ w. looks_at l w (event_key l.event) ≡ true) a.of (own_looks l (event_key l.event) a.own.event)
 
-  enough_in_copy : (a : Ask) →
-      ((c : IsClosedFor s.by (looks_at copy)) → ((w : OrgId) → looks_at copy w (event_key e) ≡ true) → HasCopy (looks_at copy) s.by e → IsSame (looked_scene (looks_at copy) s) s a) →
-      IsEnough s a copy
-  unfolding is_own_key
-  enough_in_copy a h = record {
-    closed = closed_for copy (copy_closed s.by e);
-    same = h (closed_for copy (copy_closed s.by e)) (λ w. shared_looks copy (copy_closed s.by e).both w (event_key e) (event_among e)) (λ k g. own_looks copy k g);
-  }
+-- ---- what it looks at then
 
-  -- ---- a statement on a place
-  enough_on : (p : Place) (k : Key) (a : Ask) → parents k ≡ up_to e p →
-      ((c : IsClosedFor s.by (looks_at (at_target s.by e p k))) → ((w : OrgId) → looks_at (at_target s.by e p k) w (Element e p) ≡ true) → looks_at (at_target s.by e p k) s.by k ≡ true →
-      IsSame (looked_scene (looks_at (at_target s.by e p k)) s) s a) →
-      IsEnough s a (at_target s.by e p k)
-  unfolding is_own_key
-  enough_on p k a q h = record {
-    closed = closed_for on closed;
-    same = h (closed_for on closed) (λ w. shared_looks on closed.both w (Element e p) (target_among e p)) (own_looks on k (last_among (up_to e p) k));
-  }
-    where
-      on : Looks
-      on = at_target s.by e p k
+-- the caller holds a copy by what it knows as by all rows
+copy_known : (s : Scene) (rows : List Row) (e : EventId) → holds_copy (over s rows) e ≡ holds_copy (seeing s rows) e
+unfolding holds_copy has_copy
+copy_known s rows e = sym (own_any rows s.groups s.at s.by s.by (same_org-refl s.by) (event_key e) (λ row. not (is_tombstone row)))
 
-      closed : IsClosedLooks (at_target s.by e p k)
-      closed = target_closed s.by e p k q
+-- and by what it looks at first
+copy_first : (s : Scene) (rows : List Row) (l : Looks) → IsAlone s.by l → holds_copy (over s (rows_seen_by l rows)) l.event ≡ holds_copy (over s rows) l.event
+unfolding holds_copy rows_seen_by looked_rows
+copy_first s rows l a = has_copy_looked (looks_at l) s.by l.event rows (own_event s.by l a)
 
-  -- ---- a judging
-  module _ (n : ProposalName) where
-    abbrev verdict : Key
-    verdict = Verdict e n s.at s.by
+more_of : (s t : Scene) (l : Looks) → holds_copy s l.event ≡ holds_copy t l.event → more_for_change s (Some l) ≡ more_for_change t (Some l)
+more_of s t l h = ap (λ b. cond b None (Some (beside l))) h
 
-    abbrev judging : Bool → Looks
-    judging makes = at_proposal s.by e n makes verdict
+pub more_same : (l : Looks) (rows : List Row) (s : Scene) (a : Ask) → looks_of s.at s.by a ≡ Some l → more_looks (over s (rows_seen_by l rows)) a ≡ more_looks (over s rows) a
+more_same l rows s (Ask.Change c) h =
+    subst (λ o. more_for_change (over s (rows_seen_by l rows)) o ≡ more_for_change (over s rows) o) (sym h)
+    (more_of (over s (rows_seen_by l rows)) (over s rows) l (copy_first s rows l (alone_of s.by c l h)))
+more_same l rows s (View e owner) h =
+    subst (λ k. more_looks (over s (rows_seen_by k rows)) (View e owner) ≡ more_looks (over s rows) (View e owner)) (some_same (at_event s.by e) l h) (view_row_looked s rows e owner)
+more_same l rows s (Propose d) h = refl
+more_same l rows s (Sight e t d) h = refl
+more_same l rows s (Judge e n accept) h = refl
+more_same l rows s Index h = refl
+more_same l rows s Groups h = refl
+more_same l rows s SyncGroups h = refl
+more_same l rows s SyncEvents h = refl
+more_same l rows s (SyncPart e n) h = refl
+more_same l rows s (TakePart p) h = refl
 
-    -- the own copy, where a new attribute is made
-    copy_where : (makes : Bool) → makes ≡ true → HasCopy (looks_at (judging makes)) s.by e
-    unfolding is_own_key
-    copy_where true h k g = own_looks (judging true) k g
-    copy_where false h k g = absurd (false≢true h)
+-- ---- what is looked at first is looked at at last
 
-    verdict_there : (makes : Bool) → looks_at (judging makes) s.by verdict ≡ true
-    unfolding is_own_key event_of
-    verdict_there true = own_looks (judging true) verdict (same_event-refl e)
-    verdict_there false = own_looks (judging false) verdict (last_among (proposal_keys e n) verdict)
+abbrev pub IsWithin : Looks → Looks → Type 0
+IsWithin l m = (w : OrgId) (k : Key) → looks_at l w k ≡ true → looks_at m w k ≡ true
 
-    target_there : (makes : Bool) (w : OrgId) → looks_at (judging makes) w (Element e n.target) ≡ true
-    target_there makes w = shared_looks (judging makes) (judging_closed e n s.by makes s.at s.by).both w (Element e n.target) (proposal_target_among e n)
+alone_within : (s : Scene) (l : Looks) → IsAlone s.by l → IsWithin l (last_looks l (more_for_change s (Some l)))
+unfolding looks_at is_in_look
+alone_within s l a w k = by_copy (holds_copy s l.event)
+  where
+    by_owner : (b : Bool) → cond b (is_in_look l.own l.event k) (is_in_look l.others l.event k) ≡ true →
+        cond b (is_in_look l.own l.event k) (is_in_look (Look.Keys (event_key l.event ∷ [])) l.event k) ≡ true
+    by_owner true h = h
+    by_owner false h = absurd (false≢true (sym (ap (λ look. is_in_look look l.event k) a.others) ∙ h))
 
-    -- what is judged is the target, but where a new attribute is made
-    judged_target : is_for_new n ≡ false → judged_place n ≡ n.target
-    unfolding is_for_new judged_place judged_at
-    judged_target h = by_target n.target h
-      where
-        by_target : (t : Place) → (elim t [ Place.Event ↦ true | Place.Object x ↦ false | Place.Attribute a ↦ false | Place.ObjectAttribute x a ↦ false ]) ≡ false → judged_at t n.uuid ≡ t
-        by_target Place.Event g = absurd (false≢true (sym g))
-        by_target (Place.Object x) g = refl
-        by_target (Place.Attribute x) g = refl
-        by_target (Place.ObjectAttribute x a) g = refl
+    by_copy : (b : Bool) → looks_at l w k ≡ true → looks_at (last_looks l (cond b None (Some (beside l)))) w k ≡ true
+    by_copy true h = h
+    by_copy false h = by_owner (same_org w l.of) h
 
-    judged_there : (accept : Bool) → accept ≡ true → (new : Bool) → is_for_new n ≡ new → looks_at (judging (accept && is_for_new n)) s.by (Element e (judged_place n)) ≡ true
-    unfolding event_of
-    judged_there accept h true new = copy_where (accept && is_for_new n) (and_from _ _ h new) (Element e (judged_place n)) (same_event-refl e)
-    judged_there accept h false old =
-        ap (λ p. looks_at (judging (accept && is_for_new n)) s.by (Element e p)) (judged_target old) ∙ target_there (accept && is_for_new n) s.by
+-- the event's own row is among those of a copy that is shown
+event_within : (o v : OrgId) (e : EventId) → IsWithin (at_event o e) (at_shown v e)
+unfolding looks_at is_in_look event_key event_of
+event_within o v e w k h = by_owner (same_org w v) (key_of (same_org w o) h)
+  where
+    only : (same_key k (event_key e) || false) ≡ true → same_key k (event_key e) ≡ true
+    only h = elim (or_cases _ _ h) [ inl g ↦ g | inr g ↦ absurd (false≢true g) ]
 
-    enough_to_judge : (accept : Bool) → IsEnough s (Judge e n accept) (judging (accept && is_for_new n))
-    enough_to_judge accept = record {
-      closed = closed;
-      same = judge_looked (looks_at (judging makes)) s closed e n
-          (λ w. shared_looks (judging makes) (judging_closed e n s.by makes s.at s.by).both w (Proposal e n) (proposal_among e n))
-          (target_there makes) (verdict_there makes) accept (λ h. judged_there accept h (is_for_new n) refl) (copy_where makes);
-    }
-      where
-        makes : Bool
-        makes = accept && is_for_new n
+    here : same_key k (event_key e) ≡ true → same_event (event_of k) e ≡ true
+    here g = ap (λ j. same_event (event_of j) e) (same_key-sound k (event_key e) g) ∙ same_event-refl e
 
-        closed : IsClosedFor s.by (looks_at (judging (accept && is_for_new n)))
-        closed = closed_for (judging makes) (judging_closed e n s.by makes s.at s.by)
+    key_of : (b : Bool) → cond b (same_key k (event_key e) || false) (same_key k (event_key e) || false) ≡ true → same_key k (event_key e) ≡ true
+    key_of true h = only h
+    key_of false h = only h
 
--- ---- any of them
+    by_owner : (b : Bool) → same_key k (event_key e) ≡ true → cond b (same_event (event_of k) e) (same_event (event_of k) e && (is_statement k || same_key k (event_key e))) ≡ true
+    by_owner true g = here g
+    by_owner false g = and_from _ _ (here g) (or_right _ _ g)
 
-change_enough : (s : Scene) (c : Change) → AreEnough s (Ask.Change c) (change_looks s.by c)
-change_enough s (AddEvent b) = tt
-change_enough s (AddParts e b) = enough_in_copy s b.event _ (λ c event whole. parts_looked _ s c b whole e event)
-change_enough s (EditEvent e edit) = enough_there s e Place.Event _ (λ c event place. edit_event_looked _ s c e event edit)
-change_enough s (EditAttribute e p edit) = enough_there s e p _ (λ c event place. edit_attribute_looked _ s c e event p edit place)
-change_enough s (EditObject e x edit) = enough_there s e (Place.Object x) _ (λ c event place. edit_object_looked _ s c e event x edit place)
-change_enough s (Delete e p) = enough_there s e p _ (λ c event place. delete_looked _ s c e event p place)
-change_enough s (DeleteReference e x u) = enough_in_copy s e _ (λ c event whole. delete_reference_looked _ s c e event whole x u)
-change_enough s (Change.Tag e p tag) = enough_there s e p _ (λ c event place. tag_looked _ s c e event p tag place)
-change_enough s (Change.Untag e p name) = enough_there s e p _ (λ c event place. untag_looked _ s c e event p name place)
-change_enough s (DeleteEvent e) = enough_there s e Place.Event _ (λ c event place. delete_event_looked _ s c e event)
-change_enough s (Publish e) = enough_in_copy s e _ (λ c event whole. publish_looked _ s c e event whole)
+pub first_within_last : (l : Looks) (s : Scene) (a : Ask) → looks_of s.at s.by a ≡ Some l → IsWithin l (last_looks l (more_looks s a))
+first_within_last l s (Ask.Change c) h = subst (λ o. IsWithin l (last_looks l (more_for_change s o))) (sym h) (alone_within s l (alone_of s.by c l h))
+first_within_last l s (View e owner) h = subst (λ k. IsWithin k (last_looks k (more_looks s (View e owner)))) (some_same (at_event s.by e) l h) (by_row (event_row s e owner))
+  where
+    by_row : (o : Option Row) → IsWithin (at_event s.by e) (last_looks (at_event s.by e) (option_map (λ row. at_shown row.owner e) o))
+    by_row None w k g = g
+    by_row (Some row) w k g = event_within s.by row.owner e w k g
+first_within_last l s (Propose d) h = λ w k g. g
+first_within_last l s (Sight e t d) h = λ w k g. g
+first_within_last l s (Judge e n accept) h = λ w k g. g
+first_within_last l s Index h = λ w k g. g
+first_within_last l s Groups h = λ w k g. g
+first_within_last l s SyncGroups h = λ w k g. g
+first_within_last l s SyncEvents h = λ w k g. g
+first_within_last l s (SyncPart e n) h = λ w k g. g
+first_within_last l s (TakePart p) h = λ w k g. g
 
-ask_enough : (s : Scene) (a : Ask) → AreEnough s a (looks_of s.at s.by a)
-unfolding proposal_key sighting_key parents
-ask_enough s (Ask.Change c) = change_enough s c
-ask_enough s (Propose d) = enough_on s d.event d.target _ _ refl (λ c target own. propose_looked _ s c d target own)
-ask_enough s (Sight e t d) = enough_on s e t _ _ refl (λ c target own. sight_looked _ s c e t d target own)
-ask_enough s (Judge e n accept) = enough_to_judge s e n accept
-ask_enough s (View e owner) = tt
-ask_enough s Index = tt
-ask_enough s Groups = tt
-ask_enough s SyncGroups = tt
-ask_enough s SyncEvents = tt
-ask_enough s (SyncPart e n) = tt
-ask_enough s (TakePart p) = tt
+-- ---- what it looks at at last is enough
 
 -- from the rows of a keeper
-seeing_looked : (l : Looks) (s : Scene) (rows : List Row) → IsClosedFor s.by (looks_at l) → seeing s (rows_seen_by l rows) ≡ looked_scene (looks_at l) (seeing s rows)
+pub seeing_looked : (l : Looks) (s : Scene) (rows : List Row) → IsClosedFor s.by (looks_at l) → seeing s (rows_seen_by l rows) ≡ looked_scene (looks_at l) (seeing s rows)
 unfolding looked_scene looked_rows rows_seen_by
 seeing_looked l s rows c = λ i. record s { rows = known_looked s.by (looks_at l) c rows s.groups s.at i }
 
--- what a request looks at is enough for it
-enough : (l : Looks) (s : Scene) (ask : Ask) → looks_of s.at s.by ask ≡ Some l → IsEnough s ask l
-enough l s ask h = subst (AreEnough s ask) h (ask_enough s ask)
+same_by : (l : Looks) (s : Scene) (rows : List Row) (a : Ask) → IsEnough (seeing s rows) a l → IsSame (seeing s (rows_seen_by l rows)) (seeing s rows) a
+same_by l s rows a enough = same_from _ (looked_scene (looks_at l) (seeing s rows)) (seeing s rows) a (seeing_looked l s rows enough.closed) enough.same
 
--- what is known of those rows is what is looked at of all that is known
-pub known_same : (l : Looks) (s : Scene) (rows : List Row) (ask : Ask) → looks_of s.at s.by ask ≡ Some l →
-    known (rows_seen_by l rows) s.groups s.at s.by ≡ rows_seen_by l (known rows s.groups s.at s.by)
-unfolding looked_rows rows_seen_by
-known_same l s rows ask h = known_looked s.by (looks_at l) (enough l s ask h).closed rows s.groups s.at
+-- what a change looks at at last by all rows is enough by what its caller knows
+pub change_is_enough : (l : Looks) (rows : List Row) (s : Scene) (c : Change) → change_looks s.by c ≡ Some l → IsEnough (seeing s rows) (Ask.Change c) (last_looks l (more_looks (over s rows) (Ask.Change c)))
+change_is_enough l rows s c h =
+    subst (λ o. IsEnough (seeing s rows) (Ask.Change c) (last_looks l (more_for_change (over s rows) o))) (sym h)
+    (subst (λ m. IsEnough (seeing s rows) (Ask.Change c) (last_looks l m)) (sym (more_of (over s rows) (seeing s rows) l (copy_known s rows l.event)))
+    (subst (AreEnough (seeing s rows) c) h (change_enough (seeing s rows) c)))
 
-pub looked_same : (l : Looks) (s : Scene) (rows : List Row) (ask : Ask) → looks_of s.at s.by ask ≡ Some l → IsSame (seeing s (rows_seen_by l rows)) (seeing s rows) ask
-looked_same l s rows ask h =
-    let left : IsEnough (seeing s rows) ask l = enough l (seeing s rows) ask h in
-    same_from _ (looked_scene (looks_at l) (seeing s rows)) (seeing s rows) ask (seeing_looked l s rows left.closed) left.same
+pub looked_same : (l : Looks) (rows : List Row) (s : Scene) (a : Ask) → IsTable rows → looks_of s.at s.by a ≡ Some l →
+    IsSame (seeing s (rows_seen_by (last_looks l (more_looks (over s rows) a)) rows)) (seeing s rows) a
+looked_same l rows s (Ask.Change c) t h = same_by _ s rows (Ask.Change c) (change_is_enough l rows s c h)
+looked_same l rows s (View e owner) t h =
+    subst (λ k. IsSame (seeing s (rows_seen_by (last_looks k (more_looks (over s rows) (View e owner))) rows)) (seeing s rows) (View e owner)) (some_same (at_event s.by e) l h)
+    (view_same s rows e owner t)
+looked_same l rows s (Propose d) t h = same_by l s rows (Propose d) (subst (IsEnough (seeing s rows) (Propose d)) (some_same _ l h) (propose_enough (seeing s rows) d))
+looked_same l rows s (Sight e p d) t h = same_by l s rows (Sight e p d) (subst (IsEnough (seeing s rows) (Sight e p d)) (some_same _ l h) (sight_enough (seeing s rows) e p d))
+looked_same l rows s (Judge e n accept) t h = same_by l s rows (Judge e n accept) (subst (IsEnough (seeing s rows) (Judge e n accept)) (some_same _ l h) (judge_enough (seeing s rows) e n accept))
+looked_same l rows s Index t h = absurd (none_not_some h)
+looked_same l rows s Groups t h = absurd (none_not_some h)
+looked_same l rows s SyncGroups t h = absurd (none_not_some h)
+looked_same l rows s SyncEvents t h = absurd (none_not_some h)
+looked_same l rows s (SyncPart e n) t h = absurd (none_not_some h)
+looked_same l rows s (TakePart p) t h = absurd (none_not_some h)

@@ -7,8 +7,8 @@ use Rattle.misp_model.specs.Prelude.{sighting_key, tagged, untagged, written}
 use Rattle.misp_model.specs.declared.edit.AttributeEditFields.{AttributeEditFields as AttributeEdit}
 use Rattle.misp_model.specs.declared.edit.EventEditFields.{EventEditFields as EventEdit}
 use Rattle.misp_model.specs.declared.edit.ObjectEditFields.{ObjectEditFields as ObjectEdit}
-use Rattle.misp_model.proofs.LookedRows.{IsClosedFor, event_of_place_from}
-use Rattle.misp_model.proofs.LookedScenes.{bars_looked, changed_row_looked, edit_rules_looked, holds_copy_looked, holds_tombstone_looked, is_at_limit_looked, looked_scene, own_any_looked, own_live_looked, own_row_is_looked, sees_live_looked, sees_looked, sees_target_looked}
+use Rattle.misp_model.proofs.LookedRows.{IsClosedFor, element_looked, event_of_place_looked}
+use Rattle.misp_model.proofs.LookedScenes.{HasEvent, bars_looked, changed_row_looked, edit_rules_looked, holds_tombstone_looked, is_at_limit_looked, looked_scene, own_any_looked, own_live_looked, own_row_is_looked, sees_live_looked, sees_target_looked, without_copy}
 use Rattle.misp_model.proofs.LookedCopy.{HasCopy, let_out_looked, own_reference_looked}
 use Rattle.misp_model.proofs.SameAnswers.{IsSame, accepted_from, from_rules, same_change}
 
@@ -16,10 +16,9 @@ module _ (keep : OrgId → Key → Bool) (s : Scene) (c : IsClosedFor s.by keep)
   abbrev near : Scene
   near = looked_scene keep s
 
-  -- the event's row is looked at in each copy
-  module _ (e : EventId) (event : (w : OrgId) → keep w (event_key e) ≡ true) where
+  module _ (e : EventId) (event : HasEvent keep s e) where
     live : (p : Place) → keep s.by (Element e p) ≡ true → own_live near (Element e p) ≡ own_live s (Element e p)
-    live p h = own_live_looked keep s c (Element e p) h
+    live p h = own_live_looked keep s c (Element e p) (element_looked s.by keep c s.by e p h)
 
     -- ---- edits
 
@@ -27,8 +26,8 @@ module _ (keep : OrgId → Key → Bool) (s : Scene) (c : IsClosedFor s.by keep)
     unfolding change_rules change_writes
     edit_event_looked edit =
         same_change near s (EditEvent e edit)
-        (edit_rules_looked keep s c e (event_key e) true true edit.label edit.stamp (at_event (edited_event edit)) (event s.by) event refl)
-        (changed_row_looked keep s c (event_key e) _ _ (event s.by))
+        (edit_rules_looked keep s c e (event_key e) true true edit.label edit.stamp (at_event (edited_event edit)) event.own event refl)
+        (changed_row_looked keep s c (event_key e) _ _ event.own)
 
     pub edit_attribute_looked : (p : Place) (edit : AttributeEdit) → keep s.by (Element e p) ≡ true → IsSame near s (Ask.Change (EditAttribute e p edit))
     unfolding change_rules change_writes
@@ -77,10 +76,9 @@ module _ (keep : OrgId → Key → Bool) (s : Scene) (c : IsClosedFor s.by keep)
     unfolding change_rules change_writes
     delete_event_looked =
         same_change near s (DeleteEvent e)
-        (λ i. (not (holds_copy_looked keep s c e (event s.by) i) && not (sees_looked keep s c (event_key e) event i), NotGranted)
-        ∷ (not (holds_copy_looked keep s c e (event s.by) i) && sees_looked keep s c (event_key e) event i, NotOwner)
-        ∷ (is_at_limit_looked keep s c (event_key e) (event s.by) i, TimeLimit) ∷ [])
-        (changed_row_looked keep s c (event_key e) _ _ (event s.by))
+        (λ i. (without_copy keep s c e not event i, NotGranted) ∷ (without_copy keep s c e (λ b. b) event i, NotOwner)
+        ∷ (is_at_limit_looked keep s c (event_key e) event.own i, TimeLimit) ∷ [])
+        (changed_row_looked keep s c (event_key e) _ _ event.own)
 
     -- ---- publishing
 
@@ -88,14 +86,10 @@ module _ (keep : OrgId → Key → Bool) (s : Scene) (c : IsClosedFor s.by keep)
     unfolding change_rules change_writes looked_scene
     publish_looked whole =
         same_change near s (Publish e)
-        (λ i. bars_looked keep s c e true true event refl i ++ (is_at_limit_looked keep s c (event_key e) (event s.by) i, TimeLimit) ∷ [])
-        (λ i. map as_published (changed_row_looked keep s c (event_key e) (λ row. row.label) (at_publishing s.now) (event s.by) i) ++ let_out_looked keep s c e whole i)
+        (λ i. bars_looked keep s c e true true event refl i ++ (is_at_limit_looked keep s c (event_key e) event.own i, TimeLimit) ∷ [])
+        (λ i. map as_published (changed_row_looked keep s c (event_key e) (λ row. row.label) (at_publishing s.now) event.own i) ++ let_out_looked keep s c e whole i)
 
   -- ---- statements
-
-  -- the event of a place is looked at with the place
-  event_of_place : (w : OrgId) (e : EventId) (p : Place) → keep w (Element e p) ≡ true → keep w (event_key e) ≡ true
-  event_of_place w e p h = event_of_place_from (keep w) (c.above w) e p h
 
   pub propose_looked : (d : ProposalDraft) → ((w : OrgId) → keep w (Element d.event d.target) ≡ true) → keep s.by (proposal_key s d) ≡ true → IsSame near s (Propose d)
   unfolding ask_rules brings ok_answer propose_writes written looked_scene proposal_key propose_rules
@@ -109,7 +103,7 @@ module _ (keep : OrgId → Key → Bool) (s : Scene) (c : IsClosedFor s.by keep)
       rules : propose_rules near d ≡ propose_rules s d
       rules = λ i.
           (not (sees_target_looked keep s c d.event d.target h i), NotGranted)
-          ∷ (holds_tombstone_looked keep s c d.event (event_of_place s.by d.event d.target (h s.by)) i, EventGone)
+          ∷ (holds_tombstone_looked keep s c d.event (event_of_place_looked s.by keep c s.by d.event d.target (h s.by)) i, EventGone)
           ∷ (own_any_looked keep s c (proposal_key s d) own i, ProposalExists) ∷ []
 
   pub sight_looked : (e : EventId) (t : Place) (d : SightingDraft) → ((w : OrgId) → keep w (Element e t) ≡ true) → keep s.by (sighting_key s e t d) ≡ true → IsSame near s (Sight e t d)
@@ -123,6 +117,6 @@ module _ (keep : OrgId → Key → Bool) (s : Scene) (c : IsClosedFor s.by keep)
     where
       rules : sight_rules near e t d ≡ sight_rules s e t d
       rules = λ i.
-          (not (sees_live_looked keep s c (Element e t) h i), NotGranted)
-          ∷ (holds_tombstone_looked keep s c e (event_of_place s.by e t (h s.by)) i, EventGone)
+          (not (sees_live_looked keep s c (Element e t) (λ w. element_looked s.by keep c w e t (h w)) i), NotGranted)
+          ∷ (holds_tombstone_looked keep s c e (event_of_place_looked s.by keep c s.by e t (h s.by)) i, EventGone)
           ∷ (own_any_looked keep s c (sighting_key s e t d) own i, ElementExists) ∷ []

@@ -1,15 +1,16 @@
 -- What a request looks at has the parents of its keys: each of the looks is closed for the organisation that asks.
-use Rattle.std.proofs.Common.{◌≡◌, List, [], ◌∷◌, ◌++◌, Bool, true, false, refl, ap, sym, ◌∙◌, cond, inl, inr, ◌&&◌}
-use Rattle.std.proofs.lemmas.Bool.{and_from, and_parts, false≢true, or_cases, or_left, or_right}
+use Rattle.std.proofs.Common.{◌≡◌, List, [], ◌∷◌, ◌++◌, Bool, true, false, refl, ap, sym, ◌∙◌, cond, inl, inr, ◌&&◌, ◌||◌}
+use Rattle.std.proofs.lemmas.Bool.{and_from, and_parts, false_from_ne_true, false≢true, or_cases, or_left, or_right}
 use Rattle.std.proofs.lemmas.List.Folds.{list_all-append}
-use Rattle.misp_lists.proofs.Lists.{all_implies, first_part}
+use Rattle.misp_lists.proofs.Lists.{all_both, all_implies}
 use Rattle.misp_ids.proofs.Same.{same_event-refl, same_org-refl, same_org-sound}
 use Rattle.misp_elem.proofs.Same.{of_event, same_key-keeps, same_key-refl, target_kept}
-use Rattle.misp_model.specs.Prelude.{Element, EventId, Inst, Key, OrgId, Place, Proposal, ProposalName, Verdict, above, event_key, event_of, list_all, list_any, parents, same_event, same_key, same_org, up_to}
-use Rattle.misp_model.specs.Looking.{at_copy, at_place, at_proposal, at_target, is_own_key, looks_at, proposal_keys}
+use Rattle.misp_model.specs.Prelude.{ElemId, Element, EventId, Inst, Key, OrgId, Place, Proposal, ProposalName, Reference, Sighting, Verdict, above, event_key, event_of, is_for_new, list_all, list_any, parents, same_event, same_key, same_org, up_to}
+use Rattle.misp_model.specs.Looking.{at_proposal, at_target, beside, has_uuid, is_in_look, is_place_with, looks_at, own_alone, proposal_keys}
+use Rattle.misp_model.specs.declared.looks.Look.{Look}
 use Rattle.misp_model.specs.declared.looks.Looks.{Looks}
-use Rattle.misp_model.proofs.Local.{event_is_closed}
-use Rattle.misp_model.proofs.LookedRows.{IsClosedFor}
+use Rattle.misp_model.proofs.EventParents.{parents_of}
+use Rattle.misp_model.proofs.LookedRows.{IsClosedFor, event_first, is_reference}
 
 -- ---- lists of keys
 
@@ -54,51 +55,6 @@ above_place keep e (Place.ObjectAttribute x a) h = two_kept (keep (Element e Pla
 above_more : (keep : Key → Bool) (keys : List Key) (k : Key) → AboveAll keep keys → list_all keep (parents k) ≡ true → AboveAll keep (keys ++ k ∷ [])
 above_more keep keys k h g = list_all-append (λ k. list_all keep (parents k)) keys (k ∷ []) ∙ and_from _ _ h (and_from _ _ g refl)
 
--- ---- looks that have the parents of their keys
-
-pub record IsClosedLooks (l : Looks) : Type 0 where
-  pub shared : AboveAll (among l.shared) l.shared
-  pub own : (k : Key) → is_own_key l k ≡ true → list_all (is_own_key l) (parents k) ≡ true
-  pub both : list_all (is_own_key l) l.shared ≡ true
-
--- an own key is looked at
-pub own_looks : (l : Looks) (k : Key) → is_own_key l k ≡ true → looks_at l l.by k ≡ true
-unfolding looks_at
-own_looks l k h = rw (same_org-refl l.by) h
-
--- a key of all owners is looked at of each
-pub shared_looks : (l : Looks) → list_all (is_own_key l) l.shared ≡ true → (w : OrgId) (k : Key) → among l.shared k ≡ true → looks_at l w k ≡ true
-unfolding looks_at
-shared_looks l both w k h = by_owner (same_org w l.by)
-  where
-    by_owner : (b : Bool) → cond b (is_own_key l k) (list_any (same_key k) l.shared) ≡ true
-    by_owner true = among_all (is_own_key l) l.shared both k h
-    by_owner false = h
-
-org_apart : (o w : OrgId) → same_org o w ≡ false → (b : Bool) → same_org w o ≡ b → b ≡ false
-org_apart o w h false e = refl
-org_apart o w h true e = absurd (false≢true (sym h ∙ ap (same_org o) (same_org-sound w o e) ∙ same_org-refl o))
-
--- looks that have the parents of their keys are closed for the organisation that asks
-pub closed_for : (l : Looks) → IsClosedLooks l → IsClosedFor l.by (looks_at l)
-unfolding looks_at
-closed_for l c = record { above = λ w k h. by_owner w k (same_org w l.by) refl h; targets = λ w v k other said h. for_all w v k (org_apart l.by w other _ refl) h }
-  where
-    shared_above : (k : Key) → among l.shared k ≡ true → list_all (among l.shared) (parents k) ≡ true
-    shared_above k h = among_all (λ k. list_all (among l.shared) (parents k)) l.shared c.shared k h
-
-    by_owner : (w : OrgId) (k : Key) (b : Bool) → same_org w l.by ≡ b → cond b (is_own_key l k) (list_any (same_key k) l.shared) ≡ true →
-        list_all (λ k. cond (same_org w l.by) (is_own_key l k) (list_any (same_key k) l.shared)) (parents k) ≡ true
-    by_owner w k true e h = rw e (c.own k h)
-    by_owner w k false e h = rw e (shared_above k h)
-
-    for_all : (w v : OrgId) (k : Key) → same_org w l.by ≡ false → looks_at l w k ≡ true → list_all (looks_at l v) (parents k) ≡ true
-    for_all w v k other h =
-        all_implies (among l.shared) (looks_at l v) (λ j g. shared_looks l c.both v j g) (parents k)
-        (shared_above k (sym (ap (λ b. cond b (is_own_key l k) (list_any (same_key k) l.shared)) other) ∙ h))
-
--- ---- a place, and the own copy
-
 -- the last key of a list is in it
 pub last_among : (keys : List Key) (k : Key) → among (keys ++ k ∷ []) k ≡ true
 last_among keys k = (and_parts _ _ (parts_kept (among (keys ++ k ∷ [])) keys (k ∷ []) (all_among (keys ++ k ∷ []))).1).0
@@ -107,17 +63,54 @@ last_among keys k = (and_parts _ _ (parts_kept (among (keys ++ k ∷ [])) keys (
 first_among : (keys : List Key) (k : Key) → list_all (among (keys ++ k ∷ [])) keys ≡ true
 first_among keys k = (parts_kept (among (keys ++ k ∷ [])) keys (k ∷ []) (all_among (keys ++ k ∷ []))).0
 
--- a list of keys that has their parents, as own keys
+-- ---- looks that have the parents of their keys
+
+-- each key that is looked at of others is of its own, and each with its parents, but for a reference of its own
+pub record IsClosedLooks (l : Looks) : Type 0 where
+  pub shared : (k : Key) → is_in_look l.others l.event k ≡ true → list_all (is_in_look l.others l.event) (parents k) ≡ true
+  pub own : (k : Key) → is_reference k ≡ false → is_in_look l.own l.event k ≡ true → list_all (is_in_look l.own l.event) (parents k) ≡ true
+  pub both : (k : Key) → is_in_look l.others l.event k ≡ true → is_in_look l.own l.event k ≡ true
+
+-- an own key is looked at
+pub own_looks : (l : Looks) (k : Key) → is_in_look l.own l.event k ≡ true → looks_at l l.of k ≡ true
+unfolding looks_at
+own_looks l k h = rw (same_org-refl l.of) h
+
+-- a key of all owners is looked at of each
+pub shared_looks : (l : Looks) → IsClosedLooks l → (w : OrgId) (k : Key) → is_in_look l.others l.event k ≡ true → looks_at l w k ≡ true
+unfolding looks_at
+shared_looks l c w k h = by_owner (same_org w l.of)
+  where
+    by_owner : (b : Bool) → cond b (is_in_look l.own l.event k) (is_in_look l.others l.event k) ≡ true
+    by_owner true = c.both k h
+    by_owner false = h
+
+org_apart : (o w : OrgId) → same_org o w ≡ false → (b : Bool) → same_org w o ≡ b → b ≡ false
+org_apart o w h false e = refl
+org_apart o w h true e = absurd (false≢true (sym h ∙ ap (same_org o) (same_org-sound w o e) ∙ same_org-refl o))
+
+-- looks that have the parents of their keys are closed for the organisation that asks
+pub closed_for : (l : Looks) → IsClosedLooks l → IsClosedFor l.of (looks_at l)
+unfolding looks_at
+closed_for l c = record {
+  above = λ w k n h. by_owner w k n (same_org w l.of) refl h;
+  targets = λ w v k other said h. for_all w v k (org_apart l.of w other _ refl) h;
+}
+  where
+    by_owner : (w : OrgId) (k : Key) → (is_reference k ≡ true → same_org w l.of ≡ false) → (b : Bool) → same_org w l.of ≡ b → cond b (is_in_look l.own l.event k) (is_in_look l.others l.event k) ≡ true →
+        list_all (λ k. cond (same_org w l.of) (is_in_look l.own l.event k) (is_in_look l.others l.event k)) (parents k) ≡ true
+    by_owner w k n true e h = rw e (c.own k (false_from_ne_true (is_reference k) (λ r. false≢true (sym (n r) ∙ e))) h)
+    by_owner w k n false e h = rw e (c.shared k h)
+
+    for_all : (w v : OrgId) (k : Key) → same_org w l.of ≡ false → looks_at l w k ≡ true → list_all (looks_at l v) (parents k) ≡ true
+    for_all w v k other h =
+        all_implies (is_in_look l.others l.event) (looks_at l v) (λ j g. shared_looks l c v j g) (parents k)
+        (c.shared k (sym (ap (λ b. cond b (is_in_look l.own l.event k) (is_in_look l.others l.event k)) other) ∙ h))
+
+-- ---- lists of keys that have their parents
+
 own_keys : (keys : List Key) → AboveAll (among keys) keys → (k : Key) → among keys k ≡ true → list_all (among keys) (parents k) ≡ true
 own_keys keys h k g = among_all (λ k. list_all (among keys) (parents k)) keys h k g
-
--- the event of a place with what is above it
-event_first : (keep : Key → Bool) (e : EventId) (p : Place) → list_all keep (up_to e p) ≡ true → keep (event_key e) ≡ true
-unfolding up_to above event_key
-event_first keep e Place.Event h = first_part _ _ h
-event_first keep e (Place.Object x) h = first_part _ _ h
-event_first keep e (Place.Attribute x) h = first_part _ _ h
-event_first keep e (Place.ObjectAttribute x a) h = first_part _ _ h
 
 pub event_among : (e : EventId) → among (event_key e ∷ []) (event_key e) ≡ true
 event_among e = or_left _ _ (same_key-refl (event_key e))
@@ -125,30 +118,74 @@ event_among e = or_left _ _ (same_key-refl (event_key e))
 pub target_among : (e : EventId) (p : Place) → among (up_to e p) (Element e p) ≡ true
 target_among e p = target_kept (among (up_to e p)) e p (all_among (up_to e p))
 
-pub place_closed : (o : OrgId) (e : EventId) (p : Place) → IsClosedLooks (at_place o e p)
-unfolding is_own_key event_key parents above
-place_closed o e p = record {
-  shared = refl;
-  own = own_keys (up_to e p) (above_place (among (up_to e p)) e p (all_among (up_to e p)));
-  both = and_from _ _ (event_first (among (up_to e p)) e p (all_among (up_to e p))) refl;
+-- ---- what has one of some uuids
+
+-- of a key that has one, but for a reference, the parents have one
+uuid_above : (us : List ElemId) (e : EventId) (k : Key) → is_reference k ≡ false → same_event (event_of k) e && has_uuid us k ≡ true →
+    list_all (λ j. same_event (event_of j) e && has_uuid us j) (parents k) ≡ true
+unfolding event_of parents above has_uuid is_place_with is_reference
+uuid_above us e (Element f Place.Event) n h = refl
+uuid_above us e (Element f (Place.Object x)) n h = and_from _ _ h refl
+uuid_above us e (Element f (Place.Attribute a)) n h = and_from _ _ (and_from _ _ (and_parts _ _ h).0 refl) refl
+uuid_above us e (Element f (Place.ObjectAttribute x a)) n h =
+    let there : same_event f e && true ≡ true = and_from _ _ (and_parts _ _ h).0 refl in
+    and_from _ _ there (and_from _ _ there refl)
+uuid_above us e (Reference f x t u) n h = absurd (false≢true (sym n))
+uuid_above us e (Proposal f m) n h = absurd (false≢true (and_parts _ _ h).1)
+uuid_above us e (Verdict f m i o) n h = absurd (false≢true (and_parts _ _ h).1)
+uuid_above us e (Sighting f t i o u) n h = absurd (false≢true (and_parts _ _ h).1)
+
+-- ---- own rows alone, and the event's row in each copy besides
+
+pub record IsClosedOwn (e : EventId) (look : Look) : Type 0 where
+  pub above : (k : Key) → is_reference k ≡ false → is_in_look look e k ≡ true → list_all (is_in_look look e) (parents k) ≡ true
+  pub event : is_in_look look e (event_key e) ≡ true
+
+module _ (o : OrgId) (e : EventId) (look : Look) (c : IsClosedOwn e look) where
+  pub alone_closed : IsClosedLooks (own_alone o e look)
+  unfolding is_in_look
+  alone_closed = record { shared = λ k h. absurd (false≢true h); own = c.above; both = λ k h. absurd (false≢true h) }
+
+  pub beside_closed : IsClosedLooks (beside (own_alone o e look))
+  unfolding is_in_look event_key parents above
+  beside_closed = record {
+    shared = own_keys (event_key e ∷ []) refl;
+    own = c.above;
+    both = λ k h. among_all (is_in_look look e) (event_key e ∷ []) (and_from _ _ c.event refl) k h;
+  }
+
+-- a place with what is above it
+pub place_own : (e : EventId) (p : Place) → IsClosedOwn e (Look.Keys (up_to e p))
+unfolding is_in_look
+place_own e p = record {
+  above = λ k n h. own_keys (up_to e p) (above_place (among (up_to e p)) e p (all_among (up_to e p))) k h;
+  event = event_first (among (up_to e p)) e p (all_among (up_to e p));
 }
 
-copy_above : (e : EventId) (k : Key) → same_event (event_of k) e ≡ true → list_all (λ j. same_event (event_of j) e) (parents k) ≡ true
-unfolding of_event
-copy_above e k h = (event_is_closed e).above k h
+-- the copy
+pub copy_own : (e : EventId) → IsClosedOwn e Look.All
+unfolding is_in_look event_key event_of of_event
+copy_own e = record { above = λ k n h. parents_of e k h; event = same_event-refl e }
 
-pub copy_closed : (o : OrgId) (e : EventId) → IsClosedLooks (at_copy o e)
-unfolding is_own_key event_key event_of parents above
-copy_closed o e = record { shared = refl; own = copy_above e; both = and_from _ _ (same_event-refl e) refl }
+-- what has one of some uuids
+pub uuids_own : (e : EventId) (us : List ElemId) → IsClosedOwn e (Look.Uuids us [])
+unfolding is_in_look event_key event_of has_uuid is_place_with
+uuids_own e us = record {
+  above = λ k n h. all_implies (λ j. same_event (event_of j) e && has_uuid us j) (is_in_look (Look.Uuids us []) e) (λ j g. or_left _ _ g) (parents k) (uuid_above us e k n (only k h));
+  event = or_left _ _ (and_from _ _ (same_event-refl e) refl);
+}
+  where
+    only : (k : Key) → (same_event (event_of k) e && has_uuid us k || false) ≡ true → same_event (event_of k) e && has_uuid us k ≡ true
+    only k h = elim (or_cases _ _ h) [ inl g ↦ g | inr g ↦ absurd (false≢true g) ]
 
 -- ---- a statement on a place
 
 pub target_closed : (o : OrgId) (e : EventId) (p : Place) (k : Key) → parents k ≡ up_to e p → IsClosedLooks (at_target o e p k)
-unfolding is_own_key
+unfolding is_in_look
 target_closed o e p k h = record {
-  shared = above_place (among (up_to e p)) e p (all_among (up_to e p));
-  own = own_keys (up_to e p ++ k ∷ []) (above_more keep (up_to e p) k (above_place keep e p first) (ap (list_all keep) h ∙ first));
-  both = first;
+  shared = own_keys (up_to e p) (above_place (among (up_to e p)) e p (all_among (up_to e p)));
+  own = λ j n g. own_keys (up_to e p ++ k ∷ []) (above_more keep (up_to e p) k (above_place keep e p first) (ap (list_all keep) h ∙ first)) j g;
+  both = λ j g. among_all keep (up_to e p) first j g;
 }
   where
     keep : Key → Bool
@@ -173,30 +210,56 @@ module _ (e : EventId) (n : ProposalName) where
       let g : list_all keep (up_to e n.target) ≡ true = (parts_kept keep (up_to e n.target) (Proposal e n ∷ []) h).0 in
       (above_more keep (up_to e n.target) (Proposal e n) (above_place keep e n.target g) g, g)
 
-  proposal_shared : AboveAll (among (proposal_keys e n)) (proposal_keys e n)
-  proposal_shared = (proposal_above (among (proposal_keys e n)) (all_among (proposal_keys e n))).0
+  proposal_shared : (k : Key) → among (proposal_keys e n) k ≡ true → list_all (among (proposal_keys e n)) (parents k) ≡ true
+  proposal_shared = own_keys (proposal_keys e n) (proposal_above (among (proposal_keys e n)) (all_among (proposal_keys e n))).0
 
-  -- the keys of a proposal are of its event
-  proposal_of_copy : list_all (λ k. same_event (event_of k) e) (proposal_keys e n) ≡ true
-  unfolding event_of parents
-  proposal_of_copy =
-      list_all-append (λ k. same_event (event_of k) e) (up_to e n.target) (Proposal e n ∷ [])
-      ∙ and_from _ _ (copy_above e (Proposal e n) (same_event-refl e)) (and_from _ _ (same_event-refl e) refl)
+  module _ (o : OrgId) (i : Inst) (v : OrgId) where
+    abbrev verdict : Key
+    verdict = Verdict e n i v
 
-  pub judging_closed : (o : OrgId) (makes : Bool) (i : Inst) (v : OrgId) → IsClosedLooks (at_proposal o e n makes (Verdict e n i v))
-  unfolding is_own_key parents
-  judging_closed o true i v = record { shared = proposal_shared; own = copy_above e; both = proposal_of_copy }
-  judging_closed o false i v = record {
-    shared = proposal_shared;
-    own = own_keys (proposal_keys e n ++ verdict ∷ []) (above_more keep (proposal_keys e n) verdict (proposal_above keep first).0 (proposal_above keep first).1);
-    both = first;
-  }
-    where
-      verdict : Key
-      verdict = Verdict e n i v
+    abbrev making : Look
+    making = Look.Uuids (n.uuid ∷ []) (Proposal e n ∷ verdict ∷ [])
 
-      keep : Key → Bool
-      keep = among (proposal_keys e n ++ verdict ∷ [])
+    -- what stands above a proposal for a new attribute is the event
+    event_in_making : is_for_new n ≡ true → list_all (is_in_look making e) (up_to e n.target) ≡ true
+    unfolding is_for_new is_in_look event_of up_to above has_uuid is_place_with
+    event_in_making h = by_target n.target h
+      where
+        by_target : (t : Place) → (elim t [ Place.Event ↦ true | Place.Object x ↦ false | Place.Attribute a ↦ false | Place.ObjectAttribute x a ↦ false ]) ≡ true →
+            list_all (is_in_look making e) (up_to e t) ≡ true
+        by_target Place.Event g = and_from _ _ (or_left _ _ (and_from _ _ (same_event-refl e) refl)) refl
+        by_target (Place.Object x) g = absurd (false≢true g)
+        by_target (Place.Attribute x) g = absurd (false≢true g)
+        by_target (Place.ObjectAttribute x a) g = absurd (false≢true g)
 
-      first : list_all (among (proposal_keys e n ++ Verdict e n i v ∷ [])) (proposal_keys e n) ≡ true
-      first = first_among (proposal_keys e n) verdict
+    -- the keys of the proposal and the verdict, with their parents
+    making_keys : is_for_new n ≡ true → list_all (λ k. list_all (is_in_look making e) (parents k)) (Proposal e n ∷ verdict ∷ []) ≡ true
+    unfolding parents
+    making_keys h = and_from _ _ (event_in_making h) (and_from _ _ (event_in_making h) refl)
+
+    making_above : is_for_new n ≡ true → (k : Key) → is_reference k ≡ false → is_in_look making e k ≡ true → list_all (is_in_look making e) (parents k) ≡ true
+    unfolding is_in_look
+    making_above h k none g = elim (or_cases _ _ g) [
+      | inl has ↦ all_implies (λ j. same_event (event_of j) e && has_uuid (n.uuid ∷ []) j) (is_in_look making e) (λ j g. or_left _ _ g) (parents k) (uuid_above (n.uuid ∷ []) e k none has)
+      | inr is ↦ among_all (λ k. list_all (is_in_look making e) (parents k)) (Proposal e n ∷ verdict ∷ []) (making_keys h) k is
+    ]
+
+    proposal_in_making : is_for_new n ≡ true → list_all (is_in_look making e) (proposal_keys e n) ≡ true
+    unfolding is_in_look
+    proposal_in_making h = all_both (is_in_look making e) (up_to e n.target) (Proposal e n ∷ []) (event_in_making h) (and_from _ _ (or_right _ _ (or_left _ _ (same_key-refl (Proposal e n)))) refl)
+
+    -- where the judgement makes a new attribute, the proposal is for one
+    pub judging_closed : (makes : Bool) → (makes ≡ true → is_for_new n ≡ true) → IsClosedLooks (at_proposal o e n makes verdict)
+    unfolding is_in_look parents
+    judging_closed true new = record { shared = proposal_shared; own = making_above (new refl); both = λ k h. among_all (is_in_look making e) (proposal_keys e n) (proposal_in_making (new refl)) k h }
+    judging_closed false new = record {
+      shared = proposal_shared;
+      own = λ k none h. own_keys (proposal_keys e n ++ verdict ∷ []) (above_more keep (proposal_keys e n) verdict (proposal_above keep first).0 (proposal_above keep first).1) k h;
+      both = λ k h. among_all keep (proposal_keys e n) first k h;
+    }
+      where
+        keep : Key → Bool
+        keep = among (proposal_keys e n ++ verdict ∷ [])
+
+        first : list_all (among (proposal_keys e n ++ verdict ∷ [])) (proposal_keys e n) ≡ true
+        first = first_among (proposal_keys e n) verdict

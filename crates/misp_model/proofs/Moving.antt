@@ -9,7 +9,7 @@ use Rattle.misp_model.proofs.LookedRows.{is_least_looked, looked_rows}
 module _ (keep : Key → Bool) (c : IsClosed keep) (rows : List Row) (groups : List Group) where
   pub is_least_cut : (i : Inst) (o : OrgId) (row : Row) → keep row.key ≡ true → is_least (cut_rows keep rows) groups i o row ≡ is_least rows groups i o row
   unfolding cut_rows looked_rows
-  is_least_cut i o row h = is_least_looked o (λ w. keep) (by_key keep c o) rows groups i row (λ w. h)
+  is_least_cut i o row h = is_least_looked o (λ w. keep) (by_key keep c o) rows groups i row (λ w. (h, c.above row.key h))
 
   pub is_welcome_cut : (v : Version) → keep v.key ≡ true → is_welcome (cut_rows keep rows) groups v ≡ is_welcome rows groups v
   unfolding is_welcome

@@ -6,7 +6,8 @@ use Rattle.misp_model.proofs.Prelude.{of_event, ok_answer, seeing, shown}
 use Rattle.misp_model.proofs.Knowing.{by_key}
 use Rattle.misp_model.proofs.LookedRows.{IsClosedFor, looked_rows}
 use Rattle.misp_model.proofs.LookedScenes.{looked_scene}
-use Rattle.misp_model.proofs.LookedCopy.{HasCopy, has_target_looked}
+use Rattle.misp_model.proofs.LookedBodies.{has_target_looked}
+use Rattle.misp_model.proofs.LookedCopy.{HasCopy}
 pub use Rattle.misp_model.proofs.SameAnswers.{IsSame, accepted_from, from_rules}
 use Rattle.misp_model.proofs.ShownHere.{shown_from_here}
 use Rattle.misp_model.proofs.Passing.{part_here}
@@ -52,7 +53,7 @@ copy_here e o k h = h
 module _ (b : Submission) (s : Scene) where
   pub has_target_same : (r : ReferenceDraft) → has_target (cut_scene (of_event b.event) s) b r ≡ has_target s b r
   unfolding cut_scene cut_rows looked_scene looked_rows
-  has_target_same r = has_target_looked (λ w. of_event b.event) s (closed_here b.event s.by) b (copy_here b.event s.by) r
+  has_target_same r = has_target_looked (λ w. of_event b.event) s (closed_here b.event s.by) b r (λ k h g. copy_here b.event s.by k h)
 
 -- ---- from the rows of a keeper
 

@@ -1,13 +1,14 @@
 -- A change of one event, and a statement on one, are refused, answered and written from the event's own rows as from all.
 use Rattle.std.proofs.Common.{◌≡◌, true, ap, ◌∙◌, List, Bool, refl, false, subst, Option, None, Some}
 use Rattle.misp_model.specs.Prelude.{AddEvent, AddParts, Ask, Change, Delete, DeleteEvent, DeleteReference, EditAttribute, EditEvent, EditObject, Element, EventId, Groups, Index, Judge, Key, OrgId, Place, Proposal, ProposalDraft}
-use Rattle.misp_model.specs.Prelude.{ProposalName, Propose, Publish, Row, Scene, Sight, SightingDraft, SyncEvents, SyncGroups, SyncPart, TakePart, Verdict, View, cut_rows, event_key, event_of, judged_place, proposal_key, same_event}
+use Rattle.misp_model.specs.Prelude.{ProposalName, Propose, Publish, Row, Scene, Sight, SightingDraft, SyncEvents, SyncGroups, SyncPart, TakePart, Verdict, View, cut_rows, event_of, judged_place, proposal_key, same_event}
 use Rattle.misp_model.specs.Prelude.{sighting_key}
 use Rattle.misp_model.proofs.Prelude.{cut_scene, event_rows, false≢true, of_event, same_event-refl, seeing}
 use Rattle.misp_model.specs.Machine.{event_changed, event_asked}
 use Rattle.misp_model.proofs.LookedRows.{IsClosedFor, looked_rows}
-use Rattle.misp_model.proofs.LookedScenes.{looked_scene}
-use Rattle.misp_model.proofs.LookedCopy.{HasCopy, add_looked, parts_looked}
+use Rattle.misp_model.proofs.LookedScenes.{HasEvent, looked_scene}
+use Rattle.misp_model.proofs.LookedBodies.{add_looked, parts_looked}
+use Rattle.misp_model.proofs.LookedCopy.{HasCopy}
 use Rattle.misp_model.proofs.LookedJudging.{judge_looked}
 use Rattle.misp_model.proofs.LookedAsks.{delete_event_looked, delete_looked, delete_reference_looked, edit_attribute_looked, edit_event_looked, edit_object_looked, propose_looked, publish_looked, sight_looked, tag_looked, untag_looked}
 use Rattle.misp_model.proofs.ShownHere.{key_here}
@@ -26,8 +27,8 @@ module _ (e : EventId) (s : Scene) where
   closed : IsClosedFor s.by (λ w. of_event e)
   closed = closed_here e s.by
 
-  event : (w : OrgId) → of_event e (event_key e) ≡ true
-  event w = key_here e
+  event : HasEvent (λ w. of_event e) s e
+  event = record { own = key_here e; others = λ copy w. key_here e }
 
   whole : HasCopy (λ w. of_event e) s.by e
   whole = copy_here e s.by
@@ -48,13 +49,13 @@ module _ (e : EventId) (s : Scene) where
   judge_here : (n : ProposalName) (accept : Bool) → IsSame (cut_scene (of_event e) s) s (Judge e n accept)
   unfolding cut_scene cut_rows looked_scene looked_rows event_of
   judge_here n accept =
-      judge_looked keep s closed e n (λ w. of_same e (Proposal e n) refl) (λ w. place_here n.target) (of_same e (Verdict e n s.at s.by) refl) accept (λ h. place_here (judged_place n)) (λ h. whole)
+      judge_looked keep s closed e n (λ w. of_same e (Proposal e n) refl) (λ w. place_here n.target) (of_same e (Verdict e n s.at s.by) refl) accept (λ h. place_here (judged_place n)) (λ h k here g. whole k here)
 
 -- ---- any of them
 change_here : (s : Scene) (c : Change) → IsSame (cut_scene (of_event (event_changed c)) s) s (Ask.Change c)
 unfolding event_changed cut_scene cut_rows looked_scene looked_rows
-change_here s (AddEvent b) = add_looked (keep b.event s) s (closed b.event s) b (whole b.event s) (key_here b.event)
-change_here s (AddParts e b) = parts_looked (keep b.event s) s (closed b.event s) b (whole b.event s) e (event b.event s)
+change_here s (AddEvent b) = add_looked (keep b.event s) s (closed b.event s) b (λ k h g. whole b.event s k h) (key_here b.event)
+change_here s (AddParts e b) = parts_looked (keep b.event s) s (closed b.event s) b (λ k h g. whole b.event s k h) e (event b.event s)
 change_here s (EditEvent e edit) = edit_event_looked (keep e s) s (closed e s) e (event e s) edit
 change_here s (EditAttribute e p edit) = edit_attribute_looked (keep e s) s (closed e s) e (event e s) p edit (place_here e s p)
 change_here s (EditObject e x edit) = edit_object_looked (keep e s) s (closed e s) e (event e s) x edit (place_here e s (Place.Object x))

@@ -4,12 +4,12 @@ use Rattle.std.proofs.lemmas.Bool.{and_parts}
 use Rattle.misp_lists.proofs.Lists.{any_none_cut, find_passes}
 use Rattle.misp_elem.proofs.Same.{same_key-sound}
 use Rattle.misp_model.specs.Prelude.{Content, Element, EventId, IsClosed, Key, Label, OrgId, Place, Row, Scene, Stamp, Version, bars, changed, changed_row, cut, cut_rows, edit_rules, event_key, event_of, holds_copy, holds_home}
-use Rattle.misp_model.specs.Prelude.{holds_tombstone, is_at_limit, is_live, is_row_of, is_taken, is_usable, list_any, own_live, own_row, own_row_is, same_event, same_org, sees, takes_uuid, written}
+use Rattle.misp_model.specs.Prelude.{holds_tombstone, is_at_limit, is_live, is_row_of, is_taken, is_usable, list_all, list_any, own_live, own_row, own_row_is, parents, same_event, same_org, sees, takes_uuid, written}
 use Rattle.misp_model.specs.Scene.{sees_live}
 use Rattle.misp_model.specs.Statements.{sees_target}
 use Rattle.misp_model.proofs.Knowing.{by_key}
 use Rattle.misp_model.proofs.LookedRows.{IsClosedFor, is_live_looked, looked_rows}
-use Rattle.misp_model.proofs.LookedScenes.{bars_looked, changed_row_looked, edit_rules_looked, holds_copy_looked, holds_home_looked, holds_tombstone_looked, is_at_limit_looked, is_usable_looked, looked_scene, own_any_looked}
+use Rattle.misp_model.proofs.LookedScenes.{HasEvent, bars_looked, changed_row_looked, edit_rules_looked, holds_copy_looked, holds_home_looked, holds_tombstone_looked, is_at_limit_looked, is_usable_looked, looked_scene, own_any_looked}
 use Rattle.misp_model.proofs.LookedScenes.{own_live_looked, own_row_is_looked, sees_live_looked, sees_looked, sees_target_looked}
 
 -- the same surroundings with the kept rows alone
@@ -19,7 +19,7 @@ cut_scene keep s = record s { rows = cut_rows keep s.rows }
 module _ (keep : Key → Bool) (c : IsClosed keep) where
   pub is_live_cut : (rows : List Row) (row : Row) → keep row.key ≡ true → is_live (cut_rows keep rows) row ≡ is_live rows row
   unfolding cut_rows looked_rows
-  is_live_cut rows row h = is_live_looked row.owner (λ w. keep) (by_key keep c row.owner) rows row h
+  is_live_cut rows row h = is_live_looked (λ w. keep) rows row (h, c.above row.key h)
 
 module _ (keep : Key → Bool) (c : IsClosed keep) (s : Scene) where
   abbrev kept : OrgId → Key → Bool
@@ -27,6 +27,12 @@ module _ (keep : Key → Bool) (c : IsClosed keep) (s : Scene) where
 
   closed : IsClosedFor s.by (λ w. keep)
   closed = by_key keep c s.by
+
+  with_parents : (k : Key) → keep k ≡ true → (keep k ≡ true) × (list_all keep (parents k) ≡ true)
+  with_parents k h = (h, c.above k h)
+
+  event_there : (e : EventId) → keep (event_key e) ≡ true → HasEvent (λ w. keep) s e
+  event_there e h = record { own = h; others = λ n w. h }
 
   pub holds_home_cut : (e : EventId) → keep (event_key e) ≡ true → holds_home (cut_scene keep s) e ≡ holds_home s e
   unfolding cut_scene cut_rows looked_scene looked_rows
@@ -42,15 +48,15 @@ module _ (keep : Key → Bool) (c : IsClosed keep) (s : Scene) where
 
   pub sees_cut : (k : Key) → keep k ≡ true → sees (cut_scene keep s) k ≡ sees s k
   unfolding cut_scene cut_rows looked_scene looked_rows
-  sees_cut k h = sees_looked kept s closed k (λ w. h)
+  sees_cut k h = sees_looked kept s closed k (λ w. with_parents k h)
 
   pub sees_live_cut : (k : Key) → keep k ≡ true → sees_live (cut_scene keep s) k ≡ sees_live s k
   unfolding cut_scene cut_rows looked_scene looked_rows
-  sees_live_cut k h = sees_live_looked kept s closed k (λ w. h)
+  sees_live_cut k h = sees_live_looked kept s closed k (λ w. with_parents k h)
 
   pub own_live_cut : (k : Key) → keep k ≡ true → own_live (cut_scene keep s) k ≡ own_live s k
   unfolding cut_scene cut_rows looked_scene looked_rows
-  own_live_cut k h = own_live_looked kept s closed k h
+  own_live_cut k h = own_live_looked kept s closed k (with_parents k h)
 
   -- the caller has a row of a kept key
   pub own_any_cut : (k : Key) → keep k ≡ true → list_any (is_row_of s.by k) (cut_rows keep s.rows) ≡ list_any (is_row_of s.by k) s.rows
@@ -92,7 +98,7 @@ module _ (keep : Key → Bool) (c : IsClosed keep) (s : Scene) where
 
   pub bars_cut : (e : EventId) (f g : Bool) → keep (event_key e) ≡ true → f ≡ g → bars (cut_scene keep s) e f ≡ bars s e g
   unfolding cut_scene cut_rows looked_scene looked_rows
-  bars_cut e f g h k = bars_looked kept s closed e f g (λ w. h) k
+  bars_cut e f g h k = bars_looked kept s closed e f g (event_there e h) k
 
   pub sees_target_cut : (e : EventId) (p : Place) → keep (Element e p) ≡ true → sees_target (cut_scene keep s) e p ≡ sees_target s e p
   unfolding cut_scene cut_rows looked_scene looked_rows
@@ -107,4 +113,4 @@ module _ (keep : Key → Bool) (c : IsClosed keep) (s : Scene) where
   pub edit_rules_cut : (e : EventId) (k : Key) (fits here : Bool) (l : Option Label) (t : Option Stamp) (f : Content → Content) →
       keep k ≡ true → keep (event_key e) ≡ true → here ≡ fits → edit_rules (cut_scene keep s) e k here l t f ≡ edit_rules s e k fits l t f
   unfolding cut_scene cut_rows looked_scene looked_rows
-  edit_rules_cut e k fits here l t f h g fit = edit_rules_looked kept s closed e k fits here l t f h (λ w. g) fit
+  edit_rules_cut e k fits here l t f h g fit = edit_rules_looked kept s closed e k fits here l t f h (event_there e g) fit

@@ -15,7 +15,7 @@ module _ (e : EventId) where
   unfolding of_event event_of event_key
   key_here = same_event-refl e
 
-  plain_here : (k : Key) → is_plain_attribute e k ≡ true → of_event e k ≡ true
+  pub plain_here : (k : Key) → is_plain_attribute e k ≡ true → of_event e k ≡ true
   unfolding is_plain_attribute of_event event_of
   plain_here (Element f p) h = (and_parts _ _ h).0
   plain_here (Reference f x t u) h = absurd (false≢true h)
@@ -23,7 +23,7 @@ module _ (e : EventId) where
   plain_here (Verdict f n i o) h = absurd (false≢true h)
   plain_here (Sighting f t i o u) h = absurd (false≢true h)
 
-  inner_here : (y : ElemId) (k : Key) → is_attribute_of e y k ≡ true → of_event e k ≡ true
+  pub inner_here : (y : ElemId) (k : Key) → is_attribute_of e y k ≡ true → of_event e k ≡ true
   unfolding is_attribute_of of_event event_of
   inner_here y (Element f p) h = (and_parts _ _ h).0
   inner_here y (Reference f x t u) h = absurd (false≢true h)
@@ -31,7 +31,7 @@ module _ (e : EventId) where
   inner_here y (Verdict f n i o) h = absurd (false≢true h)
   inner_here y (Sighting f t i o u) h = absurd (false≢true h)
 
-  object_here : (k : Key) → is_object e k ≡ true → of_event e k ≡ true
+  pub object_here : (k : Key) → is_object e k ≡ true → of_event e k ≡ true
   unfolding is_object of_event event_of
   object_here (Element f p) h = (and_parts _ _ h).0
   object_here (Reference f x t u) h = absurd (false≢true h)
@@ -143,7 +143,7 @@ module _ (e : EventId) (s : Scene) where
   reference_same w y (Verdict f n i o) h = refl
   reference_same w y (Sighting f t i o u) h = refl
 
-  reference_here : (w : OrgId) (y : ElemId) (k : Key) → is_reference_of s w e y k ≡ true → of_event e k ≡ true
+  pub reference_here : (w : OrgId) (y : ElemId) (k : Key) → is_reference_of s w e y k ≡ true → of_event e k ≡ true
   unfolding is_reference_of of_event event_of
   reference_here w y (Reference f x t u) h = (and_parts _ _ (and_parts _ _ h).0).0
   reference_here w y (Element f p) h = absurd (false≢true h)

@@ -26,8 +26,8 @@ pub use known_rows::known_rows_answer_as_all;
 pub use laws::{
     each_key_has_its_own_spelling, rows_stand_in_the_order_of_their_bytes, the_first_rule_decides,
 };
-pub use looking::a_request_looks_at_no_other_rows;
-pub use looks::Looks;
+pub use looking::{a_request_looks_at_no_other_rows, what_is_looked_at_first_says_what_then};
+pub use looks::{Look, Looks};
 pub use one_event::{
     an_event_is_asked_from_its_own_rows, an_event_is_known_from_its_own_rows,
     an_event_is_seen_from_its_own_rows,

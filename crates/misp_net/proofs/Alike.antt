@@ -13,11 +13,11 @@ use Rattle.misp_model.specs.Prelude.{Key, Scene}
 use Rattle.misp_erasure.specs.Erasure.{erased_act, erased_command, erased_request}
 use Rattle.misp_core.specs.Administering.{administered}
 use Rattle.misp_core.specs.Answers.{bare_scene}
-use Rattle.misp_core.specs.Effects.{asked, asked_over, refused}
+use Rattle.misp_core.specs.Effects.{asked, asked_over, read_where, refused}
+use Rattle.misp_core.specs.Reading.{rows_read}
 use Rattle.misp_core.specs.Keeping.{caller_at}
 use Rattle.misp_core.specs.Partners.{partner_of}
 use Rattle.misp_core.specs.Prelude.{Row}
-use Rattle.misp_store.specs.Prelude.{reach_of}
 use Rattle.misp_api.specs.Answering.{caller_in, replied}
 use Rattle.misp_api.specs.Commands.{command_effect}
 use Rattle.misp_api.specs.Prelude.{Caller, Commanded, Group, Reading}
@@ -83,8 +83,8 @@ asked_alike host now c d ask groups (Err name) org partner = refl
 ask_alike : (host : Host) (now : ℕ) (c d : Caller) (x y : Ask) (here : Seen) → c.org ≡ d.org → partner_of c ≡ partner_of d → x ≡ y
     → command_effect host now c (Command.Asks x) here ≡ command_effect host now d (Command.Asks y) here
 ask_alike host now c d x y here org partner same =
-    asked_alike host now c d x here.groups (here.rows (reach_of host.name c.org x)) org partner
-    ∙ (λ i. asked_over host now (d, same i) here.groups (here.rows (reach_of host.name (org i) (same i))))
+    asked_alike host now c d x here.groups (read_where host now (c, x) here) org partner
+    ∙ (λ i. asked_over host now (d, same i) here.groups (rows_read (bare_scene host now (record { org = org i; role = d.role; partner = d.partner; internal = d.internal }) here.groups) (same i) here.rows))
 
 command_alike : (host : Host) (now : ℕ) (c d : Caller) (x y : Command) (here : Seen) → command_at host c x ≡ command_at host d y → command_effect host now c x here ≡ command_effect host now d y here
 command_alike host now c d (Command.Asks x) (Command.Asks y) here same =

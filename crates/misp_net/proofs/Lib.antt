@@ -18,6 +18,7 @@ pub mod Lent
 pub mod LentSyncs
 pub mod LineBytes
 pub mod Openings
+pub mod AllSeen
 pub mod Owning
 pub mod Passing
 pub mod Peers

@@ -1,15 +1,18 @@
 -- A request is told the same over the history without what its organisation was never granted.
-use Rattle.std.proofs.Common.{◌≡◌, ℕ, Bool, true, List, Option, Ok, Err, refl, ◌∙◌, ap, subst, option_map}
+use Rattle.std.proofs.Common.{◌≡◌, ℕ, Bool, true, List, Option, Ok, Err, refl, sym, ◌∙◌, ap, subst, option_map}
 use Rattle.misp_lists.proofs.Lists.{filter_all}
 use Rattle.misp_history.proofs.Prelude.{Inst, IsClosed, Key, OrgId, World, cut, cut_rows, known, known_at, known_cut, list_all, same_org, same_org-sound, tables, tables_cut}
 use Rattle.misp_erasure.specs.Erasure.{cut_world, HasKnown}
 use Rattle.misp_core.specs.Answers.{scene_at, reply_in}
 use Rattle.misp_core.specs.Handing.{knowing}
+use Rattle.misp_core.specs.Prelude.{Effect}
+use Rattle.misp_net.specs.Prelude.{Reply}
 use Rattle.misp_api.specs.Prelude.{Caller, Commanded, Host, Reading, command_effect, replied}
 use Rattle.misp_api.specs.declared.command.Command.{Command}
 use Rattle.misp_api.proofs.Forms.{AskedBy}
 use Rattle.misp_net.specs.Hosts.{host_at}
 use Rattle.misp_net.specs.History.{seen_by, is_asker}
+use Rattle.misp_net.proofs.AllSeen.{over_seen}
 
 -- over a set of keys that has all that the organisation knows
 module _ (keep : Key → Bool) (closed : IsClosed keep) (o : OrgId) (hosts : List Host) where
@@ -28,7 +31,9 @@ module _ (keep : Key → Bool) (closed : IsClosed keep) (o : OrgId) (hosts : Lis
   unfolding cut_world
   own_command w at now caller (Command.Asks ask) same has =
       let host : Host = host_at at hosts in
-      ap (λ rows. reply_in host.admin (knowing (scene_at host now caller (w.groups host.name)) rows) ask) (own_rows w host.name caller.org same has)
+      ap (λ (e : Effect Reply). e.reply) (over_seen hosts (cut_world keep w) at now caller ask)
+      ∙ ap (λ rows. reply_in host.admin (knowing (scene_at host now caller (w.groups host.name)) rows) ask) (own_rows w host.name caller.org same has)
+      ∙ sym (ap (λ (e : Effect Reply). e.reply) (over_seen hosts w at now caller ask))
   own_command w at now caller (Command.TakesGroups coming) same has = refl
   own_command w at now caller (Command.Shares add g) same has = refl
 

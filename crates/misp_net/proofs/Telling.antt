@@ -24,6 +24,7 @@ use Rattle.misp_net.specs.Prelude.{AreDistinct, GroupData, OrgId, Reply, Stop, S
 use Rattle.misp_net.specs.Meaning.{asking, administering, command_at}
 use Rattle.misp_sync.specs.History.{applied}
 use Rattle.misp_net.specs.History.{seen_by, IsHistory}
+use Rattle.misp_net.proofs.AllSeen.{over_seen}
 use Rattle.misp_history.specs.Acts as model
 use Rattle.misp_history.specs.Outcomes as parts
 
@@ -71,7 +72,8 @@ module _ (hosts : List Host) (distinct : AreDistinct hosts) (n : ℕ) (w : World
   command_told : (at now : ℕ) (caller : Caller) (command : Command) → AsksBuilt command → at < length hosts
       → (command_effect (host_at at hosts) now caller command (seen_in (held_at at old))).reply ≡ (command_effect (host_at at hosts) now caller command (seen_by hosts w at)).reply
   command_told at now caller (Command.Asks ask) built lt =
-      ap (λ (e : Effect Reply). e.reply) (over_all w (host_at at hosts) now (caller, ask) (held_at at old) built (told.each at lt))
+      ap (λ (e : Effect Reply). e.reply)
+      (over_all w (host_at at hosts) now (caller, ask) (held_at at old) built (told.each at lt) ∙ sym (over_seen hosts w at now caller ask))
   command_told at now caller (Command.TakesGroups coming) built lt = ap (λ groups. (groups_put (groups_taken groups coming)).reply) (groups_there at lt)
   command_told at now caller (Command.Shares add g) built lt = ap (λ groups. (administered now caller.org add g groups).reply) (groups_there at lt)
 

@@ -9,7 +9,7 @@ use Rattle.misp_lists.proofs.Orders.{in_bytes, less, same}
 use Rattle.misp_lists.proofs.Prelude.{bytes_eq-Decides, false≢true, ordering_then}
 use Rattle.misp_elem.specs.Prelude.{IsUid, Uid}
 use Rattle.misp_elem.specs.Spelling.{uid}
-use Rattle.misp_store.specs.Seeking.{owner_number}
+use Rattle.misp_store.specs.Seen.{owner_number}
 use Rattle.misp_store.proofs.OwnerRows.{same_bytes}
 
 -- ---- so many bytes as a number, the highest first, and 0 after the last

@@ -5,15 +5,18 @@ use Rattle.misp_lists.proofs.Orders.{front_cmp, in_bytes, itself}
 use Rattle.misp_lists.proofs.Prelude.{and_from, and_parts, list_all, ordering_then}
 use Rattle.misp_ids.specs.Same.{Inst}
 use Rattle.misp_elem.specs.Parents.{above, event_key, up_to}
+use Rattle.misp_elem.specs.KeyFacts.{is_statement}
+use Rattle.misp_elem.specs.Prelude.{Submission}
 use Rattle.misp_elem.specs.Spelling.{place, uid}
 use Rattle.misp_model.proofs.Prelude.{Element, EventId, Key, OrgId, Place, Proposal, ProposalName, Sighting, Verdict}
-use Rattle.misp_model.specs.Looking.{at_copy, at_place, at_proposal, at_target, change_looks, looks_of, proposal_by, proposal_keys}
+use Rattle.misp_model.specs.Looking.{at_copy, at_event, at_parts, at_place, at_proposal, at_target, beside, change_looks, looks_of, proposal_by, proposal_keys}
 use Rattle.misp_model.specs.declared.ask.Ask.{Ask}
 use Rattle.misp_model.specs.declared.change.Change.{Change}
+use Rattle.misp_model.specs.declared.looks.Looks.{Looks}
 use Rattle.misp_store.specs.Seeking.{HasKeysInOrder, are_in_order, key_before}
 
 -- elements of an event are in the order of their places
-by_place : (e : EventId) (p q : Place) → is_lt (in_bytes (place p) (place q)) ≡ true → key_before (Element e p) (Element e q) ≡ true
+pub by_place : (e : EventId) (p q : Place) → is_lt (in_bytes (place p) (place q)) ≡ true → key_before (Element e p) (Element e q) ≡ true
 by_place e p q h = ap is_lt (front_cmp (uid e.0) (uid e.0) (place p) (place q) refl ∙ ap (λ t. ordering_then t (in_bytes (place p) (place q))) (itself (uid e.0))) ∙ h
 
 places_in_order : (e : EventId) (p : Place) → are_in_order (up_to e p) ≡ true
@@ -55,14 +58,24 @@ event_first : (e : EventId) → are_in_order (event_key e ∷ []) ≡ true
 unfolding are_in_order ascend
 event_first e = refl
 
+none_in_order : are_in_order [] ≡ true
+unfolding are_in_order ascend
+none_in_order = refl
+
 place_sorted : (by : OrgId) (e : EventId) (p : Place) → HasKeysInOrder (at_place by e p)
-place_sorted by e p = record { shared = event_first e; own = places_in_order e p }
+place_sorted by e p = record { own = places_in_order e p; others = none_in_order }
 
 copy_sorted : (by : OrgId) (e : EventId) → HasKeysInOrder (at_copy by e)
-copy_sorted by e = record { shared = event_first e; own = tt }
+copy_sorted by e = record { own = tt; others = none_in_order }
+
+parts_sorted : (by : OrgId) (b : Submission) → HasKeysInOrder (at_parts by b)
+parts_sorted by b = record { own = (none_in_order, refl); others = none_in_order }
+
+event_sorted : (by : OrgId) (e : EventId) → HasKeysInOrder (at_event by e)
+event_sorted by e = record { own = event_first e; others = event_first e }
 
 target_sorted : (by : OrgId) (e : EventId) (p : Place) (k : Key) → ((e : EventId) (p : Place) → key_before (Element e p) k ≡ true) → HasKeysInOrder (at_target by e p k)
-target_sorted by e p k later = record { shared = places_in_order e p; own = statement_last k later e p }
+target_sorted by e p k later = record { own = statement_last k later e p; others = places_in_order e p }
 
 verdict_last : (e : EventId) (n : ProposalName) (i : Inst) (o : OrgId) → are_in_order (proposal_keys e n ++ Verdict e n i o ∷ []) ≡ true
 verdict_last e n i o =
@@ -73,13 +86,21 @@ verdict_last e n i o =
     list_all_last p [] k h last = and_from _ _ last refl
     list_all_last p (j ∷ js) k h last = and_from _ _ (and_parts _ _ h).0 (list_all_last p js k (and_parts _ _ h).1 last)
 
+two_in_order : (e : EventId) (n : ProposalName) (i : Inst) (o : OrgId) → are_in_order (Proposal e n ∷ Verdict e n i o ∷ []) ≡ true
+unfolding are_in_order ascend
+two_in_order e n i o = refl
+
+two_statements : (e : EventId) (n : ProposalName) (i : Inst) (o : OrgId) → list_all is_statement (Proposal e n ∷ Verdict e n i o ∷ []) ≡ true
+unfolding is_statement
+two_statements e n i o = refl
+
 proposal_sorted : (by : OrgId) (e : EventId) (n : ProposalName) (makes : Bool) (i : Inst) (o : OrgId) → HasKeysInOrder (at_proposal by e n makes (Verdict e n i o))
-proposal_sorted by e n true i o = record { shared = statement_last (Proposal e n) (λ f p. refl) e n.target; own = tt }
-proposal_sorted by e n false i o = record { shared = statement_last (Proposal e n) (λ f p. refl) e n.target; own = verdict_last e n i o }
+proposal_sorted by e n true i o = record { own = (two_in_order e n i o, two_statements e n i o); others = statement_last (Proposal e n) (λ f p. refl) e n.target }
+proposal_sorted by e n false i o = record { own = verdict_last e n i o; others = statement_last (Proposal e n) (λ f p. refl) e n.target }
 
 change_sorted : (by : OrgId) (c : Change) → IfSome (change_looks by c) HasKeysInOrder
 change_sorted by (Change.AddEvent b) = tt
-change_sorted by (Change.AddParts e b) = copy_sorted by b.event
+change_sorted by (Change.AddParts e b) = parts_sorted by b
 change_sorted by (Change.EditEvent e edit) = place_sorted by e Place.Event
 change_sorted by (Change.EditAttribute e p edit) = place_sorted by e p
 change_sorted by (Change.EditObject e x edit) = place_sorted by e (Place.Object x)
@@ -95,10 +116,15 @@ looks_sorted i o (Ask.Change c) = change_sorted o c
 looks_sorted i o (Ask.Propose d) = target_sorted o d.event d.target (proposal_by i o d) (λ e p. refl)
 looks_sorted i o (Ask.Sight e t d) = target_sorted o e t (Sighting e t i o d.uuid) (λ f p. refl)
 looks_sorted i o (Ask.Judge e n accept) = proposal_sorted o e n _ i o
-looks_sorted i o (Ask.View e owner) = tt
+looks_sorted i o (Ask.View e owner) = event_sorted o e
 looks_sorted i o Ask.Index = tt
 looks_sorted i o Ask.Groups = tt
 looks_sorted i o Ask.SyncGroups = tt
 looks_sorted i o Ask.SyncEvents = tt
 looks_sorted i o (Ask.SyncPart e n) = tt
 looks_sorted i o (Ask.TakePart p) = tt
+
+-- ---- what they look at then
+
+pub beside_sorted : (l : Looks) → HasKeysInOrder l → HasKeysInOrder (beside l)
+beside_sorted l sorted = record { own = sorted.own; others = event_first l.event }

@@ -16,7 +16,12 @@ pub mod NamedRows
 pub mod OwnersSought
 pub mod OwnerSteps
 pub mod KeysInOrder
+pub mod LookedKeys
 pub mod LookedRows
 pub mod Sought
 pub mod KeysLooked
-pub mod SoughtNames
+pub mod LookParts
+pub mod LooksSought
+pub mod UuidNumbers
+pub mod UuidNames
+pub mod NamedLooked

@@ -9,7 +9,8 @@ use Rattle.misp_outside.specs.Held.{comes_before, is_from, next_row, raw_name}
 use Rattle.misp_elem.specs.Spelling.{key, name, uid}
 use Rattle.misp_effects.specs.Prelude.{RawRow}
 use Rattle.misp_model.proofs.Prelude.{EventId, Key, OrgId}
-use Rattle.misp_store.specs.Seeking.{are_in_order, key_before, names_one, rows_at, rows_of_keys}
+use Rattle.misp_store.specs.Seeking.{are_in_order, key_before, rows_at, rows_of_keys}
+use Rattle.misp_store.specs.Seen.{names_one}
 use Rattle.misp_store.proofs.Cuts.{none_found, one_found, parts}
 
 -- ---- orders

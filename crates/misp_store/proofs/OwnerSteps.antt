@@ -8,18 +8,16 @@ use Rattle.misp_lists.proofs.Orders.{greater, in_bytes, same}
 use Rattle.misp_lists.proofs.Prelude.{and_from, and_parts, nat_tests, ordering_then}
 use Rattle.misp_outside.specs.Held.{comes_before, is_from, next_row, raw_name}
 use Rattle.misp_elem.proofs.KeyOrder.{uid_orders}
-use Rattle.misp_elem.specs.Prelude.{IsUid}
 use Rattle.misp_elem.specs.Spelling.{uid}
 use Rattle.misp_effects.specs.Prelude.{RawRow}
 use Rattle.misp_model.specs.declared.looks.Looks.{Looks}
-use Rattle.misp_store.specs.Seeking.{HasKeysInOrder, is_looked, is_sought, owner_number, rows_from, rows_sought}
-use Rattle.misp_store.specs.Seen.{rows_looked}
+use Rattle.misp_store.specs.Seeking.{is_looked, rows_from, rows_sought}
+use Rattle.misp_store.specs.Seen.{is_name_looked, owner_number, rows_looked}
 use Rattle.misp_store.proofs.Cuts.{from_found, none_found, parts}
 use Rattle.misp_store.proofs.Fronts.{number_of_uid, numbers_up, uid_bytes}
 use Rattle.misp_store.proofs.LookedNames.{begins, owner_fits}
 use Rattle.misp_store.proofs.NamedRows.{by_names, either, ge_from_less, is_at}
 use Rattle.misp_store.proofs.OwnersSought.{org, sought_of_owner}
-use Rattle.misp_store.proofs.SoughtNames.{looked_sought}
 
 -- ---- numbers
 
@@ -60,8 +58,8 @@ module _ (l : Looks) where
   -- an owner that is greater is not before a lesser one
   in_order : (a b : RawRow) → is_looked l a ≡ true → is_looked l b ≡ true → in_bytes a.name b.name ≡ Less → owner_number b.name < owner_number a.name → ⊥
   in_order a b h k before lt =
-      let first = (and_parts (is_at l.event a) (is_sought l a.name) h).1 in
-      let second = (and_parts (is_at l.event b) (is_sought l b.name) k).1 in
+      let first = (and_parts (is_at l.event a) (is_name_looked l a.name) h).1 in
+      let second = (and_parts (is_at l.event b) (is_name_looked l b.name) k).1 in
       let x = begins l a.name first in
       let y = begins l b.name second in
       let compared : in_bytes a.name b.name ≡ Greater =
@@ -77,7 +75,7 @@ module _ (l : Looks) where
     into : (raw : RawRow) → is_after least raw ≡ true → sought raw ≡ true
     into raw h =
         let two = and_parts (is_looked l raw) (leb least (owner_number raw.name)) h in
-        let both = and_parts (is_at l.event raw) (is_sought l raw.name) two.0 in
+        let both = and_parts (is_at l.event raw) (is_name_looked l raw.name) two.0 in
         let x = begins l raw.name both.1 in
         and_from _ _ both.0
         (ap (λ t. is_ge (in_bytes t (uid (org least).0))) x.1
@@ -104,11 +102,11 @@ module _ (l : Looks) where
         f (λ h. and_from _ _ (and_parts (is_looked l f) (leb least (owner_number f.name)) h).0 (leb-from _ _ (omega arith)))
         (λ b before h.
         let looked = (and_parts (is_looked l b) (leb least (owner_number b.name)) h).0 in
-        let at = (and_parts (is_at l.event b) (is_sought l b.name) looked).0 in
+        let at = (and_parts (is_at l.event b) (is_name_looked l b.name) looked).0 in
         and_from _ _ looked (leb-from _ _ (numbers_up b.name f.name bytes (ge_from_less b.name f.name (by_names l.event f b found.0 at before)))))
         raws up next)
 
-  module _ (m : ℕ) (fits : m < 2 ^ 128) (sorted : HasKeysInOrder l) (raws : List RawRow) (up : ascend comes_before raws ≡ true) where
+  module _ (m : ℕ) (fits : m < 2 ^ 128) (raws : List RawRow) (up : ascend comes_before raws ≡ true) where
     abbrev is_its : RawRow → Bool
     is_its raw = is_looked l raw && (owner_number raw.name == m)
 
@@ -116,7 +114,7 @@ module _ (l : Looks) where
     pub owner_and_more : rows_sought l (org m) raws ++ rows_from l (Some (m + 1)) raws ≡ rows_from l (Some m) raws
     unfolding rows_from
     owner_and_more =
-        ap (λ t. t ++ filter (is_after (m + 1)) raws) (sought_of_owner l (org m) fits sorted raws up)
+        ap (λ t. t ++ filter (is_after (m + 1)) raws) (sought_of_owner l (org m) fits raws)
         ∙ sym (parts comes_before is_its (is_after (m + 1))
         (λ a b before h g.
         let one = and_parts (is_looked l a) (leb (m + 1) (owner_number a.name)) h in
@@ -124,7 +122,7 @@ module _ (l : Looks) where
         let later : m + 1 ≤ owner_number a.name = leb-to _ _ one.1 in
         let number : owner_number b.name ≡ m = eqb-true _ _ two.1 in
         in_order a b one.0 two.0
-        (by_names l.event a b (and_parts (is_at l.event a) (is_sought l a.name) one.0).0 (and_parts (is_at l.event b) (is_sought l b.name) two.0).0 before)
+        (by_names l.event a b (and_parts (is_at l.event a) (is_name_looked l a.name) one.0).0 (and_parts (is_at l.event b) (is_name_looked l b.name) two.0).0 before)
         (omega arith))
         (λ a g h.
         let number : owner_number a.name ≡ m = eqb-true _ _ (and_parts (is_looked l a) (owner_number a.name == m) g).1 in
@@ -137,7 +135,7 @@ module _ (l : Looks) where
     pub last_owner : 2 ^ 128 ≤ m + 1 → rows_sought l (org m) raws ≡ rows_from l (Some m) raws
     unfolding rows_from
     last_owner last =
-        sought_of_owner l (org m) fits sorted raws up
+        sought_of_owner l (org m) fits raws
         ∙ ap (λ (p : RawRow → Bool). filter p raws) (λ i raw. alike (is_its raw) (is_after m raw) (forth raw) (back raw) i)
       where
         forth : (raw : RawRow) → is_its raw ≡ true → is_after m raw ≡ true
@@ -149,16 +147,14 @@ module _ (l : Looks) where
         back : (raw : RawRow) → is_after m raw ≡ true → is_its raw ≡ true
         back raw h =
             let two = and_parts (is_looked l raw) (leb m (owner_number raw.name)) h in
-            let below = owner_fits l raw.name (and_parts (is_at l.event raw) (is_sought l raw.name) two.0).1 in
+            let below = owner_fits l raw.name (and_parts (is_at l.event raw) (is_name_looked l raw.name) two.0).1 in
             let later : m ≤ owner_number raw.name = leb-to _ _ two.1 in
             and_from _ _ two.0 (eq-eqb (owner_number raw.name) m (omega arith))
 
   -- from the least owner on it is all that is looked at
-  pub from_first : IsUid l.by.0 → (raws : List RawRow) → rows_from l (Some 0) raws ≡ rows_looked l raws
-  unfolding rows_from
-  from_first is raws =
-      ap (λ (p : RawRow → Bool). filter p raws) (λ i raw. (ap (λ t. is_looked l raw && t) (leb-from 0 (owner_number raw.name) (omega arith)) ∙ and_true (is_looked l raw)) i)
-      ∙ sym (looked_sought l is raws)
+  pub from_first : (raws : List RawRow) → rows_from l (Some 0) raws ≡ rows_looked l raws
+  unfolding rows_from rows_looked
+  from_first raws = ap (λ (p : RawRow → Bool). filter p raws) (λ i raw. (ap (λ t. is_looked l raw && t) (leb-from 0 (owner_number raw.name) (omega arith)) ∙ and_true (is_looked l raw)) i)
     where
       and_true : (b : Bool) → (b && true) ≡ b
       and_true true = refl

@@ -7,14 +7,13 @@ use Rattle.misp_lists.specs.Order.{ascend}
 use Rattle.misp_lists.proofs.Bytes.{IsBytes}
 use Rattle.misp_lists.proofs.Lists.{none_not_some}
 use Rattle.misp_lists.proofs.Ordering.{ascend_kept}
-use Rattle.misp_outside.specs.Held.{Held, comes_before, next_row}
-use Rattle.misp_elem.specs.Prelude.{IsUid}
+use Rattle.misp_outside.specs.Held.{Held, comes_before, next_row, rows_named}
 use Rattle.misp_elem.specs.Spelling.{name, uid}
 use Rattle.misp_effects.specs.Prelude.{RawRow}
 use Rattle.misp_model.proofs.Prelude.{EventId, Key, OrgId}
 use Rattle.misp_model.specs.declared.looks.Looks.{Looks}
-use Rattle.misp_store.specs.Seeking.{HasKeysInOrder, owner_number, rows_at, rows_from, rows_of_keys, rows_sought}
-use Rattle.misp_store.specs.Seen.{rows_looked}
+use Rattle.misp_store.specs.Seeking.{ends_among, rows_at, rows_ending, rows_from, rows_of_keys, rows_sought}
+use Rattle.misp_store.specs.Seen.{owner_number, rows_looked}
 use Rattle.misp_store.proofs.NamedRows.{row_found, row_missing}
 use Rattle.misp_store.proofs.OwnersSought.{org}
 use Rattle.misp_store.proofs.OwnerSteps.{first_owner, from_first, last_owner, no_owner, owner_and_more}
@@ -74,6 +73,23 @@ module _ (e : EventId) (o : OrgId) (start : List RawRow) (keys : List Key) (i : 
   keys_done None found past so_far = tt
   keys_done (Some told) found past so_far = sym (append-nil found) ∙ ap (λ t. found ++ t) (sym (ap (λ ks. rows_of_keys e o ks told.rows) (drop_all i keys past) ∙ no_key e o told.rows)) ∙ so_far
 
+-- ---- one part after the other
+
+-- what is found in one part, and then in the next
+pub joined : (held before : Option Held) (f g : List RawRow → List RawRow) (start mid now : List RawRow) → before ≡ held
+    → IfSome held (λ told. mid ≡ start ++ f told.rows) → IfSome before (λ told. now ≡ mid ++ g told.rows) → IfSome held (λ told. now ≡ start ++ (f told.rows ++ g told.rows))
+joined None before f g start mid now same first next = tt
+joined (Some told) before f g start mid now same first next =
+    let more : now ≡ mid ++ g told.rows = subst (λ (held : Option Held). IfSome held (λ told. now ≡ mid ++ g told.rows)) same next in
+    more ∙ ap (λ t. t ++ g told.rows) first ∙ append_assoc start (f told.rows) (g told.rows)
+
+-- what begins so and ends with one of the numbers
+pub ending_added : (held : Option Held) (e : EventId) (front : List ℕ) (ns : List ℕ) (rows kept start now : List RawRow)
+    → IfSome held (λ told. rows ≡ rows_named e front told.rows) → kept ≡ filter (ends_among ns) rows → now ≡ start ++ kept → IfSome held (λ told. now ≡ start ++ rows_ending e front ns told.rows)
+unfolding rows_ending
+ending_added None e front ns rows kept start now found ends added = tt
+ending_added (Some told) e front ns rows kept start now found ends added = added ∙ ap (λ t. start ++ t) (ends ∙ ap (filter (ends_among ns)) found)
+
 -- ---- one owner after the other
 
 -- the number after that of an owner, or none
@@ -110,22 +126,22 @@ module _ (l : Looks) where
     | inr ge ↦ ap (λ n. rows_from l (Some n) raws) (omega arith) ∙ e
   ]
 
-  pub owner_added : (held : Option Held) (least number m : ℕ) (next : Option ℕ) (start now : List RawRow) → HasKeysInOrder l → m ≡ max number least → m < 2 ^ 128 → IsAfter m next → Ascends held
+  pub owner_added : (held : Option Held) (least number m : ℕ) (next : Option ℕ) (start now : List RawRow) → m ≡ max number least → m < 2 ^ 128 → IsAfter m next → Ascends held
       → IfSome held (λ told. rows_from l (Some number) told.rows ≡ rows_from l (Some least) told.rows)
-      → IfSome held (λ told. now ≡ start ++ rows_sought l (org m) told.rows)
+      → IfSome held (λ told. IsTrue (ascend comes_before told.rows) → now ≡ start ++ rows_sought l (org m) told.rows)
       → IfSome held (λ told. now ++ rows_from l next told.rows ≡ start ++ rows_from l (Some least) told.rows)
-  owner_added None least number m next start now sorted greatest fits after up same added = tt
-  owner_added (Some told) least number m next start now sorted greatest fits after up same added =
-      ap (λ t. t ++ rows_from l next told.rows) added
+  owner_added None least number m next start now greatest fits after up same added = tt
+  owner_added (Some told) least number m next start now greatest fits after up same added =
+      ap (λ t. t ++ rows_from l next told.rows) (added up)
       ∙ append_assoc start (rows_sought l (org m) told.rows) (rows_from l next told.rows)
       ∙ ap (λ t. start ++ t) (whole after ∙ ap (λ n. rows_from l (Some n) told.rows) greatest ∙ from_greater told.rows number least same)
     where
       whole : IsAfter m next → rows_sought l (org m) told.rows ++ rows_from l next told.rows ≡ rows_from l (Some m) told.rows
-      whole (inl some) = ap (λ n. rows_sought l (org m) told.rows ++ rows_from l n told.rows) some ∙ owner_and_more l m fits sorted told.rows up
+      whole (inl some) = ap (λ n. rows_sought l (org m) told.rows ++ rows_from l n told.rows) some ∙ owner_and_more l m fits told.rows up
       whole (inr last) =
           ap (λ n. rows_sought l (org m) told.rows ++ rows_from l n told.rows) last.0
           ∙ ap (λ t. rows_sought l (org m) told.rows ++ t) (from_none told.rows)
-          ∙ append-nil (rows_sought l (org m) told.rows) ∙ last_owner l m fits sorted told.rows up last.1
+          ∙ append-nil (rows_sought l (org m) told.rows) ∙ last_owner l m fits told.rows up last.1
 
   -- ---- all owners
 
@@ -133,9 +149,9 @@ module _ (l : Looks) where
   abbrev pub OwnersFound : Option Held → List RawRow → Option ℕ → Type 0
   OwnersFound held found left = IfSome held (λ told. found ++ rows_from l left told.rows ≡ rows_looked l told.rows)
 
-  pub owners_first : IsUid l.by.0 → (held : Option Held) (found : List RawRow) → found ≡ [] → OwnersFound held found (Some 0)
-  owners_first is None found none = tt
-  owners_first is (Some told) found none = ap (λ t. t ++ rows_from l (Some 0) told.rows) none ∙ from_first l is told.rows
+  pub owners_first : (held : Option Held) (found : List RawRow) → found ≡ [] → OwnersFound held found (Some 0)
+  owners_first None found none = tt
+  owners_first (Some told) found none = ap (λ t. t ++ rows_from l (Some 0) told.rows) none ∙ from_first l told.rows
 
   pub owners_next : (held before : Option Held) (found now : List RawRow) (least : ℕ) (left : Option ℕ) → before ≡ held
       → OwnersFound held found (Some least) → IfSome before (λ told. now ++ rows_from l left told.rows ≡ found ++ rows_from l (Some least) told.rows) → OwnersFound held now left

@@ -79,3 +79,13 @@ impl From<RowFault> for LoadFault {
         }
     }
 }
+
+impl From<NoMemory> for LoadFault {
+    ghost use Rattle.misp_store.specs.declared.fault.LoadFault.TheVariants.{NoMemory};
+
+    ghost from_gives = { λ _ fault. fault ≡ NoMemory };
+
+    fn from(_error: NoMemory) -> LoadFault {
+        LoadFault::NoMemory
+    }
+}

@@ -1,25 +1,30 @@
 //! What a request looks at of its event.
 
-ghost use Rattle.std.specs.Prelude.{◌≡◌, ◌∷◌, ◌++◌, [], Some, None, cond, IfOk, IfSome};
+ghost use Rattle.std.specs.Prelude.{◌≡◌, ◌∷◌, ◌++◌, [], true, map, IfOk, IfSome};
 ghost use Rattle.misp_lists.specs.Prelude.{AllByRecursion};
+ghost use Rattle.misp_ids.specs.Uid.{IsUid};
 ghost use Rattle.misp_elem.specs.Key.{IsKey};
 ghost use Rattle.misp_elem.specs.Parents.{event_key, up_to};
 ghost use Rattle.misp_elem.specs.declared.key.KeyForm.TheVariants.{Element, Proposal, Verdict, Sighting};
-ghost use Rattle.misp_model.specs.Looking.{at_copy, at_place, at_proposal, at_target, change_looks, looks_of, proposal_by, proposal_keys};
+ghost use Rattle.misp_model.specs.Looking.{at_copy, at_event, at_parts, at_place, at_proposal, at_shown, at_target, beside, change_looks, elem_at, looks_of, own_alone, own_at_proposal, proposal_by, proposal_keys, uuids_in};
 ghost use Rattle.misp_model.specs.Statement.{IsProposalDraft};
 ghost use Rattle.misp_model.specs.Statements.{is_for_new};
-ghost use Rattle.misp_store.specs.Seeking.{HasKeys};
+ghost use Rattle.misp_store.specs.Seeking.{HasKeys, HasKeysInOrder, IsLookOfKeys};
 
-use misp_elem::{Key, KeyForm, NoMemory, Place, ProposalName, parents};
-use misp_ids::{EventId, InstId, Items, OrgId};
+use misp_elem::{
+    Draft, Key, KeyForm, NoMemory, Place, ProposalName, ReferenceDraft, Submission, parents,
+    uuid_at,
+};
+use misp_ids::{ElemId, EventId, InstId, Items, OrgId, Uid};
 use misp_model::{
-    Ask, AttributePlace, Change, Looks, NamedProposal, ProposalDraftFields, SightingDraft,
+    Ask, AttributePlace, Change, Look, Looks, NamedProposal, ProposalDraftFields, SightingDraft,
 };
 use std::alloc::Global;
 
 // ---- keys
 
-fn element_key(event: EventId, place: Place) -> Key
+/// The key of an element.
+pub(crate) fn element_key(event: EventId, place: Place) -> Key
     ensures value { result ≡ Element event place }
     ensures is_key { IsKey result }
 {
@@ -139,41 +144,98 @@ fn proposal_keys(
     Ok(keys)
 }
 
+// ---- uuids
+
+// The uuids of what is at these places of an event.
+fn part_uuids(alloc: Global, event: EventId, parts: &[Draft]) -> Result<Vec<ElemId>, NoMemory>
+    ensures value { IfOk result (λ uuids.
+        uuids.items ≡ map (λ d. elem_at event d.place) parts.now) }
+    ensures uids { IfOk result (λ uuids. AllByRecursion (λ u. IsUid u.0) uuids.items) }
+{
+    let mut uuids = Vec::new(alloc);
+    for part in parts {
+        uuids.push(ElemId(Uid(uuid_at(event, part.place))))?;
+    }
+    Ok(uuids)
+}
+
+// With those of references.
+fn with_references(
+    mut uuids: Vec<ElemId>,
+    references: &[ReferenceDraft],
+) -> Result<Vec<ElemId>, NoMemory>
+    requires { AllByRecursion (λ u. IsUid u.0) uuids.items }
+    ensures value { IfOk result (λ all.
+        all.items ≡ uuids.items ++ map (λ r. r.uuid) references.now) }
+    ensures uids { IfOk result (λ uuids. AllByRecursion (λ u. IsUid u.0) uuids.items) }
+{
+    for reference in references {
+        uuids.push(reference.uuid)?;
+    }
+    Ok(uuids)
+}
+
+// With those that references refer to.
+fn with_referenced(
+    mut uuids: Vec<ElemId>,
+    references: &[ReferenceDraft],
+) -> Result<Vec<ElemId>, NoMemory>
+    requires { AllByRecursion (λ u. IsUid u.0) uuids.items }
+    ensures value { IfOk result (λ all.
+        all.items ≡ uuids.items ++ map (λ r. r.referenced) references.now) }
+    ensures uids { IfOk result (λ uuids. AllByRecursion (λ u. IsUid u.0) uuids.items) }
+{
+    for reference in references {
+        uuids.push(reference.referenced)?;
+    }
+    Ok(uuids)
+}
+
+// The uuids of a body, and those to which its references refer.
+fn uuids_in(alloc: Global, body: &Submission) -> Result<Items<ElemId>, NoMemory>
+    ensures value { IfOk result (λ uuids. uuids ≡ uuids_in body.now) }
+    ensures uids { IfOk result (AllByRecursion (λ u. IsUid u.0)) }
+{
+    let references = body.references.as_slice();
+    let uuids = part_uuids(alloc, body.event, body.parts.as_slice())?;
+    let uuids = with_references(uuids, references)?;
+    Ok(Items::of(with_referenced(uuids, references)?))
+}
+
 // ---- what is looked at
 
-// The rows of these keys, as an organisation looks at them.
-fn looks_at(by: OrgId, event: &EventId, shared: Items<Key>, own: Option<Items<Key>>) -> Looks
-    requires shared { AllByRecursion IsKey shared }
-    requires own { IfSome own (AllByRecursion IsKey) }
-    ensures value { result ≡ record { by = by; event = event.now; shared = shared; own = own } }
+// Own rows alone, as an organisation looks at them.
+fn own_alone(alloc: Global, by: &OrgId, event: &EventId, own: Look) -> Looks
+    requires { IsLookOfKeys own }
+    ensures value { result ≡ own_alone by.now event.now own }
     ensures keys { HasKeys result }
 {
-    let event = *event;
+    let others = Look::Keys(Items::of(Vec::new(alloc)));
     Looks {
-        by,
-        event,
-        shared,
+        event: *event,
+        of: *by,
         own,
+        others,
     }
 }
 
-// The event in each copy, and an element with what is above it in the own copy.
+// An element with what is above it in the own copy.
 fn at_place(alloc: Global, by: &OrgId, event: &EventId, place: Place) -> Result<Looks, NoMemory>
     ensures value { IfOk result (λ looks. looks ≡ at_place by.now event.now place) }
     ensures keys { IfOk result HasKeys }
 {
-    let shared = event_alone(alloc, event)?;
     let own = Items::of(up_to(alloc, event, place)?);
-    Ok(looks_at(*by, event, shared, Some(own)))
+    Ok(own_alone(alloc, by, event, Look::Keys(own)))
 }
 
-// The event in each copy, and the own copy.
-fn at_copy(alloc: Global, by: &OrgId, event: &EventId) -> Result<Looks, NoMemory>
-    ensures value { IfOk result (λ looks. looks ≡ at_copy by.now event.now) }
+// What has one of the uuids that are added, and all objects.
+fn at_parts(alloc: Global, by: &OrgId, body: &Submission) -> Result<Looks, NoMemory>
+    ensures value { IfOk result (λ looks. looks ≡ at_parts by.now body.now) }
     ensures keys { IfOk result HasKeys }
 {
-    let shared = event_alone(alloc, event)?;
-    Ok(looks_at(*by, event, shared, None))
+    let uuids = uuids_in(alloc, body)?;
+    let keys = Items::of(Vec::new(alloc));
+    Ok(own_alone(alloc, by, &body.event, Look::Uuids { uuids, keys }))
 }
 
 // A place with what is above it in each copy, and the own row of a statement.
@@ -187,9 +249,29 @@ fn at_target(
     ensures value { IfOk result (λ looks. looks ≡ at_target by.now event.now place key) }
     ensures keys { IfOk result HasKeys }
 {
-    let shared = Items::of(up_to(alloc, event, place)?);
     let own = with_key(up_to(alloc, event, place)?, key)?;
-    Ok(looks_at(*by, event, shared, Some(own)))
+    let others = Items::of(up_to(alloc, event, place)?);
+    Ok(Looks {
+        event: *event,
+        of: *by,
+        own: Look::Keys(own),
+        others: Look::Keys(others),
+    })
+}
+
+// The event's row in each copy.
+fn at_event(alloc: Global, by: &OrgId, event: &EventId) -> Result<Looks, NoMemory>
+    ensures value { IfOk result (λ looks. looks ≡ at_event by.now event.now) }
+    ensures keys { IfOk result HasKeys }
+{
+    let own = event_alone(alloc, event)?;
+    let others = event_alone(alloc, event)?;
+    Ok(Looks {
+        event: *event,
+        of: *by,
+        own: Look::Keys(own),
+        others: Look::Keys(others),
+    })
 }
 
 #[tactic(auto, unfolding(misp_model::specs::Statements::is_for_new))]
@@ -199,26 +281,48 @@ fn is_for_new(proposal: &NamedProposal) -> bool
     matches!(proposal.name.target, Place::Event)
 }
 
-// The own verdict on a proposal with what it is seen by, or none where a new attribute is made.
+// A proposal and a verdict on it, and what has the uuid of the proposal.
+fn own_for_new(
+    alloc: Global,
+    event: &EventId,
+    proposal: &NamedProposal,
+    verdict: Key,
+) -> Result<Look, NoMemory>
+    ensures value { IfOk result (λ own.
+        own ≡ own_at_proposal event.now proposal.now true verdict) }
+    ensures keys { IfOk result IsLookOfKeys }
+{
+    let mut uuids = Vec::new(alloc);
+    uuids.push(proposal.name.uuid)?;
+    let mut keys = Vec::new(alloc);
+    keys.push(proposal_key(*event, proposal))?;
+    keys.push(verdict)?;
+    Ok(Look::Uuids {
+        uuids: Items::of(uuids),
+        keys: Items::of(keys),
+    })
+}
+
+// What is looked at of the own rows for a judgement.
 fn own_at_proposal(
     alloc: Global,
     event: &EventId,
     proposal: &NamedProposal,
     makes: bool,
     verdict: Key,
-) -> Result<Option<Items<Key>>, NoMemory>
+) -> Result<Look, NoMemory>
     ensures value { IfOk result (λ own.
-        own ≡ cond makes None (Some (proposal_keys event.now proposal.now ++ verdict ∷ []))) }
-    ensures keys { IfOk result (λ own. IfSome own (AllByRecursion IsKey)) }
+        own ≡ own_at_proposal event.now proposal.now makes verdict) }
+    ensures keys { IfOk result IsLookOfKeys }
 {
     if makes {
-        return Ok(None);
+        return own_for_new(alloc, event, proposal, verdict);
     }
     let keys = proposal_keys(alloc, event, proposal)?;
-    Ok(Some(with_key(keys, verdict)?))
+    Ok(Look::Keys(with_key(keys, verdict)?))
 }
 
-// A proposal with what it is seen by in each copy, and the own verdict, or all of the own copy.
+// A proposal with what it is seen by in each copy, and the own rows for a judgement.
 fn at_proposal(
     alloc: Global,
     by: &OrgId,
@@ -231,21 +335,34 @@ fn at_proposal(
         looks ≡ at_proposal by.now event.now proposal.now makes verdict) }
     ensures keys { IfOk result HasKeys }
 {
-    let shared = Items::of(proposal_keys(alloc, event, proposal)?);
     let own = own_at_proposal(alloc, event, proposal, makes, verdict)?;
-    Ok(looks_at(*by, event, shared, own))
+    let others = Items::of(proposal_keys(alloc, event, proposal)?);
+    Ok(Looks {
+        event: *event,
+        of: *by,
+        own,
+        others: Look::Keys(others),
+    })
 }
 
 // ---- of which ask
 
-// What a change looks at, where that is less than the own copy alone.
+// The own copy.
+fn at_copy(alloc: Global, by: &OrgId, event: &EventId) -> Looks
+    ensures value { result ≡ at_copy by.now event.now }
+    ensures keys { HasKeys result }
+{
+    own_alone(alloc, by, event, Look::All)
+}
+
+// What a change looks at, where that is said.
 fn change_looks(alloc: Global, by: &OrgId, change: &Change) -> Result<Option<Looks>, NoMemory>
     ensures value { IfOk result (λ looks. looks ≡ change_looks by.now change.now) }
     ensures keys { IfOk result (λ looks. IfSome looks HasKeys) }
 {
     Ok(match change {
         Change::AddEvent(_) => None,
-        Change::AddParts { parts, .. } => Some(at_copy(alloc, by, &parts.submission.event)?),
+        Change::AddParts { parts, .. } => Some(at_parts(alloc, by, &parts.submission)?),
         Change::EditEvent { event, .. } | Change::DeleteEvent { event } => {
             Some(at_place(alloc, by, event, Place::Event)?)
         }
@@ -260,7 +377,7 @@ fn change_looks(alloc: Global, by: &OrgId, change: &Change) -> Result<Option<Loo
             Some(at_place(alloc, by, event, place.get())?)
         }
         Change::DeleteReference { event, .. } | Change::Publish { event } => {
-            Some(at_copy(alloc, by, event)?)
+            Some(at_copy(alloc, by, event))
         }
     })
 }
@@ -311,12 +428,38 @@ pub(crate) fn looks(
             let verdict = verdict_key(*event, proposal, *here, *by);
             Ok(Some(at_proposal(alloc, by, event, proposal, makes, verdict)?))
         }
-        Ask::View { .. }
-        | Ask::Index
+        Ask::View { event, .. } => Ok(Some(at_event(alloc, by, event)?)),
+        Ask::Index
         | Ask::Groups
         | Ask::SyncGroups
         | Ask::SyncEvents
         | Ask::SyncPart { .. }
         | Ask::TakePart(_) => Ok(None),
+    }
+}
+
+// ---- what is looked at then
+
+/// The event's row in each other copy, besides the own rows that are looked at.
+pub fn beside(alloc: Global, looks: Looks) -> Result<Looks, NoMemory>
+    ensures value { IfOk result (λ more. more ≡ beside looks) }
+    ensures keys { HasKeys looks → IfOk result HasKeys }
+    ensures order { HasKeysInOrder looks → IfOk result HasKeysInOrder }
+{
+    let others = Look::Keys(event_alone(alloc, &looks.event)?);
+    Ok(Looks { others, ..looks })
+}
+
+/// A copy that is shown, and in each other copy the event's row and those of statements.
+pub fn at_shown(owner: OrgId, event: EventId) -> Looks
+    ensures value { result ≡ at_shown owner event }
+    ensures keys { HasKeys result }
+    ensures order { HasKeysInOrder result }
+{
+    Looks {
+        event,
+        of: owner,
+        own: Look::All,
+        others: Look::Statements,
     }
 }

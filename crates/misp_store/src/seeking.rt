@@ -1,84 +1,22 @@
-//! What a request looks at, as it is sought in what a keeper holds: of each owner one name after
-//! the other, and from one owner to the next that has a row of the event.
+//! What a request looks at, as it is sought in what a keeper holds: of each owner what is looked at
+//! of it, and from one owner to the next that has a row of the event.
 
-ghost use Rattle.std.specs.Prelude.{◌≡◌, ◌<◌, ◌++◌, ◌∷◌, [], Err, Some, filter, bytes_eq, slice_index, IfOk, IfSome, IsTrue, OnOk};
+ghost use Rattle.std.specs.Prelude.{◌≡◌, ◌<◌, ◌++◌, Err, Some, IfOk, IfSome, IsTrue, OnOk};
 ghost use Rattle.misp_lists.specs.Order.{ascend};
 ghost use Rattle.misp_outside.specs.Causes.{HasCause, StaysUnless};
 ghost use Rattle.misp_outside.specs.Held.{comes_before, rows_named};
-ghost use Rattle.misp_ids.specs.Uid.{IsUid};
-ghost use Rattle.misp_elem.specs.Fields.{IsBytes};
 ghost use Rattle.misp_elem.specs.Spelling.{uid};
-ghost use Rattle.misp_store.specs.Seeking.{HasKeysInOrder, own_sought, owner_number, rows_at, rows_from, rows_of_keys, rows_sought};
-ghost use Rattle.misp_store.specs.Seen.{rows_looked};
+ghost use Rattle.misp_store.specs.Seeking.{HasKeysInOrder, IsLookInOrder, rows_from, rows_in_look, rows_of_statements, rows_sought};
+ghost use Rattle.misp_store.specs.Seen.{kind_front, look_at, rows_looked};
 
-use misp_elem::{Key, NoMemory, encode_name};
+use crate::names_sought::{add_event, add_front, add_keys, kind_front, owner_number};
+use crate::uuids_sought::{add_uuids, numbers_in_order};
 use misp_ids::{EventId, OrgId, Uid};
-use misp_model::Looks;
+use misp_model::{Look, Looks};
 use misp_outside::{Keeper, KeeperFault, RawRow};
 use std::alloc::Global;
 
-// ---- one name
-
-// Adds the row, where this is its name.
-fn add_named(found: &mut Vec<RawRow>, row: RawRow, name: &[u8]) -> Result<(), NoMemory>
-    ensures { OnOk result (found.new.items
-        ≡ found.old.items ++ filter (λ raw. bytes_eq raw.name name.now) (row ∷ [])) }
-{
-    if row.name.as_slice() == name {
-        Ok(found.push(row)?)
-    } else {
-        drop(row);
-        Ok(())
-    }
-}
-
-// Adds the row of this name, where there is one.
-fn add_row<K: Keeper>(
-    keeper: &mut K,
-    alloc: Global,
-    event: &EventId,
-    name: &[u8],
-    found: &mut Vec<RawRow>,
-) -> Result<(), KeeperFault>
-    ensures found { OnOk result (IfSome (K.state keeper.old).held (λ held.
-        found.new.items ≡ found.old.items ++ rows_at event.now name.now held.rows)) }
-    ensures held { (K.state keeper.new).held ≡ (K.state keeper.old).held }
-    ensures cause { HasCause (K.state keeper.old).faults (K.state keeper.new).faults
-        (result ≡ Err KeeperFault.Failed) }
-    ensures stays { StaysUnless (K.state keeper.old).faults (K.state keeper.new).faults
-        (result ≡ Err KeeperFault.Failed) }
-{
-    match keeper.load_next(alloc, event, name)? {
-        Some(row) => Ok(add_named(found, row, name)?),
-        None => Ok(()),
-    }
-}
-
-// ---- the names of one owner
-
-// Adds the owner's rows of these keys.
-fn add_keys<K: Keeper>(
-    keeper: &mut K,
-    alloc: Global,
-    event: &EventId,
-    owner: &OrgId,
-    keys: &[Key],
-    found: &mut Vec<RawRow>,
-) -> Result<(), KeeperFault>
-    ensures found { OnOk result (IfSome (K.state keeper.old).held (λ held. found.new.items
-        ≡ found.old.items ++ rows_of_keys event.now owner.now keys.now held.rows)) }
-    ensures held { (K.state keeper.new).held ≡ (K.state keeper.old).held }
-    ensures cause { HasCause (K.state keeper.old).faults (K.state keeper.new).faults
-        (result ≡ Err KeeperFault.Failed) }
-    ensures stays { StaysUnless (K.state keeper.old).faults (K.state keeper.new).faults
-        (result ≡ Err KeeperFault.Failed) }
-{
-    for key in keys {
-        let name = encode_name(alloc, owner, key)?;
-        add_row(keeper, alloc, event, name.as_slice(), found)?;
-    }
-    Ok(())
-}
+// ---- what is looked at of one owner
 
 // Adds all rows that the owner has of the event.
 #[tactic(auto, unfolding(misp_elem::specs::Spelling::uid))]
@@ -98,93 +36,100 @@ fn add_all<K: Keeper>(
         (result ≡ Err KeeperFault.Failed) }
 {
     let front = owner.0.0.to_be_bytes();
-    let mut rows = keeper.load_named(alloc, event, front.as_slice())?;
-    found.append(&mut rows)?;
-    Ok(())
+    add_front(keeper, alloc, event, front.as_slice(), found)
 }
 
-// The organisation that looks.
-fn viewer(looks: &Looks) -> OrgId
-    ensures value { result ≡ looks.now.by }
-    ensures is_uid { IsUid result.0 }
-{
-    let _number = looks.by.0.0;
-    looks.by
-}
-
-// Adds the own rows that are looked at.
-fn add_own<K: Keeper>(
+// Adds the rows that the owner has of one kind.
+fn add_kind<K: Keeper>(
     keeper: &mut K,
     alloc: Global,
-    looks: &Looks,
+    event: &EventId,
+    owner: &OrgId,
+    kind: u8,
     found: &mut Vec<RawRow>,
 ) -> Result<(), KeeperFault>
     ensures found { OnOk result (IfSome (K.state keeper.old).held (λ held. found.new.items
-        ≡ found.old.items ++ own_sought looks.now held.rows)) }
+        ≡ found.old.items
+        ++ rows_named event.now (kind_front owner.now event.now kind) held.rows)) }
     ensures held { (K.state keeper.new).held ≡ (K.state keeper.old).held }
     ensures cause { HasCause (K.state keeper.old).faults (K.state keeper.new).faults
         (result ≡ Err KeeperFault.Failed) }
     ensures stays { StaysUnless (K.state keeper.old).faults (K.state keeper.new).faults
         (result ≡ Err KeeperFault.Failed) }
 {
-    match &looks.own {
-        None => add_all(keeper, alloc, &looks.event, &looks.by, found),
-        Some(keys) => {
-            let keys = keys.as_slice();
-            add_keys(keeper, alloc, &looks.event, &looks.by, keys, found)
-        }
-    }
+    let front = kind_front(alloc, owner, event, kind)?;
+    add_front(keeper, alloc, event, front.as_slice(), found)
 }
 
-// Adds the rows of an owner that are looked at.
-#[tactic(auto, unfolding(crate::specs::Seeking::rows_sought, misp_ids::specs::Same::same_org))]
-fn add_owner<K: Keeper>(
+// Adds the event's own row, and those of statements.
+fn add_statements<K: Keeper>(
     keeper: &mut K,
     alloc: Global,
-    looks: &Looks,
+    event: &EventId,
     owner: &OrgId,
     found: &mut Vec<RawRow>,
 ) -> Result<(), KeeperFault>
     ensures found { OnOk result (IfSome (K.state keeper.old).held (λ held. found.new.items
-        ≡ found.old.items ++ rows_sought looks.now owner.now held.rows)) }
+        ≡ found.old.items ++ rows_of_statements event.now owner.now held.rows)) }
     ensures held { (K.state keeper.new).held ≡ (K.state keeper.old).held }
     ensures cause { HasCause (K.state keeper.old).faults (K.state keeper.new).faults
         (result ≡ Err KeeperFault.Failed) }
     ensures stays { StaysUnless (K.state keeper.old).faults (K.state keeper.new).faults
         (result ≡ Err KeeperFault.Failed) }
 {
-    if owner.0.0 == looks.by.0.0 {
-        add_own(keeper, alloc, looks, found)
+    add_event(keeper, alloc, event, owner, found)?;
+    add_kind(keeper, alloc, event, owner, 2, found)?;
+    add_kind(keeper, alloc, event, owner, 3, found)?;
+    add_kind(keeper, alloc, event, owner, 4, found)?;
+    Ok(())
+}
+
+// Adds the rows of the owner that are looked at.
+fn add_look<K: Keeper>(
+    keeper: &mut K,
+    alloc: Global,
+    look: &Look,
+    event: &EventId,
+    owner: &OrgId,
+    found: &mut Vec<RawRow>,
+) -> Result<(), KeeperFault>
+    requires { IsLookInOrder look.now }
+    ensures found { OnOk result (IfSome (K.state keeper.old).held (λ held.
+        IsTrue (ascend comes_before held.rows) → found.new.items
+        ≡ found.old.items ++ rows_in_look look.now event.now owner.now held.rows)) }
+    ensures held { (K.state keeper.new).held ≡ (K.state keeper.old).held }
+    ensures cause { HasCause (K.state keeper.old).faults (K.state keeper.new).faults
+        (result ≡ Err KeeperFault.Failed) }
+    ensures stays { StaysUnless (K.state keeper.old).faults (K.state keeper.new).faults
+        (result ≡ Err KeeperFault.Failed) }
+{
+    match look {
+        Look::Keys(keys) => add_keys(keeper, alloc, event, owner, keys.as_slice(), found),
+        Look::Uuids { uuids, keys } => {
+            let numbers = numbers_in_order(alloc, uuids.as_slice())?;
+            add_uuids(keeper, alloc, event, owner, numbers.as_slice(), found)?;
+            add_keys(keeper, alloc, event, owner, keys.as_slice(), found)
+        }
+        Look::Statements => add_statements(keeper, alloc, event, owner, found),
+        Look::All => add_all(keeper, alloc, event, owner, found),
+    }
+}
+
+// How the rows of an owner are looked at.
+#[tactic(auto, unfolding(misp_ids::specs::Same::same_org))]
+fn look_at<'a>(looks: &'a Looks, owner: &OrgId) -> &'a Look
+    requires { HasKeysInOrder looks.now }
+    ensures look { result.now ≡ look_at looks.now owner.now }
+    ensures order { IsLookInOrder result.now }
+{
+    if owner.0.0 == looks.of.0.0 {
+        &looks.own
     } else {
-        let shared = looks.shared.as_slice();
-        add_keys(keeper, alloc, &looks.event, owner, shared, found)
+        &looks.others
     }
 }
 
 // ---- one owner after the other
-
-// A byte of a name, and 0 after its end.
-fn byte_at(name: &[u8], at: usize) -> u8
-    ensures { result ≡ slice_index name.now at }
-{
-    match name.get(at) {
-        Some(byte) => *byte,
-        None => 0,
-    }
-}
-
-// The number of the first 16 bytes of a name.
-#[tactic(auto, unfolding(crate::specs::Seeking::owner_number))]
-fn owner_number(name: &[u8]) -> u128
-    ensures number { result ≡ owner_number name.now }
-    ensures bytes { IsBytes name.now }
-{
-    let mut bytes = [0u8; 16];
-    for at in 0..16 {
-        bytes[at] = byte_at(name, at);
-    }
-    u128::from_be_bytes(bytes)
-}
 
 // The number of the first owner, not before this one, that a name of the event begins with.
 fn next_owner<K: Keeper>(
@@ -239,7 +184,8 @@ fn add_next<K: Keeper>(
     match next_owner(keeper, alloc, looks, least)? {
         Some(number) => {
             let owner = OrgId(Uid(number.max(least)));
-            add_owner(keeper, alloc, looks, &owner, found)?;
+            let look = look_at(looks, &owner);
+            add_look(keeper, alloc, look, &looks.event, &owner, found)?;
             Ok(owner.0.0.checked_add(1))
         }
         None => Ok(None),
@@ -263,7 +209,6 @@ pub(crate) fn seek<K: Keeper>(
     ensures stays { StaysUnless (K.state keeper.old).faults (K.state keeper.new).faults
         (result ≡ Err KeeperFault.Failed) }
 {
-    let _by = viewer(looks);
     let mut found = Vec::new(alloc);
     let mut least = Some(0);
     while let Some(from) = least {

@@ -9,7 +9,7 @@ use Rattle.misp_model.specs.Scene.{NotGranted, Scene, first_rule}
 use Rattle.misp_model.specs.declared.package.PackageFields.{PackageFields}
 use Rattle.misp_core.specs.Answers.{reply_in, reply_of, scene_at}
 use Rattle.misp_core.specs.Effects.{Did, asked_over, asked_where, refused, telling}
-use Rattle.misp_core.specs.Prelude.{Admin, Caller, EventId, Group, Host, Row, Seen, forbidden, is_permitted, reach_of, seeing, seen_in}
+use Rattle.misp_core.specs.Prelude.{Admin, Caller, EventId, Group, Host, Row, Seen, forbidden, is_permitted, read_where, seeing, seen_in}
 use Rattle.misp_core.specs.declared.reply.Answer.{Answer}
 use Rattle.misp_core.specs.declared.reply.Reply.{Reply}
 use Rattle.misp_sync.specs.Query.{ask_of}
@@ -52,7 +52,7 @@ suits_over peer now caller query groups (Err name) = tt
 
 suits_asked : (peer : Host) (now : ℕ) (caller : Caller) (query : Query) (seen : Seen) (b : Bool)
     → Suits query (if b then asked_where peer now (caller, ask_of query) seen else refused (forbidden (ask_of query))).reply
-suits_asked peer now caller query seen true = suits_over peer now caller query seen.groups (seen.rows (reach_of peer.name caller.org (ask_of query)))
+suits_asked peer now caller query seen true = suits_over peer now caller query seen.groups (read_where peer now (caller, ask_of query) seen)
 suits_asked peer now caller query seen false = tt
 
 suits_by : (peer : Host) (now : ℕ) (caller : Option Caller) (query : Query) (seen : Seen) → Suits query (queried_by peer now caller query seen).reply

@@ -5,7 +5,7 @@ ghost use Rattle.misp_elem.specs.Row.{AreRows};
 ghost use Rattle.misp_elem.specs.Visible.{IsWhole};
 ghost use Rattle.misp_model.specs.View.{IsTable, known};
 ghost use Rattle.std.specs.List.{find};
-ghost use Rattle.std.specs.Option.{option_copied};
+ghost use Rattle.std.specs.Option.{option_copied, option_map};
 ghost use Rattle.misp_model.specs.Shown.{creator, event_row, form_of, shown};
 ghost use Rattle.misp_view.specs.View.{scene_of};
 ghost use Rattle.misp_view.specs.Form.{is_granted_row_of};
@@ -150,5 +150,29 @@ pub fn shown(
     match event_row(rows, &who, event, owner) {
         Some(row) => Ok(Some(form(alloc, rows, &who, event, row)?)),
         None => Ok(None),
+    }
+}
+
+/// Whose copy of the event is shown to the organisation at this instance: the named owner's, where
+/// that is granted to it, or the chosen one's.
+pub fn shown_owner(
+    rows: &[Row],
+    groups: &Groups,
+    here: &InstId,
+    org: &OrgId,
+    event: &EventId,
+    owner: Option<OrgId>,
+) -> Option<OrgId>
+    ensures { result ≡ option_map (λ row. row.owner)
+        (event_row (scene_of groups.now here.now org.now rows.now) event.now owner) }
+{
+    let who = Viewer {
+        groups,
+        here: *here,
+        org: *org,
+    };
+    match event_row(rows, &who, event, owner) {
+        Some(row) => Some(row.owner),
+        None => None,
     }
 }

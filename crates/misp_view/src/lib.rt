@@ -14,6 +14,6 @@ mod parts;
 mod statements;
 
 pub use choice::chosen;
-pub use form::shown;
+pub use form::{shown, shown_owner};
 pub use listing::concerning;
 pub use naming::group_names;

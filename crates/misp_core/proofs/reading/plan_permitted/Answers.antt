@@ -1,7 +1,7 @@
 use Rattle.std.proofs.Common.{◌≡◌, arith, ap, sym, subst, Err}
 use Rattle.misp_store.specs.declared.fault.LoadFault.{LoadFault}
 use Rattle.misp_core.specs.Ahead.{IsBeside}
-use Rattle.misp_core.specs.Handing.{host_at}
+use Rattle.misp_core.specs.Handing.{host_at, scene_in}
 use Rattle.misp_core.proofs.Answered.{asked_planned, keeper_told, told_of_keeper, unread_planned}
 use Rattle.misp_core.proofs.KeptLandings.{landed_planned, never_pulls, still_lands}
 use Rattle.misp_core.proofs.KeptParts.{kept_planned, left_answers, still_answers}
@@ -59,7 +59,7 @@ returns-in-Ok-clause-beside g c =
       ahead = still_answers (host_at c.args.site.now) _ c.args.site.now.groups.now c.in-Ok.rows.items c.args.site.now.moment c.args.site.now.caller.now c.args.ask _ _ c.requires.permitted c.requires.beside.groups
           c.in-Ok.ensures.found c.in-Ok.ensures.table
           (left_answers (host_at c.args.site.now) _ _ _ c.requires.beside.ahead c.take_kept.ensures.left) c.plan_request.ensures.kept;
-      landed = still_lands c.args.site.now.here.now c.args.site.now.caller.now c.in-Ok.rows.items _ c.args.ask _ _
+      landed = still_lands c.args.site.now.here.now c.args.site.now.caller.now c.in-Ok.rows.items (scene_in c.args.site.now) _ c.args.ask _ _
           c.in-Ok.ensures.found c.requires.beside.landed c.plan_request.ensures.landed;
     })
 
@@ -76,8 +76,8 @@ returns-in-Ok-clause-stays g c = λ not_. c.in-Ok.ensures.stays (λ is. absurd c
 
 pub returns-in-Err-clause-planned : goal.returns-in-Err-clause-planned
 returns-in-Err-clause-planned g c =
-    unread_planned (host_at c.args.site.now) c.args.site.now.moment (c.args.site.now.caller.now, c.args.ask) _ c.in-Err.fault c.unread.result
-    c.requires.permitted c.in-Err.ensures.bad c.unread.ensures.plans
+    unread_planned (host_at c.args.site.now) c.args.site.now.moment (c.args.site.now.caller.now, c.args.ask) c.args.site.now.groups.now _ c.in-Err.fault c.unread.result
+    c.requires.permitted c.requires.beside.groups c.in-Err.ensures.bad c.unread.ensures.plans
 
 pub returns-in-Err-clause-beside : goal.returns-in-Err-clause-beside
 returns-in-Err-clause-beside g c =

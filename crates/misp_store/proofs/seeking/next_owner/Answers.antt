@@ -2,7 +2,8 @@ use Rattle.std.proofs.Common.{◌≡◌, sym, ap, subst, ◌∙◌, IfSome, Some
 use Rattle.misp_lists.proofs.Bytes.{IsBytes}
 use Rattle.misp_outside.specs.Held.{next_row}
 use Rattle.misp_elem.specs.Spelling.{uid}
-use Rattle.misp_store.specs.Seeking.{owner_number, rows_from}
+use Rattle.misp_store.specs.Seeking.{rows_from}
+use Rattle.misp_store.specs.Seen.{owner_number}
 use Rattle.misp_store.proofs.OwnersSought.{org}
 use Rattle.misp_store.proofs.Sought.{number_bytes, owner_next, owner_none}
 use Rattle.misp_store.proofs.seeking.next_owner.Goals as goal

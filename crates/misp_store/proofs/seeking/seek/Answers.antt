@@ -1,12 +1,10 @@
 use Rattle.std.proofs.Common.{refl, subst, inl}
-use Rattle.misp_elem.specs.Prelude.{IsUid}
-use Rattle.misp_model.proofs.Prelude.{OrgId}
 use Rattle.misp_store.proofs.Sought.{OwnersFound, ascends_after, found_ascends, owners_done, owners_first}
 use Rattle.misp_store.proofs.seeking.seek.Goals as goal
 
 pub loop-least-init : goal.loop-least-init
 loop-least-init g c = record {
-  found = owners_first c.args.looks.now (subst (λ (by : OrgId). IsUid by.0) c.viewer-by.ensures.value c.viewer-by.ensures.is_uid) (g.K.Keeper.state c.args.keeper.now).held c.new-found.result.items c.new-found.ensures.items;
+  found = owners_first c.args.looks.now (g.K.Keeper.state c.args.keeper.now).held c.new-found.result.items c.new-found.ensures.items;
   order = inl refl;
   held = refl;
   same = refl;

@@ -1,6 +1,6 @@
 use Rattle.std.proofs.Common.{◌≡◌, drop}
 use Rattle.misp_store.proofs.Sought.{KeysFound}
-use Rattle.misp_store.proofs.seeking.add_keys.Given as goal
+use Rattle.misp_store.proofs.names_sought.add_keys.Given as goal
 
 -- what is found, before the rows of the keys that are left; and the keeper is as it was
 abbrev pub invariant-loop-key : goal.invariant-loop-key

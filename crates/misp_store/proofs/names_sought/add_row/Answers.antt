@@ -1,5 +1,5 @@
 use Rattle.misp_store.proofs.Sought.{row_absent, row_added}
-use Rattle.misp_store.proofs.seeking.add_row.Goals as goal
+use Rattle.misp_store.proofs.names_sought.add_row.Goals as goal
 
 pub returns-in_ok-add_named-in-Some-clause-found : goal.returns-in_ok-add_named-in-Some-clause-found
 returns-in_ok-add_named-in-Some-clause-found g c =

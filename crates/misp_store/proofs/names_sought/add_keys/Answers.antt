@@ -1,6 +1,6 @@
 use Rattle.std.proofs.Common.{◌∙◌, arith}
 use Rattle.misp_store.proofs.Sought.{keys_done, keys_next}
-use Rattle.misp_store.proofs.seeking.add_keys.Goals as goal
+use Rattle.misp_store.proofs.names_sought.add_keys.Goals as goal
 
 pub loop-key-preserved : goal.loop-key-preserved
 loop-key-preserved g c = record {
