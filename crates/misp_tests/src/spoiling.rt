@@ -9,11 +9,13 @@ use std::process::Abort;
 use std::test::Fail;
 
 /// What the names in the text stand for, in the order in which they are put in.
-const NAMES: [(&str, &str); 12] = [
+const NAMES: [(&str, &str); 18] = [
     (
         "{net}",
-        "[[org]]\nname = 'Alpha'\nuuid = 'aa{rest}'\n[[instance]]\nname = 'a'\n\
-         [[key]]\ninstance = 'a'\nkey = '{ka}'\norg = 'Alpha'\nrole = 'publisher'\n",
+        "[[org]]\nname = 'Alpha'\nuuid = 'aa{rest}'\n[[org]]\nname = 'Beta'\nuuid = 'bb{rest}'\n\
+         [[instance]]\nname = 'a'\n\
+         [[key]]\ninstance = 'a'\nkey = '{ka}'\norg = 'Alpha'\nrole = 'publisher'\n\
+         [[key]]\ninstance = 'a'\nkey = '{kb}'\norg = 'Beta'\nrole = 'publisher'\n",
     ),
     (
         "{add}",
@@ -21,13 +23,27 @@ const NAMES: [(&str, &str); 12] = [
          {'uuid':'a1{rest}','type':'text','value':'x'},\
          {'uuid':'a2{rest}','type':'text','value':'y'}]}\n",
     ),
+    (
+        "{more}",
+        "{step} POST /attributes/add/e1{rest} {'uuid':'a3{rest}','type':'text','value':'z'}\n",
+    ),
     ("{edit}", "{step} POST /attributes/edit/e1{rest}/"),
     ("{view}", "{step} GET /events/view/e1{rest}\n"),
+    (
+        "{other}",
+        "{later} POST /events/add {'uuid':'e1{rest}','info':'Two'}\n\
+         {later} GET /events/view/e1{rest}\n",
+    ),
+    (
+        "{later}",
+        "1700000001 00000000000000000000000000000000 req a {kb}",
+    ),
     (
         "{step}",
         "1700000000 00000000000000000000000000000000 req a {ka}",
     ),
     ("{ka}", "AAAAAAAAAAAAAAAAAAAAAAAAAAAAAAAAAAAAAAAA"),
+    ("{kb}", "BBBBBBBBBBBBBBBBBBBBBBBBBBBBBBBBBBBBBBBB"),
     (
         "{saved3}",
         "{'elements':3,'event':'e1{rest}','timestamp':'17000000",
@@ -37,6 +53,14 @@ const NAMES: [(&str, &str); 12] = [
         "{'elements':1,'event':'e1{rest}','timestamp':'17000000",
     ),
     (
+        "{seen}",
+        "{'Event':{'Attribute':[],'Object':[],'Org':{beta},'Orgc':{beta},'ShadowAttribute':[],\
+         'Tag':[],'analysis':'0','attribute_count':'0','date':'2023-11-14','distribution':'0',\
+         'extends_uuid':'','info':'Two','publish_timestamp':'0','published':false,\
+         'threat_level_id':'4','timestamp':'1700000001','uuid':'e1{rest}'}}",
+    ),
+    ("{beta}", "{'name':'Beta','uuid':'bb{rest}'}"),
+    (
         "{bad}",
         "{'name':'BadRow','place':'aa{hex}00e1{hex}02a1{hex}','rule':28}",
     ),
@@ -45,13 +69,15 @@ const NAMES: [(&str, &str); 12] = [
     ("'", "\""),
 ];
 
-/// An event with two attributes, an edit of each, and a view.
+/// An event with two attributes, an edit of the second and a third one, an edit of the first, and a
+/// view; and then the copy of another organisation, and its view.
 const TEXT: &str = "{net}---\n{add}\
-    {edit}a2{rest} {'comment':'two'}\n{edit}a1{rest} {'comment':'one'}\n{view}";
+    {edit}a2{rest} {'comment':'two'}\n{more}{edit}a1{rest} {'comment':'one'}\n{view}{other}";
 
-/// What is written: the event and the edit of the second attribute are taken, and what looks at the
-/// first is refused by rule 28, which names its row.
-const LINES: &str = "1 200 {saved3}00'}\n2 200 {saved1}01'}\n3 500 {bad}\n4 500 {bad}\n";
+/// What is written: the event, the edit of the second attribute and the third one are taken, what
+/// looks at the first is refused by rule 28, which names its row, and the other copy is shown.
+const LINES: &str = "1 200 {saved3}00'}\n2 200 {saved1}01'}\n3 200 {saved1}00'}\n\
+    4 500 {bad}\n5 500 {bad}\n6 200 {saved1}01'}\n7 200 {seen}\n";
 
 /// The name of the row of the first attribute: its owner, its event and its place.
 const NAME: &[u8] = b"\xaa\0\0\0\0\0\x40\0\x80\0\0\0\0\0\0\x01\
