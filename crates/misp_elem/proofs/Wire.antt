@@ -18,7 +18,7 @@ nobody_field : IsField (λ (o : OrgId). IsUid o.0 × (o.0.0 ≡ 0)) (λ o. uid o
 unfolding nobody_at
 nobody_field = under (λ (o : OrgId). IsUid o.0 × (o.0.0 ≡ 0)) (λ o h. (h.0, eqb-true _ _ h.1)) (λ o h. (h.0, eq-eqb _ _ h.1)) (tested (λ (o : OrgId). eqb o.0.0 0) org_field)
 
-own_event_field : (e : EventId) → IsField (λ (f : EventId). IsUid f.0 × (f.0.0 ≡ e.0.0)) (λ f. uid f.0) (own_event_at e)
+pub own_event_field : (e : EventId) → IsField (λ (f : EventId). IsUid f.0 × (f.0.0 ≡ e.0.0)) (λ f. uid f.0) (own_event_at e)
 unfolding own_event_at
 own_event_field e =
     under (λ (f : EventId). IsUid f.0 × (f.0.0 ≡ e.0.0)) (λ f h. (h.0, eqb-true _ _ h.1)) (λ f h. (h.0, eq-eqb _ _ h.1)) (tested (λ (f : EventId). eqb f.0.0 e.0.0) event_field)
@@ -36,12 +36,12 @@ flags_carried false false h = absurd (false≢true h)
 flags_carried true carried h = absurd (false≢true h)
 
 -- events of one number are the same
-one_event : (f e : EventId) → f.0.0 ≡ e.0.0 → f ≡ e
+pub one_event : (f e : EventId) → f.0.0 ≡ e.0.0 → f ≡ e
 one_event f e h = let make : ℕ → EventId = λ n. record { 0 = record { 0 = n } } in ap make h
 
 -- ---- the key of the first row
 
-zero_is : (n : ℕ) → IsBetween 0 0 n → n ≡ 0
+pub zero_is : (n : ℕ) → IsBetween 0 0 n → n ≡ 0
 zero_is n h = omega (arith, leb-true n 0 (and_parts (leb 0 n) (leb n 0) h).1)
 
 only_event : (p : Place) → IsPlaceBut (1 ∷ 2 ∷ 3 ∷ []) p → p ≡ Event
@@ -81,7 +81,7 @@ first_key_again e k rest h =
 -- ---- the key of a later row
 
 -- what the front of a key says: its event, where it is this one
-abbrev Fronts : EventId → EventId → List ℕ → Type 0
+abbrev pub Fronts : EventId → EventId → List ℕ → Type 0
 Fronts e f bytes = (y : List ℕ) × (n : ℕ) × (front_at e bytes ≡ cond (eqb f.0.0 e.0.0) (Ok (f, y)) (Err n))
 
 front_reads : (e f : EventId) (kind : ℕ) (x rest : List ℕ) → IsBetween 0 4 kind → IsUid f.0 → Fronts e f ((kind ∷ (uid f.0 ++ x)) ++ rest)
@@ -95,7 +95,7 @@ front_reads e f kind x rest between u =
           ∙ ap (λ r. r >>= λ own. cond (eqb own.0.0.0 e.0.0) (Ok own) (Err (length tail))) read,
     )
 
-front_of_key : (e : EventId) (k : KeyForm) (rest : List ℕ) → IsKey k → Fronts e (event_of k) (key k ++ rest)
+pub front_of_key : (e : EventId) (k : KeyForm) (rest : List ℕ) → IsKey k → Fronts e (event_of k) (key k ++ rest)
 unfolding event_of
 front_of_key e (Element f p) rest h = front_reads e f 0 (place p) rest refl h.0
 front_of_key e (Reference f object target uuid) rest h = front_reads e f 1 (uid object.0 ++ (place target ++ uid uuid.0)) rest refl h.0
@@ -103,7 +103,7 @@ front_of_key e (Proposal f name) rest h = front_reads e f 2 (proposal_name name)
 front_of_key e (Verdict f name at judge) rest h = front_reads e f 3 (proposal_name name ++ (inst_name at ++ uid judge.0)) rest refl h.0
 front_of_key e (Sighting f target at by uuid) rest h = front_reads e f 4 (place target ++ (inst_name at ++ (uid by.0 ++ uid uuid.0))) rest refl h.0
 
-front_is : (e : EventId) (k : KeyForm) (rest : List ℕ) → IsKey k → (x : EventId × List ℕ) → front_at e (key k ++ rest) ≡ Ok x → event_of k ≡ e
+pub front_is : (e : EventId) (k : KeyForm) (rest : List ℕ) → IsKey k → (x : EventId × List ℕ) → front_at e (key k ++ rest) ≡ Ok x → event_of k ≡ e
 front_is e k rest is x h =
     let w = front_of_key e k rest is in
     let c = keep_ok (eqb (event_of k).0.0 e.0.0) w.1 (event_of k, w.0) x (sym w.2 ∙ h) in

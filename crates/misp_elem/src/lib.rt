@@ -32,4 +32,4 @@ pub use reading::{decode, decode_key, decode_on_wire};
 pub use row::{Row, RowFields};
 pub use shared::Shared;
 pub use visible::{VisibleAttribute, VisibleEvent, VisibleObject};
-pub use writing::{encode, encode_key, encode_name};
+pub use writing::{encode, encode_key, encode_name, put_key};

@@ -20,6 +20,7 @@ impl<T> Model for Shared<T> {
 impl<T: Drop> Shared<T> {
     ghost use Rattle.std.specs.Prelude.{◌≡◌, IfOk};
 
+    /// The value with its first owner, moved into room of its own. The last owner frees it.
     pub fn of(alloc: Global, value: T) -> Result<Shared<T>, AllocError>
         ensures { IfOk result (λ s. s ≡ value) }
     {

@@ -134,7 +134,9 @@ fn put_sighting(
     put_uid(out, uuid.0)
 }
 
-fn put_key(out: &mut Vec<u8>, key: &KeyForm) -> Result<(), AllocError>
+/// Writes the one spelling of a key after what is there. Where memory runs out, a part of it may be
+/// written.
+pub fn put_key(out: &mut Vec<u8>, key: &KeyForm) -> Result<(), AllocError>
     ensures { OnOk result (out.new.items ≡ out.old.items ++ spelling.key key.now) }
 {
     match key {

@@ -1,6 +1,6 @@
 //! What the value of an attribute has to be, by the attribute's type.
 
-ghost use Rattle.std.specs.Prelude.{◌≡◌, bytes_eq};
+ghost use Rattle.std.specs.Prelude.{◌≡◌};
 ghost use Rattle.misp_types.specs.Kinds.{form_of, rule_of};
 
 /// What a text has to be.
@@ -24,33 +24,25 @@ pub(crate) enum Rule {
     File,
 }
 
-/// Whether the two are the same, by their bytes from left to right: types are short, and most
-/// differ soon.
-fn is_same(kind: &str, other: &str) -> bool
-    ensures { result ≡ bytes_eq kind.now other.now }
-{
-    kind.as_bytes() == other.as_bytes()
-}
-
 #[tactic(auto, unfolding(crate::specs::Kinds::form_of))]
 fn form_of(kind: &str) -> Form
     ensures { result ≡ form_of kind.now }
 {
-    if is_same(kind, "md5") {
+    if kind == "md5" {
         Form::Digest(32)
-    } else if is_same(kind, "sha1") {
+    } else if kind == "sha1" {
         Form::Digest(40)
-    } else if is_same(kind, "sha256") {
+    } else if kind == "sha256" {
         Form::Digest(64)
-    } else if is_same(kind, "sha512") {
+    } else if kind == "sha512" {
         Form::Digest(128)
-    } else if is_same(kind, "ip-src") || is_same(kind, "ip-dst") {
+    } else if kind == "ip-src" || kind == "ip-dst" {
         Form::Address
-    } else if is_same(kind, "domain") || is_same(kind, "hostname") {
+    } else if kind == "domain" || kind == "hostname" {
         Form::Domain
-    } else if is_same(kind, "port") {
+    } else if kind == "port" {
         Form::Port
-    } else if is_same(kind, "AS") {
+    } else if kind == "AS" {
         Form::System
     } else {
         Form::Any
@@ -61,17 +53,17 @@ fn form_of(kind: &str) -> Form
 pub(crate) fn rule_of(kind: &str) -> Rule
     ensures { result ≡ rule_of kind.now }
 {
-    if is_same(kind, "filename|md5") {
+    if kind == "filename|md5" {
         Rule::Two(Form::Any, Form::Digest(32))
-    } else if is_same(kind, "filename|sha1") {
+    } else if kind == "filename|sha1" {
         Rule::Two(Form::Any, Form::Digest(40))
-    } else if is_same(kind, "filename|sha256") {
+    } else if kind == "filename|sha256" {
         Rule::Two(Form::Any, Form::Digest(64))
-    } else if is_same(kind, "domain|ip") {
+    } else if kind == "domain|ip" {
         Rule::Two(Form::Domain, Form::Address)
-    } else if is_same(kind, "ip-src|port") || is_same(kind, "ip-dst|port") {
+    } else if kind == "ip-src|port" || kind == "ip-dst|port" {
         Rule::Two(Form::Address, Form::Port)
-    } else if is_same(kind, "attachment") || is_same(kind, "malware-sample") {
+    } else if kind == "attachment" || kind == "malware-sample" {
         Rule::File
     } else {
         Rule::One(form_of(kind))

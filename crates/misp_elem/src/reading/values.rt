@@ -18,7 +18,7 @@ fn kept(alloc: Global, kind: &str, value: &str, bad: BadField) -> Result<Text, S
 {
     match check(alloc, kind, value) {
         Ok(kept) => {
-            if kept.as_str().as_bytes() == value.as_bytes() {
+            if kept.as_str() == value {
                 Ok(Text::of(kept))
             } else {
                 Err(Stop::Bad(bad))
