@@ -58,6 +58,20 @@ module _ {X : Type 0} (before : X → X → Bool) where
               rw fails (one_found f never xs two.1 rest)
         ]
 
+    -- what is found first and passes a stricter test is the first that passes it
+    pub found_too : (f : X) → p f ≡ true → (xs : List X) → find t xs ≡ Some f → find p xs ≡ Some f
+    found_too f passes [] e = absurd cc
+    found_too f passes (x ∷ xs) e = elim (cases_Bool (t x)) [
+      | inl hit ↦
+          let is : x ≡ f = some_same x f (sym (rw hit refl) ∙ e) in
+          let here : p x ≡ true = ap p is ∙ passes in
+          rw here (ap Some is)
+      | inr miss ↦
+          let rest : find t xs ≡ Some f = sym (rw miss refl) ∙ e in
+          let fails : p x ≡ false = false_from_ne_true _ (λ h. false≢true (sym miss ∙ into x h)) in
+          rw fails (found_too f passes xs rest)
+    ]
+
     -- of what passes a stricter test nothing is before the first
     pub from_found : (r : X → Bool) → ((x : X) → r x ≡ true → p x ≡ true) → (f : X) → (p f ≡ true → r f ≡ true) → ((b : X) → before f b ≡ true → p b ≡ true → r b ≡ true)
         → (xs : List X) → ascend before xs ≡ true → find t xs ≡ Some f → filter p xs ≡ filter r xs

@@ -9,7 +9,7 @@ use Rattle.misp_lists.proofs.Orders.{in_bytes, less, same}
 use Rattle.misp_lists.proofs.Prelude.{bytes_eq-Decides, false≢true, ordering_then}
 use Rattle.misp_elem.specs.Prelude.{IsUid, Uid}
 use Rattle.misp_elem.specs.Spelling.{uid}
-use Rattle.misp_store.specs.Seen.{owner_number}
+use Rattle.misp_store.specs.Seen.{front_number}
 use Rattle.misp_store.proofs.OwnerRows.{same_bytes}
 
 -- ---- so many bytes as a number, the highest first, and 0 after the last
@@ -64,14 +64,14 @@ front_is (b0 ∷ b1 ∷ b2 ∷ b3 ∷ b4 ∷ b5 ∷ b6 ∷ b7 ∷ b8 ∷ b9 ∷ 
 front_is (b0 ∷ b1 ∷ b2 ∷ b3 ∷ b4 ∷ b5 ∷ b6 ∷ b7 ∷ b8 ∷ b9 ∷ b10 ∷ b11 ∷ b12 ∷ b13 ∷ b14 ∷ []) = omega arith
 front_is (b0 ∷ b1 ∷ b2 ∷ b3 ∷ b4 ∷ b5 ∷ b6 ∷ b7 ∷ b8 ∷ b9 ∷ b10 ∷ b11 ∷ b12 ∷ b13 ∷ b14 ∷ b15 ∷ bs) = omega arith
 
-number_is : (bs : List ℕ) → owner_number bs ≡ front 16 bs
-unfolding owner_number
+number_is : (bs : List ℕ) → front_number bs ≡ front 16 bs
+unfolding front_number
 number_is bs = front_is bs
 
 -- ---- names in order
 
 -- a name that is not before another begins with no lesser number
-pub numbers_up : (n f : List ℕ) → IsBytes f → is_ge (in_bytes n f) ≡ true → owner_number f ≤ owner_number n
+pub numbers_up : (n f : List ℕ) → IsBytes f → is_ge (in_bytes n f) ≡ true → front_number f ≤ front_number n
 numbers_up n f fits h = omega (arith, front_up 16 n f fits h, number_is n, number_is f)
 
 -- ---- names that begin with an owner
@@ -88,15 +88,15 @@ pub uid_bytes : (u : Uid) → IsBytes (uid u)
 unfolding uid
 uid_bytes u = bytes_small 16 u.0
 
-pub number_fits : (u : Uid) (rest : List ℕ) → owner_number (uid u ++ rest) < 2 ^ 128
-unfolding owner_number uid
+pub number_fits : (u : Uid) (rest : List ℕ) → front_number (uid u ++ rest) < 2 ^ 128
+unfolding front_number uid
 number_fits u rest = from_be_bytes_16-lt (uid u) (uid_bytes u)
 
 one_number : (a b : Uid) → IsUid a → IsUid b → uid a ≡ uid b → a.0 ≡ b.0
 one_number a b h k e = sym (eqb-true b.0 a.0 (sym (same_bytes a b h k) ∙ (bytes_eq-Decides (uid a) (uid b)).1 e))
 
-pub number_of_uid : (u : Uid) (rest : List ℕ) → IsUid u → owner_number (uid u ++ rest) ≡ u.0
-unfolding owner_number uid
+pub number_of_uid : (u : Uid) (rest : List ℕ) → IsUid u → front_number (uid u ++ rest) ≡ u.0
+unfolding front_number uid
 number_of_uid u rest is =
     one_number (record { 0 = from_be_bytes w128 (uid u) }) u (from_be_bytes_16-lt (uid u) (uid_bytes u)) is
     (to_be_bytes-from_be_bytes_16 (uid u) refl (uid_bytes u))

@@ -22,6 +22,8 @@ pub mod Sought
 pub mod KeysLooked
 pub mod LookParts
 pub mod LooksSought
+pub mod FirstRows
+pub mod OwnAlone
 pub mod UuidNumbers
 pub mod UuidNames
 pub mod NamedLooked

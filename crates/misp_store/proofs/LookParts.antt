@@ -92,7 +92,7 @@ module _ (e : EventId) (o : OrgId) where
   from_kind : (k m : ℕ) (x : List ℕ) → k ≤ m → of_kind m x ≡ true → FromKind e o k x
   from_kind k m x le h = (m, (le, kind_begun e o m x h))
 
-  two_kinds : (x : List ℕ) → (of_kind 3 x || of_kind 4 x) ≡ true → FromKind e o 3 x
+  pub two_kinds : (x : List ℕ) → (of_kind 3 x || of_kind 4 x) ≡ true → FromKind e o 3 x
   two_kinds x h = elim (or_cases (of_kind 3 x) (of_kind 4 x) h) [
     | inl is ↦ from_kind 3 3 x (omega arith) is
     | inr is ↦ from_kind 3 4 x (omega arith) is
@@ -104,15 +104,18 @@ module _ (e : EventId) (o : OrgId) where
     | inr more ↦ let y = two_kinds x more in (y.0, (omega (arith, y.1.0), y.1.1))
   ]
 
-  pub statements_found : (raws : List RawRow) → ascend comes_before raws ≡ true → rows_of_statements e o raws ≡ rows_in_look Look.Statements e o raws
-  unfolding rows_of_statements rows_in_look names_in rows_at rows_named
-  statements_found raws up = sym whole
-    where
-      whole : rows_in_look Look.Statements e o raws ≡ rows_of_statements e o raws
-      whole =
-          in_two e (λ x. bytes_eq x (name o (event_key e))) (λ x. of_kind 2 x || (of_kind 3 x || of_kind 4 x))
-          (λ x y h k. form_first e o 0 x y (event_named e o x h) (inr (three_kinds y k))) raws up
-          ∙ ap (λ t. rows_at e (name o (event_key e)) raws ++ t)
-          (in_two e (of_kind 2) (λ x. of_kind 3 x || of_kind 4 x) (λ x y h k. kind_first e o 2 x y (kind_begun e o 2 x h) (two_kinds y k)) raws up
-          ∙ ap (λ t. rows_named e (kind_front o e 2) raws ++ t)
-          (in_two e (of_kind 3) (of_kind 4) (λ x y h k. kind_first e o 3 x y (kind_begun e o 3 x h) (from_kind 4 4 y (omega arith) k)) raws up))
+  -- what is of each kind, one after the other
+  pub kinds_found : (raws : List RawRow) → ascend comes_before raws ≡ true → rows_named e (kind_front o e 2) raws ++ (rows_named e (kind_front o e 3) raws ++ rows_named e (kind_front o e 4) raws) ≡ rows_of_statements e o raws
+  unfolding rows_of_statements rows_named
+  kinds_found raws up =
+      sym
+      (in_two e (of_kind 2) (λ x. of_kind 3 x || of_kind 4 x) (λ x y h k. kind_first e o 2 x y (kind_begun e o 2 x h) (two_kinds y k)) raws up
+      ∙ ap (λ t. rows_named e (kind_front o e 2) raws ++ t)
+      (in_two e (of_kind 3) (of_kind 4) (λ x y h k. kind_first e o 3 x y (kind_begun e o 3 x h) (from_kind 4 4 y (omega arith) k)) raws up))
+
+  pub statements_found : (raws : List RawRow) → ascend comes_before raws ≡ true → rows_at e (name o (event_key e)) raws ++ rows_of_statements e o raws ≡ rows_in_look Look.Statements e o raws
+  unfolding rows_of_statements rows_in_look names_in rows_at
+  statements_found raws up =
+      sym
+      (in_two e (λ x. bytes_eq x (name o (event_key e))) (λ x. of_kind 2 x || (of_kind 3 x || of_kind 4 x))
+      (λ x y h k. form_first e o 0 x y (event_named e o x h) (inr (three_kinds y k))) raws up)

@@ -18,7 +18,7 @@ use Rattle.misp_model.proofs.Spelled.{begins_with_itself}
 use Rattle.misp_model.specs.Looking.{has_uuid, is_in_look, is_place_with}
 use Rattle.misp_model.specs.declared.looks.Look.{Look}
 use Rattle.misp_store.specs.Seeking.{IsLookOfKeys}
-use Rattle.misp_store.specs.Seen.{attributes_of, begin_with, end_with_one, kind_front, last_number, names_by_uuid, names_in, names_one, names_statement, names_within, owner_number, place_front}
+use Rattle.misp_store.specs.Seen.{attributes_of, begin_with, end_with_one, kind_front, end_number, names_by_uuid, names_in, names_one, names_statement, names_within, front_number, place_front}
 use Rattle.misp_store.proofs.Fronts.{number_of_uid}
 use Rattle.misp_store.proofs.LookParts.{form_begun, kind_begun}
 use Rattle.misp_store.proofs.NamedRows.{not_less}
@@ -69,32 +69,32 @@ form_there o e form rest =
     ap (begin_with (place_front o e form)) (sym (append_assoc (kind_front o e 0) (form ∷ []) rest ∙ append_assoc (uid o.0) (0 ∷ uid e.0) (form ∷ rest)))
     ∙ begins_with_itself (place_front o e form) rest
 
-last_of : (front bytes : List ℕ) (u : Uid) → IsUid u → bytes ≡ front ++ uid u → last_number bytes ≡ u.0
-unfolding last_number owner_number
+last_of : (front bytes : List ℕ) (u : Uid) → IsUid u → bytes ≡ front ++ uid u → end_number bytes ≡ u.0
+unfolding end_number front_number
 last_of front bytes u is e =
-    ap last_number e
-    ∙ ap owner_number (drop_at front (uid u) (length (front ++ uid u) - 16) (omega (arith, length-append front (uid u), uid_length u)) ∙ sym (append-nil (uid u)))
+    ap end_number e
+    ∙ ap front_number (drop_at front (uid u) (length (front ++ uid u) - 16) (omega (arith, length-append front (uid u), uid_length u)) ∙ sym (append-nil (uid u)))
     ∙ number_of_uid u [] is
 
-attribute_last : (o : OrgId) (e : EventId) (x a : ElemId) → IsUid a.0 → last_number (name o (Element e (Place.ObjectAttribute x a))) ≡ a.0.0
+attribute_last : (o : OrgId) (e : EventId) (x a : ElemId) → IsUid a.0 → end_number (name o (Element e (Place.ObjectAttribute x a))) ≡ a.0.0
 attribute_last o e x a is =
     last_of (uid o.0 ++ (0 ∷ uid e.0 ++ 3 ∷ uid x.0)) _ a.0 is
     (sym (append_assoc (uid o.0) (0 ∷ uid e.0 ++ 3 ∷ uid x.0) (uid a.0) ∙ ap (λ t. uid o.0 ++ t) (append_assoc (0 ∷ uid e.0) (3 ∷ uid x.0) (uid a.0))))
 
-reference_last : (o : OrgId) (e : EventId) (x : ElemId) (t : Place) (u : ElemId) → IsUid u.0 → last_number (name o (Reference e x t u)) ≡ u.0.0
+reference_last : (o : OrgId) (e : EventId) (x : ElemId) (t : Place) (u : ElemId) → IsUid u.0 → end_number (name o (Reference e x t u)) ≡ u.0.0
 reference_last o e x t u is =
     last_of (uid o.0 ++ (1 ∷ uid e.0 ++ (uid x.0 ++ place t))) _ u.0 is
     (sym (append_assoc (uid o.0) (1 ∷ uid e.0 ++ (uid x.0 ++ place t)) (uid u.0)
     ∙ ap (λ s. uid o.0 ++ s) (append_assoc (1 ∷ uid e.0) (uid x.0 ++ place t) (uid u.0) ∙ ap (λ s. 1 ∷ uid e.0 ++ s) (append_assoc (uid x.0) (place t) (uid u.0)))))
 
 -- the bytes end with one of the uuids just where its number is among them
-ends_so : (us : List ElemId) (bytes : List ℕ) (u : ElemId) → last_number bytes ≡ u.0.0 → list_any (same_elem u) us ≡ true → end_with_one us bytes ≡ true
+ends_so : (us : List ElemId) (bytes : List ℕ) (u : ElemId) → end_number bytes ≡ u.0.0 → list_any (same_elem u) us ≡ true → end_with_one us bytes ≡ true
 unfolding same_elem
-ends_so us bytes u last h = any_implies (same_elem u) (λ v. v.0.0 == last_number bytes) (λ v same. eq-eqb v.0.0 (last_number bytes) (sym (eqb-true u.0.0 v.0.0 same) ∙ sym last)) us h
+ends_so us bytes u last h = any_implies (same_elem u) (λ v. v.0.0 == end_number bytes) (λ v same. eq-eqb v.0.0 (end_number bytes) (sym (eqb-true u.0.0 v.0.0 same) ∙ sym last)) us h
 
-told_so : (us : List ElemId) (bytes : List ℕ) (u : ElemId) → last_number bytes ≡ u.0.0 → end_with_one us bytes ≡ true → list_any (same_elem u) us ≡ true
+told_so : (us : List ElemId) (bytes : List ℕ) (u : ElemId) → end_number bytes ≡ u.0.0 → end_with_one us bytes ≡ true → list_any (same_elem u) us ≡ true
 unfolding same_elem
-told_so us bytes u last h = any_implies (λ v. v.0.0 == last_number bytes) (same_elem u) (λ v same. eq-eqb u.0.0 v.0.0 (sym last ∙ sym (eqb-true v.0.0 (last_number bytes) same))) us h
+told_so us bytes u last h = any_implies (λ v. v.0.0 == end_number bytes) (same_elem u) (λ v same. eq-eqb u.0.0 v.0.0 (sym last ∙ sym (eqb-true v.0.0 (end_number bytes) same))) us h
 
 -- ---- where the key is looked at, so is the name
 

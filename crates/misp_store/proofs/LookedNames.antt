@@ -8,7 +8,7 @@ use Rattle.misp_elem.specs.Spelling.{key, name, uid}
 use Rattle.misp_model.proofs.Prelude.{ElemId, EventId, Key, OrgId}
 use Rattle.misp_model.specs.declared.looks.Look.{Look}
 use Rattle.misp_model.specs.declared.looks.Looks.{Looks}
-use Rattle.misp_store.specs.Seen.{attributes_of, begin_with, end_with_one, is_name_looked, kind_front, look_at, names_by_uuid, names_in, names_one, names_statement, names_within, owner_in, owner_number, place_front}
+use Rattle.misp_store.specs.Seen.{attributes_of, begin_with, end_with_one, is_name_looked, kind_front, look_at, names_by_uuid, names_in, names_one, names_statement, names_within, owner_in, front_number, place_front}
 use Rattle.misp_store.proofs.Fronts.{number_fits}
 
 -- the bytes begin with those of the owner
@@ -56,7 +56,7 @@ module _ (e : EventId) (o : OrgId) (bytes : List ℕ) where
     ]
   ]
 
-  statement_begins : names_statement e o bytes ≡ true → BeginsWith o bytes
+  pub statement_begins : names_statement e o bytes ≡ true → BeginsWith o bytes
   statement_begins h = elim (or_cases (begin_with (kind_front o e 2) bytes) _ h) [
     | inl is ↦ kind_begins o e 2 bytes is
     | inr more ↦ elim (or_cases (begin_with (kind_front o e 3) bytes) _ more) [
@@ -86,5 +86,5 @@ module _ (l : Looks) (bytes : List ℕ) (looked : is_name_looked l bytes ≡ tru
   begins = look_begins l.event (owner_in bytes) bytes (look_at l (owner_in bytes)) looked
 
   -- its owner has 16 bytes
-  pub owner_fits : owner_number bytes < 2 ^ 128
-  owner_fits = subst (λ t. owner_number t < 2 ^ 128) (sym begins.1) (number_fits (owner_in bytes).0 begins.0)
+  pub owner_fits : front_number bytes < 2 ^ 128
+  owner_fits = subst (λ t. front_number t < 2 ^ 128) (sym begins.1) (number_fits (owner_in bytes).0 begins.0)

@@ -1,11 +1,10 @@
 -- The rows under the names that a request looks at, of which those that it looks at are those of all.
-use Rattle.std.proofs.Common.{◌≡◌, Bool, true, false, cond, List, [], ◌∷◌, ◌++◌, refl, sym, ap, subst, ◌∙◌, inl, inr, arith, map, filter, nat_eq, bytes_eq, ◌&&◌, ◌||◌, Option, Some, None}
-use Rattle.std.specs.List.{starts_with}
+use Rattle.std.proofs.Common.{◌≡◌, Bool, true, false, cond, List, [], ◌∷◌, ◌++◌, refl, sym, ap, subst, ◌∙◌, inl, inr, arith, map, filter, ◌&&◌, Some}
 use Rattle.std.proofs.lemmas.List.Folds.{list_all-append}
 use Rattle.misp_lists.proofs.Lists.{some_same}
-use Rattle.misp_elem.specs.Spelling.{key, name, uid}
+use Rattle.misp_elem.specs.Spelling.{key, name}
 use Rattle.misp_elem.specs.declared.key.Place.{Place}
-use Rattle.misp_model.proofs.Prelude.{AreRows, EventId, Inst, IsRow, Key, OrgId, Row, and_from, and_parts, event_key, event_of, false≢true, filter_within, list_all, list_any, name_bytes, or_cases, same_event, same_event-refl, same_key, same_key-sound, same_org}
+use Rattle.misp_model.proofs.Prelude.{AreRows, EventId, Inst, IsRow, Key, OrgId, Row, and_from, and_parts, event_key, event_of, false≢true, list_all, list_any, name_bytes, or_cases, same_event, same_event-refl, same_key, same_key-sound, same_org}
 use Rattle.misp_elem.specs.Prelude.{Submission}
 use Rattle.misp_model.specs.Prelude.{ProposalName, above, is_for_new, up_to}
 use Rattle.misp_model.specs.Looking.{at_copy, at_event, at_parts, at_place, at_proposal, at_shown, at_target, beside, change_looks, is_in_look, looks_at, looks_of, proposal_keys, rows_seen_by}

@@ -13,7 +13,7 @@ use Rattle.misp_effects.specs.Prelude.{RawRow}
 use Rattle.misp_model.proofs.Prelude.{EventId, Key, OrgId}
 use Rattle.misp_model.specs.declared.looks.Looks.{Looks}
 use Rattle.misp_store.specs.Seeking.{ends_among, rows_at, rows_ending, rows_from, rows_of_keys, rows_sought}
-use Rattle.misp_store.specs.Seen.{owner_number, rows_looked}
+use Rattle.misp_store.specs.Seen.{front_number, rows_looked}
 use Rattle.misp_store.proofs.NamedRows.{row_found, row_missing}
 use Rattle.misp_store.proofs.OwnersSought.{org}
 use Rattle.misp_store.proofs.OwnerSteps.{first_owner, from_first, last_owner, no_owner, owner_and_more}
@@ -43,15 +43,11 @@ row_absent (Some told) e bytes next start found none = sym (append-nil start) �
 abbrev pub KeysFound : Option Held → EventId → OrgId → List RawRow → List Key → List RawRow → List Key → Type 0
 KeysFound held e o start keys found left = IfSome held (λ told. found ++ rows_of_keys e o left told.rows ≡ start ++ rows_of_keys e o keys told.rows)
 
-pub keys_first : (held : Option Held) (e : EventId) (o : OrgId) (start : List RawRow) (keys : List Key) → KeysFound held e o start keys start keys
-keys_first None e o start keys = tt
-keys_first (Some told) e o start keys = refl
-
-first_key : (e : EventId) (o : OrgId) (k : Key) (ks : List Key) (raws : List RawRow) → rows_of_keys e o (k ∷ ks) raws ≡ rows_at e (name o k) raws ++ rows_of_keys e o ks raws
+pub first_key : (e : EventId) (o : OrgId) (k : Key) (ks : List Key) (raws : List RawRow) → rows_of_keys e o (k ∷ ks) raws ≡ rows_at e (name o k) raws ++ rows_of_keys e o ks raws
 unfolding rows_of_keys
 first_key e o k ks raws = refl
 
-no_key : (e : EventId) (o : OrgId) (raws : List RawRow) → rows_of_keys e o [] raws ≡ []
+pub no_key : (e : EventId) (o : OrgId) (raws : List RawRow) → rows_of_keys e o [] raws ≡ []
 unfolding rows_of_keys
 no_key e o raws = refl
 
@@ -108,16 +104,16 @@ module _ (l : Looks) where
   -- the first owner that has a row
   pub owner_next : (held : Option Held) (least : ℕ) (next : Option RawRow) (row : RawRow) → least < 2 ^ 128 → IsBytes row.name
       → IfSome held (λ told. next ≡ next_row l.event (uid (org least).0) told.rows) → Ascends held → next ≡ Some row
-      → IfSome held (λ told. rows_from l (Some (owner_number row.name)) told.rows ≡ rows_from l (Some least) told.rows)
+      → IfSome held (λ told. rows_from l (Some (front_number row.name)) told.rows ≡ rows_from l (Some least) told.rows)
   owner_next None least next row fits bytes found up some = tt
   owner_next (Some told) least next row fits bytes found up some = first_owner l least fits told.rows row bytes up (sym found ∙ some)
 
-  pub owner_none : (held : Option Held) (least : ℕ) (next : Option RawRow) → least < 2 ^ 128
+  pub owner_none : (held : Option Held) (least : ℕ) (next : Option RawRow) (start : List RawRow) → least < 2 ^ 128
       → IfSome held (λ told. next ≡ next_row l.event (uid (org least).0) told.rows) → next ≡ None
-      → IfSome held (λ told. rows_from l None told.rows ≡ rows_from l (Some least) told.rows)
+      → IfSome held (λ told. start ++ rows_from l None told.rows ≡ start ++ rows_from l (Some least) told.rows)
   unfolding rows_from
-  owner_none None least next fits found none = tt
-  owner_none (Some told) least next fits found none = sym (no_owner l least fits told.rows (sym found ∙ none))
+  owner_none None least next start fits found none = tt
+  owner_none (Some told) least next start fits found none = ap (λ t. start ++ t) (sym (no_owner l least fits told.rows (sym found ∙ none)))
 
   -- from the greater of the two on
   from_greater : (raws : List RawRow) (number least : ℕ) → rows_from l (Some number) raws ≡ rows_from l (Some least) raws → rows_from l (Some (max number least)) raws ≡ rows_from l (Some least) raws
@@ -128,11 +124,11 @@ module _ (l : Looks) where
 
   pub owner_added : (held : Option Held) (least number m : ℕ) (next : Option ℕ) (start now : List RawRow) → m ≡ max number least → m < 2 ^ 128 → IsAfter m next → Ascends held
       → IfSome held (λ told. rows_from l (Some number) told.rows ≡ rows_from l (Some least) told.rows)
-      → IfSome held (λ told. IsTrue (ascend comes_before told.rows) → now ≡ start ++ rows_sought l (org m) told.rows)
+      → IfSome held (λ told. now ≡ start ++ rows_sought l (org m) told.rows)
       → IfSome held (λ told. now ++ rows_from l next told.rows ≡ start ++ rows_from l (Some least) told.rows)
   owner_added None least number m next start now greatest fits after up same added = tt
   owner_added (Some told) least number m next start now greatest fits after up same added =
-      ap (λ t. t ++ rows_from l next told.rows) (added up)
+      ap (λ t. t ++ rows_from l next told.rows) added
       ∙ append_assoc start (rows_sought l (org m) told.rows) (rows_from l next told.rows)
       ∙ ap (λ t. start ++ t) (whole after ∙ ap (λ n. rows_from l (Some n) told.rows) greatest ∙ from_greater told.rows number least same)
     where
@@ -152,12 +148,6 @@ module _ (l : Looks) where
   pub owners_first : (held : Option Held) (found : List RawRow) → found ≡ [] → OwnersFound held found (Some 0)
   owners_first None found none = tt
   owners_first (Some told) found none = ap (λ t. t ++ rows_from l (Some 0) told.rows) none ∙ from_first l told.rows
-
-  pub owners_next : (held before : Option Held) (found now : List RawRow) (least : ℕ) (left : Option ℕ) → before ≡ held
-      → OwnersFound held found (Some least) → IfSome before (λ told. now ++ rows_from l left told.rows ≡ found ++ rows_from l (Some least) told.rows) → OwnersFound held now left
-  owners_next None before found now least left same so_far added = tt
-  owners_next (Some told) before found now least left same so_far added =
-      subst (λ (held : Option Held). IfSome held (λ told. now ++ rows_from l left told.rows ≡ found ++ rows_from l (Some least) told.rows)) same added ∙ so_far
 
   pub owners_done : (held : Option Held) (found : List RawRow) → OwnersFound held found None → IfSome held (λ told. found ≡ rows_looked l told.rows)
   owners_done None found so_far = tt

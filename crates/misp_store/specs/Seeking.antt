@@ -1,23 +1,22 @@
 -- What is sought of the rows that are held, one name after the other.
-use Rattle.std.specs.Prelude.{◌≡◌, ℕ, ◌==◌, leb, ◌&&◌, Bool, true, bytes_eq, List, [], ◌++◌, filter, flat_map, map, Option, None, Some}
+use Rattle.std.specs.Prelude.{◌≡◌, ℕ, ◌==◌, leb, ◌&&◌, Bool, true, false, bytes_eq, List, [], ◌∷◌, ◌++◌, filter, flat_map, map, Option, None, Some, IfSome}
 use Rattle.std.specs.List.{list_all, list_any}
-use Rattle.std.specs.Ordering.{is_lt}
+use Rattle.std.specs.Ordering.{is_ge, is_lt}
 use Rattle.misp_lists.specs.Order.{ascend}
 use Rattle.misp_lists.specs.Prelude.{AllByRecursion, nat_cmp, slice_cmp}
 use Rattle.misp_ids.specs.Uid.{IsUid}
 use Rattle.misp_ids.specs.declared.uid.ElemId.{ElemId}
 use Rattle.misp_ids.specs.declared.uid.EventId.{EventId}
 use Rattle.misp_ids.specs.declared.uid.OrgId.{OrgId}
-use Rattle.misp_outside.specs.Held.{rows_named}
+use Rattle.misp_outside.specs.Held.{comes_before, next_row, rows_named}
 use Rattle.misp_elem.specs.Key.{IsKey}
 use Rattle.misp_elem.specs.KeyFacts.{is_statement}
-use Rattle.misp_elem.specs.Parents.{event_key}
-use Rattle.misp_elem.specs.Spelling.{key, name}
+use Rattle.misp_elem.specs.Spelling.{key, name, uid}
 use Rattle.misp_elem.specs.declared.key.KeyForm.{KeyForm as Key}
-use Rattle.misp_effects.specs.Prelude.{RawRow}
+use Rattle.misp_effects.specs.Prelude.{Held, RawRow}
 use Rattle.misp_model.specs.declared.looks.Look.{Look}
 use Rattle.misp_model.specs.declared.looks.Looks.{Looks}
-use Rattle.misp_store.specs.Seen.{attributes_of, is_name_looked, kind_front, last_number, look_at, names_in, owner_number, place_front}
+use Rattle.misp_store.specs.Seen.{end_number, front_number, is_name_looked, look_at, names_by_uuid, names_in, names_statement}
 use Rattle.misp_store.specs.declared.reach.Reach.{Reach}
 
 -- ---- in which order
@@ -56,12 +55,12 @@ pub record HasKeys (l : Looks) : Type 0 where
   pub own : IsLookOfKeys l.own
   pub others : IsLookOfKeys l.others
 
--- within this reach what is sought is sought in order
+-- where a reach is what a request looks at, its keys are in the order of their bytes, each once
 abbrev pub IsInOrder : Reach → Type 0
 IsInOrder (Reach.Looked looks) = HasKeysInOrder looks
 IsInOrder reach = Unit {0}
 
--- within this reach what is looked at is by keys
+-- where a reach is what a request looks at, its keys are keys, and its uuids identifiers
 abbrev pub IsOfKeys : Reach → Type 0
 IsOfKeys (Reach.Looked looks) = HasKeys looks
 IsOfKeys reach = Unit {0}
@@ -86,12 +85,10 @@ rows_in_look look event owner raws =
 abbrev pub rows_sought : Looks → OrgId → List RawRow → List RawRow
 rows_sought l owner raws = rows_in_look (look_at l owner) l.event owner raws
 
--- the event's own row, and those of statements
+-- those of an owner that are of statements
 unfoldable pub rows_of_statements : EventId → OrgId → List RawRow → List RawRow
 rows_of_statements e o raws =
-    rows_at e (name o (event_key e)) raws
-    ++ (rows_named e (kind_front o e 2) raws
-    ++ (rows_named e (kind_front o e 3) raws ++ rows_named e (kind_front o e 4) raws))
+    filter (λ raw. (raw.event.0.0 == e.0.0) && names_statement e o raw.name) raws
 
 -- ---- by uuids
 
@@ -101,22 +98,41 @@ elem_of n = record { 0 = record { 0 = n } }
 
 -- one of these numbers is that which the name ends with
 abbrev pub ends_among : List ℕ → RawRow → Bool
-ends_among numbers raw = list_any (λ n. n == last_number raw.name) numbers
+ends_among numbers raw = list_any (λ n. n == end_number raw.name) numbers
 
 -- of the rows that begin so those that end with one of these numbers
 unfoldable pub rows_ending : EventId → List ℕ → List ℕ → List RawRow → List RawRow
 rows_ending e front numbers raws = filter (ends_among numbers) (rows_named e front raws)
 
--- the event's own row, those of objects, and those of the attributes and references of these uuids
+-- those of an owner that are the event's own, an object's, or those of one of these uuids
 unfoldable pub rows_of_uuids : EventId → OrgId → List ℕ → List RawRow → List RawRow
 rows_of_uuids e o numbers raws =
-    rows_at e (name o (event_key e)) raws
-    ++ (rows_named e (place_front o e 1) raws
-    ++ (rows_of_keys e o (attributes_of e (map elem_of numbers)) raws
-    ++ (rows_ending e (place_front o e 3) numbers raws
-    ++ rows_ending e (kind_front o e 1) numbers raws)))
+    filter
+    (λ raw. (raw.event.0.0 == e.0.0) && names_by_uuid (map elem_of numbers) e o raw.name) raws
+
+-- ---- the first row of an owner
+
+-- the rows ascend, and the row is the next from each name of the owner that is not after its own
+pub record IsFirst (e : EventId) (o : OrgId) (row : RawRow) (raws : List RawRow) : Type 0 where
+  pub up : ascend comes_before raws ≡ true
+  pub next : (rest : List ℕ) → is_ge (slice_cmp nat_cmp row.name (uid o.0 ++ rest)) ≡ true
+      → next_row e (uid o.0 ++ rest) raws ≡ Some row
+
+-- so it is in what is held, where that is known
+abbrev pub IsFirstHeld : EventId → OrgId → RawRow → Option Held → Type 0
+IsFirstHeld e o row held = IfSome held (λ told. IsFirst e o row told.rows)
 
 -- ---- from one owner on
+
+-- no key is looked at
+abbrev pub is_of_none : Look → Bool
+is_of_none (Look.Keys []) = true
+is_of_none (Look.Keys (k ∷ keys)) = false
+is_of_none look = false
+
+-- of the rows of others none is looked at
+abbrev pub is_own_alone : Looks → Bool
+is_own_alone l = is_of_none l.others
 
 -- the row is one of these
 abbrev pub is_looked : Looks → RawRow → Bool
@@ -126,4 +142,4 @@ is_looked l raw = (raw.event.0.0 == l.event.0.0) && is_name_looked l raw.name
 unfoldable pub rows_from : Looks → Option ℕ → List RawRow → List RawRow
 rows_from l None raws = []
 rows_from l (Some least) raws =
-    filter (λ raw. is_looked l raw && leb least (owner_number raw.name)) raws
+    filter (λ raw. is_looked l raw && leb least (front_number raw.name)) raws

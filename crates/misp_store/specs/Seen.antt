@@ -22,16 +22,16 @@ use Rattle.misp_store.specs.declared.reach.Reach.{Reach}
 -- ---- what names begin with, and end with
 
 -- the number of the first 16 bytes of a name, the highest first
-unfoldable pub owner_number : List ℕ → ℕ
-owner_number bytes = from_be_bytes w128 bytes
+unfoldable pub front_number : List ℕ → ℕ
+front_number bytes = from_be_bytes w128 bytes
 
 -- the owner that a name begins with
 abbrev pub owner_in : List ℕ → OrgId
-owner_in bytes = record { 0 = record { 0 = owner_number bytes } }
+owner_in bytes = record { 0 = record { 0 = front_number bytes } }
 
 -- the number of the last 16 bytes of a name, the highest first
-unfoldable pub last_number : List ℕ → ℕ
-last_number bytes = from_be_bytes w128 (drop (length bytes - 16) bytes)
+unfoldable pub end_number : List ℕ → ℕ
+end_number bytes = from_be_bytes w128 (drop (length bytes - 16) bytes)
 
 -- what the names of an owner's rows of one kind begin with
 abbrev pub kind_front : OrgId → EventId → ℕ → List ℕ
@@ -53,7 +53,7 @@ begin_with front bytes = starts_with nat_eq bytes front
 
 -- they end with one of the uuids
 abbrev pub end_with_one : List ElemId → List ℕ → Bool
-end_with_one us bytes = list_any (λ u. u.0.0 == last_number bytes) us
+end_with_one us bytes = list_any (λ u. u.0.0 == end_number bytes) us
 
 -- the attributes of these uuids that are in no object
 abbrev pub attributes_of : EventId → List ElemId → List Key

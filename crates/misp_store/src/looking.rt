@@ -146,13 +146,17 @@ fn proposal_keys(
 
 // ---- uuids
 
-// The uuids of what is at these places of an event.
-fn part_uuids(alloc: Global, event: EventId, parts: &[Draft]) -> Result<Vec<ElemId>, NoMemory>
-    ensures value { IfOk result (λ uuids.
-        uuids.items ≡ map (λ d. elem_at event d.place) parts.now) }
+// With those of what is at these places of an event.
+fn with_parts(
+    mut uuids: Vec<ElemId>,
+    event: EventId,
+    parts: &[Draft],
+) -> Result<Vec<ElemId>, NoMemory>
+    requires { AllByRecursion (λ u. IsUid u.0) uuids.items }
+    ensures value { IfOk result (λ all.
+        all.items ≡ uuids.items ++ map (λ d. elem_at event d.place) parts.now) }
     ensures uids { IfOk result (λ uuids. AllByRecursion (λ u. IsUid u.0) uuids.items) }
 {
-    let mut uuids = Vec::new(alloc);
     for part in parts {
         uuids.push(ElemId(Uid(uuid_at(event, part.place))))?;
     }
@@ -196,8 +200,12 @@ fn uuids_in(alloc: Global, body: &Submission) -> Result<Items<ElemId>, NoMemory>
     ensures value { IfOk result (λ uuids. uuids ≡ uuids_in body.now) }
     ensures uids { IfOk result (AllByRecursion (λ u. IsUid u.0)) }
 {
+    let parts = body.parts.as_slice();
     let references = body.references.as_slice();
-    let uuids = part_uuids(alloc, body.event, body.parts.as_slice())?;
+    let length = parts
+        .len()
+        .saturating_add(references.len().saturating_mul(2));
+    let uuids = with_parts(Vec::with_capacity(alloc, length)?, body.event, parts)?;
     let uuids = with_references(uuids, references)?;
     Ok(Items::of(with_referenced(uuids, references)?))
 }

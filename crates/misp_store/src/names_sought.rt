@@ -6,14 +6,15 @@ ghost use Rattle.misp_outside.specs.Held.{rows_named};
 ghost use Rattle.misp_elem.specs.Fields.{IsBytes};
 ghost use Rattle.misp_elem.specs.Parents.{event_key};
 ghost use Rattle.misp_elem.specs.Spelling.{name, uid};
-ghost use Rattle.misp_store.specs.Seeking.{rows_at, rows_of_keys};
-ghost use Rattle.misp_store.specs.Seen.{kind_front, owner_number, place_front};
+ghost use Rattle.misp_store.specs.Seeking.{IsFirstHeld, rows_at, rows_of_keys};
+ghost use Rattle.misp_store.specs.Seen.{kind_front, front_number, place_front};
 
 use crate::looking::element_key;
 use misp_elem::{Key, NoMemory, Place, encode_name};
 use misp_ids::{EventId, OrgId, Uid};
 use misp_outside::{Keeper, KeeperFault, RawRow};
 use std::alloc::Global;
+use std::cmp::Ordering;
 
 // ---- its first bytes
 
@@ -28,9 +29,9 @@ fn byte_at(name: &[u8], at: usize) -> u8
 }
 
 /// The number of the first 16 bytes of a name.
-#[tactic(auto, unfolding(crate::specs::Seen::owner_number))]
-pub(crate) fn owner_number(name: &[u8]) -> u128
-    ensures number { result ≡ owner_number name.now }
+#[tactic(auto, unfolding(crate::specs::Seen::front_number))]
+pub(crate) fn front_number(name: &[u8]) -> u128
+    ensures number { result ≡ front_number name.now }
     ensures bytes { IsBytes name.now }
 {
     let mut bytes = [0u8; 16];
@@ -101,15 +102,51 @@ pub(crate) fn add_keys<K: Keeper>(
     Ok(())
 }
 
-/// Adds the event's own row, as the owner has it.
+// Adds the owner's row of this key, where there is one. `first` is the first row that the owner may
+// have, and is sought no more.
+fn add_key<K: Keeper>(
+    keeper: &mut K,
+    alloc: Global,
+    event: &EventId,
+    owner: &OrgId,
+    key: &Key,
+    first: RawRow,
+    found: &mut Vec<RawRow>,
+) -> Result<(), KeeperFault>
+    requires { IsFirstHeld event.now owner.now first (K.state keeper.old).held }
+    ensures found { OnOk result (IfSome (K.state keeper.old).held (λ held. found.new.items
+        ≡ found.old.items ++ rows_at event.now (name owner.now key.now) held.rows)) }
+    ensures held { (K.state keeper.new).held ≡ (K.state keeper.old).held }
+    ensures cause { HasCause (K.state keeper.old).faults (K.state keeper.new).faults
+        (result ≡ Err KeeperFault.Failed) }
+    ensures stays { StaysUnless (K.state keeper.old).faults (K.state keeper.new).faults
+        (result ≡ Err KeeperFault.Failed) }
+{
+    let name = encode_name(alloc, owner, key)?;
+    match first.name.as_slice().cmp(name.as_slice()) {
+        Ordering::Less => {
+            drop(first);
+            add_row(keeper, alloc, event, name.as_slice(), found)
+        }
+        Ordering::Equal => Ok(found.push(first)?),
+        Ordering::Greater => {
+            drop(first);
+            Ok(())
+        }
+    }
+}
+
+/// Adds the event's own row, as the owner has it, where `first` is the first row of the owner.
 #[tactic(auto, unfolding(misp_elem::specs::Parents::event_key))]
 pub(crate) fn add_event<K: Keeper>(
     keeper: &mut K,
     alloc: Global,
     event: &EventId,
     owner: &OrgId,
+    first: RawRow,
     found: &mut Vec<RawRow>,
 ) -> Result<(), KeeperFault>
+    requires { IsFirstHeld event.now owner.now first (K.state keeper.old).held }
     ensures found { OnOk result (IfSome (K.state keeper.old).held (λ held. found.new.items
         ≡ found.old.items ++ rows_at event.now (name owner.now (event_key event.now)) held.rows)) }
     ensures held { (K.state keeper.new).held ≡ (K.state keeper.old).held }
@@ -119,8 +156,38 @@ pub(crate) fn add_event<K: Keeper>(
         (result ≡ Err KeeperFault.Failed) }
 {
     let key = element_key(*event, Place::Event);
-    let name = encode_name(alloc, owner, &key)?;
-    add_row(keeper, alloc, event, name.as_slice(), found)
+    add_key(keeper, alloc, event, owner, &key, first, found)
+}
+
+/// Adds the owner's rows of these keys, where `first` is the first row of the owner.
+pub(crate) fn add_keys_from<K: Keeper>(
+    keeper: &mut K,
+    alloc: Global,
+    event: &EventId,
+    owner: &OrgId,
+    keys: &[Key],
+    first: RawRow,
+    found: &mut Vec<RawRow>,
+) -> Result<(), KeeperFault>
+    requires { IsFirstHeld event.now owner.now first (K.state keeper.old).held }
+    ensures found { OnOk result (IfSome (K.state keeper.old).held (λ held. found.new.items
+        ≡ found.old.items ++ rows_of_keys event.now owner.now keys.now held.rows)) }
+    ensures held { (K.state keeper.new).held ≡ (K.state keeper.old).held }
+    ensures cause { HasCause (K.state keeper.old).faults (K.state keeper.new).faults
+        (result ≡ Err KeeperFault.Failed) }
+    ensures stays { StaysUnless (K.state keeper.old).faults (K.state keeper.new).faults
+        (result ≡ Err KeeperFault.Failed) }
+{
+    match keys {
+        [key, others @ ..] => {
+            add_key(keeper, alloc, event, owner, key, first, found)?;
+            add_keys(keeper, alloc, event, owner, others, found)
+        }
+        [] => {
+            drop(first);
+            Ok(())
+        }
+    }
 }
 
 // ---- names that begin so

@@ -98,8 +98,8 @@ fn put_rows<K: Keeper>(keeper: &mut K, alloc: Global, rows: Vec<RawRow>) -> Resu
     Ok(count)
 }
 
-/// Puts all rows of the first form anew, in the form that is written and in one batch, and tells how
-/// many they are. Where there are none, nothing is put.
+/// Puts all rows of the first form anew, in the form that is written and in one batch, and tells
+/// how many they are. Where there are none, nothing is put.
 pub fn renew<K: Keeper>(keeper: &mut K, alloc: Global) -> Result<u64, LoadFault>
     ensures put { OnOk result ((K.state keeper.new).held
         ≡ option_map renewed (K.state keeper.old).held) }

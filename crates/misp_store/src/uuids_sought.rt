@@ -5,11 +5,11 @@ ghost use Rattle.std.specs.List.{AllByRecursion, list_any};
 ghost use Rattle.std.specs.Ordering.{nat_cmp};
 ghost use Rattle.std.specs.List.Sorted.{IsStrictlySortedBy};
 ghost use Rattle.misp_outside.specs.Causes.{HasCause, StaysUnless};
-ghost use Rattle.misp_store.specs.Seeking.{elem_of, ends_among, rows_ending, rows_of_uuids};
-ghost use Rattle.misp_store.specs.Seen.{attributes_of, last_number};
+ghost use Rattle.misp_store.specs.Seeking.{IsFirstHeld, elem_of, ends_among, rows_ending, rows_of_uuids};
+ghost use Rattle.misp_store.specs.Seen.{attributes_of, end_number};
 
 use crate::looking::element_key;
-use crate::names_sought::{add_event, add_front, add_keys, kind_front, owner_number, place_front};
+use crate::names_sought::{add_event, add_front, add_keys, front_number, kind_front, place_front};
 use misp_elem::{Key, NoMemory, Place};
 use misp_ids::{ElemId, EventId, OrgId, Uid};
 use misp_outside::{Keeper, KeeperFault, RawRow};
@@ -44,11 +44,11 @@ pub(crate) fn numbers_in_order(alloc: Global, uuids: &[ElemId]) -> Result<Vec<u1
 // ---- rows that end with a uuid
 
 // The number of the last 16 bytes of a name.
-#[tactic(auto, unfolding(crate::specs::Seen::last_number, crate::specs::Seen::owner_number))]
-fn last_number(name: &[u8]) -> u128
-    ensures { result ≡ last_number name.now }
+#[tactic(auto, unfolding(crate::specs::Seen::end_number, crate::specs::Seen::front_number))]
+fn end_number(name: &[u8]) -> u128
+    ensures { result ≡ end_number name.now }
 {
-    owner_number(&name[name.len().saturating_sub(16)..])
+    front_number(&name[name.len().saturating_sub(16)..])
 }
 
 // Whether the name of a row ends with one of the numbers, which ascend.
@@ -56,8 +56,8 @@ fn ends_among(numbers: &[u128], row: &RawRow) -> bool
     requires { IsStrictlySortedBy nat_cmp numbers.now }
     ensures { result ≡ ends_among numbers.now row.now }
 {
-    let last = last_number(row.name.as_slice());
-    numbers.binary_search_by(|number| number.cmp(&last)).is_ok()
+    let end = end_number(row.name.as_slice());
+    numbers.binary_search_by(|number| number.cmp(&end)).is_ok()
 }
 
 // Adds the rows that begin so and end with one of the numbers.
@@ -99,16 +99,19 @@ fn attribute_keys(alloc: Global, event: &EventId, numbers: &[u128]) -> Result<Ve
 }
 
 /// Adds the event's own row, those of its objects, and those of the attributes and references of
-/// these numbers.
+/// these numbers, where `first` is the first row of the owner.
 pub(crate) fn add_uuids<K: Keeper>(
     keeper: &mut K,
     alloc: Global,
     event: &EventId,
     owner: &OrgId,
     numbers: &[u128],
+    first: RawRow,
     found: &mut Vec<RawRow>,
 ) -> Result<(), KeeperFault>
-    requires { IsStrictlySortedBy nat_cmp numbers.now }
+    requires first { IsFirstHeld event.now owner.now first (K.state keeper.old).held }
+    requires sorted { IsStrictlySortedBy nat_cmp numbers.now }
+    requires fit { AllByRecursion (λ n. n < 2 ^ 128) numbers.now }
     ensures found { OnOk result (IfSome (K.state keeper.old).held (λ held. found.new.items
         ≡ found.old.items ++ rows_of_uuids event.now owner.now numbers.now held.rows)) }
     ensures held { (K.state keeper.new).held ≡ (K.state keeper.old).held }
@@ -117,7 +120,7 @@ pub(crate) fn add_uuids<K: Keeper>(
     ensures stays { StaysUnless (K.state keeper.old).faults (K.state keeper.new).faults
         (result ≡ Err KeeperFault.Failed) }
 {
-    add_event(keeper, alloc, event, owner, found)?;
+    add_event(keeper, alloc, event, owner, first, found)?;
     let objects = place_front(alloc, owner, event, 1)?;
     add_front(keeper, alloc, event, objects.as_slice(), found)?;
     let attributes = attribute_keys(alloc, event, numbers)?;

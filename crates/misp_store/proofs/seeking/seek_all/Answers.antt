@@ -1,6 +1,6 @@
 use Rattle.std.proofs.Common.{refl, subst, inl}
 use Rattle.misp_store.proofs.Sought.{OwnersFound, ascends_after, found_ascends, owners_done, owners_first}
-use Rattle.misp_store.proofs.seeking.seek.Goals as goal
+use Rattle.misp_store.proofs.seeking.seek_all.Goals as goal
 
 pub loop-least-init : goal.loop-least-init
 loop-least-init g c = record {

@@ -1,5 +1,5 @@
 use Rattle.std.proofs.Common.{◌≡◌, ℕ, ◌<◌, get_or, length}
-use Rattle.misp_store.proofs.names_sought.owner_number.Given as goal
+use Rattle.misp_store.proofs.names_sought.front_number.Given as goal
 
 -- the first bytes are those of the name
 abbrev pub invariant-loop-at : goal.invariant-loop-at

@@ -1,6 +1,6 @@
 use Rattle.std.proofs.Common.{◌≡◌}
 use Rattle.misp_store.proofs.Sought.{AscendsOnce, OwnersFound, owners_left}
-use Rattle.misp_store.proofs.seeking.seek.Given as goal
+use Rattle.misp_store.proofs.seeking.seek_all.Given as goal
 
 -- what is found, before what is looked at of the owners that are left; and the keeper is as it was
 abbrev pub invariant-loop-least : goal.invariant-loop-least
