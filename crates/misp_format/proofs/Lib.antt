@@ -17,5 +17,6 @@ mod StandardFacts
 mod Statements
 mod Tags
 mod TagsBack
+mod Taken
 mod Texts
 pub mod Utf8
