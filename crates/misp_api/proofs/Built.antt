@@ -17,9 +17,9 @@ use Rattle.misp_core.specs.Prelude.{Ask, EventId, Group, View}
 use Rattle.misp_api.specs.GroupList.{groups_in}
 use Rattle.misp_api.specs.declared.command.Command.{Command}
 use Rattle.misp_api.specs.declared.route.Route.{Route}
-use Rattle.misp_api.specs.Request.{ask_command, command_of, formed, groups_command, share_command, event_in, event_edit_in, attribute_edit_in, object_edit_in, parts_in, tag_in, untag_in, proposal_in, judgement_in, sighting_in, package_in}
+use Rattle.misp_api.specs.Request.{ask_command, command_of, formed, groups_command, share_command, event_in, event_edit_in, attribute_edit_in, object_edit_in, parts_in, tag_in, untag_in, proposal_in, judgement_in, sighting_in, package_in, wanted_in}
 use Rattle.misp_api.specs.Request as request
-use Rattle.misp_api.proofs.Handed.{package_built}
+use Rattle.misp_api.proofs.Handed.{package_built, wanted_built}
 
 pub event_is_added : (word : ℕ) (d : Data) (s : SubmissionFields) → event_at word d ≡ Ok s → IsAdded s
 unfolding event_at
@@ -78,4 +78,6 @@ command_is P said read take share Route.EditGroup body word = share false (group
 command_is P said read take share Route.Groups body word = said Ask.Groups tt
 command_is P said read take share Route.SyncGroups body word = said Ask.SyncGroups tt
 command_is P said read take share Route.SyncEvents body word = said Ask.SyncEvents tt
+command_is P said read take share Route.SyncManifest body word = said Ask.SyncManifest tt
+command_is P said read take share Route.SyncRows body word = read (wanted_in body) (wanted_built body)
 command_is P said read take share (Route.SyncPart event part) body word = said (Ask.SyncPart event part) tt

@@ -1,5 +1,5 @@
--- What a body brings as a package.
-use Rattle.std.proofs.Common.{◌≡◌, ℕ, zero, suc, Bool, true, false, List, [], ◌∷◌, Result, Ok, Err, refl, arith, if◌then◌else◌}
+-- What a body brings as a package, and as a wanted list.
+use Rattle.std.proofs.Common.{◌≡◌, ℕ, zero, suc, Bool, true, false, List, [], ◌∷◌, codes, Result, Ok, Err, refl, arith, if◌then◌else◌}
 use Rattle.std.proofs.lemmas.Bool.{and_from, and_parts, lt-ltb, ltb-true}
 use Rattle.misp_lists.proofs.Bytes.{IsBytes, IsBytes-rest}
 use Rattle.misp_lists.proofs.Prelude.{list_all}
@@ -8,11 +8,14 @@ use Rattle.misp_elem.specs.Reading.{answer}
 use Rattle.misp_elem.specs.declared.fault.DecodeFault.TheVariants.{BadRow}
 use Rattle.misp_model.specs.Package.{IsPackage}
 use Rattle.misp_model.specs.declared.package.PackageFields.{PackageFields}
+use Rattle.misp_manifest.specs.declared.wanted.WantedFields.{WantedFields}
+use Rattle.misp_format.specs.Prelude.{Need}
 use Rattle.misp_package.specs.PackageReading.{package_of_bytes}
 use Rattle.misp_package.proofs.SpelledPackages.{package_of_bytes_takes}
 use Rattle.misp_core.specs.Answers.{IsBuilt}
-use Rattle.misp_core.specs.Prelude.{Ask}
-use Rattle.misp_api.specs.Request.{handed, is_byte, no_package, package_in}
+use Rattle.misp_core.specs.Prelude.{Ask, FormatFault}
+use Rattle.misp_wanted.specs.ManifestReading.{wanted_of_bytes}
+use Rattle.misp_api.specs.Request.{asked_rows, handed, is_byte, no_package, package_in, wanted_in}
 
 -- ---- bytes
 
@@ -60,3 +63,30 @@ built_if body false all a h = absurd cc
 -- the package of a body is one
 pub package_built : (body : List ℕ) (a : Ask) → package_in body ≡ Ok a → IsBuilt a
 package_built body a h = built_if body (list_all is_byte body) refl a h
+
+-- ---- wanted lists
+
+module _ (body : List ℕ) where
+  wanted_as : (read : Result WantedFields ℕ) (w : WantedFields) → answer body read ≡ Ok w → asked_rows read ≡ Ok (Ask.SyncRows w)
+  wanted_as (Ok q) w is = let same : q ≡ w = cc in rw same refl
+  wanted_as (Err left) w is = absurd cc
+
+  wanted_as_none : (read : Result WantedFields ℕ) (place : ℕ) → answer body read ≡ Err (BadRow place) → asked_rows read ≡ Err (FormatFault.BadField (codes "wanted") Need.Row)
+  wanted_as_none (Ok q) place is = absurd cc
+  wanted_as_none (Err left) place is = refl
+
+  -- the rows of the list that is found are asked for
+  pub wanted_found : (w : WantedFields) → answer body (wanted_of_bytes body) ≡ Ok w → wanted_in body ≡ Ok (Ask.SyncRows w)
+  wanted_found w is = wanted_as (wanted_of_bytes body) w is
+
+  -- and what is none is refused
+  pub wanted_not_found : (place : ℕ) → answer body (wanted_of_bytes body) ≡ Err (BadRow place) → wanted_in body ≡ Err (FormatFault.BadField (codes "wanted") Need.Row)
+  wanted_not_found place is = wanted_as_none (wanted_of_bytes body) place is
+
+rows_built : (read : Result WantedFields ℕ) (a : Ask) → asked_rows read ≡ Ok a → IsBuilt a
+rows_built (Ok w) a h = ok_keeps IsBuilt (Ask.SyncRows w) tt a h
+rows_built (Err left) a h = absurd cc
+
+-- it is built
+pub wanted_built : (body : List ℕ) (a : Ask) → wanted_in body ≡ Ok a → IsBuilt a
+wanted_built body a h = rows_built (wanted_of_bytes body) a h

@@ -3,6 +3,8 @@ use Rattle.std.proofs.Common.{◌≡◌, ℕ, Bool, true, false, List, [], ◌�
 use Rattle.misp_effects.specs.Effect.{under, stop_of}
 use Rattle.misp_model.proofs.Prelude.{IfSome_then, Rule, VisibleEvent, answer, first_rule, ok_answer, shown}
 use Rattle.misp_model.specs.Machine.{event_changed}
+use Rattle.misp_manifest.specs.declared.wanted.WantedFields.{WantedFields}
+use Rattle.misp_model.specs.Manifests.{only_of, pulled_only}
 use Rattle.misp_model.specs.Pulling.{pulled_part}
 use Rattle.misp_model.specs.declared.package.PackageFields.{PackageFields}
 use Rattle.misp_edit.specs.Refusals.{named}
@@ -54,6 +56,14 @@ unfolding first_ground first_rule
 by_part admin s event n None = refl
 by_part admin s event n (Some p) = refl
 
+by_rows_of : (admin : Admin) (s : Scene) (w : WantedFields) (part : Option PackageFields)
+    → rule_of (reply_of admin s (Ask.SyncRows w) (elim (first_rule ((elim part [ None ↦ true | Some x ↦ false ], asking.NotGranted) ∷ []))
+    [ None ↦ elim (option_map (only_of w.keys) part) [ None ↦ model.Other | Some x ↦ model.Packed x ] | Some r ↦ model.Refused r ]))
+    ≡ first_ground (map ground_of ((elim part [ None ↦ true | Some x ↦ false ], asking.NotGranted) ∷ []))
+unfolding first_ground first_rule
+by_rows_of admin s w None = refl
+by_rows_of admin s w (Some p) = refl
+
 by_rule : (admin : Admin) (s : Scene) (ask : Ask) (event : EventId) → IsOfEvent ask event → (rule : Option Rule)
     → rule_of (reply_of admin s ask (elim rule [ None ↦ ok_answer s ask | Some r ↦ model.Refused r ])) ≡ option_map named rule
 by_rule admin s ask event of None = ap rule_of (of_event admin s ask event of)
@@ -66,7 +76,7 @@ by_rules admin s ask event of = by_rule admin s ask event of (first_rule (ask_ru
 
 -- of an ask in its scene
 in_scene : (admin : Admin) (s : Scene) (ask : Ask) → IsBuilt ask → rule_of (reply_in admin s ask) ≡ first_ground (map ground_of (ask_rules s ask))
-unfolding reply_in answer ask_rules ok_answer first_ground first_rule
+unfolding reply_in answer ask_rules ok_answer first_ground first_rule pulled_only
 in_scene admin s (View event owner) built = by_seen admin s event owner (shown s event owner)
 in_scene admin s (Ask.Change c) built = by_rules admin s (Ask.Change c) (event_changed c) refl
 in_scene admin s (Ask.Propose d) built = by_rules admin s (Ask.Propose d) d.event refl
@@ -76,6 +86,8 @@ in_scene admin s Ask.Groups built = refl
 in_scene admin s Ask.SyncGroups built = refl
 in_scene admin s Ask.SyncEvents built = refl
 in_scene admin s (Ask.SyncPart event n) built = by_part admin s event n (pulled_part s event n)
+in_scene admin s Ask.SyncManifest built = refl
+in_scene admin s (Ask.SyncRows w) built = by_rows_of admin s w (pulled_part s w.event w.part)
 in_scene admin s (Ask.TakePart p) built = refl
 in_scene admin s Ask.Index built = absurd built
 

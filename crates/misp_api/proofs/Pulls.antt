@@ -31,6 +31,8 @@ unfolding pulls writes_in brings
 writes_none s Ask.SyncGroups is = nothing (is_accepted s Ask.SyncGroups) [] refl
 writes_none s Ask.SyncEvents is = nothing (is_accepted s Ask.SyncEvents) [] refl
 writes_none s (Ask.SyncPart e n) is = nothing (is_accepted s (Ask.SyncPart e n)) [] refl
+writes_none s Ask.SyncManifest is = nothing (is_accepted s Ask.SyncManifest) [] refl
+writes_none s (Ask.SyncRows w) is = nothing (is_accepted s (Ask.SyncRows w)) [] refl
 writes_none s (Ask.View e owner) is = absurd cc
 writes_none s (Ask.Change c) is = absurd cc
 writes_none s (Ask.Propose d) is = absurd cc

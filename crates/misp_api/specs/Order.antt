@@ -69,8 +69,8 @@ abbrev pub sharing_grounds : Bool → List Group → OrgId → GroupId → List 
 sharing_grounds add groups by id =
     if add then adding_grounds groups by id else editing_grounds groups by id
 
--- the same for what is asked, and for a group that is added or edited; groups that are handed in are
--- refused by none of these
+-- the same for what is asked, and for a group that is added or edited; groups that are handed in
+-- are refused by none of these
 abbrev pub command_grounds : Host → ℕ → Caller → Command → Seen → List Ground
 command_grounds host now caller (Command.Asks ask) seen =
     row_grounds host now (caller, ask) seen.groups (read_where host now (caller, ask) seen)

@@ -52,6 +52,8 @@ paths =
     ∷ (codes "/sync/groups", PathKind.SyncGroups)
     ∷ (codes "/sync/events", PathKind.SyncEvents)
     ∷ (codes "/sync/part/{event}/{part}", PathKind.SyncPart)
+    ∷ (codes "/sync/manifest", PathKind.SyncManifest)
+    ∷ (codes "/sync/rows", PathKind.SyncRows)
     ∷ (codes "/sync/part", PathKind.TakePart)
     ∷ []
 

@@ -10,7 +10,9 @@ use Rattle.misp_format.specs.Edits.{event_edit_at, attribute_edit_at, object_edi
 use Rattle.misp_format.specs.Statements.{proposal_at, judgement_at, sighting_at}
 use Rattle.misp_format.specs.Tables.{parts_at, tag_body_at}
 use Rattle.misp_format.specs.declared.reading.parts.PartForm.{PartForm}
+use Rattle.misp_manifest.specs.declared.wanted.WantedFields.{WantedFields}
 use Rattle.misp_package.specs.PackageReading.{package_of_bytes}
+use Rattle.misp_wanted.specs.ManifestReading.{wanted_of_bytes}
 use Rattle.misp_model.specs.declared.change.Change.{Change}
 use Rattle.misp_model.specs.declared.package.PackageFields.{PackageFields}
 use Rattle.misp_core.specs.Prelude.{Ask, EventId, FormatFault, Group, Refusal, RuleName, View, bare}
@@ -132,6 +134,15 @@ abbrev pub package_in : List ℕ → rows.Reading Ask
 package_in body =
     if list_all is_byte body then handed (package_of_bytes body) else Err no_package
 
+-- the request for the rows of the wanted list that was read
+abbrev pub asked_rows : Result WantedFields ℕ → rows.Reading Ask
+asked_rows (Ok w) = Ok (Ask.SyncRows w)
+asked_rows (Err left) = Err (FormatFault.BadField (codes "wanted") Need.Row)
+
+-- that of the wanted list that a body is
+abbrev pub wanted_in : List ℕ → rows.Reading Ask
+wanted_in body = asked_rows (wanted_of_bytes body)
+
 -- ---- commands
 
 -- an ask that was read, as a command
@@ -162,6 +173,7 @@ path_ask Route.Groups = Some Ask.Groups
 path_ask Route.SyncGroups = Some Ask.SyncGroups
 path_ask Route.SyncEvents = Some Ask.SyncEvents
 path_ask (Route.SyncPart event part) = Some (Ask.SyncPart event part)
+path_ask Route.SyncManifest = Some Ask.SyncManifest
 path_ask route = None
 
 -- what the body of another request is: the ask of its route, a group that is added or edited, or
@@ -186,6 +198,7 @@ body_command (Route.Propose event target) body word =
 body_command (Route.Judge event accept) body word = ask_command (judgement_in event accept body)
 body_command (Route.Sight event target) body word =
     ask_command (sighting_in event target body word)
+body_command Route.SyncRows body word = ask_command (wanted_in body)
 body_command Route.TakePart body word = ask_command (package_in body)
 body_command Route.AddGroup body word = share_command true (group_in_text body)
 body_command Route.EditGroup body word = share_command false (group_in_text body)

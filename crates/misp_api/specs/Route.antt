@@ -105,6 +105,8 @@ route_with PathKind.AddGroup ids = alone Route.AddGroup ids
 route_with PathKind.EditGroup ids = alone Route.EditGroup ids
 route_with PathKind.SyncGroups ids = alone Route.SyncGroups ids
 route_with PathKind.SyncEvents ids = alone Route.SyncEvents ids
+route_with PathKind.SyncManifest ids = alone Route.SyncManifest ids
+route_with PathKind.SyncRows ids = alone Route.SyncRows ids
 route_with PathKind.TakePart ids = alone Route.TakePart ids
 route_with PathKind.ViewEvent ids = option_map (λ p. Route.ViewEvent p.0 p.1) (copy_in ids)
 route_with PathKind.EditEvent ids = option_map Route.EditEvent (event_in ids)
@@ -159,6 +161,7 @@ method_of Route.Groups = codes "GET"
 method_of Route.SyncGroups = codes "GET"
 method_of Route.SyncEvents = codes "GET"
 method_of (Route.SyncPart event part) = codes "GET"
+method_of Route.SyncManifest = codes "GET"
 method_of route = codes "POST"
 
 -- the path must be for something, and the method be its own

@@ -9,7 +9,7 @@ ghost use Rattle.misp_model.specs.declared.ask.Ask.TheVariants as asks;
 ghost use Rattle.misp_model.specs.declared.change.Change.TheVariants as changes;
 ghost use Rattle.misp_api.specs.Commands.{AsksBuilt};
 ghost use Rattle.misp_api.specs.GroupList.{groups_in};
-ghost use Rattle.misp_api.specs.Request.{Gives, ask_command, groups_command, share_command, path_ask, body_command, event_in, event_edit_in, attribute_edit_in, object_edit_in, parts_in, tag_in, untag_in, proposal_in, judgement_in, sighting_in, package_in, command_of};
+ghost use Rattle.misp_api.specs.Request.{Gives, ask_command, groups_command, share_command, path_ask, body_command, event_in, event_edit_in, attribute_edit_in, object_edit_in, parts_in, tag_in, untag_in, proposal_in, judgement_in, sighting_in, package_in, wanted_in, command_of};
 
 use crate::command::Command;
 use crate::group_list::read_groups;
@@ -25,6 +25,7 @@ use misp_format::{
 use misp_ids::{ElemId, EventId, Items, Text};
 use misp_model::{Ask, AttributePlace, Change, ElementPlace, NewTag, Parts, TaggedPlace};
 use misp_package::read_package;
+use misp_wanted::read_wanted;
 use std::alloc::Global;
 
 // The addition of the event that a body is.
@@ -182,6 +183,20 @@ fn package_in(alloc: Global, body: &[u8]) -> Result<Command, FormatFault>
     }
 }
 
+// The request for the rows that a body is the wanted list of.
+fn wanted_in(alloc: Global, body: &[u8]) -> Result<Command, FormatFault>
+    ensures { rows.Gives result (ask_command (wanted_in body.now)) }
+{
+    match read_wanted(alloc, body) {
+        Ok(wanted) => Ok(Command::Asks(Ask::SyncRows(wanted))),
+        Err(DecodeFault::BadRow { .. }) => Err(FormatFault::BadField {
+            path: Text::of(String::from_str(alloc, "wanted")?),
+            need: Need::Row,
+        }),
+        Err(DecodeFault::NoMemory) => Err(FormatFault::NoMemory),
+    }
+}
+
 // The taking of the groups that a body is the list of.
 fn groups_command(alloc: Global, body: &[u8]) -> Result<Command, FormatFault>
     ensures { rows.Gives result (groups_command (groups_in body.now)) }
@@ -256,6 +271,7 @@ fn path_ask(route: &Route) -> Option<Ask>
             event: *event,
             part: *part,
         }),
+        Route::SyncManifest => Some(Ask::SyncManifest),
         _ => None,
     }
 }
@@ -286,6 +302,7 @@ fn body_command(
         Route::Propose(event, target) => proposal_in(alloc, event, target, body, word),
         Route::Judge(event, accept) => judgement_in(alloc, event, accept, body),
         Route::Sight(event, target) => sighting_in(alloc, event, target, body, word),
+        Route::SyncRows => wanted_in(alloc, body),
         Route::TakePart => package_in(alloc, body),
         Route::AddGroup => share_command(alloc, true, body),
         Route::EditGroup => share_command(alloc, false, body),

@@ -28,12 +28,14 @@ pub enum PathKind {
     SyncGroups,
     SyncEvents,
     SyncPart,
+    SyncManifest,
+    SyncRows,
     TakePart,
 }
 
-/// The patterns of paths, each with what it is for. A name in braces is an identifier, or the number
-/// of a part.
-pub(crate) const PATHS: [(&str, PathKind); 37] = [
+/// The patterns of paths, each with what it is for. A name in braces is an identifier, or the
+/// number of a part.
+pub(crate) const PATHS: [(&str, PathKind); 39] = [
     ("/events/view/{event}", PathKind::ViewEvent),
     ("/events/view/{event}/{owner}", PathKind::ViewEvent),
     ("/events/add", PathKind::AddEvent),
@@ -94,5 +96,7 @@ pub(crate) const PATHS: [(&str, PathKind); 37] = [
     ("/sync/groups", PathKind::SyncGroups),
     ("/sync/events", PathKind::SyncEvents),
     ("/sync/part/{event}/{part}", PathKind::SyncPart),
+    ("/sync/manifest", PathKind::SyncManifest),
+    ("/sync/rows", PathKind::SyncRows),
     ("/sync/part", PathKind::TakePart),
 ];

@@ -8,6 +8,7 @@ use misp_core::{Answer, Reply};
 use misp_format::{put_event, put_groups, write_refusal, write_saved, write_taken};
 use misp_ids::NoMemory;
 use misp_package::package_bytes;
+use misp_wanted::manifest_bytes;
 use std::alloc::Global;
 use std::fmt::Write;
 
@@ -41,6 +42,9 @@ fn put_answer(out: &mut Vec<u8>, alloc: Global, answer: &Answer) -> Result<(), N
         Answer::Taken(count) => Ok(out.extend_from_slice(&write_taken(alloc, *count)?)?),
         Answer::Parts(events) => put_event_list(out, alloc, events.as_slice()),
         Answer::Part(package) => Ok(out.extend_from_slice(&package_bytes(alloc, package)?)?),
+        Answer::Manifest(events) => {
+            Ok(out.extend_from_slice(&manifest_bytes(alloc, events.as_slice())?)?)
+        }
     }
 }
 
@@ -75,5 +79,5 @@ pub fn body_in(text: &[u8]) -> &[u8]
 pub fn has_octets(reply: &Reply) -> bool
     ensures { result ≡ has_octets reply.now }
 {
-    matches!(reply, Reply::Ok(Answer::Part(_)))
+    matches!(reply, Reply::Ok(Answer::Part(_) | Answer::Manifest(_)))
 }

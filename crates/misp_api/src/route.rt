@@ -50,6 +50,10 @@ pub enum Route {
     SyncEvents,
     /// A package that a pull brings of an event.
     SyncPart(EventId, u32),
+    /// What the manifest of a pull says.
+    SyncManifest,
+    /// The wanted rows of a package that a pull brings.
+    SyncRows,
     /// A package that is handed in.
     TakePart,
     /// Groups that are handed in.
@@ -204,6 +208,8 @@ fn route_with(kind: PathKind, ids: PathIds) -> Option<Route>
         PathKind::EditGroup => alone(Route::EditGroup, ids),
         PathKind::SyncGroups => alone(Route::SyncGroups, ids),
         PathKind::SyncEvents => alone(Route::SyncEvents, ids),
+        PathKind::SyncManifest => alone(Route::SyncManifest, ids),
+        PathKind::SyncRows => alone(Route::SyncRows, ids),
         PathKind::TakePart => alone(Route::TakePart, ids),
         PathKind::ViewEvent => {
             let (event, owner) = copy_in(ids)?;
@@ -292,7 +298,8 @@ pub(crate) fn method_of(route: &Route) -> &'static str
         | Route::Groups
         | Route::SyncGroups
         | Route::SyncEvents
-        | Route::SyncPart(_, _) => "GET",
+        | Route::SyncPart(_, _)
+        | Route::SyncManifest => "GET",
         _ => "POST",
     }
 }

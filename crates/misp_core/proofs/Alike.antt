@@ -103,6 +103,8 @@ wide_alike admin rows s Ask.Groups built = groups_alike admin s [] rows
 wide_alike admin rows s Ask.SyncGroups built = pulled_groups_alike admin s [] rows
 wide_alike admin rows s Ask.SyncEvents built = refl
 wide_alike admin rows s (Ask.SyncPart e n) built = asked_alike admin s (event_rows e rows) rows (Ask.SyncPart e n) refl (record { same = ask_of_event e rows s (Ask.SyncPart e n) refl; refusals = λ rule. refl })
+wide_alike admin rows s Ask.SyncManifest built = refl
+wide_alike admin rows s (Ask.SyncRows w) built = asked_alike admin s (event_rows w.event rows) rows (Ask.SyncRows w) refl (record { same = ask_of_event w.event rows s (Ask.SyncRows w) refl; refusals = λ rule. refl })
 wide_alike admin rows s (Ask.TakePart p) built = handed_of_event admin s rows p built
 wide_alike admin rows s ask built = absurd built
 
@@ -248,6 +250,8 @@ module _ (host : Host) (now : ℕ) (by : Caller) (groups : List Group) (rows : L
   read_alike Ask.SyncGroups built = wide_alike host.admin rows there Ask.SyncGroups built
   read_alike Ask.SyncEvents built = wide_alike host.admin rows there Ask.SyncEvents built
   read_alike (Ask.SyncPart e n) built = wide_alike host.admin rows there (Ask.SyncPart e n) built
+  read_alike Ask.SyncManifest built = wide_alike host.admin rows there Ask.SyncManifest built
+  read_alike (Ask.SyncRows w) built = wide_alike host.admin rows there (Ask.SyncRows w) built
   read_alike (Ask.TakePart p) built = wide_alike host.admin rows there (Ask.TakePart p) built
   read_alike Ask.Index built = absurd built
 

@@ -7,7 +7,10 @@ use Rattle.misp_model.proofs.Prelude.{AreRows, Label, NotGranted, Other, Rule, S
 use Rattle.misp_model.specs.Prelude.{judge_writes, propose_writes, sight_writes}
 use Rattle.misp_model.specs.declared.change.Change.TheVariants.{AddEvent}
 use Rattle.misp_model.specs.Answers.{Packed, concerns, concerning}
+use Rattle.misp_model.specs.Manifests.{only_of, pulled_manifest, pulled_only}
 use Rattle.misp_model.specs.Pulling.{pulled_events, pulled_groups, pulled_part}
+use Rattle.misp_manifest.specs.declared.manifest.ManifestFields.{ManifestFields}
+use Rattle.misp_manifest.specs.declared.wanted.WantedFields.{WantedFields as Wanted}
 use Rattle.misp_model.specs.declared.package.PackageFields.{PackageFields as Package}
 use Rattle.misp_model.proofs.Steps.{accepted_where, refused_where, answer_where, refusal_where}
 use Rattle.misp_model.specs.declared.change.Change.{Change}
@@ -113,6 +116,12 @@ unfolding ask_rules first_rule ok_answer brings
 events_listed admin s events is =
     planned admin s Ask.SyncEvents (record { answer = Answer.Parts events; batch = None }) refl (ap (λ (es : List EventParts). Reply.Ok (Answer.Parts es)) (sym is)) refl tt
 
+-- the manifest is told
+pub manifest_told : (admin : Admin) (s : Scene) (events : List ManifestFields) → events ≡ pulled_manifest s → IsPlan (record { answer = Answer.Manifest events; batch = None }) (asked admin s Ask.SyncManifest)
+unfolding ask_rules first_rule ok_answer brings
+manifest_told admin s events is =
+    planned admin s Ask.SyncManifest (record { answer = Answer.Manifest events; batch = None }) refl (ap (λ (es : List ManifestFields). Reply.Ok (Answer.Manifest es)) (sym is)) refl tt
+
 module _ (admin : Admin) (s : Scene) (event : EventId) (n : ℕ) where
   -- the package is shown
   pub part_shown : (p : Package) → pulled_part s event n ≡ Some p → IsPlan (record { answer = Answer.Part p; batch = None }) (asked admin s (Ask.SyncPart event n))
@@ -129,6 +138,36 @@ module _ (admin : Admin) (s : Scene) (event : EventId) (n : ℕ) where
   part_refused none =
       not_planned admin s (Ask.SyncPart event n) (bare RuleName.NotGranted)
       (ap (λ (o : Option Package). option_map (refusal_of s (Ask.SyncPart event n)) (first_rule ((elim o [ None ↦ true | Some x ↦ false ], NotGranted) ∷ []))) none)
+
+module _ (admin : Admin) (s : Scene) (w : Wanted) where
+  -- the wanted rows of the package are shown
+  pub rows_shown : (p : Package) → pulled_part s w.event w.part ≡ Some p → IsPlan (record { answer = Answer.Part (only_of w.keys p); batch = None }) (asked admin s (Ask.SyncRows w))
+  unfolding ask_rules first_rule ok_answer brings pulled_only
+  rows_shown p found =
+      planned admin s (Ask.SyncRows w) (record { answer = Answer.Part (only_of w.keys p); batch = None })
+      (ap (λ (o : Option Package). first_rule ((elim o [ None ↦ true | Some x ↦ false ], NotGranted) ∷ [])) found)
+      (ap (λ (o : Option Package). reply_of admin s (Ask.SyncRows w) (elim (option_map (only_of w.keys) o) [ None ↦ Other | Some x ↦ Packed x ])) found)
+      refl tt
+
+  -- there is no such package
+  pub rows_refused : pulled_part s w.event w.part ≡ None → Refuses (bare RuleName.NotGranted) (asked admin s (Ask.SyncRows w))
+  unfolding ask_rules first_rule
+  rows_refused none =
+      not_planned admin s (Ask.SyncRows w) (bare RuleName.NotGranted)
+      (ap (λ (o : Option Package). option_map (refusal_of s (Ask.SyncRows w)) (first_rule ((elim o [ None ↦ true | Some x ↦ false ], NotGranted) ∷ []))) none)
+
+  -- where the package is shown, so are the wanted rows of it
+  pub rows_of_shown : (p : Package) → asked admin s (Ask.SyncPart w.event w.part) ≡ effect (Reply.Ok (Answer.Part p)) [] → asked admin s (Ask.SyncRows w) ≡ effect (Reply.Ok (Answer.Part (only_of w.keys p))) []
+  rows_of_shown p told = one (pulled_part s w.event w.part) refl
+    where
+      one : (o : Option Package) → pulled_part s w.event w.part ≡ o → asked admin s (Ask.SyncRows w) ≡ effect (Reply.Ok (Answer.Part (only_of w.keys p))) []
+      one None none =
+          let same : Reply.Refused (bare RuleName.NotGranted) ≡ Reply.Ok (Answer.Part p) = ap (λ (e : Effect Reply). e.reply) (sym (part_refused admin s w.event w.part none).is ∙ told) in
+          absurd cc
+      one (Some q) found =
+          let same : Reply.Ok (Answer.Part q) ≡ Reply.Ok (Answer.Part p) = ap (λ (e : Effect Reply). e.reply) (sym (part_shown admin s w.event w.part q found).is ∙ told) in
+          let is : q ≡ p = cc in
+          (rows_shown q found).is ∙ ap (λ (x : Package). effect (Reply.Ok (Answer.Part (only_of w.keys x))) []) is
 
 -- ---- what writes rows of an event
 
@@ -254,6 +293,8 @@ refused_alone admin s Ask.Groups built is = ap row_batches (writes_none admin s 
 refused_alone admin s Ask.SyncGroups built is = ap row_batches (writes_none admin s Ask.SyncGroups refl)
 refused_alone admin s Ask.SyncEvents built is = ap row_batches (writes_none admin s Ask.SyncEvents refl)
 refused_alone admin s (Ask.SyncPart event n) built is = ap row_batches (writes_none admin s (Ask.SyncPart event n) refl)
+refused_alone admin s Ask.SyncManifest built is = ap row_batches (writes_none admin s Ask.SyncManifest refl)
+refused_alone admin s (Ask.SyncRows w) built is = ap row_batches (writes_none admin s (Ask.SyncRows w) refl)
 refused_alone admin s (Ask.TakePart part) built is = absurd (never_refused admin s part is)
 refused_alone admin s ask built is = absurd built
 

@@ -5,6 +5,8 @@ use Rattle.std.proofs.lemmas.List.{length-map, take_more}
 use Rattle.std.proofs.lemmas.List.Elements.{filter_map-append}
 use Rattle.misp_lists.specs.Order.{in_order}
 use Rattle.misp_model.specs.Machine.{event_number, event_rows, seeing}
+use Rattle.misp_manifest.specs.declared.manifest.ManifestFields.{ManifestFields}
+use Rattle.misp_model.specs.Manifests.{pulled_manifest}
 use Rattle.misp_model.specs.Package.{nobody}
 use Rattle.misp_model.specs.Packing.{packages}
 use Rattle.misp_model.specs.Pulling.{arriving_by, pull_route, pulled_events, pulled_part, pulled_rows}
@@ -14,12 +16,13 @@ use Rattle.misp_model.proofs.Prelude.{EventId, IsDistinct, IsTable, Row, Scene, 
 use Rattle.misp_history.specs.Merging.{arriving_rows, passing_rows}
 use Rattle.misp_history.proofs.Moving.{arriving_here}
 use Rattle.misp_package.specs.Packing.{AreNumbered, AreNumberedFrom}
+use Rattle.misp_manifest.specs.Manifest.{manifest_event}
 use Rattle.misp_core.specs.Answers.{event_parts}
 use Rattle.misp_core.specs.Pulling.{IsByEvent, event_at, parts_where}
 use Rattle.misp_core.specs.declared.reply.EventParts.{EventParts}
 use Rattle.misp_core.proofs.Arriving.{arriving_apart, arriving_from, arriving_nobodys, part_ours, part_table}
 use Rattle.misp_core.proofs.Numbered.{numbers_ascend, numbers_reach}
-use Rattle.misp_core.proofs.PulledEvents.{events_counted}
+use Rattle.misp_core.proofs.PulledEvents.{events_counted, events_said}
 
 -- ---- what arrives at the partner
 
@@ -74,6 +77,13 @@ module _ (s : Scene) where
       sym (events_counted (pulled_rows (seeing s rows)) (pulled_nobodys rows) (pulled_table rows table) (dedup eqb (map event_number list)) (numbers_ascend list rows by)
       (λ x m. let r = pulled_from rows x m in subst (Contains (dedup eqb (map event_number list))) r.1.1 (numbers_reach list rows by r.0 r.1.0)))
 
+  pub manifest_pulled : (list rows : List Row) → IsTable rows → IsByEvent list rows
+      → pulled_manifest (seeing s rows) ≡ filter_map (λ n. manifest_event (event_at n) (packages (event_rows (event_at n) (pulled_rows (seeing s rows))))) (dedup eqb (map event_number list))
+  unfolding pulled_manifest
+  manifest_pulled list rows table by =
+      sym (events_said (pulled_rows (seeing s rows)) (pulled_nobodys rows) (pulled_table rows table) (dedup eqb (map event_number list)) (numbers_ascend list rows by)
+      (λ x m. let r = pulled_from rows x m in subst (Contains (dedup eqb (map event_number list))) r.1.1 (numbers_reach list rows by r.0 r.1.0)))
+
 -- ---- one part
 
 -- the package of a number among packages that are numbered
@@ -112,6 +122,11 @@ module _ (s : Scene) (e : EventId) (rows part : List Row) (table : IsTable rows)
   pub count_is : (found : Option EventParts) → (IsTable part → list_all (λ row. same_event (event_of row.key) e) part ≡ true → found ≡ parts_where e (length (packages (pulled_rows (seeing s part)))))
       → found ≡ parts_where e (length (packages (event_rows e (pulled_rows (seeing s rows)))))
   count_is found told = told (part_table e rows part is table) (part_ours e rows part is) ∙ ap (λ all. parts_where e (length all)) its_packages
+
+  -- and what a manifest says of them
+  pub said_is : (said : Option ManifestFields) → (IsTable part → list_all (λ row. same_event (event_of row.key) e) part ≡ true → said ≡ manifest_event e (packages (pulled_rows (seeing s part))))
+      → said ≡ manifest_event e (packages (event_rows e (pulled_rows (seeing s rows))))
+  said_is said told = told (part_table e rows part is table) (part_ours e rows part is) ∙ ap (manifest_event e) its_packages
 
 -- one number more
 single : {Y : Type 0} (o : Option Y) → option_to_list o ≡ cons_option o []

@@ -12,12 +12,15 @@ use Rattle.misp_lists.proofs.Lists.{map_twice}
 use Rattle.misp_lists.proofs.Ordering.{from_in_order, in_order_has, in_order_map, in_order_same}
 use Rattle.misp_lists.proofs.Orders.{itself, less_is}
 use Rattle.misp_lists.proofs.Sorting.{ascend_in_order}
+use Rattle.misp_manifest.specs.declared.manifest.ManifestFields.{ManifestFields}
 use Rattle.misp_model.specs.Machine.{event_number}
+use Rattle.misp_model.specs.Manifests.{said_of}
 use Rattle.misp_model.specs.Package.{nobody}
 use Rattle.misp_model.specs.Packing.{cut, is_own, onto, others_with, packages}
 use Rattle.misp_model.proofs.Prelude.{EventId, IsDistinct, IsTable, Row, and_from, and_parts, event_key, event_of, event_rows, in_one_cell, list_all, nat_tests, one_cell, same_event, same_event-sound}
 use Rattle.misp_model.proofs.Prelude.{same_key-sound, same_org, same_org-sound, spell, stands_before}
 use Rattle.misp_history.proofs.Tables.{in_order_rows}
+use Rattle.misp_manifest.specs.Manifest.{manifest_event}
 use Rattle.misp_core.specs.Answers.{event_parts}
 use Rattle.misp_core.specs.Pulling.{event_at, parts_where}
 use Rattle.misp_core.specs.declared.reply.EventParts.{EventParts}
@@ -80,6 +83,21 @@ module _ (count : ℕ → ℕ) where
   told_kept : (ns : List ℕ) → filter_map (λ n. parts_where (event_at n) (count n)) ns ≡ map counted (filter has ns)
   told_kept [] = refl
   told_kept (n ∷ ns) = one_kept n (count n) ns (filter_map (λ n. parts_where (event_at n) (count n)) ns) refl (told_kept ns)
+
+-- ---- what is said
+
+module _ (made : ℕ → List (List Row)) where
+  abbrev said : ℕ → ManifestFields
+  said n = said_of (event_at n) (made n)
+
+  one_said : (n : ℕ) (ps : List (List Row)) (ns : List ℕ) (rest : List ManifestFields) → made n ≡ ps → rest ≡ map said ns
+      → cons_option (manifest_event (event_at n) (made n)) rest ≡ map said (cond (ltb 0 (length (made n))) (n ∷ ns) ns)
+  one_said n [] ns rest e h = rw e h
+  one_said n (p ∷ ps) ns rest e h = rw e (rw (lt-ltb 0 (length (p ∷ ps)) (omega arith)) (λ i. said_of (event_at n) (sym e i) ∷ h i))
+
+  said_kept : (ns : List ℕ) → filter_map (λ n. manifest_event (event_at n) (made n)) ns ≡ map said (filter (λ n. ltb 0 (length (made n))) ns)
+  said_kept [] = refl
+  said_kept (n ∷ ns) = one_said n (made n) (filter (λ n. ltb 0 (length (made n))) ns) (filter_map (λ n. manifest_event (event_at n) (made n)) ns) refl (said_kept ns)
 
 -- ---- own rows
 
@@ -177,3 +195,11 @@ module _ (arr : List Row) (owned : list_all (λ row. same_org row.owner nobody) 
         ∙ ap (map (counted count)) numbers_packed
         ∙ map_twice event_number (counted count) (λ row. record { event = event_of row.key; parts = length (packages (event_rows (event_of row.key) arr)) }) (λ row. refl) owns
         ∙ sym (map_twice (λ row. (event_of row.key, length (packages (event_rows (event_of row.key) arr)))) event_parts (λ row. record { event = event_of row.key; parts = length (packages (event_rows (event_of row.key) arr)) }) (λ row. refl) owns)
+
+    -- so what is said of each is what is said of these
+    pub events_said : filter_map (λ n. manifest_event (event_at n) (packages (event_rows (event_at n) arr))) numbers ≡ map (λ row. said_of (event_of row.key) (packages (event_rows (event_of row.key) arr))) owns
+    unfolding event_number
+    events_said =
+        said_kept (λ n. packages (event_rows (event_at n) arr)) numbers
+        ∙ ap (map (λ n. said_of (event_at n) (packages (event_rows (event_at n) arr)))) numbers_packed
+        ∙ map_twice event_number (λ n. said_of (event_at n) (packages (event_rows (event_at n) arr))) (λ row. said_of (event_of row.key) (packages (event_rows (event_of row.key) arr))) (λ row. refl) owns

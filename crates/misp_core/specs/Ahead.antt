@@ -2,6 +2,7 @@
 use Rattle.std.specs.Prelude.{◌≡◌, ◌⊎◌, ℕ, List, [], Option, None, Some, IfSome, get_or}
 use Rattle.misp_effects.specs.Effect.{effect}
 use Rattle.misp_orgs.specs.Keys.{CallerFields as Caller}
+use Rattle.misp_model.specs.Manifests.{only_of}
 use Rattle.misp_model.specs.Prelude.{EventId, Group, Scene}
 use Rattle.misp_model.specs.Pulling.{pulled_part}
 use Rattle.misp_model.specs.declared.ask.Ask.{Ask}
@@ -29,9 +30,11 @@ pub record IsKept (a : Ahead) (by : Caller) (e : EventId) (n : ℕ) (p : Package
   pub event : a.event ≡ e
   pub part : kept_part a n ≡ Some p
 
--- the package is kept for this ask of the caller
+-- the package is kept for this ask of the caller, whole or with the rows of these keys alone
 abbrev pub IsKeptFor : Ahead → Caller → Ask → Package → Type 0
 IsKeptFor a by (Ask.SyncPart event n) p = IsKept a by event n p
+IsKeptFor a by (Ask.SyncRows w) p =
+    (whole : Package) × (IsKept a by w.event w.part whole × (p ≡ only_of w.keys whole))
 IsKeptFor a by ask p = ⊥
 
 -- each package that is left was kept before, for the same caller and of the same event
@@ -49,9 +52,10 @@ pub record IsPacked (s : Scene) (by : Caller) (e : EventId) (a : Ahead) : Type 0
   pub event : a.event ≡ e
   pub parts : (n : ℕ) (p : Package) → kept_part a n ≡ Some p → pulled_part s e n ≡ Some p
 
--- the same of the event of which a part is asked
+-- the same of the event of which a part is asked, or rows of one
 abbrev pub IsPackedFor : Scene → Caller → Ask → Ahead → Type 0
 IsPackedFor s by (Ask.SyncPart event n) a = IsPacked s by event a
+IsPackedFor s by (Ask.SyncRows w) a = IsPacked s by w.event a
 IsPackedFor s by ask a = ⊥
 
 -- what is kept is what was kept before, or what is packed for this ask

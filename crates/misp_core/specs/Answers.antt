@@ -99,6 +99,7 @@ reply_of admin s ask (model.Shares groups) = Reply.Ok (Answer.Groups groups)
 reply_of admin s ask (model.Parts events) =
     Reply.Ok (Answer.Parts (map event_parts events))
 reply_of admin s ask (model.Packed p) = Reply.Ok (Answer.Part p)
+reply_of admin s ask (model.Manifested events) = Reply.Ok (Answer.Manifest events)
 reply_of admin s ask (model.Saved vs) = saved (wide_reach s.by ask) vs
 reply_of admin s ask (model.Taken n) = Reply.Ok (Answer.Taken n)
 reply_of admin s ask _ = Reply.Refused (bare RuleName.NoRoute)

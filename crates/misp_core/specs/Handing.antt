@@ -40,6 +40,8 @@ IsOwn (Ask.Change change) = ⊥
 IsOwn Ask.SyncGroups = ⊥
 IsOwn Ask.SyncEvents = ⊥
 IsOwn (Ask.SyncPart event part) = ⊥
+IsOwn Ask.SyncManifest = ⊥
+IsOwn (Ask.SyncRows wanted) = ⊥
 IsOwn (Ask.TakePart part) = ⊥
 IsOwn ask = Unit {0}
 
@@ -48,8 +50,9 @@ abbrev pub IsUnread : LoadFault → Effect Reply → Type 0
 IsUnread (LoadFault.BadRow name) e = e ≡ refused (bad_row name)
 IsUnread fault e = Unit {0}
 
--- nothing is planned for just this fault: what a keeper failed is told as its fault, a row that does
--- not decode is refused unless memory runs out for its name, and lack of memory is told as that
+-- nothing is planned for just this fault: what a keeper failed is told as its fault, a row that
+-- does not decode is refused unless memory runs out for its name, and lack of memory is told as
+-- that
 abbrev pub TellsFault : LoadFault → NoPlan → Type 0
 TellsFault LoadFault.KeeperFault why = why ≡ NoPlan.KeeperFault
 TellsFault (LoadFault.BadRow name) why = Plans (Err why) (refused (bad_row name))

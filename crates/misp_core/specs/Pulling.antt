@@ -1,7 +1,9 @@
--- Rows by their events, and how many packages there are of each.
+-- Rows by their events, how many packages there are of each, and what a manifest says of it.
 use Rattle.std.specs.Prelude.{◌≡◌, ◌-◌, ◌^◌, ℕ, zero, suc, List, Option, None, Some, Bool}
 use Rattle.std.specs.List.Sorted.{IsNonDecreasingBy}
 use Rattle.misp_elem.specs.Fields.{IsBetween}
+use Rattle.misp_manifest.specs.Manifest.{IsManifestEvent}
+use Rattle.misp_manifest.specs.declared.manifest.ManifestFields.{ManifestFields}
 use Rattle.misp_model.specs.Machine.{event_number, event_rows}
 use Rattle.misp_model.specs.Prelude.{EventId, Group, Inst, OrgId, Row}
 use Rattle.misp_groups.specs.Audience.{carries}
@@ -33,3 +35,8 @@ event_at n = record { 0 = record { 0 = n } }
 abbrev pub parts_where : EventId → ℕ → Option EventParts
 parts_where e zero = None
 parts_where e (suc n) = Some (record { event = e; parts = suc n })
+
+-- it says so of this event, in the form that its type keeps
+pub record IsSaidOf (which : EventId) (m : ManifestFields) : Type 0 where
+  pub event : m.event ≡ which
+  pub fits : IsManifestEvent m

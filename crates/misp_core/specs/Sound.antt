@@ -8,6 +8,7 @@ use Rattle.misp_lists.specs.Prelude.{Ordering, nat_cmp}
 use Rattle.misp_elem.specs.Fields.{IsBetween}
 use Rattle.misp_groups.specs.Group.{IsGroup}
 use Rattle.misp_model.specs.Package.{IsPackage}
+use Rattle.misp_wanted.specs.Manifests.{IsManifest}
 use Rattle.misp_core.specs.declared.reply.Answer.{Answer}
 use Rattle.misp_core.specs.declared.reply.EventParts.{EventParts}
 use Rattle.misp_core.specs.declared.reply.Reply.{Reply}
@@ -26,11 +27,12 @@ pub record AreListed (events : List EventParts) : Type 0 where
   pub each : AllByRecursion IsListed events
   pub ascend : IsStrictlySortedBy by_event events
 
--- its groups are groups, its package is one, and its events are listed so
+-- its groups are groups, its package is one, its events are listed so, and its manifest is one
 abbrev pub IsSoundAnswer : Answer → Type 0
 IsSoundAnswer (Answer.Groups groups) = AllByRecursion IsGroup groups
 IsSoundAnswer (Answer.Parts events) = AreListed events
 IsSoundAnswer (Answer.Part part) = IsPackage part
+IsSoundAnswer (Answer.Manifest events) = IsManifest events
 IsSoundAnswer answer = Unit {0}
 
 abbrev pub IsSound : Reply → Type 0

@@ -7,6 +7,7 @@ use Rattle.misp_format.specs.WholeGroup.{groups_text}
 use Rattle.misp_http.specs.declared.kind.BodyKind.{BodyKind}
 use Rattle.misp_http.specs.declared.kind.BodyKind.TheVariants.{Json, Octets}
 use Rattle.misp_package.specs.Spelling.{spell_package}
+use Rattle.misp_wanted.specs.ManifestSpelling.{spell_manifest}
 use Rattle.misp_core.specs.declared.reply.Answer.{Answer}
 use Rattle.misp_core.specs.declared.reply.Reply.{Reply}
 use Rattle.misp_core.specs.EventList.{event_list_text}
@@ -20,6 +21,7 @@ answer_text (Answer.Groups groups) = groups_text groups
 answer_text (Answer.Taken count) = compact_text (taken_data count)
 answer_text (Answer.Parts events) = event_list_text events
 answer_text (Answer.Part part) = spell_package part
+answer_text (Answer.Manifest events) = spell_manifest events
 
 -- the body of a reply
 abbrev pub body_text : Reply → List ℕ
@@ -29,6 +31,7 @@ body_text (Reply.Refused refusal) = compact_text (refusal_data refusal)
 -- whether the body of a reply is octets; else it is JSON
 abbrev pub has_octets : Reply → Bool
 has_octets (Reply.Ok (Answer.Part part)) = true
+has_octets (Reply.Ok (Answer.Manifest events)) = true
 has_octets reply = false
 
 -- the status of a reply, a space and its body

@@ -1,11 +1,14 @@
 //! Packages that are made ahead of their being asked for.
 
 ghost use Rattle.std.specs.Prelude.{◌≡◌, None, Some, true, get_or, map, set, IfOk, IfSome, IsSomeAnd};
-ghost use Rattle.misp_core.specs.Ahead.{IsKeptFor, IsLeftOf, kept_part};
+ghost use Rattle.misp_model.specs.declared.ask.Ask.TheVariants as asks;
+ghost use Rattle.misp_core.specs.Ahead.{IsKept, IsKeptFor, IsLeftOf, kept_part};
 
 use misp_ids::{EventId, InstId, NoMemory};
+use misp_manifest::Wanted;
 use misp_model::{Ask, Package};
 use misp_orgs::Caller;
+use misp_wanted::only;
 use std::alloc::Global;
 use std::mem;
 
@@ -89,16 +92,18 @@ fn is_for(ahead: &Ahead, caller: &Caller, event: &EventId) -> bool
     is_caller(&ahead.caller, caller) && ahead.event == *event
 }
 
-/// The package that is kept for what the caller asks, where there is one. Where a part is asked for
-/// of another event or by another caller, no package stays.
-pub(crate) fn take_kept(ahead: &mut Option<Ahead>, caller: &Caller, ask: &Ask) -> Option<Package>
+// The package of a number that is kept for the caller, where there is one. Where another event or
+// another caller is meant, no package stays.
+fn take_part(
+    ahead: &mut Option<Ahead>,
+    caller: &Caller,
+    event: &EventId,
+    number: u32,
+) -> Option<Package>
     ensures kept { IfSome result (λ part.
-        IsSomeAnd ahead.old (λ a. IsKeptFor a caller.now ask.now part)) }
+        IsSomeAnd ahead.old (λ a. IsKept a caller.now event.now number part)) }
     ensures left { IfSome ahead.new (λ new. IsSomeAnd ahead.old (λ old. IsLeftOf old new)) }
 {
-    let Ask::SyncPart { event, part } = ask else {
-        return None;
-    };
     let Some(mut kept) = ahead.take() else {
         return None;
     };
@@ -106,7 +111,46 @@ pub(crate) fn take_kept(ahead: &mut Option<Ahead>, caller: &Caller, ask: &Ask) -
         drop(kept);
         return None;
     }
-    let found = kept.take(*part);
+    let found = kept.take(number);
     *ahead = Some(kept);
     found
+}
+
+// The event's own row and the wanted rows of the package that is kept for the caller. It is gone
+// then, also where memory runs out.
+fn take_rows(
+    alloc: Global,
+    ahead: &mut Option<Ahead>,
+    caller: &Caller,
+    wanted: &Wanted,
+) -> Result<Option<Package>, NoMemory>
+    ensures kept { IfOk result (λ found. IfSome found (λ part.
+        IsSomeAnd ahead.old (λ a. IsKeptFor a caller.now (asks.SyncRows wanted.now) part))) }
+    ensures left { IfSome ahead.new (λ new. IsSomeAnd ahead.old (λ old. IsLeftOf old new)) }
+{
+    let fields = wanted.get();
+    match take_part(ahead, caller, &fields.event, fields.part) {
+        Some(whole) => Ok(Some(only(alloc, whole, fields.keys.as_slice())?)),
+        None => Ok(None),
+    }
+}
+
+/// The package that is kept for what the caller asks, or those of its rows that are asked for, where
+/// there is one. Where something is asked for of another event or by another caller, no package
+/// stays.
+pub(crate) fn take_kept(
+    alloc: Global,
+    ahead: &mut Option<Ahead>,
+    caller: &Caller,
+    ask: &Ask,
+) -> Result<Option<Package>, NoMemory>
+    ensures kept { IfOk result (λ found. IfSome found (λ part.
+        IsSomeAnd ahead.old (λ a. IsKeptFor a caller.now ask.now part))) }
+    ensures left { IfSome ahead.new (λ new. IsSomeAnd ahead.old (λ old. IsLeftOf old new)) }
+{
+    match ask {
+        Ask::SyncPart { event, part } => Ok(take_part(ahead, caller, event, *part)),
+        Ask::SyncRows(wanted) => take_rows(alloc, ahead, caller, wanted),
+        _ => Ok(None),
+    }
 }

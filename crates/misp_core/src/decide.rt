@@ -17,9 +17,10 @@ ghost use Rattle.misp_core.specs.Planning.{Plans, stop_planned};
 use crate::ahead::Ahead;
 use crate::changing::plan_change;
 use crate::handing_in::plan_package;
+use crate::manifest::plan_manifest;
 use crate::naming::name_text;
 use crate::planning::{NoPlan, Plan, told};
-use crate::pulling::{plan_event_list, plan_part, plan_pulled_groups};
+use crate::pulling::{plan_event_list, plan_part, plan_pulled_groups, plan_rows};
 use crate::reply::Answer;
 use crate::site::{Site, asker, known_at};
 use crate::stating::{plan_judgement, plan_proposal, plan_sighting};
@@ -185,6 +186,8 @@ fn plan_unchanged(
         Ask::SyncGroups => plan_pulled_groups(alloc, site),
         Ask::SyncEvents => plan_event_list(alloc, site, rows),
         Ask::SyncPart { event, part } => plan_part(alloc, site, event, *part, rows, kept),
+        Ask::SyncManifest => plan_manifest(alloc, site, rows),
+        Ask::SyncRows(wanted) => plan_rows(alloc, site, wanted, rows, kept),
         Ask::TakePart(part) => plan_package(alloc, site, part, rows, landed),
         own => plan_own(alloc, site, own, rows),
     }

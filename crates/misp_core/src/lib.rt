@@ -12,6 +12,7 @@ mod handing_in;
 mod instance;
 mod kept_landing;
 mod laws;
+mod manifest;
 mod naming;
 mod opening;
 mod planning;

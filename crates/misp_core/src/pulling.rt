@@ -32,8 +32,10 @@ use crate::site::{Site, asker, partner, pull_way};
 use misp_elem::{NoMemory, Row};
 use misp_groups::{Group, Groups, carries};
 use misp_ids::{EventId, InstId, Items, OrgId, Refusal, RuleName};
+use misp_manifest::Wanted;
 use misp_model::Package;
 use misp_package::{Via, count_outgoing, outgoing};
+use misp_wanted::only;
 use std::alloc::Global;
 
 // The same group once more.
@@ -87,8 +89,8 @@ pub(crate) fn plan_pulled_groups(alloc: Global, site: &Site<'_>) -> Result<Plan,
     Ok(told(Answer::Groups(Items::of(groups))))
 }
 
-// A pull to this instance.
-fn via_to<'a>(site: &Site<'a>, dest: InstId) -> Via<'a>
+/// A pull to this instance.
+pub(crate) fn via_to<'a>(site: &Site<'a>, dest: InstId) -> Via<'a>
     ensures groups { result.groups.now ≡ site.now.groups.now }
     ensures route { route_of result ≡ pull_route (pull_scene site.now)
         (partner_at site.now.caller.now.internal dest) }
@@ -138,6 +140,28 @@ fn packed(
     Ahead::of(alloc, *site.caller, *event, packages)
 }
 
+// The package of a number that a pull brings of an event, over all rows that are read. The others
+// are kept until they are asked for.
+fn handed_out(
+    alloc: Global,
+    site: &Site<'_>,
+    event: &EventId,
+    number: u32,
+    rows: Vec<Row>,
+    kept: &mut Option<Ahead>,
+) -> Result<Option<Package>, NoMemory>
+    ensures part { IsTable rows.items → IfOk result (λ part.
+        part ≡ pulled_part (seeing (pull_scene site.now) rows.items) event.now number) }
+    ensures kept { IsTable rows.items →
+        StaysOrIsPacked (seeing (pull_scene site.now) rows.items) site.now.caller.now
+        (asks.SyncPart event.now number) kept.old kept.new }
+{
+    let mut ahead = packed(alloc, site, event, rows)?;
+    let part = ahead.take(number);
+    *kept = Some(ahead);
+    Ok(part)
+}
+
 /// Shows a package.
 pub(crate) fn show_part(part: Package) -> Plan
     ensures plan { result ≡ record { answer = Answered.Part part; batch = None } }
@@ -165,11 +189,37 @@ pub(crate) fn plan_part(
     ensures sound { IfOk result (λ plan. IsSoundAnswer plan.answer) }
     ensures no_fault { stop_planned result ≡ by_keeper → ⊥ }
 {
-    let mut ahead = packed(alloc, site, event, rows)?;
-    match ahead.take(number) {
+    match handed_out(alloc, site, event, number, rows, kept)? {
+        Some(package) => Ok(show_part(package)),
+        None => {
+            let refusal = Refusal::bare(alloc, RuleName::NotGranted);
+            Err(NoPlan::Refused(refusal))
+        }
+    }
+}
+
+/// Shows of one package of an event, as a pull brings it, the event's own row and the wanted rows,
+/// over all rows that are read. The other packages are kept until they are asked for.
+pub(crate) fn plan_rows(
+    alloc: Global,
+    site: &Site<'_>,
+    wanted: &Wanted,
+    rows: Vec<Row>,
+    kept: &mut Option<Ahead>,
+) -> Result<Plan, NoPlan>
+    ensures plan { IsTable rows.items → Plans result (asked site.now.admin.now
+        (seeing (pull_scene site.now) rows.items) (asks.SyncRows wanted.now)) }
+    ensures kept { IsTable rows.items →
+        StaysOrIsPacked (seeing (pull_scene site.now) rows.items) site.now.caller.now
+        (asks.SyncRows wanted.now) kept.old kept.new }
+    ensures sound { IfOk result (λ plan. IsSoundAnswer plan.answer) }
+    ensures no_fault { stop_planned result ≡ by_keeper → ⊥ }
+{
+    let fields = wanted.get();
+    match handed_out(alloc, site, &fields.event, fields.part, rows, kept)? {
         Some(package) => {
-            *kept = Some(ahead);
-            Ok(show_part(package))
+            let some = only(alloc, package, fields.keys.as_slice())?;
+            Ok(show_part(some))
         }
         None => {
             let refusal = Refusal::bare(alloc, RuleName::NotGranted);
@@ -215,12 +265,12 @@ fn event_parts(
     }
 }
 
-// Adds an event, where there is one.
-fn put(events: &mut Vec<EventParts>, more: Option<EventParts>) -> Result<(), NoMemory>
-    ensures { OnOk result (events.new.items ≡ events.old.items ++ option_to_list more) }
+/// Adds what there is.
+pub(crate) fn put<T: Drop>(list: &mut Vec<T>, more: Option<T>) -> Result<(), NoMemory>
+    ensures { OnOk result (list.new.items ≡ list.old.items ++ option_to_list more) }
 {
-    if let Some(parts) = more {
-        events.push(parts)?;
+    if let Some(item) = more {
+        list.push(item)?;
     }
     Ok(())
 }

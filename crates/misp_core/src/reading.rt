@@ -164,9 +164,16 @@ pub(crate) fn plan_permitted<K: Keeper>(
     ensures stays { StaysUnless (K.state keeper.old).faults (K.state keeper.new).faults
         (stop_planned result ≡ by_keeper) }
 {
-    if let Some(part) = take_kept(ahead, site.caller, &ask) {
-        drop(ask);
-        return Ok(show_part(part));
+    match take_kept(alloc, ahead, site.caller, &ask) {
+        Ok(Some(part)) => {
+            drop(ask);
+            return Ok(show_part(part));
+        }
+        Ok(None) => {}
+        Err(NoMemory) => {
+            drop(ask);
+            return Err(NoPlan::NoMemory);
+        }
     }
     if is_landed(site, &ask, landed) {
         let plan = plan_kept(alloc, site, &ask, landed);

@@ -8,6 +8,7 @@ use crate::planning::NoPlan;
 use misp_elem::VisibleEvent;
 use misp_groups::Group;
 use misp_ids::{EventId, Items, Refusal, RuleName, Stamp};
+use misp_manifest::ManifestEvent;
 use misp_model::Package;
 use misp_outside::KeeperFault;
 use std::alloc::Global;
@@ -35,8 +36,10 @@ pub enum Answer {
     Taken(u64),
     /// The events of which a pull brings something, in their order.
     Parts(Items<EventParts>),
-    /// A package that a pull brings.
+    /// A package that a pull brings, or those of its rows that were asked for.
     Part(Package),
+    /// What the manifest says of each event of which a pull brings something, in their order.
+    Manifest(Items<ManifestEvent>),
 }
 
 #[derive(Drop)]

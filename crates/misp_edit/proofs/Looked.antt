@@ -7,7 +7,7 @@ use Rattle.misp_model.proofs.Prelude.{AllByRecursion, EventId, IsTable, Key, Org
 use Rattle.misp_model.specs.declared.change.Change.{Change}
 use Rattle.misp_model.specs.declared.change.Change.TheVariants.{AddParts}
 use Rattle.misp_model.specs.declared.looks.Looks.{Looks}
-use Rattle.misp_model.specs.Looking.{at_parts, change_looks, has_uuid, is_in_look, last_looks, looks_at, looks_of, more_looks, over, rows_seen_by, uuids_in}
+use Rattle.misp_model.specs.Looking.{at_parts, change_looks, is_in_look, is_needed_for, last_looks, looks_at, looks_of, more_looks, over, rows_seen_by, uuids_in}
 use Rattle.misp_model.proofs.Looked.{change_is_enough, first_within_last, looked_same, seeing_looked}
 use Rattle.misp_model.proofs.LookedBodies.{taken_looked, targets_looked}
 use Rattle.misp_model.proofs.LookedCopy.{HasThose}
@@ -43,7 +43,7 @@ each_agrees f g q h (p ∷ ps) a = (h p.1 (and_parts _ _ a).0, each_agrees f g q
 
 -- ---- what a refused addition names
 
-module _ (keep : OrgId → Key → Bool) (s : Scene) (c : IsClosedFor s.by keep) (b : Submission) (has : HasThose keep s.by b.event (has_uuid (uuids_in b))) where
+module _ (keep : OrgId → Key → Bool) (s : Scene) (c : IsClosedFor s.by keep) (b : Submission) (has : HasThose keep s.by b.event (is_needed_for (uuids_in b))) where
   abbrev near : Scene
   near = looked_scene keep s
 
@@ -86,7 +86,7 @@ module _ (rows : List Row) (s : Scene) (rule : Rule) where
     last = last_looks (at_parts s.by b) (more_looks (over s rows) add)
 
     -- what has one of the body's uuids is looked at
-    body_looked : HasThose (looks_at last) s.by b.event (has_uuid (uuids_in b))
+    body_looked : HasThose (looks_at last) s.by b.event (is_needed_for (uuids_in b))
     unfolding is_in_look
     body_looked k here h = first_within_last (at_parts s.by b) (over s rows) add refl s.by k (own_looks (at_parts s.by b) k (or_left _ _ (and_from _ _ here h)))
 

@@ -1,12 +1,13 @@
 -- Worked examples, computed. Of the organisations Alpha is the first, Beta the second and Gamma the third.
-use Rattle.std.proofs.Common.{ℕ, [], ◌∷◌, false, Some, None, List, length, map, true, ◌≡◌, refl, Option, cond, ◌*◌, ◌+◌, Bool}
-use Rattle.misp_history.proofs.Prelude.{Act, AddEvent, Administers, Ask, Asks, Content, DeleteEvent, Draft, EditAttribute, EditEvent, ElemId, EventId, Group, Inst, Key, Label, Listed, Net, OrgId, Other, Place, Proposal, Publish, Refused}
+use Rattle.std.proofs.Common.{ℕ, [], ◌∷◌, false, Some, None, List, flat_map, length, map, true, ◌≡◌, refl, Option, cond, ◌*◌, ◌+◌, Bool}
+use Rattle.misp_history.proofs.Prelude.{Act, AddEvent, Administers, Ask, Asks, Command, Content, DeleteEvent, Draft, EditAttribute, EditEvent, ElemId, Element, EventId, Group, Inst, Key, Label, Listed, Net, Nothing, OrgId, Other, Place, Proposal, Publish, Refused}
 use Rattle.misp_history.proofs.Prelude.{Reply, Route, Rule, Saved, Seen, Submission, Syncs, Taken, is_less, label_kind, same_inst, tables}
 use Rattle.misp_ids.specs.declared.label.Way.{Way}
 use Rattle.misp_ids.specs.declared.label.Direction.{Direction}
 use Rattle.misp_ids.specs.declared.label.Direction.TheVariants.{Pull, Push}
 use Rattle.misp_model.specs.Prelude.{ElementExists, ElementFull, EventExists, EventGone, GroupNotUsable, NotGranted, NotOwner, ProposalExists, TimeLimit, VisibleAttribute, VisibleObject, Way}
-use Rattle.misp_model.specs.Answers.{Packed, Parts, Shares}
+use Rattle.misp_manifest.specs.declared.manifest.ManifestFields.{ManifestFields}
+use Rattle.misp_model.specs.Answers.{Manifested, Packed, Parts, Shares}
 use Rattle.misp_model.specs.Scene.{LockedCopy, OlderTime, ProposalClosed}
 use Rattle.misp_model.specs.Shown.{order_of}
 use Rattle.misp_history.specs.Outcomes.{Stopped, Whole, run_partly}
@@ -34,6 +35,7 @@ use Rattle.misp_model.specs.Arrival
 use Rattle.misp_model.specs.Changing
 use Rattle.misp_model.specs.Closed
 use Rattle.misp_model.specs.Edits
+use Rattle.misp_model.specs.Manifests
 use Rattle.misp_model.specs.Pulling
 use Rattle.misp_model.specs.RowOrder
 use Rattle.misp_model.specs.Scene
@@ -144,8 +146,12 @@ rule_number ProposalExists = 19
 rule_number ProposalClosed = 20
 rule_number ElementFull = 39
 
+-- how many keys a manifest has
+count_keys : List ManifestFields → ℕ
+count_keys events = length (flat_map (λ said. flat_map (λ keys. keys) said.parts) events)
+
 -- 1000 and the rule; 2000 and the rows written; 3000, and 100 for each attribute, and the event's level; 4000 and what is listed; 7000, and 100 for each package of the event, and the rows of
--- this one
+-- this one; 8000, and 100 for each event of a manifest, and its keys
 tell : Option Reply → ℕ
 tell None = 0
 tell (Some (Refused r)) = 1000 + rule_number r
@@ -155,6 +161,7 @@ tell (Some (Listed vs)) = 4000 + length vs
 tell (Some (Shares gs)) = 4000 + length gs
 tell (Some (Parts es)) = 4000 + length es
 tell (Some (Packed p)) = 7000 + 100 * p.parts + length p.rows
+tell (Some (Manifested es)) = 8000 + 100 * length es + count_keys es
 tell (Some (Taken n)) = 5000 + n
 tell (Some Other) = 6000
 
@@ -213,6 +220,7 @@ inside (Some (Listed vs)) = 3
 inside (Some (Shares gs)) = 3
 inside (Some (Parts es)) = 3
 inside (Some (Packed p)) = 3
+inside (Some (Manifested es)) = 3
 inside (Some (Taken n)) = 4
 inside (Some Other) = 5
 
@@ -234,6 +242,14 @@ group o members roams =
 
 administers : Inst → ℕ → ℕ → Bool → Group → Act
 administers i time o add g = record { at = i; now = time; command = Administers (org o) add g }
+
+-- the wanted rows of a package of event 11
+wants : ℕ → List Place → Ask
+wants n places = Ask.SyncRows (record { event = event 11; part = n; keys = map (λ p. Element (event 11) p) places })
+
+is_nothing : Command → Bool
+is_nothing Nothing = true
+is_nothing _ = false
 
 in_group : Label
 in_group = Label.Group (record { creator = org 1; uuid = record { 0 = 77 } })
@@ -268,12 +284,13 @@ unfolding Outcomes.coming Outcomes.arriving Outcomes.takes Outcomes.first_brough
     Same.same_elem Same.same_group SameKey.same_place SameKey.same_name SameKey.same_key Parents.event_of Parents.event_key Parents.above Parents.up_to Parents.parents SameKey.is_among
     Order.put Order.in_order Order.is_less Passing.lets_out Passing.sent_copy Passing.is_sent_owner Passing.element_passes Passing.passes_at Passing.passes_by Passing.passes
     Passing.known_there Passing.passing Pulling.pulled_groups Pulling.pulled_rows Pulling.pulled_events Pulling.pulled_part
+    Manifests.pulled_manifest Manifests.is_asked_for Manifests.only_of Manifests.pulled_only
     Shown.order_of Shown.sorted Shown.is_shown Shown.shown_at Shown.is_plain_attribute Shown.is_attribute_of Shown.is_object Shown.is_reference_of
     Shown.is_proposal_on Shown.is_sighting_on Shown.is_verdict_on Shown.is_closed Shown.proposals_on Shown.sightings_on Shown.shown_attribute Shown.object_of Shown.shown_object Shown.creator
     Shown.form_of Shown.event_row Shown.shown Shown.is_chosen Shown.index View.is_row_of RowFacts.is_tombstone RowFacts.is_deleted View.has_copy View.has_home View.has_gone View.row_is_open
     View.has_open View.element_granted View.granted_somewhere View.granted_by View.granted View.is_known View.known View.is_live View.is_before View.first_of_all View.chosen View.is_least
-    count script asks no_links event_with event_of_two elem_id event org attribute add_one a b c route links syncs asks_at rule_number tell view publish stamps comment relabel propose accept
-    first_references first_sightings inside group administers in_group add_levels asks_for
+    count script asks no_links event_with event_of_two elem_id event org attribute add_one a b c route links syncs asks_at rule_number count_keys tell view publish stamps comment relabel propose accept
+    first_references first_sightings inside group administers in_group add_levels asks_for wants is_nothing
 everything = tt
 
 -- Beta sees one attribute of the first event, Gamma and Alpha see what is theirs
@@ -424,3 +441,23 @@ pulled =
 a_pull_is_answered : map tell (replies (org 2) links pulled) ≡ 0 ∷ 0 ∷ 0 ∷ 4001 ∷ 7102 ∷ 1009 ∷ 1009 ∷ 4000 ∷ 4000 ∷ []
 unfolding everything pulled
 a_pull_is_answered = refl
+
+-- and with a manifest of its two keys, and with the wanted rows of the package: the event's own row is always there
+by_manifest : List Act
+by_manifest =
+    asks_at a 1 100 (add_one 11 Label.All) ∷ asks_at a 1 110 (publish 11) ∷ asks_at a 1 120 (add_one 12 Label.Own)
+    ∷ asks_for b a 2 130 Ask.SyncManifest ∷ asks_for b a 2 130 (wants 0 (Place.Attribute (elem_id 21) ∷ []))
+    ∷ asks_for b a 2 130 (wants 0 (Place.Attribute (elem_id 22) ∷ [])) ∷ asks_for b a 2 130 (wants 1 (Place.Event ∷ [])) ∷ asks_at a 2 130 Ask.SyncManifest ∷ []
+
+a_pull_by_manifest_is_answered : map tell (replies (org 2) links by_manifest) ≡ 0 ∷ 0 ∷ 0 ∷ 8102 ∷ 7102 ∷ 7101 ∷ 1009 ∷ 8000 ∷ []
+unfolding everything by_manifest
+a_pull_by_manifest_is_answered = refl
+
+-- of the pulls of another organisation nothing is left, and nothing of an event that it never saw
+left_of : ℕ → List Bool
+left_of o = map (λ act. is_nothing act.command) (erased (org o) links by_manifest)
+
+pulls_of_another_are_erased : (left_of 1 ≡ false ∷ false ∷ false ∷ true ∷ true ∷ true ∷ true ∷ true ∷ [])
+    × (left_of 2 ≡ false ∷ false ∷ true ∷ false ∷ false ∷ false ∷ false ∷ false ∷ [])
+unfolding everything by_manifest left_of
+pulls_of_another_are_erased = (refl, refl)

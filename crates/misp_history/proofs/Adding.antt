@@ -2,7 +2,7 @@
 use Rattle.std.proofs.Common.{◌≡◌, ℕ, [], List, ◌∷◌, true, Bool, false, ap, leb, ◌++◌, ◌∙◌, cond, refl, arith, map, suc, ltb, not, ◌&&◌, filter, le-leb}
 use Rattle.misp_levels.specs.Levels.{lowering}
 use Rattle.misp_levels.proofs.Steps.{down_none}
-use Rattle.misp_history.proofs.Prelude.{AllByRecursion, Inst, IsDistinct, Label, Version, Written, all_implies, and_from, any_agree, any_never, content_now, event_key, event_of}
+use Rattle.misp_history.proofs.Prelude.{AllByRecursion, Inst, IsDistinct, Version, Written, all_implies, and_from, any_agree, any_never, content_now, event_key, event_of}
 use Rattle.misp_history.proofs.Prelude.{filter_all, fresh_row, has_path, is_handed_in, is_published, label_now, list_all, list_all-append, list_any, nat_tests, published_after, put, put_all, put_row}
 use Rattle.misp_history.proofs.Prelude.{released, row_of, same_cell, same_inst, same_inst-refl, same_key, same_org, stands_before, tables}
 use Rattle.misp_levels.specs.Levels.{down}

@@ -12,6 +12,7 @@ pub mod FirstPackages
 pub mod GroupsAgain
 pub mod Growing
 pub mod HandedIn
+pub mod ManifestsAnswered
 pub mod Merging
 pub mod Moving
 pub mod Numbered

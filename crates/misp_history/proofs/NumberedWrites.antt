@@ -13,9 +13,10 @@ use Rattle.misp_model.specs.Statements.{proposal_row}
 use Rattle.misp_model.proofs.Numbers.{index_alike, rules_alike, rules_as, shown_alike}
 use Rattle.misp_model.specs.Answers.{Packed}
 use Rattle.misp_model.specs.Machine.{pulls}
+use Rattle.misp_model.specs.Manifests.{pulled_manifest, pulled_only}
 use Rattle.misp_model.specs.Pulling.{pulled_events, pulled_groups, pulled_part, pulled_rows}
 use Rattle.misp_model.specs.declared.package.PackageFields.{PackageFields as Package}
-use Rattle.misp_history.proofs.Prelude.{Groups, Propose, Sight, SyncEvents, SyncGroups, SyncPart, false≢true}
+use Rattle.misp_history.proofs.Prelude.{Groups, Propose, Sight, SyncEvents, SyncGroups, SyncManifest, SyncPart, SyncRows, false≢true}
 
 -- ---- lists
 map_cond : {X Y : Type 0} (f : X → Y) (b : Bool) (xs ys : List X) → cond b (map f xs) (map f ys) ≡ map f (cond b xs ys)
@@ -193,10 +194,12 @@ module _ (n : ℕ) (s : Scene) where
   part_as (Some p) = refl
 
   ok_as : (a : Ask) → ok_answer (scene_as n s) a ≡ reply_as n (ok_answer s a)
-  unfolding ok_answer reply_as pulled_groups pulled_events pulled_rows pulled_part pulls
+  unfolding ok_answer reply_as pulled_groups pulled_events pulled_manifest pulled_only pulled_rows pulled_part pulls
   ok_as SyncGroups = refl
   ok_as SyncEvents = refl
   ok_as (SyncPart e m) = part_as (pulled_part s e m)
+  ok_as SyncManifest = refl
+  ok_as (SyncRows w) = part_as (pulled_only s w)
   ok_as a = ok_alike n s.partner s a refl
 
   pub answer_as : (a : Ask) → answer (scene_as n s) a ≡ reply_as n (answer s a)

@@ -116,11 +116,11 @@ module _ (s : Scene) where
   part_answered e n = rows_answered e n (length (pulled_packages s e)) (slice_get (pulled_packages s e) n)
 
   -- the parts of an event are its packages
-  all_answered : (e : EventId) → parts_answered s (e, length (pulled_packages s e)) ≡ pulled_packages s e
+  pub all_answered : (e : EventId) → parts_answered s (e, length (pulled_packages s e)) ≡ pulled_packages s e
   unfolding parts_answered
   all_answered e = all_got (λ n. rows_in (answer s (SyncPart e n))) 0 (pulled_packages s e) (λ i. part_answered e (0 + i) ∙ ap (slice_get (pulled_packages s e)) (omega arith))
 
-  answered_by_event : packages_answered s ≡ flat_map (λ x. pulled_packages s (event_of x.key)) (filter is_own (in_order stands_before (pulled_rows s)))
+  pub answered_by_event : packages_answered s ≡ flat_map (λ x. pulled_packages s (event_of x.key)) (filter is_own (in_order stands_before (pulled_rows s)))
   unfolding packages_answered events_in answer ask_rules ok_answer first_rule pulled_events
   answered_by_event =
       flat_map-map (parts_answered s) (λ x. (event_of x.key, length (pulled_packages s (event_of x.key)))) (filter is_own (in_order stands_before (pulled_rows s)))

@@ -1,7 +1,7 @@
 -- What an act does to the state: an accepted request adds what it brings, and a refused one, a view and an act without effect leave it.
 use Rattle.std.proofs.Common.{◌≡◌, List, [], ◌++◌, Bool, ◌∙◌, true, refl, false, ℕ, append-nil, Option, inl, inr}
 use Rattle.misp_history.proofs.Prelude.{Act, Administers, Ask, Asks, Caller, Change, EventId, Group, Groups, Index, Inst, Misfits, Net, Nothing, OrgId, Scene, View, World, asked, brings, cases_Bool, change_writes, is_accepted, same_inst}
-use Rattle.misp_history.proofs.Prelude.{SyncEvents, SyncGroups, SyncPart, false≢true, same_inst-refl, scene, step, with_groups}
+use Rattle.misp_history.proofs.Prelude.{SyncEvents, SyncGroups, SyncManifest, SyncPart, SyncRows, false≢true, same_inst-refl, scene, step, with_groups}
 use Rattle.misp_model.specs.Machine.{pulls}
 use Rattle.misp_groups.specs.Changes.{administered}
 
@@ -23,6 +23,8 @@ unfolding pulls brings
 pull_brings_none s SyncGroups h = refl
 pull_brings_none s SyncEvents h = refl
 pull_brings_none s (SyncPart e n) h = refl
+pull_brings_none s SyncManifest h = refl
+pull_brings_none s (SyncRows w) h = refl
 pull_brings_none s _ h = absurd (false≢true h)
 
 -- the groups of the instance are the new ones, and those of every other are as before

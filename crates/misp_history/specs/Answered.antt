@@ -1,9 +1,11 @@
 -- What a synchronising key is answered, put together.
 use Rattle.std.specs.Prelude.{◌≡◌, ℕ, List, [], Option, Some, None, filter_map, flat_map}
 use Rattle.std.specs.List.{range_with_len}
-use Rattle.misp_model.specs.Prelude.{EventId, Reply, Row, Scene, answer}
+use Rattle.misp_manifest.specs.declared.manifest.ManifestFields.{ManifestFields}
+use Rattle.misp_model.specs.Prelude.{EventId, Key, Reply, Row, Scene, answer}
 use Rattle.misp_model.specs.declared.ask.Ask.TheVariants.{SyncEvents, SyncPart}
-use Rattle.misp_model.specs.Answers.{Packed, Parts}
+use Rattle.misp_model.specs.Answers.{Manifested, Packed, Parts}
+use Rattle.misp_model.specs.Manifests.{only_of}
 use Rattle.misp_model.specs.Package.{nobody}
 use Rattle.misp_history.specs.Passing.{Route}
 
@@ -23,10 +25,20 @@ unfoldable pub events_in : Reply → List (EventId × ℕ)
 events_in (Parts events) = events
 events_in reply = []
 
+-- what a reply says of events
+unfoldable pub said_in : Reply → List ManifestFields
+said_in (Manifested events) = events
+said_in reply = []
+
 -- the rows of the package that a reply is
 unfoldable pub rows_in : Reply → Option (List Row)
 rows_in (Packed p) = Some p.rows
 rows_in reply = None
+
+-- the reply with the wanted rows of its package alone, where it is a package
+unfoldable pub with_wanted : List Key → Reply → Reply
+with_wanted keys (Packed p) = Packed (only_of keys p)
+with_wanted keys reply = reply
 
 -- the packages that are answered for so many parts of an event, one after another
 unfoldable pub parts_answered : Scene → EventId × ℕ → List (List Row)

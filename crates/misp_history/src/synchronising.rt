@@ -1,6 +1,6 @@
 //! What a synchronisation does to the tables.
 
-ghost use Rattle.std.specs.Prelude.{◌≡◌, ◌+◌, ℕ, min, Bool, true, false, List, [], ◌∷◌, ◌++◌, None, Some, cond, filter, length, map, take};
+ghost use Rattle.std.specs.Prelude.{◌≡◌, ◌+◌, ℕ, min, Bool, true, false, List, [], ◌∷◌, ◌++◌, None, Some, cond, filter, flat_map, length, map, take};
 ghost use Rattle.std.specs.List.{list_all, slice_get, AllByRecursion, Contains};
 ghost use Rattle.misp_ids.specs.Uid.{IsUid};
 ghost use Rattle.misp_ids.specs.declared.uid.OrgId.{OrgId};
@@ -9,7 +9,9 @@ ghost use Rattle.misp_elem.specs.declared.row.RowFields.{RowFields as Row};
 ghost use Rattle.misp_elem.specs.Row.{AreRows};
 ghost use Rattle.misp_groups.specs.declared.group.GroupFields.{GroupFields as Group};
 ghost use Rattle.misp_model.specs.declared.package.PackageFields.{PackageFields as Package};
-ghost use Rattle.misp_model.specs.declared.ask.Ask.TheVariants.{SyncGroups, SyncPart, TakePart};
+ghost use Rattle.misp_manifest.specs.Manifest.{key_stamp};
+ghost use Rattle.misp_manifest.specs.declared.wanted.WantedFields.{WantedFields as Wanted};
+ghost use Rattle.misp_model.specs.declared.ask.Ask.TheVariants.{SyncEvents, SyncGroups, SyncManifest, SyncPart, SyncRows, TakePart};
 ghost use Rattle.misp_ids.specs.Same.{Inst, same_inst};
 ghost use Rattle.misp_groups.specs.Audience.{carries};
 ghost use Rattle.misp_model.specs.Version.{Version};
@@ -19,10 +21,11 @@ ghost use Rattle.misp_model.specs.Machine.{event_rows, put_all};
 ghost use Rattle.misp_history.specs.Passing.{Route};
 ghost use Rattle.misp_history.specs.Acts.{Act, Caller, World, scene, synced, synced_groups};
 ghost use Rattle.misp_model.specs.Answers.{Packed, Refused, Shares, Taken, answer, brings, ok_answer};
+ghost use Rattle.misp_model.specs.Manifests.{said_of};
 ghost use Rattle.misp_model.specs.Pulling.{pulled_packages, pulled_rows};
 ghost use Rattle.misp_model.specs.Scene.{NotGranted, Scene};
 ghost use Rattle.misp_groups.specs.Changes.{count_taken};
-ghost use Rattle.misp_history.specs.Answered.{PullsBy, packages_answered, to_nobody};
+ghost use Rattle.misp_history.specs.Answered.{PullsBy, events_in, packages_answered, parts_answered, said_in, to_nobody, with_wanted};
 ghost use Rattle.misp_history.specs.Outcomes.{arriving, synced_partly, takes};
 ghost use Rattle.misp_history.specs.Merging.{IsPackageOf, arrives, arriving_rows, bringing, brought, count_bringing, fresh, handed, is_taken, more_where, merged, merged_by, packages, passing_rows, rows_taken};
 
@@ -141,6 +144,7 @@ pub fn a_synchronisation_by_packages()
 
 /// What a synchronising key is answered is what a pull by its partner brings: the groups that
 /// carry, and of all that arrives the packages, one event after another and one part after another.
+/// The manifest says of each event that is listed the keys and the stamps of its parts.
 pub fn a_pull_is_answered_by_packages()
     ensures groups { (n : ℕ) (w : World) (act : Act) (c : Caller) (r : Route) →
         PullsBy r (scene n w act c) →
@@ -154,9 +158,19 @@ pub fn a_pull_is_answered_by_packages()
         PullsBy r (scene n w act c) →
         packages_answered (scene n w act c)
         ≡ packages (arriving_rows (tables w.log r.from) (w.groups r.from) (to_nobody r)) }
+    ensures manifest { (s : Scene) →
+        said_in (answer s SyncManifest)
+        ≡ map (λ event. said_of event.0 (parts_answered s event))
+        (events_in (answer s SyncEvents)) }
+    ensures keys { (n : ℕ) (w : World) (act : Act) (c : Caller) (r : Route) →
+        PullsBy r (scene n w act c) →
+        flat_map (λ said. said.parts) (said_in (answer (scene n w act c) SyncManifest))
+        ≡ map (map key_stamp)
+        (packages (arriving_rows (tables w.log r.from) (w.groups r.from) (to_nobody r))) }
 {}
 
-/// A part that is answered is the one that was asked for, and one that is not there is refused.
+/// A part that is answered is the one that was asked for, and one that is not there is refused. Where
+/// some rows of a part are wanted, the answer is that part with these rows alone.
 pub fn a_part_is_the_one_asked_for()
     ensures event { (s : Scene) (e : EventId) (n : ℕ) (p : Package) →
         answer s (SyncPart e n) ≡ Packed p → p.event ≡ e }
@@ -168,4 +182,6 @@ pub fn a_part_is_the_one_asked_for()
         answer s (SyncPart e n) ≡ Packed p → slice_get (pulled_packages s e) n ≡ Some p.rows }
     ensures absent { (s : Scene) (e : EventId) (n : ℕ) →
         slice_get (pulled_packages s e) n ≡ None → answer s (SyncPart e n) ≡ Refused NotGranted }
+    ensures wanted { (s : Scene) (w : Wanted) →
+        answer s (SyncRows w) ≡ with_wanted w.keys (answer s (SyncPart w.event w.part)) }
 {}

@@ -17,6 +17,7 @@ pub mod LookedScenes
 pub mod LookedTold
 pub mod LookedUuids
 pub mod LookedView
+pub mod Manifests
 pub mod Moving
 pub mod NameOrder
 pub mod Numbers

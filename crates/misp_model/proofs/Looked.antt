@@ -5,7 +5,7 @@ use Rattle.misp_lists.proofs.Lists.{none_not_some, some_same}
 use Rattle.misp_ids.proofs.Same.{same_event-refl, same_org-refl}
 use Rattle.misp_elem.proofs.Same.{same_key-sound}
 use Rattle.misp_model.specs.Prelude.{AddEvent, AddParts, Ask, Change, Delete, DeleteEvent, DeleteReference, EditAttribute, EditEvent, EditObject, EventId, Groups, Index, IsTable, Judge, Key, OrgId, Place, Propose, Publish, Row, Scene, Sight, SyncEvents}
-use Rattle.misp_model.specs.Prelude.{SyncGroups, SyncPart, TakePart, View, event_key, event_of, has_copy, holds_copy, is_statement, is_tombstone, same_event, same_key, same_org, up_to}
+use Rattle.misp_model.specs.Prelude.{SyncGroups, SyncManifest, SyncPart, SyncRows, TakePart, View, event_key, event_of, has_copy, holds_copy, is_statement, is_tombstone, same_event, same_key, same_org, up_to}
 use Rattle.misp_model.specs.Shown.{event_row}
 use Rattle.misp_model.specs.Machine.{seeing}
 use Rattle.misp_model.specs.Looking.{at_event, at_shown, beside, change_looks, is_in_look, last_looks, looks_at, looks_of, more_for_change, more_looks, over, own_alone, rows_seen_by, uuids_in}
@@ -86,6 +86,8 @@ more_same l rows s Groups h = refl
 more_same l rows s SyncGroups h = refl
 more_same l rows s SyncEvents h = refl
 more_same l rows s (SyncPart e n) h = refl
+more_same l rows s SyncManifest h = refl
+more_same l rows s (SyncRows w) h = refl
 more_same l rows s (TakePart p) h = refl
 
 -- ---- what is looked at first is looked at at last
@@ -140,6 +142,8 @@ first_within_last l s Groups h = λ w k g. g
 first_within_last l s SyncGroups h = λ w k g. g
 first_within_last l s SyncEvents h = λ w k g. g
 first_within_last l s (SyncPart e n) h = λ w k g. g
+first_within_last l s SyncManifest h = λ w k g. g
+first_within_last l s (SyncRows v) h = λ w k g. g
 first_within_last l s (TakePart p) h = λ w k g. g
 
 -- ---- what it looks at at last is enough
@@ -173,4 +177,6 @@ looked_same l rows s Groups t h = absurd (none_not_some h)
 looked_same l rows s SyncGroups t h = absurd (none_not_some h)
 looked_same l rows s SyncEvents t h = absurd (none_not_some h)
 looked_same l rows s (SyncPart e n) t h = absurd (none_not_some h)
+looked_same l rows s SyncManifest t h = absurd (none_not_some h)
+looked_same l rows s (SyncRows w) t h = absurd (none_not_some h)
 looked_same l rows s (TakePart p) t h = absurd (none_not_some h)

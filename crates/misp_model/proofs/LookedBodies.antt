@@ -7,7 +7,7 @@ use Rattle.misp_ids.proofs.Same.{same_event-refl}
 use Rattle.misp_model.specs.Prelude.{AddEvent, AddParts, Ask, Content, ElemId, Element, ElementExists, EventExists, EventGone, EventId, GroupNotUsable, Key, Label, OrgId, Place, Reference, ReferenceDraft, Scene, Submission}
 use Rattle.misp_model.specs.Prelude.{change_rules, change_writes, clashes, event_key, event_of, fits_parts, has_unusable, is_place_of, is_taken, list_all, list_any, own_live, part_version, parts_written, uuid_at, uuids_of, written}
 use Rattle.misp_model.specs.Adding.{are_distinct, brings_object, event_written, has_target, is_target_key, new_event, object_is_there, part_fits, reference_fits, reference_key, reference_version, target_of}
-use Rattle.misp_model.specs.Looking.{has_uuid, is_place_with, uuids_in}
+use Rattle.misp_model.specs.Looking.{is_needed_for, is_place_needed_for, uuids_in}
 use Rattle.misp_model.proofs.LookedRows.{IsClosedFor, element_looked}
 use Rattle.misp_model.proofs.LookedScenes.{HasEvent, bars_looked, holds_copy_looked, holds_tombstone_looked, is_usable_looked, looked_scene, own_live_looked}
 use Rattle.misp_model.proofs.LookedCopy.{HasThose, is_taken_looked, target_in_copy_looked}
@@ -41,7 +41,7 @@ module _ (keep : OrgId → Key → Bool) (s : Scene) (c : IsClosedFor s.by keep)
 
   -- ---- a body
 
-  module _ (has : HasThose keep s.by b.event (has_uuid (uuids_in b))) where
+  module _ (has : HasThose keep s.by b.event (is_needed_for (uuids_in b))) where
     -- what has a uuid of the body, and what its references refer to, is looked at
     pub taken_looked : (u : ℕ) → is_in_body b u ≡ true → is_taken near b.event u ≡ is_taken s b.event u
     taken_looked u h = is_taken_looked keep s c b.event u (λ k here g. has k here (taken_has (uuids_in b) u h k g))
@@ -86,7 +86,7 @@ module _ (keep : OrgId → Key → Bool) (s : Scene) (c : IsClosedFor s.by keep)
 
     -- parts that are added
     live_object : (x : ElemId) → own_live near (Element b.event (Place.Object x)) ≡ own_live s (Element b.event (Place.Object x))
-    unfolding event_of has_uuid is_place_with
+    unfolding event_of is_needed_for is_place_needed_for
     live_object x =
         own_live_looked keep s c (Element b.event (Place.Object x))
         (element_looked s.by keep c s.by b.event (Place.Object x) (has (Element b.event (Place.Object x)) (same_event-refl b.event) refl))

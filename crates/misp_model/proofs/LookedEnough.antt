@@ -6,7 +6,7 @@ use Rattle.misp_elem.proofs.Same.{same_key-refl}
 use Rattle.misp_model.specs.Prelude.{AddEvent, AddParts, Ask, Change, Delete, DeleteEvent, DeleteReference, EditAttribute, EditEvent, EditObject, Element, EventId, Judge, Key, OrgId, Place, Proposal, ProposalDraft, ProposalName, Propose, Publish, Scene}
 use Rattle.misp_model.specs.Prelude.{Sight, Sighting, SightingDraft, Verdict, event_key, event_of, holds_copy, is_for_new, judged_place, parents, proposal_key, sighting_key, takes_uuid, up_to, uuid_at}
 use Rattle.misp_model.specs.Statements.{judged_at}
-use Rattle.misp_model.specs.Looking.{at_proposal, at_target, beside, change_looks, has_uuid, is_in_look, is_place_with, last_looks, looks_at, more_for_change, own_alone, proposal_by, proposal_keys, uuids_in}
+use Rattle.misp_model.specs.Looking.{at_proposal, at_target, beside, change_looks, is_in_look, is_needed_for, is_place_needed_for, last_looks, looks_at, more_for_change, own_alone, proposal_by, proposal_keys, uuids_in}
 use Rattle.misp_model.specs.declared.looks.Look.{Look}
 use Rattle.misp_model.specs.declared.looks.Looks.{Looks}
 use Rattle.misp_model.proofs.LookedRows.{IsClosedFor}
@@ -103,7 +103,7 @@ module _ (s : Scene) (e : EventId) where
     uuid_there true h new k here g = own_looks (judging true) k (or_left _ _ (and_from _ _ here (by_target n.target new g)))
       where
         by_target : (t : Place) → (elim t [ Place.Event ↦ true | Place.Object x ↦ false | Place.Attribute a ↦ false | Place.ObjectAttribute x a ↦ false ]) ≡ true →
-            takes_uuid (uuid_at e (judged_at t n.uuid)) k ≡ true → has_uuid (n.uuid ∷ []) k ≡ true
+            takes_uuid (uuid_at e (judged_at t n.uuid)) k ≡ true → is_needed_for (n.uuid ∷ []) k ≡ true
         by_target Place.Event i g = taken_has (n.uuid ∷ []) n.uuid.0.0 (or_left _ _ (same_elem-refl n.uuid)) k g
         by_target (Place.Object x) i g = absurd (false≢true i)
         by_target (Place.Attribute x) i g = absurd (false≢true i)
@@ -128,7 +128,7 @@ module _ (s : Scene) (e : EventId) where
       target_there w = shared_looks (judging makes) closed w (Element e n.target) (proposal_target_among e n)
 
     attribute_there : (makes : Bool) → makes ≡ true → looks_at (judging makes) s.by (Element e (Place.Attribute n.uuid)) ≡ true
-    unfolding is_in_look event_of has_uuid is_place_with
+    unfolding is_in_look event_of is_needed_for is_place_needed_for
     attribute_there true h = own_looks (judging true) (Element e (Place.Attribute n.uuid)) (or_left _ _ (and_from _ _ (same_event-refl e) (or_left _ _ (same_elem-refl n.uuid))))
     attribute_there false h = absurd (false≢true h)
 

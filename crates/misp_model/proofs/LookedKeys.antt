@@ -6,7 +6,7 @@ use Rattle.misp_lists.proofs.Lists.{all_both, all_implies}
 use Rattle.misp_ids.proofs.Same.{same_event-refl, same_org-refl, same_org-sound}
 use Rattle.misp_elem.proofs.Same.{of_event, same_key-keeps, same_key-refl, target_kept}
 use Rattle.misp_model.specs.Prelude.{ElemId, Element, EventId, Inst, Key, OrgId, Place, Proposal, ProposalName, Reference, Sighting, Verdict, above, event_key, event_of, is_for_new, list_all, list_any, parents, same_event, same_key, same_org, up_to}
-use Rattle.misp_model.specs.Looking.{at_proposal, at_target, beside, has_uuid, is_in_look, is_place_with, looks_at, own_alone, proposal_keys}
+use Rattle.misp_model.specs.Looking.{at_proposal, at_target, beside, is_in_look, is_needed_for, is_place_needed_for, looks_at, own_alone, proposal_keys}
 use Rattle.misp_model.specs.declared.looks.Look.{Look}
 use Rattle.misp_model.specs.declared.looks.Looks.{Looks}
 use Rattle.misp_model.proofs.EventParents.{parents_of}
@@ -121,9 +121,9 @@ target_among e p = target_kept (among (up_to e p)) e p (all_among (up_to e p))
 -- ---- what has one of some uuids
 
 -- of a key that has one, but for a reference, the parents have one
-uuid_above : (us : List ElemId) (e : EventId) (k : Key) → is_reference k ≡ false → same_event (event_of k) e && has_uuid us k ≡ true →
-    list_all (λ j. same_event (event_of j) e && has_uuid us j) (parents k) ≡ true
-unfolding event_of parents above has_uuid is_place_with is_reference
+uuid_above : (us : List ElemId) (e : EventId) (k : Key) → is_reference k ≡ false → same_event (event_of k) e && is_needed_for us k ≡ true →
+    list_all (λ j. same_event (event_of j) e && is_needed_for us j) (parents k) ≡ true
+unfolding event_of parents above is_needed_for is_place_needed_for is_reference
 uuid_above us e (Element f Place.Event) n h = refl
 uuid_above us e (Element f (Place.Object x)) n h = and_from _ _ h refl
 uuid_above us e (Element f (Place.Attribute a)) n h = and_from _ _ (and_from _ _ (and_parts _ _ h).0 refl) refl
@@ -169,13 +169,13 @@ copy_own e = record { above = λ k n h. parents_of e k h; event = same_event-ref
 
 -- what has one of some uuids
 pub uuids_own : (e : EventId) (us : List ElemId) → IsClosedOwn e (Look.Uuids us [])
-unfolding is_in_look event_key event_of has_uuid is_place_with
+unfolding is_in_look event_key event_of is_needed_for is_place_needed_for
 uuids_own e us = record {
-  above = λ k n h. all_implies (λ j. same_event (event_of j) e && has_uuid us j) (is_in_look (Look.Uuids us []) e) (λ j g. or_left _ _ g) (parents k) (uuid_above us e k n (only k h));
+  above = λ k n h. all_implies (λ j. same_event (event_of j) e && is_needed_for us j) (is_in_look (Look.Uuids us []) e) (λ j g. or_left _ _ g) (parents k) (uuid_above us e k n (only k h));
   event = or_left _ _ (and_from _ _ (same_event-refl e) refl);
 }
   where
-    only : (k : Key) → (same_event (event_of k) e && has_uuid us k || false) ≡ true → same_event (event_of k) e && has_uuid us k ≡ true
+    only : (k : Key) → (same_event (event_of k) e && is_needed_for us k || false) ≡ true → same_event (event_of k) e && is_needed_for us k ≡ true
     only k h = elim (or_cases _ _ h) [ inl g ↦ g | inr g ↦ absurd (false≢true g) ]
 
 -- ---- a statement on a place
@@ -222,7 +222,7 @@ module _ (e : EventId) (n : ProposalName) where
 
     -- what stands above a proposal for a new attribute is the event
     event_in_making : is_for_new n ≡ true → list_all (is_in_look making e) (up_to e n.target) ≡ true
-    unfolding is_for_new is_in_look event_of up_to above has_uuid is_place_with
+    unfolding is_for_new is_in_look event_of up_to above is_needed_for is_place_needed_for
     event_in_making h = by_target n.target h
       where
         by_target : (t : Place) → (elim t [ Place.Event ↦ true | Place.Object x ↦ false | Place.Attribute a ↦ false | Place.ObjectAttribute x a ↦ false ]) ≡ true →
@@ -240,7 +240,7 @@ module _ (e : EventId) (n : ProposalName) where
     making_above : is_for_new n ≡ true → (k : Key) → is_reference k ≡ false → is_in_look making e k ≡ true → list_all (is_in_look making e) (parents k) ≡ true
     unfolding is_in_look
     making_above h k none g = elim (or_cases _ _ g) [
-      | inl has ↦ all_implies (λ j. same_event (event_of j) e && has_uuid (n.uuid ∷ []) j) (is_in_look making e) (λ j g. or_left _ _ g) (parents k) (uuid_above (n.uuid ∷ []) e k none has)
+      | inl has ↦ all_implies (λ j. same_event (event_of j) e && is_needed_for (n.uuid ∷ []) j) (is_in_look making e) (λ j g. or_left _ _ g) (parents k) (uuid_above (n.uuid ∷ []) e k none has)
       | inr is ↦ among_all (λ k. list_all (is_in_look making e) (parents k)) (Proposal e n ∷ verdict ∷ []) (making_keys h) k is
     ]
 

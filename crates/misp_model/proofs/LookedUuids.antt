@@ -7,7 +7,7 @@ use Rattle.misp_ids.proofs.Same.{same_elem-refl, same_elem-sound}
 use Rattle.misp_model.specs.Prelude.{ElemId, Element, Key, Place, Proposal, Reference, ReferenceDraft, Scene, Sighting, Submission, Verdict, is_place_of, list_all, list_any, takes_uuid, uuid_at, uuids_of}
 use Rattle.misp_elem.specs.Prelude.{same_elem}
 use Rattle.misp_model.specs.Adding.{has_target, is_target_key}
-use Rattle.misp_model.specs.Looking.{elem_at, has_uuid, is_place_with, uuids_in}
+use Rattle.misp_model.specs.Looking.{elem_at, is_needed_for, is_place_needed_for, uuids_in}
 
 -- the uuid is one of these
 abbrev pub one_of : List ElemId → ElemId → Bool
@@ -21,8 +21,8 @@ numbered n = record { 0 = record { 0 = n } }
 
 module _ (us : List ElemId) where
   -- what takes a uuid of these has one of them
-  pub taken_has : (u : ℕ) → one_of us (numbered u) ≡ true → (k : Key) → takes_uuid u k ≡ true → has_uuid us k ≡ true
-  unfolding takes_uuid has_uuid is_place_with uuid_at
+  pub taken_has : (u : ℕ) → one_of us (numbered u) ≡ true → (k : Key) → takes_uuid u k ≡ true → is_needed_for us k ≡ true
+  unfolding takes_uuid is_needed_for is_place_needed_for uuid_at
   taken_has u h (Element e Place.Event) g = refl
   taken_has u h (Element e (Place.Object x)) g = refl
   taken_has u h (Element e (Place.Attribute a)) g = ap (λ n. one_of us (numbered n)) (eqb-true a.0.0 u g) ∙ h
@@ -32,16 +32,16 @@ module _ (us : List ElemId) where
   taken_has u h (Verdict e n i o) g = absurd (false≢true g)
   taken_has u h (Sighting e t i o v) g = absurd (false≢true g)
 
-  place_has : (u : ElemId) → one_of us u ≡ true → (p : Place) → is_place_of u p ≡ true → is_place_with us p ≡ true
-  unfolding is_place_of is_place_with
+  place_has : (u : ElemId) → one_of us u ≡ true → (p : Place) → is_place_of u p ≡ true → is_place_needed_for us p ≡ true
+  unfolding is_place_of is_place_needed_for
   place_has u h Place.Event g = refl
   place_has u h (Place.Object x) g = refl
   place_has u h (Place.Attribute a) g = ap (one_of us) (same_elem-sound a u g) ∙ h
   place_has u h (Place.ObjectAttribute x a) g = ap (one_of us) (same_elem-sound a u g) ∙ h
 
   -- and so does an element of such a uuid
-  pub target_has : (u : ElemId) → one_of us u ≡ true → (k : Key) → is_target_key u k ≡ true → has_uuid us k ≡ true
-  unfolding is_target_key has_uuid
+  pub target_has : (u : ElemId) → one_of us u ≡ true → (k : Key) → is_target_key u k ≡ true → is_needed_for us k ≡ true
+  unfolding is_target_key is_needed_for
   target_has u h (Element e p) g = place_has u h p g
   target_has u h (Reference e x t v) g = absurd (false≢true g)
   target_has u h (Proposal e n) g = absurd (false≢true g)

@@ -3,7 +3,7 @@ use Rattle.std.proofs.Common.{◌≡◌, ℕ, List, [], ◌∷◌, ◌++◌, Boo
 use Rattle.misp_model.specs.Scene.{Partner}
 use Rattle.misp_model.specs.Prelude.{AddEvent, AddParts, Ask, Change, Content, Delete, DeleteEvent, DeleteReference, EditAttribute, EditEvent, EditObject, Element, ElementExists, ElementFull, ElemId, EventExists, EventGone, EventId}
 use Rattle.misp_model.specs.Prelude.{GroupNotUsable, Groups, Index, Judge, Key, Label, NotGranted, OrgId, Place, Proposal, ProposalDraft, ProposalExists, ProposalName, Propose, Publish, Reference, Row, Scene, Sight, Sighting}
-use Rattle.misp_model.specs.Prelude.{SyncEvents, SyncGroups, SyncPart}
+use Rattle.misp_model.specs.Prelude.{SyncEvents, SyncGroups, SyncManifest, SyncPart, SyncRows}
 use Rattle.misp_model.specs.Machine.{pulls}
 use Rattle.misp_model.specs.Pulling.{pulled_part, pulled_rows}
 use Rattle.misp_lists.proofs.Prelude.{false≢true}
@@ -202,6 +202,8 @@ module _ (n : ℕ) (s : Scene) where
   rules_as SyncGroups = refl
   rules_as SyncEvents = refl
   rules_as (SyncPart e m) = refl
+  rules_as SyncManifest = refl
+  rules_as (SyncRows w) = refl
   rules_as a = rules_alike n s.partner s a refl
 
   -- one is accepted where the other is

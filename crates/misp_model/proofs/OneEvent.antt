@@ -1,6 +1,7 @@
 -- What is asked of one event is answered from the event's own rows, and writes the same.
-use Rattle.std.proofs.Common.{◌≡◌, ℕ, Bool, true, false, [], ◌∷◌, refl, ap, List, ◌∙◌, Some, None, Option}
-use Rattle.misp_model.specs.Prelude.{SyncPart, View}
+use Rattle.std.proofs.Common.{◌≡◌, ℕ, Bool, true, false, [], ◌∷◌, refl, ap, List, ◌∙◌, Some, None, Option, option_map}
+use Rattle.misp_manifest.specs.declared.wanted.WantedFields.{WantedFields as Wanted}
+use Rattle.misp_model.specs.Prelude.{SyncPart, SyncRows, View}
 use Rattle.misp_model.proofs.Prelude.{EventId, Group, Inst, NotGranted, OrgId, Other, ReferenceDraft, Reply, Row, Scene, Seen, Submission, ask_rules, brings, cut_rows, cut_scene, event_is_closed, event_rows, has_target, known, known_cut}
 use Rattle.misp_model.proofs.Prelude.{of_event, ok_answer, seeing, shown}
 use Rattle.misp_model.proofs.Knowing.{by_key}
@@ -11,7 +12,8 @@ use Rattle.misp_model.proofs.LookedCopy.{HasCopy}
 pub use Rattle.misp_model.proofs.SameAnswers.{IsSame, accepted_from, from_rules}
 use Rattle.misp_model.proofs.ShownHere.{shown_from_here}
 use Rattle.misp_model.proofs.Passing.{part_here}
-use Rattle.misp_model.specs.Answers.{Packed}
+use Rattle.misp_model.specs.Answers.{Packed, part_rules}
+use Rattle.misp_model.specs.Manifests.{only_of, pulled_only}
 
 module _ (e : EventId) (s : Scene) where
   abbrev here : Scene
@@ -29,17 +31,27 @@ module _ (e : EventId) (s : Scene) where
       rules : ask_rules here (View e owner) ≡ ask_rules s (View e owner)
       rules = λ i. (elim (shown_from_here e s owner i) as (λ x. Bool) [ None ↦ true | Some v ↦ false ], NotGranted) ∷ []
 
+  part_rules_here : (n : ℕ) → part_rules here e n ≡ part_rules s e n
+  part_rules_here n = λ i. (elim (part_here e s n i) as (λ x. Bool) [ None ↦ true | Some p ↦ false ], NotGranted) ∷ []
+
   pub sync_part_here : (n : ℕ) → IsSame here s (SyncPart e n)
   unfolding ask_rules brings ok_answer
   sync_part_here n = record {
-    rules = rules;
-    accepted = accepted_from here s (SyncPart e n) rules;
-    answers = from_rules here s (SyncPart e n) rules (λ i. elim (part_here e s n i) as (λ x. Reply) [ None ↦ Other | Some p ↦ Packed p ]);
+    rules = part_rules_here n;
+    accepted = accepted_from here s (SyncPart e n) (part_rules_here n);
+    answers = from_rules here s (SyncPart e n) (part_rules_here n) (λ i. elim (part_here e s n i) as (λ x. Reply) [ None ↦ Other | Some p ↦ Packed p ]);
     brought = refl;
   }
-    where
-      rules : ask_rules here (SyncPart e n) ≡ ask_rules s (SyncPart e n)
-      rules = λ i. (elim (part_here e s n i) as (λ x. Bool) [ None ↦ true | Some p ↦ false ], NotGranted) ∷ []
+
+-- the wanted rows of a package
+pub sync_rows_here : (w : Wanted) (s : Scene) → IsSame (here w.event s) s (SyncRows w)
+unfolding ask_rules brings ok_answer pulled_only
+sync_rows_here w s = record {
+  rules = part_rules_here w.event s w.part;
+  accepted = accepted_from (here w.event s) s (SyncRows w) (part_rules_here w.event s w.part);
+  answers = from_rules (here w.event s) s (SyncRows w) (part_rules_here w.event s w.part) (λ i. elim (option_map (only_of w.keys) (part_here w.event s w.part i)) as (λ x. Reply) [ None ↦ Other | Some p ↦ Packed p ]);
+  brought = refl;
+}
 
 -- the keys of the event are closed for each organisation
 pub closed_here : (e : EventId) (o : OrgId) → IsClosedFor o (λ w. of_event e)

@@ -1,7 +1,7 @@
 -- A change of one event, and a statement on one, are refused, answered and written from the event's own rows as from all.
 use Rattle.std.proofs.Common.{◌≡◌, true, ap, ◌∙◌, List, Bool, refl, false, subst, Option, None, Some}
 use Rattle.misp_model.specs.Prelude.{AddEvent, AddParts, Ask, Change, Delete, DeleteEvent, DeleteReference, EditAttribute, EditEvent, EditObject, Element, EventId, Groups, Index, Judge, Key, OrgId, Place, Proposal, ProposalDraft}
-use Rattle.misp_model.specs.Prelude.{ProposalName, Propose, Publish, Row, Scene, Sight, SightingDraft, SyncEvents, SyncGroups, SyncPart, TakePart, Verdict, View, cut_rows, event_of, judged_place, proposal_key, same_event}
+use Rattle.misp_model.specs.Prelude.{ProposalName, Propose, Publish, Row, Scene, Sight, SightingDraft, SyncEvents, SyncGroups, SyncManifest, SyncPart, SyncRows, TakePart, Verdict, View, cut_rows, event_of, judged_place, proposal_key, same_event}
 use Rattle.misp_model.specs.Prelude.{sighting_key}
 use Rattle.misp_model.proofs.Prelude.{cut_scene, event_rows, false≢true, of_event, same_event-refl, seeing}
 use Rattle.misp_model.specs.Machine.{event_changed, event_asked}
@@ -13,7 +13,7 @@ use Rattle.misp_model.proofs.LookedJudging.{judge_looked}
 use Rattle.misp_model.proofs.LookedAsks.{delete_event_looked, delete_looked, delete_reference_looked, edit_attribute_looked, edit_event_looked, edit_object_looked, propose_looked, publish_looked, sight_looked, tag_looked, untag_looked}
 use Rattle.misp_model.proofs.ShownHere.{key_here}
 use Rattle.misp_model.proofs.SameAnswers.{IsSame, same_from}
-use Rattle.misp_model.proofs.OneEvent.{closed_here, copy_here, seeing_here, sync_part_here, view_here}
+use Rattle.misp_model.proofs.OneEvent.{closed_here, copy_here, seeing_here, sync_part_here, sync_rows_here, view_here}
 
 of_same : (e : EventId) (k : Key) → event_of k ≡ e → of_event e k ≡ true
 unfolding of_event
@@ -79,8 +79,10 @@ ask_here e s (Judge f n accept) h = subst (λ x. IsSame (cut_scene (of_event x) 
 ask_here e s (Sight f t d) h = subst (λ x. IsSame (cut_scene (of_event x) s) s (Sight f t d)) (ap (some_is f) h) (sight_here f s t d)
 ask_here e s Index h = absurd (false≢true (ap (λ (o : Option EventId). elim o [ None ↦ false | Some x ↦ true ]) h))
 ask_here e s (SyncPart f n) h = subst (λ x. IsSame (cut_scene (of_event x) s) s (SyncPart f n)) (ap (some_is f) h) (sync_part_here f s n)
+ask_here e s (SyncRows w) h = subst (λ x. IsSame (cut_scene (of_event x) s) s (SyncRows w)) (ap (some_is w.event) h) (sync_rows_here w s)
 ask_here e s SyncGroups h = absurd (false≢true (ap (λ (o : Option EventId). elim o [ None ↦ false | Some x ↦ true ]) h))
 ask_here e s SyncEvents h = absurd (false≢true (ap (λ (o : Option EventId). elim o [ None ↦ false | Some x ↦ true ]) h))
+ask_here e s SyncManifest h = absurd (false≢true (ap (λ (o : Option EventId). elim o [ None ↦ false | Some x ↦ true ]) h))
 ask_here e s Groups h = absurd (false≢true (ap (λ (o : Option EventId). elim o [ None ↦ false | Some x ↦ true ]) h))
 ask_here e s (TakePart p) h = absurd (false≢true (ap (λ (o : Option EventId). elim o [ None ↦ false | Some x ↦ true ]) h))
 

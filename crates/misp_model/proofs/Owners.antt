@@ -2,7 +2,7 @@
 use Rattle.std.proofs.Common.{◌≡◌, List, [], ◌∷◌, Bool, true, refl, false, map, cond, Option, Some, None, option_to_list, option_map, filter_map}
 use Rattle.misp_lists.proofs.Lists.{all-map, all_both}
 use Rattle.misp_model.specs.Prelude.{AddEvent, AddParts, Ask, Change, Content, Delete, DeleteEvent, DeleteReference, EditAttribute, EditEvent, EditObject, Element, EventId, Groups, Index, Judge, Key, Label, ProposalBody, ProposalName}
-use Rattle.misp_model.specs.Prelude.{Propose, Publish, ReferenceDraft, Row, Scene, Sight, Stamp, Submission, SyncEvents, SyncGroups, SyncPart, TakePart, Version, View, acceptance, accepted, as_deleted, as_published, at_attribute, at_publishing, at_tags, body_seen, brings}
+use Rattle.misp_model.specs.Prelude.{Propose, Publish, ReferenceDraft, Row, Scene, Sight, Stamp, Submission, SyncEvents, SyncGroups, SyncManifest, SyncPart, SyncRows, TakePart, Version, View, acceptance, accepted, as_deleted, as_published, at_attribute, at_publishing, at_tags, body_seen, brings}
 use Rattle.misp_model.specs.Prelude.{change_writes, changed, changed_row, counted, event_key, handed_in, has_tag, is_for_new, judge_writes, judged_place, let_out, let_out_row, list_all, made, own_reference, own_row, own_row_is}
 use Rattle.misp_model.specs.Prelude.{part_version, parts_written, propose_writes, same_inst, sight_writes, taken_rows, untagged, written}
 use Rattle.misp_model.proofs.Prelude.{all-filter, and_from, and_parts, cons_option, event_written, new_event, reference_key, reference_version, same_inst-refl}
@@ -84,6 +84,8 @@ module _ (s : Scene) (own : Version → Bool)
   brings_each SyncGroups = refl
   brings_each SyncEvents = refl
   brings_each (SyncPart e n) = refl
+  brings_each SyncManifest = refl
+  brings_each (SyncRows w) = refl
   brings_each (TakePart p) = all-filter own _ _ (all-map own (handed_in s.act s.at s.by) handed_is p.rows)
 
 -- and at its instance

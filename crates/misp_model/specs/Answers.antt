@@ -5,17 +5,23 @@ use Rattle.misp_groups.specs.Audience.{allows}
 use Rattle.misp_elem.specs.declared.row.RowFields.{RowFields as Row}
 use Rattle.misp_elem.specs.declared.visible.VisibleEvent.{VisibleEvent}
 use Rattle.misp_elem.specs.Prelude.{EventId, Inst, OrgId, list_any, same_org}
+use Rattle.misp_manifest.specs.declared.manifest.ManifestFields.{ManifestFields}
 use Rattle.misp_model.specs.declared.package.PackageFields.{PackageFields}
 use Rattle.misp_model.specs.declared.ask.Ask.{Ask}
-use Rattle.misp_model.specs.declared.ask.Ask.TheVariants.{View, Propose, Judge, Sight, Index, Groups, SyncGroups, SyncEvents, SyncPart, TakePart}
+use Rattle.misp_model.specs.declared.ask.Ask.TheVariants.{View, Propose, Judge, Sight, Index, Groups, SyncGroups, SyncEvents, SyncPart, SyncManifest, SyncRows, TakePart}
 use Rattle.misp_model.specs.Scene.{Scene, Rule, NotGranted, first_rule}
 use Rattle.misp_model.specs.Changing.{change_rules, change_writes}
 use Rattle.misp_model.specs.Statements.{propose_rules, judge_rules, sight_rules, propose_writes, judge_writes, sight_writes}
 use Rattle.misp_model.specs.Shown.{shown, index}
 use Rattle.misp_model.specs.Version.{Version}
 use Rattle.misp_model.specs.Arrival.{counted, handed_in}
+use Rattle.misp_model.specs.Manifests.{pulled_manifest, pulled_only}
 use Rattle.misp_model.specs.Pulling.{pulled_events, pulled_groups, pulled_part}
 use Rattle.misp_model.specs.View.{is_row_of}
+
+-- no package of the event has that number
+abbrev pub part_rules : Scene → EventId → ℕ → List (Bool × Rule)
+part_rules s e n = (elim (pulled_part s e n) [ None ↦ true | Some p ↦ false ], NotGranted) ∷ []
 
 -- the rules that refuse a request
 unfoldable pub ask_rules : Scene → Ask → List (Bool × Rule)
@@ -29,8 +35,9 @@ ask_rules s Index = []
 ask_rules s Groups = []
 ask_rules s SyncGroups = []
 ask_rules s SyncEvents = []
-ask_rules s (SyncPart e n) =
-    (elim (pulled_part s e n) [ None ↦ true | Some p ↦ false ], NotGranted) ∷ []
+ask_rules s (SyncPart e n) = part_rules s e n
+ask_rules s SyncManifest = []
+ask_rules s (SyncRows w) = part_rules s w.event w.part
 ask_rules s (TakePart p) = []
 
 -- the versions that a package's rows come as, where they count
@@ -49,6 +56,8 @@ brings s Groups = []
 brings s SyncGroups = []
 brings s SyncEvents = []
 brings s (SyncPart e n) = []
+brings s SyncManifest = []
+brings s (SyncRows w) = []
 brings s (TakePart p) = taken_rows s p.rows
 
 -- no rule refuses the request
@@ -62,6 +71,7 @@ pub data Reply : Type 0 where
   Shares : List Group → Reply
   Parts : List (EventId × ℕ) → Reply
   Packed : PackageFields → Reply
+  Manifested : List ManifestFields → Reply
   Saved : List Version → Reply
   Taken : ℕ → Reply
   Other : Reply
@@ -92,6 +102,8 @@ ok_answer s Groups = Shares (concerning s)
 ok_answer s SyncGroups = Shares (pulled_groups s)
 ok_answer s SyncEvents = Parts (pulled_events s)
 ok_answer s (SyncPart e n) = elim (pulled_part s e n) [ None ↦ Other | Some p ↦ Packed p ]
+ok_answer s SyncManifest = Manifested (pulled_manifest s)
+ok_answer s (SyncRows w) = elim (pulled_only s w) [ None ↦ Other | Some p ↦ Packed p ]
 ok_answer s (TakePart p) = Taken (length (newer s (taken_rows s p.rows)))
 
 -- what a request is answered

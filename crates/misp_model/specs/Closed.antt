@@ -11,7 +11,7 @@ use Rattle.misp_model.specs.Adding.{reference_key}
 use Rattle.misp_model.specs.declared.ask.Ask.{Ask}
 use Rattle.misp_model.specs.declared.change.Change.TheVariants.{AddEvent, AddParts, EditEvent, EditAttribute, EditObject, Delete, DeleteReference, DeleteEvent, Publish}
 use Rattle.misp_model.specs.declared.change.Change.{Change}
-use Rattle.misp_model.specs.declared.ask.Ask.TheVariants.{View, Propose, Judge, Sight, Index, Groups, SyncGroups, SyncEvents, SyncPart, TakePart}
+use Rattle.misp_model.specs.declared.ask.Ask.TheVariants.{View, Propose, Judge, Sight, Index, Groups, SyncGroups, SyncEvents, SyncPart, SyncManifest, SyncRows, TakePart}
 use Rattle.misp_model.specs.Statements.{proposal_key, sighting_key, judged_place}
 use Rattle.misp_model.specs.Changing.{own_reference, row_passes}
 use Rattle.misp_model.specs.Answers.{is_accepted}
@@ -74,6 +74,8 @@ erased_ask keep s Groups = None
 erased_ask keep s SyncGroups = None
 erased_ask keep s SyncEvents = None
 erased_ask keep s (SyncPart e n) = None
+erased_ask keep s SyncManifest = None
+erased_ask keep s (SyncRows w) = None
 erased_ask keep s (Ask.Change (EditAttribute e p edit)) =
     where_kept (keep (Element e p)) (Ask.Change (EditAttribute e p edit))
 erased_ask keep s (Ask.Change (DeleteEvent e)) =
@@ -115,4 +117,6 @@ HasPair keep s Groups = Unit {0}
 HasPair keep s SyncGroups = Unit {0}
 HasPair keep s SyncEvents = Unit {0}
 HasPair keep s (SyncPart e n) = Unit {0}
+HasPair keep s SyncManifest = Unit {0}
+HasPair keep s (SyncRows w) = Unit {0}
 HasPair keep s (TakePart p) = Unit {0}

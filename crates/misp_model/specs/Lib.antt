@@ -13,6 +13,7 @@ pub mod Closed
 pub mod Edits
 pub mod Looking
 pub mod Machine
+pub mod Manifests
 pub mod Numbers
 pub mod Packing
 pub mod Passing

@@ -22,26 +22,28 @@ use Rattle.misp_model.specs.Statements.{is_for_new}
 
 -- ---- which rows
 
--- one of these uuids is that of the attribute at the place; an event and an object need none
-unfoldable pub is_place_with : List ElemId → Place → Bool
-is_place_with us Place.Event = true
-is_place_with us (Place.Object x) = true
-is_place_with us (Place.Attribute a) = list_any (same_elem a) us
-is_place_with us (Place.ObjectAttribute x a) = list_any (same_elem a) us
+-- the element at the place is needed to say what these uuids are: the event and an object always,
+-- and an attribute where it has one of them
+unfoldable pub is_place_needed_for : List ElemId → Place → Bool
+is_place_needed_for us Place.Event = true
+is_place_needed_for us (Place.Object x) = true
+is_place_needed_for us (Place.Attribute a) = list_any (same_elem a) us
+is_place_needed_for us (Place.ObjectAttribute x a) = list_any (same_elem a) us
 
--- the key is that of an event or an object, or of an attribute or a reference of one of these uuids
-unfoldable pub has_uuid : List ElemId → Key → Bool
-has_uuid us (Element e p) = is_place_with us p
-has_uuid us (Reference e x t u) = list_any (same_elem u) us
-has_uuid us (Proposal e n) = false
-has_uuid us (Verdict e n i o) = false
-has_uuid us (Sighting e t i o u) = false
+-- the key is needed so: that of the event and of an object always, and that of an attribute or a
+-- reference where it has one of these uuids
+unfoldable pub is_needed_for : List ElemId → Key → Bool
+is_needed_for us (Element e p) = is_place_needed_for us p
+is_needed_for us (Reference e x t u) = list_any (same_elem u) us
+is_needed_for us (Proposal e n) = false
+is_needed_for us (Verdict e n i o) = false
+is_needed_for us (Sighting e t i o u) = false
 
 -- the key is one of those of the event that are looked at
 unfoldable pub is_in_look : Look → EventId → Key → Bool
 is_in_look (Look.Keys keys) e k = list_any (same_key k) keys
 is_in_look (Look.Uuids us keys) e k =
-    same_event (event_of k) e && has_uuid us k || list_any (same_key k) keys
+    same_event (event_of k) e && is_needed_for us k || list_any (same_key k) keys
 is_in_look Look.Statements e k =
     same_event (event_of k) e && (is_statement k || same_key k (event_key e))
 is_in_look Look.All e k = same_event (event_of k) e
@@ -154,6 +156,8 @@ looks_of i o Ask.Groups = None
 looks_of i o Ask.SyncGroups = None
 looks_of i o Ask.SyncEvents = None
 looks_of i o (Ask.SyncPart e n) = None
+looks_of i o Ask.SyncManifest = None
+looks_of i o (Ask.SyncRows w) = None
 looks_of i o (Ask.TakePart p) = None
 
 -- ---- what it looks at then
@@ -182,6 +186,8 @@ more_looks s Ask.Groups = None
 more_looks s Ask.SyncGroups = None
 more_looks s Ask.SyncEvents = None
 more_looks s (Ask.SyncPart e n) = None
+more_looks s Ask.SyncManifest = None
+more_looks s (Ask.SyncRows w) = None
 more_looks s (Ask.TakePart p) = None
 
 -- the first, or what takes its place

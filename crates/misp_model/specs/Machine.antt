@@ -5,7 +5,7 @@ use Rattle.std.specs.Ordering.{is_lt}
 use Rattle.misp_lists.specs.Order.{put}
 use Rattle.misp_ids.specs.Moments.{next_stamp}
 use Rattle.misp_elem.specs.Spelling.{uid, key}
-use Rattle.misp_model.specs.Prelude.{AddEvent, AddParts, Ask, Change, Delete, DeleteEvent, DeleteReference, EditAttribute, EditEvent, EditObject, EventId, Groups, Index, Judge, OrgId, Propose, Publish, Row, Scene, Sight, Stamp, SyncEvents, SyncGroups, SyncPart, TakePart}
+use Rattle.misp_model.specs.Prelude.{AddEvent, AddParts, Ask, Change, Delete, DeleteEvent, DeleteReference, EditAttribute, EditEvent, EditObject, EventId, Groups, Index, Judge, OrgId, Propose, Publish, Row, Scene, Sight, Stamp, SyncEvents, SyncGroups, SyncManifest, SyncPart, SyncRows, TakePart}
 pub use Rattle.misp_model.specs.Packing.{event_rows}
 use Rattle.misp_model.specs.Prelude.{View, at_publishing, event_of, known, nat_cmp, same_event, same_key, same_org, slice_cmp, stands_before}
 
@@ -71,12 +71,16 @@ hands_in Groups = false
 hands_in SyncGroups = false
 hands_in SyncEvents = false
 hands_in (SyncPart e n) = false
+hands_in SyncManifest = false
+hands_in (SyncRows w) = false
 
 -- the request is one of a pull: what it is answered hangs on the partner of the caller's key
 unfoldable pub pulls : Ask → Bool
 pulls SyncGroups = true
 pulls SyncEvents = true
 pulls (SyncPart e n) = true
+pulls SyncManifest = true
+pulls (SyncRows w) = true
 pulls (View e owner) = false
 pulls (Ask.Change c) = false
 pulls (Propose d) = false
@@ -112,4 +116,6 @@ event_asked Groups = None
 event_asked SyncGroups = None
 event_asked SyncEvents = None
 event_asked (SyncPart e n) = Some e
+event_asked SyncManifest = None
+event_asked (SyncRows w) = Some w.event
 event_asked (TakePart p) = None

@@ -2,7 +2,7 @@
 use Rattle.std.specs.Prelude.{ℕ, List, map}
 use Rattle.misp_model.specs.Scene.{Scene}
 use Rattle.misp_model.specs.Version.{Version}
-use Rattle.misp_model.specs.Answers.{Reply, Refused, Seen, Listed, Shares, Parts, Packed, Saved, Taken, Other}
+use Rattle.misp_model.specs.Answers.{Reply, Refused, Seen, Listed, Shares, Parts, Manifested, Packed, Saved, Taken, Other}
 
 -- the same surroundings of the n-th act
 abbrev pub scene_as : ℕ → Scene → Scene
@@ -24,5 +24,6 @@ reply_as n (Listed vs) = Listed vs
 reply_as n (Shares groups) = Shares groups
 reply_as n (Parts events) = Parts events
 reply_as n (Packed p) = Packed p
+reply_as n (Manifested events) = Manifested events
 reply_as n (Taken count) = Taken count
 reply_as n Other = Other

@@ -33,6 +33,8 @@ permission_of (Ask.Sight event target draft) = Perm.Sight
 permission_of Ask.SyncGroups = Perm.Sync
 permission_of Ask.SyncEvents = Perm.Sync
 permission_of (Ask.SyncPart event part) = Perm.Sync
+permission_of Ask.SyncManifest = Perm.Sync
+permission_of (Ask.SyncRows wanted) = Perm.Sync
 permission_of (Ask.TakePart part) = Perm.Sync
 
 -- the role of the caller permits the ask

@@ -5,6 +5,7 @@ use crate::package::Package;
 use crate::place::{AttributePlace, NamedProposal};
 use crate::statement::{ProposalDraft, SightingDraft};
 use misp_ids::{EventId, OrgId};
+use misp_manifest::Wanted;
 
 /// What an organisation asks of an instance.
 #[derive(Drop)]
@@ -40,5 +41,10 @@ pub enum Ask {
         event: EventId,
         part: u32,
     },
+    /// Lists the events of which something passes to the partner: of each package the keys of its
+    /// rows, with their stamps.
+    SyncManifest,
+    /// Shows the event's own row and the wanted rows of one package, as it passes to the partner.
+    SyncRows(Wanted),
     TakePart(Package),
 }

@@ -1,6 +1,6 @@
-//! Laws of the rules by which a request is decided, and of the order of rows.
+//! Laws of the rules by which a request is decided, of the order of rows, and of manifests.
 
-ghost use Rattle.std.specs.Prelude.{◌≡◌, ℕ, List, true, false, ◌&&◌, eqb, bytes_eq, Some, None};
+ghost use Rattle.std.specs.Prelude.{◌≡◌, ℕ, List, true, false, ◌&&◌, eqb, bytes_eq, Some, None, length, map};
 ghost use Rattle.std.specs.Ordering.{nat_cmp, ordering_then, is_lt};
 ghost use Rattle.std.specs.Cmp.Lexicographic.{slice_cmp};
 ghost use Rattle.misp_elem.specs.declared.key.KeyForm.{KeyForm as Key};
@@ -13,6 +13,8 @@ ghost use Rattle.misp_ids.specs.Same.{same_org};
 ghost use Rattle.misp_elem.specs.SameKey.{same_key};
 ghost use Rattle.misp_lists.specs.Order.{is_less};
 ghost use Rattle.misp_model.specs.RowOrder.{spell, stands_before};
+ghost use Rattle.misp_model.specs.Manifests.{pulled_manifest, said_of};
+ghost use Rattle.misp_model.specs.Pulling.{pulled_events, pulled_packages};
 ghost use Rattle.misp_model.specs.Machine.{event_number, name_bytes, raw_before};
 ghost use Rattle.misp_model.specs.Scene.{Scene, Rule, first_rule};
 ghost use Rattle.misp_model.specs.Answers.{Refused, ask_rules, is_accepted, answer, ok_answer};
@@ -48,4 +50,13 @@ pub fn the_first_rule_decides()
         answer s a ≡ ok_answer s a }
     ensures refusal { (s : Scene) (a : Ask) (r : Rule) → first_rule (ask_rules s a) ≡ Some r →
         answer s a ≡ Refused r }
+{}
+
+/// A manifest says of each event that a pull lists what its packages have, and of no other event.
+pub fn a_manifest_says_what_packages_have()
+    ensures events { (s : Scene) →
+        pulled_manifest s
+        ≡ map (λ event. said_of event.0 (pulled_packages s event.0)) (pulled_events s) }
+    ensures counts { (s : Scene) →
+        map (λ said. (said.event, length said.parts)) (pulled_manifest s) ≡ pulled_events s }
 {}

@@ -24,7 +24,8 @@ pub use edit::{
 };
 pub use known_rows::known_rows_answer_as_all;
 pub use laws::{
-    each_key_has_its_own_spelling, rows_stand_in_the_order_of_their_bytes, the_first_rule_decides,
+    a_manifest_says_what_packages_have, each_key_has_its_own_spelling,
+    rows_stand_in_the_order_of_their_bytes, the_first_rule_decides,
 };
 pub use looking::{a_request_looks_at_no_other_rows, what_is_looked_at_first_says_what_then};
 pub use looks::{Look, Looks};

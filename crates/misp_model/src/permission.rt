@@ -33,7 +33,12 @@ pub fn permission_for(ask: &Ask) -> Perm
         Ask::Propose(_) => Perm::Propose,
         Ask::Judge { .. } => Perm::Write,
         Ask::Sight { .. } => Perm::Sight,
-        Ask::SyncGroups | Ask::SyncEvents | Ask::SyncPart { .. } | Ask::TakePart(_) => Perm::Sync,
+        Ask::SyncGroups
+        | Ask::SyncEvents
+        | Ask::SyncPart { .. }
+        | Ask::SyncManifest
+        | Ask::SyncRows(_)
+        | Ask::TakePart(_) => Perm::Sync,
     }
 }
 

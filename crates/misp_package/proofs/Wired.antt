@@ -52,8 +52,8 @@ numbered_more n e count (q ∷ ps) p a f g h = (a.0, numbered_more (suc n) e cou
 
 -- ---- one part more
 
-module _ (f : List Row → List Row) (parts : List (Bor (List (Bor Row)))) (i : ℕ) where
-  pub rows_more : (part : Bor (List (Bor Row))) (done : List (List Row)) (rows : List Row) → i < length parts → part ≡ get_or parts i part →
+module _ {X : Type 0} (f : List Row → X) (parts : List (Bor (List (Bor Row)))) (i : ℕ) where
+  pub rows_more : (part : Bor (List (Bor Row))) (done : List X) (rows : X) → i < length parts → part ≡ get_or parts i part →
       done ≡ map f (rows_in (take i parts)) → rows ≡ f (map (λ r. r.now) part.now) → done ++ rows ∷ [] ≡ map f (rows_in (take (i + 1) parts))
   rows_more part done rows lt e h k =
       (λ j. h j ++ (k ∙ ap (λ (r : Bor (List (Bor Row))). f (map (λ r. r.now) r.now)) e) j ∷ [])
@@ -61,6 +61,7 @@ module _ (f : List Row → List Row) (parts : List (Bor (List (Bor Row)))) (i : 
       ∙ ap (map f) (sym (map-append (λ (r : Bor (List (Bor Row))). map (λ r. r.now) r.now) (take i parts) (get_or parts i part ∷ [])))
       ∙ ap (λ l. map f (rows_in l)) (sym (take_more parts i part lt))
 
+module _ (f : List Row → List Row) (parts : List (Bor (List (Bor Row)))) (i : ℕ) where
   pub count_done : (ps : List Package) → i ≤ length parts → map (λ p. p.rows) ps ≡ map f (rows_in (take i parts)) → length ps ≡ i
   count_done ps le h =
       sym (length-map ps (λ (p : Package). p.rows)) ∙ ap length h ∙ length-map (rows_in (take i parts)) f ∙ length-map (take i parts) (λ (r : Bor (List (Bor Row))). map (λ r. r.now) r.now)

@@ -122,6 +122,8 @@ looks_sorted i o Ask.Groups = tt
 looks_sorted i o Ask.SyncGroups = tt
 looks_sorted i o Ask.SyncEvents = tt
 looks_sorted i o (Ask.SyncPart e n) = tt
+looks_sorted i o Ask.SyncManifest = tt
+looks_sorted i o (Ask.SyncRows w) = tt
 looks_sorted i o (Ask.TakePart p) = tt
 
 -- ---- what they look at then

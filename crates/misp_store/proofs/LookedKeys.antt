@@ -15,7 +15,7 @@ use Rattle.misp_elem.specs.Spelling.{key, name, place, uid}
 use Rattle.misp_model.proofs.NameOrder.{keys_in_bytes}
 use Rattle.misp_model.proofs.Prelude.{AllByRecursion, ElemId, Element, EventId, Key, OrgId, Place, Proposal, Reference, Sighting, Verdict, or_left, same_event, same_event-refl, same_event-sound, same_key, same_key-refl, same_key-sound, spell, spells}
 use Rattle.misp_model.proofs.Spelled.{begins_with_itself}
-use Rattle.misp_model.specs.Looking.{has_uuid, is_in_look, is_place_with}
+use Rattle.misp_model.specs.Looking.{is_in_look, is_needed_for, is_place_needed_for}
 use Rattle.misp_model.specs.declared.looks.Look.{Look}
 use Rattle.misp_store.specs.Seeking.{IsLookOfKeys}
 use Rattle.misp_store.specs.Seen.{attributes_of, begin_with, end_with_one, kind_front, end_number, names_by_uuid, names_in, names_one, names_statement, names_within, front_number, place_front}
@@ -106,8 +106,8 @@ module _ (o : OrgId) (us : List ElemId) where
       (or_right (names_one o (attributes_of e us) x) (names_within us e o x)
       (and_from (begin_with (place_front o e 3) x || begin_with (kind_front o e 1) x) (end_with_one us x) begin ends)))
 
-  uuid_named : (k : Key) → IsKey k → has_uuid us k ≡ true → names_by_uuid us (event_of k) o (name o k) ≡ true
-  unfolding has_uuid is_place_with event_of event_key same_elem
+  uuid_named : (k : Key) → IsKey k → is_needed_for us k ≡ true → names_by_uuid us (event_of k) o (name o k) ≡ true
+  unfolding is_needed_for is_place_needed_for event_of event_key same_elem
   uuid_named (Element e Place.Event) is h = or_left _ _ (named_itself o (Element e Place.Event) (Element e Place.Event) refl)
   uuid_named (Element e (Place.Object x)) is h = or_right _ _ (or_left _ _ (form_there o e 1 (uid x.0)))
   uuid_named (Element e (Place.Attribute a)) is h = or_right _ _ (or_right _ _ (or_left _ _ one))
@@ -140,7 +140,7 @@ module _ (o : OrgId) where
   unfolding is_in_look names_in
   own_named (Look.Keys keys) k is h = keys_named o k keys h
   own_named (Look.Uuids us keys) k is h = elim (or_cases _ (list_any (same_key k) keys) h) [
-    | inl by ↦ or_left _ _ (uuid_named o us k is (and_parts _ (has_uuid us k) by).1)
+    | inl by ↦ or_left _ _ (uuid_named o us k is (and_parts _ (is_needed_for us k) by).1)
     | inr one ↦ or_right _ _ (keys_named o k keys one)
   ]
   own_named Look.Statements k is h = elim (or_cases (is_statement k) (same_key k (event_key (event_of k))) (and_parts _ _ h).1) [
@@ -190,8 +190,8 @@ module _ (o : OrgId) where
   event_told k is fits h = named_key o k (Element (event_of k) Place.Event) is (fits, (refl, tt)) h
 
   module _ (us : List ElemId) (uids : AllByRecursion (λ (u : ElemId). IsUid u.0) us) where
-    object_told : (e : EventId) (k : Key) (rest : List ℕ) → key k ≡ 0 ∷ uid e.0 ++ 1 ∷ rest → has_uuid us k ≡ true
-    unfolding has_uuid is_place_with
+    object_told : (e : EventId) (k : Key) (rest : List ℕ) → key k ≡ 0 ∷ uid e.0 ++ 1 ∷ rest → is_needed_for us k ≡ true
+    unfolding is_needed_for is_place_needed_for
     object_told e (Element f Place.Event) rest h = refl
     object_told e (Element f (Place.Object x)) rest h = refl
     object_told e (Element f (Place.Attribute a)) rest h = unlike 2 1 _ _ (form_of e f (Place.Attribute a) 1 rest h) (λ z. omega (arith, z))
@@ -201,8 +201,8 @@ module _ (o : OrgId) where
     object_told e (Verdict f n i w) rest h = unlike 3 0 _ _ h (λ z. omega (arith, z))
     object_told e (Sighting f t i w u) rest h = unlike 4 0 _ _ h (λ z. omega (arith, z))
 
-    in_object : (e : EventId) (k : Key) (rest : List ℕ) → IsKey k → key k ≡ 0 ∷ uid e.0 ++ 3 ∷ rest → end_with_one us (name o k) ≡ true → has_uuid us k ≡ true
-    unfolding has_uuid is_place_with
+    in_object : (e : EventId) (k : Key) (rest : List ℕ) → IsKey k → key k ≡ 0 ∷ uid e.0 ++ 3 ∷ rest → end_with_one us (name o k) ≡ true → is_needed_for us k ≡ true
+    unfolding is_needed_for is_place_needed_for
     in_object e (Element f Place.Event) rest is h ends = refl
     in_object e (Element f (Place.Object x)) rest is h ends = refl
     in_object e (Element f (Place.Attribute a)) rest is h ends = unlike 2 3 _ _ (form_of e f (Place.Attribute a) 3 rest h) (λ z. omega (arith, z))
@@ -212,15 +212,15 @@ module _ (o : OrgId) where
     in_object e (Verdict f n i w) rest is h ends = unlike 3 0 _ _ h (λ z. omega (arith, z))
     in_object e (Sighting f t i w u) rest is h ends = unlike 4 0 _ _ h (λ z. omega (arith, z))
 
-    of_reference : (k : Key) (rest : List ℕ) → IsKey k → key k ≡ 1 ∷ rest → end_with_one us (name o k) ≡ true → has_uuid us k ≡ true
-    unfolding has_uuid
+    of_reference : (k : Key) (rest : List ℕ) → IsKey k → key k ≡ 1 ∷ rest → end_with_one us (name o k) ≡ true → is_needed_for us k ≡ true
+    unfolding is_needed_for
     of_reference (Reference e x t u) rest is h ends = told_so us _ u (reference_last o e x t u is.1.1.1) ends
     of_reference (Element e p) rest is h ends = unlike 0 1 _ _ h (λ z. omega (arith, z))
     of_reference (Proposal e n) rest is h ends = unlike 2 1 _ _ h (λ z. omega (arith, z))
     of_reference (Verdict e n i w) rest is h ends = unlike 3 1 _ _ h (λ z. omega (arith, z))
     of_reference (Sighting e t i w u) rest is h ends = unlike 4 1 _ _ h (λ z. omega (arith, z))
 
-    within_told : (e : EventId) (k : Key) → IsKey k → names_within us e o (name o k) ≡ true → has_uuid us k ≡ true
+    within_told : (e : EventId) (k : Key) → IsKey k → names_within us e o (name o k) ≡ true → is_needed_for us k ≡ true
     within_told e k is h =
         let two = and_parts (begin_with (place_front o e 3) (name o k) || begin_with (kind_front o e 1) (name o k)) (end_with_one us (name o k)) h in
         elim (or_cases (begin_with (place_front o e 3) (name o k)) (begin_with (kind_front o e 1) (name o k)) two.0) [
@@ -228,17 +228,17 @@ module _ (o : OrgId) where
           | inr kind ↦ let x = kind_begun e o 1 (name o k) kind in of_reference k x.0 is (behind o (key k) (1 ∷ x.0) x.1) two.1
         ]
 
-    attribute_told : (e : EventId) (k : Key) → IsKey k → IsUid e.0 → names_one o (attributes_of e us) (name o k) ≡ true → has_uuid us k ≡ true
-    unfolding has_uuid is_place_with same_elem
+    attribute_told : (e : EventId) (k : Key) → IsKey k → IsUid e.0 → names_one o (attributes_of e us) (name o k) ≡ true → is_needed_for us k ≡ true
+    unfolding is_needed_for is_place_needed_for same_elem
     attribute_told e k is fits h =
         let one = found (λ (u : ElemId). bytes_eq (name o k) (name o (Element e (Place.Attribute u)))) us (sym (any_map (λ (u : ElemId). Element e (Place.Attribute u)) (λ j. bytes_eq (name o k) (name o j)) us) ∙ h) in
         let same : k ≡ Element e (Place.Attribute one.0) = named_key o k (Element e (Place.Attribute one.0)) is (fits, (refl, all_of (λ (u : ElemId). IsUid u.0) us one.0 uids one.1.0)) one.1.1 in
-        subst (λ j. has_uuid us j ≡ true) (sym same) (any_has (same_elem one.0) us one.0 one.1.0 (eq-eqb one.0.0.0 one.0.0.0 refl))
+        subst (λ j. is_needed_for us j ≡ true) (sym same) (any_has (same_elem one.0) us one.0 one.1.0 (eq-eqb one.0.0.0 one.0.0.0 refl))
 
-    uuid_told : (k : Key) → IsKey k → IsUid (event_of k).0 → names_by_uuid us (event_of k) o (name o k) ≡ true → has_uuid us k ≡ true
-    unfolding has_uuid is_place_with event_key
+    uuid_told : (k : Key) → IsKey k → IsUid (event_of k).0 → names_by_uuid us (event_of k) o (name o k) ≡ true → is_needed_for us k ≡ true
+    unfolding is_needed_for is_place_needed_for event_key
     uuid_told k is fits h = elim (or_cases (bytes_eq (name o k) (name o (event_key (event_of k)))) _ h) [
-      | inl same ↦ subst (λ j. has_uuid us j ≡ true) (sym (event_told k is fits same)) refl
+      | inl same ↦ subst (λ j. is_needed_for us j ≡ true) (sym (event_told k is fits same)) refl
       | inr more ↦ elim (or_cases (begin_with (place_front o (event_of k) 1) (name o k)) _ more) [
         | inl form ↦ let x = form_begun (event_of k) o 1 (name o k) form in object_told (event_of k) k x.0 (behind o (key k) (0 ∷ uid (event_of k).0 ++ 1 ∷ x.0) x.1)
         | inr others ↦ elim (or_cases (names_one o (attributes_of (event_of k) us) (name o k)) _ others) [

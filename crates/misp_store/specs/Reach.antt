@@ -29,6 +29,8 @@ wide_reach by Ask.Groups = Reach.Nothing
 wide_reach by Ask.SyncGroups = Reach.Nothing
 wide_reach by Ask.SyncEvents = Reach.All
 wide_reach by (Ask.SyncPart event part) = Reach.Event event
+wide_reach by Ask.SyncManifest = Reach.All
+wide_reach by (Ask.SyncRows wanted) = Reach.Event wanted.event
 wide_reach by (Ask.TakePart part) = Reach.Event part.event
 
 -- what is looked at, or else all that is in this place

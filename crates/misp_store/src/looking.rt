@@ -442,6 +442,8 @@ pub(crate) fn looks(
         | Ask::SyncGroups
         | Ask::SyncEvents
         | Ask::SyncPart { .. }
+        | Ask::SyncManifest
+        | Ask::SyncRows(_)
         | Ask::TakePart(_) => Ok(None),
     }
 }

@@ -61,9 +61,10 @@ fn wide_reach(by: &OrgId, ask: &Ask) -> Reach
             Reach::Event(*event)
         }
         Ask::SyncPart { event, .. } => Reach::Event(*event),
+        Ask::SyncRows(wanted) => Reach::Event(wanted.fields.event),
         Ask::Change(change) => wide_change_reach(by, change),
         Ask::Propose(draft) => Reach::Event(draft.fields.event),
-        Ask::Index | Ask::SyncEvents => Reach::All,
+        Ask::Index | Ask::SyncEvents | Ask::SyncManifest => Reach::All,
         Ask::Groups | Ask::SyncGroups => Reach::Nothing,
         Ask::TakePart(part) => Reach::Event(part.fields.event),
     }

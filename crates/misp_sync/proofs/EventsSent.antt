@@ -153,6 +153,7 @@ list_sound (Reply.Ok (Answer.Parts list)) events sound h = subst (IsStrictlySort
     one : list ≡ events
     one = cc
 list_sound (Reply.Ok (Answer.Part p)) events sound h = absurd cc
+list_sound (Reply.Ok (Answer.Manifest said)) events sound h = absurd cc
 list_sound (Reply.Ok (Answer.Saved elements event stamp)) events sound h = absurd cc
 list_sound (Reply.Ok (Answer.Event v)) events sound h = absurd cc
 list_sound (Reply.Ok (Answer.Taken n)) events sound h = absurd cc

@@ -110,3 +110,4 @@ events_fit key old new (Reply.Ok (Answer.Event event)) is r fit e = other key ol
 events_fit key old new (Reply.Ok (Answer.Groups groups)) is r fit e = other key old new (Answer.Groups groups) r is refl (λ h. h) _ e fit
 events_fit key old new (Reply.Ok (Answer.Taken count)) is r fit e = other key old new (Answer.Taken count) r is refl (λ h. h) _ e fit
 events_fit key old new (Reply.Ok (Answer.Part p)) is r fit e = other key old new (Answer.Part p) r is refl (λ h. h) _ e fit
+events_fit key old new (Reply.Ok (Answer.Manifest events)) is r fit e = other key old new (Answer.Manifest events) r is refl (λ h. h) _ e fit

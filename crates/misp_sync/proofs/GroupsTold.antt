@@ -110,3 +110,4 @@ groups_fit law key old new (Reply.Ok (Answer.Event event)) is r fit e = other ke
 groups_fit law key old new (Reply.Ok (Answer.Parts events)) is r fit e = other key old new (Answer.Parts events) r is refl (λ h. h) _ e fit
 groups_fit law key old new (Reply.Ok (Answer.Taken count)) is r fit e = other key old new (Answer.Taken count) r is refl (λ h. h) _ e fit
 groups_fit law key old new (Reply.Ok (Answer.Part p)) is r fit e = other key old new (Answer.Part p) r is refl (λ h. h) _ e fit
+groups_fit law key old new (Reply.Ok (Answer.Manifest events)) is r fit e = other key old new (Answer.Manifest events) r is refl (λ h. h) _ e fit

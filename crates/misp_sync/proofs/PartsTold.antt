@@ -74,3 +74,4 @@ part_fit event part key old new (Reply.Ok (Answer.Event seen)) is r fit e = othe
 part_fit event part key old new (Reply.Ok (Answer.Groups groups)) is r fit e = other event part key old new (Answer.Groups groups) r is refl (λ h. h) _ e fit
 part_fit event part key old new (Reply.Ok (Answer.Taken count)) is r fit e = other event part key old new (Answer.Taken count) r is refl (λ h. h) _ e fit
 part_fit event part key old new (Reply.Ok (Answer.Parts events)) is r fit e = other event part key old new (Answer.Parts events) r is refl (λ h. h) _ e fit
+part_fit event part key old new (Reply.Ok (Answer.Manifest events)) is r fit e = other event part key old new (Answer.Manifest events) r is refl (λ h. h) _ e fit

@@ -169,6 +169,7 @@ groups_tell (Reply.Ok (Answer.Event v)) refusal is h = absurd (no_garbled _ refu
 groups_tell (Reply.Ok (Answer.Taken n)) refusal is h = absurd (no_garbled _ refusal (err_same _ _ is) h)
 groups_tell (Reply.Ok (Answer.Parts events)) refusal is h = absurd (no_garbled _ refusal (err_same _ _ is) h)
 groups_tell (Reply.Ok (Answer.Part p)) refusal is h = absurd (no_garbled _ refusal (err_same _ _ is) h)
+groups_tell (Reply.Ok (Answer.Manifest events)) refusal is h = absurd (no_garbled _ refusal (err_same _ _ is) h)
 
 pub events_tell : TellsKeeper events_told
 events_tell (Reply.Refused r) refusal is h = peer_told r refusal (err_same _ _ is) h
@@ -178,6 +179,7 @@ events_tell (Reply.Ok (Answer.Event v)) refusal is h = absurd (no_garbled _ refu
 events_tell (Reply.Ok (Answer.Taken n)) refusal is h = absurd (no_garbled _ refusal (err_same _ _ is) h)
 events_tell (Reply.Ok (Answer.Groups groups)) refusal is h = absurd (no_garbled _ refusal (err_same _ _ is) h)
 events_tell (Reply.Ok (Answer.Part p)) refusal is h = absurd (no_garbled _ refusal (err_same _ _ is) h)
+events_tell (Reply.Ok (Answer.Manifest events)) refusal is h = absurd (no_garbled _ refusal (err_same _ _ is) h)
 
 module _ (e : EventId) (n : ℕ) where
   asked_tell : (b : Bool) (p : Package) (refusal : Refusal) → ◌≡◌ {A = Result Package Refusal} (if b then Ok p else Err (garbled (codes "package"))) (Err refusal)
@@ -193,3 +195,4 @@ module _ (e : EventId) (n : ℕ) where
   part_tell (Reply.Ok (Answer.Taken n)) refusal is h = absurd (no_garbled _ refusal (err_same _ _ is) h)
   part_tell (Reply.Ok (Answer.Groups groups)) refusal is h = absurd (no_garbled _ refusal (err_same _ _ is) h)
   part_tell (Reply.Ok (Answer.Parts events)) refusal is h = absurd (no_garbled _ refusal (err_same _ _ is) h)
+  part_tell (Reply.Ok (Answer.Manifest events)) refusal is h = absurd (no_garbled _ refusal (err_same _ _ is) h)

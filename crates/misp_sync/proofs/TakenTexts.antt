@@ -70,6 +70,7 @@ read_of_reply most small (Reply.Ok (Answer.Event event)) tells worded r e = absu
 read_of_reply most small (Reply.Ok (Answer.Groups groups)) tells worded r e = absurd tells
 read_of_reply most small (Reply.Ok (Answer.Parts events)) tells worded r e = absurd tells
 read_of_reply most small (Reply.Ok (Answer.Part p)) tells worded r e = absurd tells
+read_of_reply most small (Reply.Ok (Answer.Manifest events)) tells worded r e = absurd tells
 
 -- ---- the peer's fault
 

@@ -8,7 +8,7 @@ use Rattle.misp_core.specs.declared.reply.EventParts.{EventParts}
 use Rattle.misp_core.specs.Handing.{pull_scene}
 use Rattle.misp_core.specs.Pulling.{event_at, parts_where}
 use Rattle.misp_core.specs.Sound.{IsListed}
-use Rattle.misp_core.proofs.Listed.{next_listed, next_to, none_yet}
+use Rattle.misp_core.proofs.Listed.{listed_number, next_listed, next_to, none_yet, number_listed}
 use Rattle.misp_core.proofs.Pulled.{count_is, events_pulled, one_more}
 use Rattle.misp_core.proofs.pulling.pulled_events.Goals as goal
 
@@ -16,7 +16,7 @@ pub loop-number-init : goal.loop-number-init
 loop-number-init c = record {
   events = λ rows table by. c.new-events.ensures.items;
   each = subst (AllByRecursion IsListed) (sym c.new-events.ensures.items) tt;
-  ascend = λ up. none_yet c.as_slice-number-items.result.now c.new-events.result.items c.new-events.ensures.items;
+  ascend = λ up. none_yet number_listed c.as_slice-number-items.result.now c.new-events.result.items c.new-events.ensures.items;
 }
 
 pub loop-number-preserved : goal.loop-number-preserved
@@ -35,8 +35,9 @@ loop-number-preserved c = record {
       (next_listed c.event_at-event.result c.event_at-event.ensures.fits c.in_ok-event_parts.field-0 c.in_ok-event_parts.ensures.counted c.loop-number.events.items c.loop-number.invariant.each);
   ascend = λ up.
       rw c.in_ok-put.ensures
-      (next_to c.as_slice-number-items.result.now c.loop-number.number-index c.loop-number-test.true c.event_at-event.result c.event_at-event.ensures.event c.in_ok-event_parts.field-0
-      c.in_ok-event_parts.ensures.counted c.loop-number.events.items c.loop-number.invariant.ascend up);
+      (next_to number_listed c.as_slice-number-items.result.now c.loop-number.number-index c.loop-number-test.true c.in_ok-event_parts.field-0
+      (listed_number c.event_at-event.result _ c.event_at-event.ensures.event c.in_ok-event_parts.field-0 c.in_ok-event_parts.ensures.counted)
+      c.loop-number.events.items c.loop-number.invariant.ascend up);
 }
 
 pub returns-clause-events : goal.returns-clause-events

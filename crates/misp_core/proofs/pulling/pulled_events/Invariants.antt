@@ -8,7 +8,7 @@ use Rattle.misp_core.specs.Prelude.{IsStrictlySortedBy}
 use Rattle.misp_core.specs.Handing.{pull_scene}
 use Rattle.misp_core.specs.Pulling.{IsByEvent, event_at, parts_where}
 use Rattle.misp_core.specs.Sound.{IsListed}
-use Rattle.misp_core.proofs.Listed.{AscendTo}
+use Rattle.misp_core.proofs.Listed.{AscendTo, number_listed}
 use Rattle.misp_core.proofs.pulling.pulled_events.Given as goal
 
 -- of each number so far its event, where there is a package of it
@@ -17,5 +17,5 @@ invariant-loop-number l = record {
   events : (rows : List Row) → IsTable rows → IsByEvent l.list rows
       → l.events.items ≡ filter_map (λ n. parts_where (event_at n) (length (packages (event_rows (event_at n) (pulled_rows (seeing (pull_scene l.site) rows)))))) (take l.number-index l.number-items);
   each : AllByRecursion IsListed l.events.items;
-  ascend : IsStrictlySortedBy nat_cmp l.number-items → AscendTo l.number-items l.number-index l.events.items;
+  ascend : IsStrictlySortedBy nat_cmp l.number-items → AscendTo number_listed l.number-items l.number-index l.events.items;
 }

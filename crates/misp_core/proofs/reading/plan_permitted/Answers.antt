@@ -1,6 +1,7 @@
-use Rattle.std.proofs.Common.{◌≡◌, arith, ap, sym, subst, Err}
+use Rattle.std.proofs.Common.{◌≡◌, IfSome, IsSomeAnd, Option, arith, ap, sym, subst, Err}
+use Rattle.misp_model.specs.declared.package.PackageFields.{PackageFields as Package}
 use Rattle.misp_store.specs.declared.fault.LoadFault.{LoadFault}
-use Rattle.misp_core.specs.Ahead.{IsBeside}
+use Rattle.misp_core.specs.Ahead.{IsBeside, IsKeptFor}
 use Rattle.misp_core.specs.Handing.{host_at, scene_in}
 use Rattle.misp_core.proofs.Answered.{asked_planned, keeper_told, told_of_keeper, unread_planned}
 use Rattle.misp_core.proofs.KeptLandings.{landed_planned, never_pulls, still_lands}
@@ -9,13 +10,23 @@ use Rattle.misp_core.proofs.reading.plan_permitted.Goals as goal
 
 -- ---- a package is kept
 
-pub returns-in-Some-clause-planned : goal.returns-in-Some-clause-planned
-returns-in-Some-clause-planned g c =
+pub returns-in-Ok-Some-clause-planned : goal.returns-in-Ok-Some-clause-planned
+returns-in-Ok-Some-clause-planned g c =
     rw c.show_part.ensures.plan
-    (kept_planned (host_at c.args.site.now) _ c.args.site.now.moment c.args.site.now.caller.now c.args.ask _ c.in-Some.part c.requires.beside.ahead c.in-Some.ensures.kept)
+    (kept_planned (host_at c.args.site.now) _ c.args.site.now.moment c.args.site.now.caller.now c.args.ask _ c.in-Ok-Some.part c.requires.beside.ahead
+    (subst (λ (found : Option Package). IfSome found (λ part. IsSomeAnd c.args.ahead.now (λ a. IsKeptFor a c.args.site.now.caller.now c.args.ask part))) c.in-Ok-Some.field-0-is c.in-Ok-Some.ensures.kept))
 
-pub returns-in-Some-clause-beside : goal.returns-in-Some-clause-beside
-returns-in-Some-clause-beside g c = record {
+pub returns-in-Ok-Some-clause-beside : goal.returns-in-Ok-Some-clause-beside
+returns-in-Ok-Some-clause-beside g c = record {
+  groups = c.requires.beside.groups;
+  ahead = left_answers (host_at c.args.site.now) _ _ _ c.requires.beside.ahead c.take_kept.ensures.left;
+  landed = c.requires.beside.landed;
+}
+
+-- ---- memory runs out for rows of it
+
+pub returns-in-Err-clause-beside : goal.returns-in-Err-clause-beside
+returns-in-Err-clause-beside g c = record {
   groups = c.requires.beside.groups;
   ahead = left_answers (host_at c.args.site.now) _ _ _ c.requires.beside.ahead c.take_kept.ensures.left;
   landed = c.requires.beside.landed;
@@ -74,28 +85,28 @@ returns-in-Ok-clause-stays g c = λ not_. c.in-Ok.ensures.stays (λ is. absurd c
 
 -- ---- none are read
 
-pub returns-in-Err-clause-planned : goal.returns-in-Err-clause-planned
-returns-in-Err-clause-planned g c =
-    unread_planned (host_at c.args.site.now) c.args.site.now.moment (c.args.site.now.caller.now, c.args.ask) c.args.site.now.groups.now _ c.in-Err.fault c.unread.result
-    c.requires.permitted c.requires.beside.groups c.in-Err.ensures.bad c.unread.ensures.plans
+pub returns-in-Err-rows_for-clause-planned : goal.returns-in-Err-rows_for-clause-planned
+returns-in-Err-rows_for-clause-planned g c =
+    unread_planned (host_at c.args.site.now) c.args.site.now.moment (c.args.site.now.caller.now, c.args.ask) c.args.site.now.groups.now _ c.in-Err-rows_for.fault c.unread.result
+    c.requires.permitted c.requires.beside.groups c.in-Err-rows_for.ensures.bad c.unread.ensures.plans
 
-pub returns-in-Err-clause-beside : goal.returns-in-Err-clause-beside
-returns-in-Err-clause-beside g c =
-    subst (λ held. IsBeside (host_at c.args.site.now) held c.args.site.now.groups.now c.take_kept.new.ahead c.args.landed.now) (sym c.in-Err.ensures.held)
+pub returns-in-Err-rows_for-clause-beside : goal.returns-in-Err-rows_for-clause-beside
+returns-in-Err-rows_for-clause-beside g c =
+    subst (λ held. IsBeside (host_at c.args.site.now) held c.args.site.now.groups.now c.take_kept.new.ahead c.args.landed.now) (sym c.in-Err-rows_for.ensures.held)
     (record {
       groups = c.requires.beside.groups;
       ahead = left_answers (host_at c.args.site.now) _ _ _ c.requires.beside.ahead c.take_kept.ensures.left;
       landed = c.requires.beside.landed;
     })
 
-pub returns-in-Err-clause-cause : goal.returns-in-Err-clause-cause
-returns-in-Err-clause-cause g c = record {
-  later = c.in-Err.ensures.cause.later;
-  rose = λ is. c.in-Err.ensures.cause.rose (ap Err (told_of_keeper c.in-Err.fault c.unread.result c.unread.ensures.told is));
+pub returns-in-Err-rows_for-clause-cause : goal.returns-in-Err-rows_for-clause-cause
+returns-in-Err-rows_for-clause-cause g c = record {
+  later = c.in-Err-rows_for.ensures.cause.later;
+  rose = λ is. c.in-Err-rows_for.ensures.cause.rose (ap Err (told_of_keeper c.in-Err-rows_for.fault c.unread.result c.unread.ensures.told is));
 }
 
-pub returns-in-Err-clause-stays : goal.returns-in-Err-clause-stays
-returns-in-Err-clause-stays g c = λ not_.
-    c.in-Err.ensures.stays (λ is.
-    let same : c.in-Err.fault ≡ LoadFault.KeeperFault = cc in
-    not_ (keeper_told c.in-Err.fault c.unread.result c.unread.ensures.told same))
+pub returns-in-Err-rows_for-clause-stays : goal.returns-in-Err-rows_for-clause-stays
+returns-in-Err-rows_for-clause-stays g c = λ not_.
+    c.in-Err-rows_for.ensures.stays (λ is.
+    let same : c.in-Err-rows_for.fault ≡ LoadFault.KeeperFault = cc in
+    not_ (keeper_told c.in-Err-rows_for.fault c.unread.result c.unread.ensures.told same))

@@ -1,4 +1,5 @@
--- The laws are lemmas of proofs/Pulled.antt.
+-- The laws are lemmas of proofs/Pulled.antt and proofs/ManifestsAnswered.antt.
+use Rattle.misp_history.proofs.ManifestsAnswered.{rows_wanted}
 use Rattle.misp_history.proofs.Pulled.{part_absent, part_of}
 use Rattle.misp_history.proofs.synchronising.a_part_is_the_one_asked_for.Goals as goal
 
@@ -9,4 +10,5 @@ returns c = record {
   parts = λ s e n p h. (part_of s e n p h).1.1.1;
   rows = λ s e n p h. (part_of s e n p h).0;
   absent = part_absent;
+  wanted = rows_wanted;
 }

@@ -1,0 +1,7 @@
+pub mod HeldRows
+pub mod KeyReadings
+pub mod KeySets
+pub mod ListFields
+pub mod ManifestFields
+pub mod OnlyRows
+pub mod Wants

@@ -1,0 +1,4 @@
+pub mod ManifestReading
+pub mod ManifestSpelling
+pub mod Manifests
+pub mod Wanting

@@ -1,0 +1,141 @@
+//! Reading keys of an event.
+
+ghost use Rattle.std.specs.Prelude.{◌≡◌};
+ghost use Rattle.misp_wanted.specs.ManifestReading.{Gives, GivesAll, first_key_at, first_key_of, framed_at, later_key_of, listed_key_of, own_key_of, wanted_key_of};
+
+use crate::reading::{Reader, Stop};
+use misp_elem::{DecodeFault, Key, KeyForm, Place, compare_keys, decode_key};
+use misp_ids::EventId;
+
+impl Reader<'_> {
+    // The key of the event itself.
+    #[tactic(auto, unfolding(crate::specs::ManifestReading::first_key_at))]
+    fn first_key(&mut self, event: EventId) -> Result<Key, Stop>
+        ensures { Gives result self.new (first_key_at event self.old) }
+    {
+        self.between(0, 0)?;
+        let own = self.own_event(event)?;
+        self.between(0, 0)?;
+        let _number = own.0.0;
+        Ok(Key {
+            form: KeyForm::Element {
+                event: own,
+                place: Place::Event,
+            },
+        })
+    }
+}
+
+// The key of the event itself that all of the bytes are.
+#[tactic(auto, unfolding(crate::specs::ManifestReading::first_key_of))]
+fn first_key(bytes: &[u8], event: EventId) -> Result<Key, Stop>
+    ensures { GivesAll result (first_key_of event bytes.now) }
+{
+    let mut reader = Reader { rest: bytes };
+    let key = reader.first_key(event)?;
+    if !reader.rest.is_empty() {
+        return Err(reader.bad());
+    }
+    Ok(key)
+}
+
+// The key of the event that all of the bytes are.
+#[tactic(auto, unfolding(crate::specs::ManifestReading::own_key_of))]
+fn own_key(bytes: &[u8], event: EventId) -> Result<Key, Stop>
+    ensures { GivesAll result (own_key_of event bytes.now) }
+{
+    let mut reader = Reader { rest: bytes };
+    reader.front(event)?;
+    match decode_key(bytes) {
+        Ok(key) => Ok(key),
+        Err(DecodeFault::BadRow { place }) => Err(Stop::Bad(bytes.len().saturating_sub(place))),
+        Err(DecodeFault::NoMemory) => Err(Stop::NoMemory),
+    }
+}
+
+// The key of the event, after this one, that all of the bytes are.
+#[tactic(auto, unfolding(crate::specs::ManifestReading::later_key_of))]
+fn later_key(bytes: &[u8], event: EventId, before: &Key) -> Result<Key, Stop>
+    ensures { GivesAll result (later_key_of event before.now bytes.now) }
+{
+    let key = own_key(bytes, event)?;
+    if compare_keys(before, &key).is_lt() {
+        Ok(key)
+    } else {
+        Err(Stop::Bad(bytes.len()))
+    }
+}
+
+// A key of a package: the event's own comes first.
+fn listed_key(bytes: &[u8], event: EventId, before: Option<Key>) -> Result<Key, Stop>
+    ensures { GivesAll result (listed_key_of event before bytes.now) }
+{
+    match before {
+        None => first_key(bytes, event),
+        Some(before) => later_key(bytes, event, &before),
+    }
+}
+
+// A key of a wanted list.
+fn wanted_key(bytes: &[u8], event: EventId, before: Option<Key>) -> Result<Key, Stop>
+    ensures { GivesAll result (wanted_key_of event before bytes.now) }
+{
+    match before {
+        None => own_key(bytes, event),
+        Some(before) => later_key(bytes, event, &before),
+    }
+}
+
+impl Reader<'_> {
+    // A key of a package after its length.
+    #[tactic(auto, unfolding(crate::specs::ManifestReading::framed_at))]
+    pub(super) fn framed_listed_key(
+        &mut self,
+        event: EventId,
+        before: Option<Key>,
+    ) -> Result<Key, Stop>
+        ensures { Gives result self.new (framed_at (listed_key_of event before) self.old) }
+    {
+        let bad = self.bad();
+        let len = self.u32()? as usize;
+        if self.rest.len() < len {
+            return Err(bad);
+        }
+        let after_len = self.rest.len();
+        let (front, rest) = self.rest.split_at(len);
+        self.rest = rest;
+        match listed_key(front, event, before) {
+            Ok(key) => Ok(key),
+            Err(Stop::Bad(left)) => Err(Stop::Bad(after_len.saturating_sub(
+                front.len().saturating_sub(left),
+            ))),
+            Err(Stop::NoMemory) => Err(Stop::NoMemory),
+        }
+    }
+
+    // A key of a wanted list after its length.
+    #[tactic(auto, unfolding(crate::specs::ManifestReading::framed_at))]
+    pub(super) fn framed_wanted_key(
+        &mut self,
+        event: EventId,
+        before: Option<Key>,
+    ) -> Result<Key, Stop>
+        ensures { Gives result self.new (framed_at (wanted_key_of event before) self.old) }
+    {
+        let bad = self.bad();
+        let len = self.u32()? as usize;
+        if self.rest.len() < len {
+            return Err(bad);
+        }
+        let after_len = self.rest.len();
+        let (front, rest) = self.rest.split_at(len);
+        self.rest = rest;
+        match wanted_key(front, event, before) {
+            Ok(key) => Ok(key),
+            Err(Stop::Bad(left)) => Err(Stop::Bad(after_len.saturating_sub(
+                front.len().saturating_sub(left),
+            ))),
+            Err(Stop::NoMemory) => Err(Stop::NoMemory),
+        }
+    }
+}
