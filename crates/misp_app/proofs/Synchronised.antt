@@ -6,7 +6,7 @@ use Rattle.misp_effects.specs.KeeperStates.{AreKept}
 use Rattle.misp_core.specs.Prelude.{Host, KeeperState, Refusal, Standing}
 use Rattle.misp_script.specs.Faults.{Reading}
 use Rattle.misp_script.specs.declared.description.Entry.{Entry}
-use Rattle.misp_sync.specs.Counts.{no_count}
+use Rattle.misp_protocol.specs.Counts.{no_count}
 use Rattle.misp_sync.specs.declared.reply.SyncReply.{SyncReply}
 use Rattle.misp_net.specs.Hosts.{nobody}
 use Rattle.misp_net.specs.Prelude.{Description, described_host, described_hosts, host_at}

@@ -13,7 +13,7 @@ use Rattle.misp_script.specs.Directory.{directory_of, place_of, roster_names}
 use Rattle.misp_store.specs.Sharing.{may_be_sound}
 use Rattle.misp_core.specs.Prelude.{Host, KeeperState, Standing, host_of}
 use Rattle.misp_sync.specs.Came.{IsCameOver}
-use Rattle.misp_sync.specs.Counts.{no_count}
+use Rattle.misp_protocol.specs.Counts.{no_count}
 use Rattle.misp_sync.specs.Dialled.{trail_to}
 use Rattle.misp_sync.specs.Pulled.{bar_of, stop_in}
 use Rattle.misp_sync.specs.PushTrail.{IsPushTrailOver}

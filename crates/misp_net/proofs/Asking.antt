@@ -13,7 +13,7 @@ use Rattle.misp_orgs.specs.declared.link.Link.{Link}
 use Rattle.misp_outside.specs.Causes.{HasCause, RoseBy}
 use Rattle.misp_effects.specs.declared.stop.Stop.{Stop}
 use Rattle.misp_script.specs.Directory.{Roster, directory_of, place_of, roster_names, roster_of}
-use Rattle.misp_sync.specs.Counts.{no_count}
+use Rattle.misp_protocol.specs.Counts.{no_count}
 use Rattle.misp_sync.specs.declared.reply.SyncReply.{SyncReply}
 use Rattle.misp_sync.specs.declared.reply.SyncReply.TheVariants as replies
 use Rattle.misp_net.specs.Acts.{Syncs, act}

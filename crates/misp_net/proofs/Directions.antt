@@ -8,7 +8,7 @@ use Rattle.misp_ids.specs.declared.refusal.RuleName.TheVariants.{LinkOff, NoLink
 use Rattle.misp_orgs.specs.Admin.{link_of}
 use Rattle.misp_orgs.specs.declared.link.Link.{Link}
 use Rattle.misp_effects.specs.Effect.{shown}
-use Rattle.misp_sync.specs.Counts.{no_count, tally}
+use Rattle.misp_protocol.specs.Counts.{no_count, tally}
 use Rattle.misp_sync.specs.Pulled.{bar_of, pulled}
 use Rattle.misp_sync.specs.Pushed.{pushed}
 use Rattle.misp_sync.specs.declared.reply.SyncReply.{SyncReply}

@@ -5,7 +5,7 @@ use Rattle.std.specs.List.{insert, remove}
 use Rattle.std.proofs.lemmas.Bool.{false≢true, eq-eqb, cases_order}
 use Rattle.misp_ids.specs.declared.refusal.Refusal.{Refusal}
 use Rattle.misp_core.specs.Prelude.{Standing}
-use Rattle.misp_sync.specs.Counts.{no_count}
+use Rattle.misp_protocol.specs.Counts.{no_count}
 use Rattle.misp_sync.specs.declared.reply.SyncReply.{SyncReply}
 use Rattle.misp_net.specs.Lending.{IsHeldOff}
 use Rattle.std.proofs.lemmas.List.Edits.{get_or-remove_below, get_or-remove_above}

@@ -20,7 +20,7 @@ use Rattle.misp_effects.specs.Run.{fault_at}
 use Rattle.misp_effects.proofs.Places.{count_is, count_other, count_same, fault_rose, tell_at, tell_set}
 use Rattle.misp_effects.proofs.Showing.{does_shown}
 use Rattle.misp_core.specs.Prelude.{AreReadable, Held, put_batches}
-use Rattle.misp_sync.specs.Counts.{no_count}
+use Rattle.misp_protocol.specs.Counts.{no_count}
 use Rattle.misp_sync.specs.Pulled.{bar_of}
 use Rattle.misp_sync.specs.declared.reply.SyncReply.{SyncReply}
 use Rattle.misp_sync.specs.declared.reply.SyncReply.TheVariants as replies

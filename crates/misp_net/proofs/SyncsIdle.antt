@@ -14,12 +14,12 @@ use Rattle.misp_store.specs.declared.reach.Reach.{Reach}
 use Rattle.misp_core.specs.Prelude.{Ask, Caller, EventId, Inst, OrgId, Row, is_permitted}
 use Rattle.misp_package.specs.Spelling.{spell_package}
 use Rattle.misp_model.specs.declared.package.PackageFields.{PackageFields as Package}
-use Rattle.misp_sync.specs.Counts.{count_of}
+use Rattle.misp_protocol.specs.Counts.{count_of}
 use Rattle.misp_sync.specs.Handing.{is_short}
 use Rattle.misp_sync.specs.Pulled.{event_taken, events_sent, events_taken, groups_sent, pulled, pulled_by, pulled_over, rows_pulled}
 use Rattle.misp_sync.specs.Pushed.{RowsOf, groups_carried, if_short, over_rows, packages_of, parts_pushed, parts_taken, pushed, pushed_by, pushed_over, rows_seen}
 use Rattle.misp_sync.specs.Telling.{stop_refusal}
-use Rattle.misp_sync.specs.declared.count.SyncCount.{SyncCount}
+use Rattle.misp_protocol.specs.declared.count.SyncCount.{SyncCount}
 use Rattle.misp_sync.specs.declared.reply.SyncReply.{SyncReply}
 use Rattle.misp_groups.specs.Changes.{take_groups}
 use Rattle.misp_model.specs.Prelude.{Group}

@@ -8,7 +8,7 @@ use Rattle.misp_effects.specs.Effect.{Does}
 use Rattle.misp_effects.specs.declared.stop.Side.TheVariants.{Here, There}
 use Rattle.misp_effects.specs.declared.stop.Stop.TheVariants as stops
 use Rattle.misp_core.specs.Prelude.{Standing, host_of, seen_in, spelled}
-use Rattle.misp_sync.specs.Counts.{no_count}
+use Rattle.misp_protocol.specs.Counts.{no_count}
 use Rattle.misp_sync.specs.Handing.{IsSameHost}
 use Rattle.misp_sync.specs.Pulled.{bar_of, stop_in}
 use Rattle.misp_sync.specs.Trail.{GrowsBy, told_of}

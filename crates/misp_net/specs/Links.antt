@@ -12,7 +12,7 @@ use Rattle.misp_effects.specs.Effect.{effect}
 use Rattle.misp_history.specs.Acts.{Net}
 use Rattle.misp_history.specs.Passing.{Route}
 use Rattle.misp_core.specs.Prelude.{Effect, Group, Host, Seen}
-use Rattle.misp_sync.specs.Counts.{no_count}
+use Rattle.misp_protocol.specs.Counts.{no_count}
 use Rattle.misp_sync.specs.Pulled.{bar_of}
 use Rattle.misp_sync.specs.declared.reply.SyncReply.{SyncReply}
 use Rattle.misp_sync.specs.declared.reply.SyncReply.TheVariants as replies

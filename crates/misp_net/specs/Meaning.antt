@@ -16,7 +16,7 @@ use Rattle.misp_api.specs.Administering.{group_form}
 use Rattle.misp_net.specs.declared.line.Output.{Output}
 use Rattle.misp_net.specs.declared.line.Output.TheVariants.{Bad, Nothing, Replied, Synced, Unanswered}
 use Rattle.misp_api.specs.Sending.{read_form}
-use Rattle.misp_sync.specs.Counts.{count_of}
+use Rattle.misp_protocol.specs.Counts.{count_of}
 use Rattle.misp_sync.specs.History.{sync_act}
 use Rattle.misp_sync.specs.Telling.{stop_refusal}
 use Rattle.misp_sync.specs.declared.reply.SyncReply.TheVariants as synced

@@ -5,7 +5,7 @@ use Rattle.serde_json.specs.Written.{compact_text}
 use Rattle.misp_ids.specs.Refusal.{rule_name, rule_number, rule_status}
 use Rattle.misp_ids.specs.declared.refusal.Refusal.{Refusal}
 use Rattle.misp_format.specs.Fields.{count_data}
-use Rattle.misp_sync.specs.declared.count.SyncCount.{SyncCount}
+use Rattle.misp_protocol.specs.declared.count.SyncCount.{SyncCount}
 use Rattle.misp_sync.specs.declared.reply.SyncReply.{SyncReply}
 
 -- what was taken

@@ -9,7 +9,7 @@ ghost use Rattle.misp_core.specs.Standing.{Standing, host_of};
 ghost use Rattle.misp_sync.specs.Handing.{IsSameHost};
 ghost use Rattle.misp_sync.specs.Pulled.{bar_of, pulled, stop_in, telling};
 ghost use Rattle.misp_sync.specs.Pushed.{push_telling, pushed};
-ghost use Rattle.misp_sync.specs.Counts.{no_count};
+ghost use Rattle.misp_protocol.specs.Counts.{no_count};
 ghost use Rattle.misp_sync.specs.Serving.{IsStill};
 ghost use Rattle.misp_sync.specs.declared.reply.SyncReply.{SyncReply as Told};
 ghost use Rattle.misp_sync.specs.declared.reply.SyncReply.TheVariants as replies;

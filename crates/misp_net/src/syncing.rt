@@ -8,7 +8,7 @@ ghost use Rattle.misp_effects.specs.KeeperStates.{Lends};
 ghost use Rattle.misp_effects.specs.declared.stop.Stop.TheVariants as stops;
 ghost use Rattle.misp_script.specs.Directory.{roster_names};
 ghost use Rattle.misp_script.specs.Step.{sync_data};
-ghost use Rattle.misp_sync.specs.Counts.{no_count};
+ghost use Rattle.misp_protocol.specs.Counts.{no_count};
 ghost use Rattle.misp_sync.specs.Pulled.{stop_in};
 ghost use Rattle.misp_sync.specs.Trail.{GrowsBy};
 ghost use Rattle.misp_sync.specs.declared.reply.SyncReply.TheVariants as replies;

@@ -24,7 +24,7 @@ use Rattle.misp_core.specs.declared.reply.EventParts.{EventParts}
 use Rattle.misp_sync.specs.Pulled.{ends, event_taken, events_taken}
 use Rattle.misp_sync.specs.Steps.{AreSent, AreTaken, IsBeside, IsStep, IsUnread, Sends, Stand, Takes, Tell, listed_of, parts_coming, stand}
 use Rattle.misp_sync.specs.Telling.{stop_by, stop_refusal}
-use Rattle.misp_sync.specs.declared.count.Tally.{Tally}
+use Rattle.misp_protocol.specs.declared.count.Tally.{Tally}
 use Rattle.misp_sync.proofs.Beside.{beside_none, beside_now}
 use Rattle.misp_sync.proofs.PartLoop.{AllPartsTaken, drop_all, drop_next, drop_some, ended_so, tell_then}
 use Rattle.misp_sync.proofs.Standings.{step_here}

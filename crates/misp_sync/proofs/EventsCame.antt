@@ -14,9 +14,9 @@ use Rattle.misp_core.specs.Sound.{by_event}
 use Rattle.misp_core.specs.declared.reply.EventParts.{EventParts}
 use Rattle.misp_sync.specs.Came.{AllCame, EventPut, EventsBy, EventsCome, FirstCame, IsPut, OwnEventComes, event_batches, events_batches}
 use Rattle.misp_sync.specs.Comes.{IsBadRow}
-use Rattle.misp_sync.specs.Counts.{tally}
+use Rattle.misp_protocol.specs.Counts.{tally}
 use Rattle.misp_sync.specs.Steps.{IsBeside}
-use Rattle.misp_sync.specs.declared.count.Tally.{Tally}
+use Rattle.misp_protocol.specs.declared.count.Tally.{Tally}
 use Rattle.misp_sync.proofs.PartLoop.{drop_all}
 use Rattle.misp_sync.proofs.PartsCame.{came_more}
 use Rattle.misp_sync.specs.Trail.{GrowsBy}

@@ -29,7 +29,7 @@ use Rattle.misp_sync.specs.Pulled.{ends, events_sent, events_taken, rows_pulled,
 use Rattle.misp_sync.specs.Serving.{Meet, queried, queried_by}
 use Rattle.misp_sync.specs.Steps.{AreSent, Sends, Stand, Takes, Tell, listed_of}
 use Rattle.misp_sync.specs.Telling.{IsFetched, events_told, peer_refused, stop_by, stop_refusal}
-use Rattle.misp_sync.specs.declared.count.Tally.{Tally}
+use Rattle.misp_protocol.specs.declared.count.Tally.{Tally}
 use Rattle.misp_sync.specs.declared.query.Query.{Query}
 use Rattle.misp_sync.proofs.Beside.{kept_out}
 use Rattle.misp_sync.proofs.Causes.{stop_of_peer}

@@ -18,14 +18,14 @@ use Rattle.misp_core.specs.HandedGroups.{group_batches}
 use Rattle.misp_core.specs.Prelude.{Caller, Effect, Group, Host, IsGroup, bare, groups_of, seen_in, spelled}
 use Rattle.misp_core.specs.Taking.{groups_taken}
 use Rattle.misp_core.proofs.TakenGroups.{groups_after}
-use Rattle.misp_sync.specs.Counts.{tally, with_groups}
+use Rattle.misp_protocol.specs.Counts.{tally, with_groups}
 use Rattle.misp_sync.specs.Handing.{HandGroups, is_short, too_large}
 use Rattle.misp_sync.specs.Pulled.{ends}
 use Rattle.misp_sync.specs.PushSteps.{IsToldOf, Pushes}
 use Rattle.misp_sync.specs.Pushed.{all_pushed, parts_pushed, pushed_by, pushed_with, rows_seen}
 use Rattle.misp_sync.specs.Steps.{Takes}
 use Rattle.misp_sync.specs.Telling.{peer_refused}
-use Rattle.misp_sync.specs.declared.count.Tally.{Tally}
+use Rattle.misp_protocol.specs.declared.count.Tally.{Tally}
 use Rattle.misp_sync.proofs.Causes.{stop_of_peer}
 use Rattle.misp_sync.proofs.HandSteps.{refused_err, refused_ok, taken_err, taken_ok}
 use Rattle.misp_sync.proofs.HandedReplies.{few_taken, groups_barred, groups_go, groups_long, groups_nobody}

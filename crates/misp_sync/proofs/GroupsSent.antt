@@ -22,12 +22,12 @@ use Rattle.misp_core.specs.Answers.{reply_in}
 use Rattle.misp_core.specs.Effects.{Did, asked_where, refused}
 use Rattle.misp_core.specs.Prelude.{Caller, EventId, Group, Host, Inst, OrgId, Row, Seen, Standing, bare, forbidden, groups_of, host_of, is_permitted, seen_in}
 use Rattle.misp_core.specs.Taking.{groups_taken, with_groups_taken}
-use Rattle.misp_sync.specs.Counts.{tally, with_groups}
+use Rattle.misp_protocol.specs.Counts.{tally, with_groups}
 use Rattle.misp_sync.specs.Pulled.{all_pulled, ends, event_taken, events_sent, events_taken, groups_sent, pulled_by, rows_pulled}
 use Rattle.misp_sync.specs.Serving.{Meet, queried, queried_by}
 use Rattle.misp_sync.specs.Steps.{IsStep, Stand, Takes, Tell}
 use Rattle.misp_sync.specs.Telling.{IsFetched, groups_told, peer_refused, stop_by, stop_refusal}
-use Rattle.misp_sync.specs.declared.count.Tally.{Tally}
+use Rattle.misp_protocol.specs.declared.count.Tally.{Tally}
 use Rattle.misp_sync.specs.declared.query.Query.{Query}
 use Rattle.misp_sync.proofs.Causes.{stop_of_peer}
 use Rattle.misp_sync.proofs.PartLoop.{tell_then}

@@ -13,7 +13,7 @@ use Rattle.misp_sync.specs.Handing.{Handing, IsLeftBy, handed_there, most_in}
 use Rattle.misp_sync.specs.Pulled.{behind_all, ends}
 use Rattle.misp_sync.specs.PushSteps.{IsToldOf, LosesAnswer, Pushes}
 use Rattle.misp_sync.specs.Telling.{IsCutShort, garbled, peer_refused, stop_by, stop_refusal, taken_told}
-use Rattle.misp_sync.specs.declared.count.Tally.{Tally}
+use Rattle.misp_protocol.specs.declared.count.Tally.{Tally}
 use Rattle.misp_sync.proofs.HandedReplies.{DidAll, IsStopReply, did_cases}
 use Rattle.misp_sync.proofs.Pushes.{pushes_end, pushes_lost, pushes_stop}
 

@@ -14,7 +14,7 @@ use Rattle.misp_sync.specs.Steps.{AreTaken, IsBeside, IsPartTaken, IsStep, Sends
 use Rattle.misp_outside.specs.Causes.{HasCause}
 use Rattle.misp_effects.specs.declared.stop.Stop.{Stop}
 use Rattle.misp_effects.specs.declared.stop.Side.TheVariants.{There}
-use Rattle.misp_sync.specs.declared.count.Tally.{Tally}
+use Rattle.misp_protocol.specs.declared.count.Tally.{Tally}
 use Rattle.misp_sync.proofs.Beside.{beside_none, beside_now, beside_then}
 use Rattle.misp_sync.proofs.Takings.{takes_none, takes_then}
 

@@ -15,7 +15,7 @@ use Rattle.misp_sync.specs.PushSteps.{IsHanded, IsToldOf, Pushes, StaysSo, held_
 use Rattle.misp_sync.specs.Pushed.{RowsOf, parts_taken, rows_seen}
 use Rattle.misp_sync.specs.Serving.{Meet}
 use Rattle.misp_sync.specs.Steps.{Takes}
-use Rattle.misp_sync.specs.declared.count.Tally.{Tally}
+use Rattle.misp_protocol.specs.declared.count.Tally.{Tally}
 use Rattle.misp_sync.proofs.PartLoop.{drop_all}
 use Rattle.misp_sync.proofs.PartsHanded.{AreSame, WasTaken, part_err, part_ok}
 use Rattle.misp_sync.proofs.PartsTaken.{rows_more}

@@ -19,12 +19,12 @@ use Rattle.misp_core.specs.Prelude.{EventId, Group, Inst, OrgId, Row, groups_of,
 use Rattle.misp_core.specs.Taking.{IsLandingOf, handed_rows, package_taken, with_package}
 use Rattle.misp_sync.specs.Came.{AllCame, CameBy, EventComes, EventPut, FirstCame, IsPut, LandsAfter, OwnEventComes, PartsCome, PartsPut, event_batches, part_batches, rows_after}
 use Rattle.misp_sync.specs.Comes.{Comes, IsBadRow, IsCauseOf, IsNotTaken, IsReadOf, IsUnasked, NoBadRow}
-use Rattle.misp_sync.specs.Counts.{tally, with_groups, with_rows}
+use Rattle.misp_protocol.specs.Counts.{tally, with_groups, with_rows}
 use Rattle.misp_sync.specs.Pulled.{ends, package_batches}
 use Rattle.misp_sync.specs.Replied.{is_wanted, package_in, wanted}
 use Rattle.misp_sync.specs.Steps.{AreTaken, IsBeside, cause_of, parts_coming, rows_with, stop_of_keeper}
 use Rattle.misp_sync.specs.Telling.{stop_refusal}
-use Rattle.misp_sync.specs.declared.count.Tally.{Tally}
+use Rattle.misp_protocol.specs.declared.count.Tally.{Tally}
 use Rattle.misp_sync.specs.declared.replies.FetchFault.{FetchFault}
 use Rattle.misp_sync.proofs.Comings.{unasked_so}
 use Rattle.misp_sync.proofs.Beside.{beside_none, beside_now, beside_then}

@@ -28,7 +28,7 @@ use Rattle.misp_sync.specs.PushSteps.{IsToldOf, Pushes}
 use Rattle.misp_sync.specs.Pushed.{RowsOf, over_rows, parts_taken, with_event}
 use Rattle.misp_sync.specs.Steps.{Takes}
 use Rattle.misp_sync.specs.Telling.{peer_refused}
-use Rattle.misp_sync.specs.declared.count.Tally.{Tally}
+use Rattle.misp_protocol.specs.declared.count.Tally.{Tally}
 use Rattle.misp_sync.proofs.Causes.{stop_of_peer}
 use Rattle.misp_sync.proofs.HandSteps.{refused_err, refused_ok, taken_err, taken_ok}
 use Rattle.misp_sync.proofs.HandedReplies.{few_rows, part_bad, part_goes, part_long}

@@ -18,11 +18,11 @@ use Rattle.misp_outside.specs.Held.{Held}
 use Rattle.misp_core.specs.Effects.{row_batches}
 use Rattle.misp_core.specs.Prelude.{groups_of, spelled}
 use Rattle.misp_core.specs.Taking.{handed_rows, package_taken, with_package, with_rows as with_rows_put}
-use Rattle.misp_sync.specs.Counts.{tally, with_groups, with_rows}
+use Rattle.misp_protocol.specs.Counts.{tally, with_groups, with_rows}
 use Rattle.misp_sync.specs.Pulled.{behind_all, package_batches}
 use Rattle.misp_sync.specs.Steps.{AreTaken, IsPartTaken, parts_coming, rows_with}
 use Rattle.misp_sync.specs.Telling.{stop_refusal}
-use Rattle.misp_sync.specs.declared.count.Tally.{Tally}
+use Rattle.misp_protocol.specs.declared.count.Tally.{Tally}
 use Rattle.misp_sync.proofs.Beside.{batch_put_so, beside_none, beside_now, beside_put}
 use Rattle.misp_sync.proofs.PeerTold.{Fetches}
 use Rattle.misp_sync.proofs.Takings.{takes_put, takes_stop}

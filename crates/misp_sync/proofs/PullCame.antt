@@ -10,13 +10,13 @@ use Rattle.misp_core.specs.Taking.{groups_taken, with_groups_taken}
 use Rattle.misp_core.specs.declared.reply.EventParts.{EventParts}
 use Rattle.misp_sync.specs.Came.{AllCome, EventsCome, IsCame, IsCameOver, IsGroupless, RowsCome, cause_in}
 use Rattle.misp_sync.specs.Comes.{Comes, IsCauseOf, IsNotTaken}
-use Rattle.misp_sync.specs.Counts.{no_tally, with_groups}
+use Rattle.misp_protocol.specs.Counts.{no_tally, with_groups}
 use Rattle.misp_sync.specs.PushCount.{count_in}
 use Rattle.misp_sync.specs.Replied.{events_in, groups_in}
 use Rattle.misp_sync.specs.Steps.{stop_of_keeper, usable_link}
 use Rattle.misp_sync.specs.Telling.{stop_refusal}
 use Rattle.misp_sync.specs.Trail.{GrowsBy, IfOn}
-use Rattle.misp_sync.specs.declared.count.Tally.{Tally}
+use Rattle.misp_protocol.specs.declared.count.Tally.{Tally}
 use Rattle.misp_sync.specs.declared.reply.SyncReply.{SyncReply}
 use Rattle.misp_lists.proofs.Prelude.{IsStrictlySortedBy}
 use Rattle.misp_core.specs.Sound.{by_event}

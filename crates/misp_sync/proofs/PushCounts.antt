@@ -6,15 +6,15 @@ use Rattle.misp_ids.specs.declared.refusal.Refusal.{Refusal}
 use Rattle.misp_ids.specs.declared.refusal.RuleName.{RuleName}
 use Rattle.misp_model.specs.declared.package.PackageFields.{PackageFields as Package}
 use Rattle.misp_sync.specs.Comes.{IsCauseOf, IsFaultOf, IsReadOf}
-use Rattle.misp_sync.specs.Counts.{with_groups, with_rows}
+use Rattle.misp_protocol.specs.Counts.{with_groups, with_rows}
 use Rattle.misp_sync.specs.Handing.{HandPart, Handing, most_in}
 use Rattle.misp_sync.specs.Pulled.{reply_of}
 use Rattle.misp_sync.specs.PushCount.{CountsAll, CountsBy, CountsFirst, IsSaid, count_in, said_of, tallied}
 use Rattle.misp_sync.specs.Replied.{IsCutBy, Tells, refusal_of, taken_in}
 use Rattle.misp_sync.specs.Steps.{cause_of}
 use Rattle.misp_sync.specs.Trail.{GrowsBy, IsUnanswered}
-use Rattle.misp_sync.specs.declared.count.SyncCount.{SyncCount}
-use Rattle.misp_sync.specs.declared.count.Tally.{Tally}
+use Rattle.misp_protocol.specs.declared.count.SyncCount.{SyncCount}
+use Rattle.misp_protocol.specs.declared.count.Tally.{Tally}
 use Rattle.misp_sync.specs.declared.replies.FetchFault.{FetchFault}
 use Rattle.misp_sync.specs.declared.reply.SyncReply.{SyncReply}
 use Rattle.misp_sync.proofs.Comings.{caused, comes_none, comes_so, unasked_so}

@@ -9,7 +9,7 @@ use Rattle.misp_model.specs.declared.package.PackageFields.{PackageFields as Pac
 use Rattle.misp_store.specs.declared.reach.Reach.{Reach}
 use Rattle.misp_core.specs.Prelude.{Group, Held, Host, Standing, seen_in}
 use Rattle.misp_sync.specs.Comes.{IsBadRow, IsUnasked, NoBadRow}
-use Rattle.misp_sync.specs.Counts.{no_count, no_tally, with_groups}
+use Rattle.misp_protocol.specs.Counts.{no_count, no_tally, with_groups}
 use Rattle.misp_sync.specs.Handing.{HandGroups, HandPart, Handing}
 use Rattle.misp_sync.specs.Pulled.{reply_of}
 use Rattle.misp_sync.specs.PushCount.{CountsAll, CountsBy, IsSaid}
@@ -17,8 +17,8 @@ use Rattle.misp_sync.specs.PushTrail.{AreAll, HandsFor, HandsIn, IsPartsTrail, I
 use Rattle.misp_sync.specs.Pushed.{groups_carried}
 use Rattle.misp_sync.specs.Steps.{cause_of, usable_link}
 use Rattle.misp_sync.specs.Trail.{GoesBeyond, GrowsBy, IfDone, IfOn}
-use Rattle.misp_sync.specs.declared.count.SyncCount.{SyncCount}
-use Rattle.misp_sync.specs.declared.count.Tally.{Tally}
+use Rattle.misp_protocol.specs.declared.count.SyncCount.{SyncCount}
+use Rattle.misp_protocol.specs.declared.count.Tally.{Tally}
 use Rattle.misp_sync.specs.declared.reply.SyncReply.{SyncReply}
 use Rattle.misp_sync.proofs.HandTrails.{hands_first, hands_then, hands_within, reaches_all, reaches_hands, reaches_then}
 use Rattle.misp_sync.proofs.PartsInTurn.{parts_after, parts_next, parts_whole}

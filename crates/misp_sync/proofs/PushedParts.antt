@@ -20,7 +20,7 @@ use Rattle.misp_store.specs.declared.fault.LoadFault.{LoadFault}
 use Rattle.misp_store.specs.declared.reach.Reach.{Reach}
 use Rattle.misp_store.proofs.GroupRows.{AreReadBack}
 use Rattle.misp_core.specs.Prelude.{Caller, Effect, Group, Host, Inst, Row, Seen, Standing, bare, groups_of, host_of, seen_in, spelled}
-use Rattle.misp_sync.specs.Counts.{no_count, no_tally, with_groups}
+use Rattle.misp_protocol.specs.Counts.{no_count, no_tally, with_groups}
 use Rattle.misp_sync.specs.Handing.{HandGroups, HoldsGroupsAlone}
 use Rattle.misp_sync.specs.Pulled.{bar_of, ends, reply_of, stop_in}
 use Rattle.misp_sync.specs.PushSteps.{IsHanded, IsToldOf, Pushes, StaysSo, held_of}
@@ -30,7 +30,7 @@ use Rattle.misp_sync.specs.Ways.{push_way}
 use Rattle.misp_sync.specs.Serving.{Meet}
 use Rattle.misp_sync.specs.Steps.{IsUnread, Stand, Tell, stand, usable_link}
 use Rattle.misp_sync.specs.Telling.{stop_by}
-use Rattle.misp_sync.specs.declared.count.Tally.{Tally}
+use Rattle.misp_protocol.specs.declared.count.Tally.{Tally}
 use Rattle.misp_sync.specs.declared.reply.SyncReply.{SyncReply}
 use Rattle.misp_sync.specs.declared.reply.SyncReply.TheVariants as replies
 use Rattle.misp_sync.proofs.GroupsHanded.{WereTaken, groups_err, groups_ok, rest_of}

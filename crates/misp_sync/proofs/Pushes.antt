@@ -6,13 +6,13 @@ use Rattle.misp_effects.specs.Effect.{Does, Stopped, Went}
 use Rattle.misp_effects.specs.declared.stop.Side.TheVariants.{Here, There}
 use Rattle.misp_effects.specs.declared.stop.Stop.{Stop}
 use Rattle.misp_core.specs.Prelude.{Effect, Refusal, spelled}
-use Rattle.misp_sync.specs.Counts.{count_of, no_tally, tally}
+use Rattle.misp_protocol.specs.Counts.{count_of, no_tally, tally}
 use Rattle.misp_sync.specs.Pulled.{behind_all, ends, reply_of, stop_in, synced}
 use Rattle.misp_sync.specs.PushSteps.{IsLeft, IsLost, LosesAnswer, Pushes}
 use Rattle.misp_sync.specs.Pushed.{counted_by, push_telling}
 use Rattle.misp_sync.specs.Steps.{Ends, IsStopped, Takes}
 use Rattle.misp_sync.specs.Telling.{stop_by, stop_refusal}
-use Rattle.misp_sync.specs.declared.count.Tally.{Tally}
+use Rattle.misp_protocol.specs.declared.count.Tally.{Tally}
 use Rattle.misp_sync.specs.declared.reply.SyncReply.{SyncReply}
 use Rattle.misp_sync.specs.declared.reply.SyncReply.TheVariants as replies
 use Rattle.misp_sync.proofs.Causes.{stop_again}

@@ -9,11 +9,11 @@ use Rattle.misp_orgs.specs.declared.link.Link.{Link}
 use Rattle.misp_outside.specs.Held.{Held}
 use Rattle.misp_store.specs.Prelude.{Batch}
 use Rattle.misp_core.specs.Prelude.{Host, Inst, Seen, Standing, bare, host_of, seen_in, spelled}
-use Rattle.misp_sync.specs.Counts.{count_of, no_count, no_tally, tally}
+use Rattle.misp_protocol.specs.Counts.{count_of, no_count, no_tally, tally}
 use Rattle.misp_sync.specs.Pulled.{bar_of, ends, pulled, pulled_by, pulled_over, reply_of, stop_in, synced, telling}
 use Rattle.misp_sync.specs.Steps.{Ends, IsStopped, Stand, Takes, Tell, usable_link}
 use Rattle.misp_sync.specs.Telling.{stop_by}
-use Rattle.misp_sync.specs.declared.count.Tally.{Tally}
+use Rattle.misp_protocol.specs.declared.count.Tally.{Tally}
 use Rattle.misp_sync.specs.declared.reply.SyncReply.{SyncReply}
 use Rattle.misp_sync.specs.declared.reply.SyncReply.TheVariants as replies
 use Rattle.misp_sync.proofs.Causes.{stop_again}

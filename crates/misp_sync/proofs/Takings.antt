@@ -6,11 +6,11 @@ use Rattle.misp_ids.specs.declared.refusal.Refusal.{Refusal}
 use Rattle.misp_core.specs.Prelude.{Effect, spelled}
 use Rattle.misp_effects.specs.declared.stop.Stop.{Stop}
 use Rattle.misp_effects.specs.Batches.{Batch}
-use Rattle.misp_sync.specs.Counts.{tally, counted}
+use Rattle.misp_protocol.specs.Counts.{tally, counted}
 use Rattle.misp_sync.specs.Pulled.{behind_all, ends}
 use Rattle.misp_sync.specs.Steps.{Ends, Takes}
 use Rattle.misp_sync.specs.Telling.{stop_by, stop_refusal}
-use Rattle.misp_sync.specs.declared.count.Tally.{Tally}
+use Rattle.misp_protocol.specs.declared.count.Tally.{Tally}
 
 -- ---- lists of batches
 

@@ -6,11 +6,11 @@ use Rattle.misp_ids.specs.declared.refusal.RuleName.{RuleName}
 use Rattle.misp_orgs.specs.declared.link.Link.{Link}
 use Rattle.misp_core.specs.Prelude.{Held, Host}
 use Rattle.misp_core.specs.declared.reply.EventParts.{EventParts}
-use Rattle.misp_sync.specs.Counts.{no_count}
+use Rattle.misp_protocol.specs.Counts.{no_count}
 use Rattle.misp_sync.specs.Pulled.{reply_of}
 use Rattle.misp_sync.specs.Steps.{cause_of, usable_link}
 use Rattle.misp_sync.specs.Trail.{AreListed, Asked, AsksFor, AsksForList, GoesBeyond, GrowsBy, IfDone, IfOn, IsPullTrail, IsRowsTrail, IsTrailOver, IsWhole, Lists, part_queries}
-use Rattle.misp_sync.specs.declared.count.SyncCount.{SyncCount}
+use Rattle.misp_protocol.specs.declared.count.SyncCount.{SyncCount}
 use Rattle.misp_sync.specs.declared.query.Query.{Query}
 use Rattle.misp_sync.specs.declared.reply.SyncReply.{SyncReply}
 use Rattle.misp_sync.proofs.Trails.{TellsOn, asked_before, asked_first, asked_then, asked_within, grows_none, grows_so, grows_then, whole_then}

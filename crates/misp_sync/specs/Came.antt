@@ -14,13 +14,13 @@ use Rattle.misp_core.specs.declared.reply.EventParts.{EventParts}
 use Rattle.misp_core.specs.Prelude.{EventId, Group, Held, Inst, OrgId, Row, Seen, groups_of, seen_in, spelled}
 use Rattle.misp_core.specs.Taking.{groups_taken, with_groups_taken}
 use Rattle.misp_sync.specs.Comes.{Ends, IsBadRow, IsCauseOf, IsNotTaken, IsReadOf, IsUnasked, NoBadRow}
-use Rattle.misp_sync.specs.Counts.{no_tally, tally, with_groups}
+use Rattle.misp_protocol.specs.Counts.{no_tally, tally, with_groups}
 use Rattle.misp_sync.specs.Pulled.{package_batches}
 use Rattle.misp_sync.specs.PushCount.{count_in}
 use Rattle.misp_sync.specs.Replied.{events_in, groups_in, package_in}
 use Rattle.misp_sync.specs.Steps.{IsBeside, cause_of, rows_with}
 use Rattle.misp_sync.specs.Trail.{IfOn}
-use Rattle.misp_sync.specs.declared.count.Tally.{Tally}
+use Rattle.misp_protocol.specs.declared.count.Tally.{Tally}
 use Rattle.misp_sync.specs.declared.reply.SyncReply.{SyncReply}
 
 -- ---- packages of an event

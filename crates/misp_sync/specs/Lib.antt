@@ -1,6 +1,5 @@
 pub mod Came
 pub mod Comes
-pub mod Counts
 pub mod Dialled
 pub mod Handing
 pub mod History

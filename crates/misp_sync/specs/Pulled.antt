@@ -14,9 +14,9 @@ use Rattle.misp_core.specs.Answers.{bad_row}
 use Rattle.misp_core.specs.Effects.{row_batches}
 use Rattle.misp_core.specs.Prelude.{Ask, Caller, Effect, EventId, Group, Host, Inst, OrgId, Refusal, Row, RuleName, Scene, Seen, bare, forbidden, is_permitted, scene_at, seeing}
 use Rattle.misp_core.specs.Taking.{groups_taken}
-use Rattle.misp_sync.specs.Counts.{count_of}
+use Rattle.misp_protocol.specs.Counts.{count_of}
 use Rattle.misp_sync.specs.Telling.{peer_refused, stop_by, stop_refusal}
-use Rattle.misp_sync.specs.declared.count.SyncCount.{SyncCount}
+use Rattle.misp_protocol.specs.declared.count.SyncCount.{SyncCount}
 use Rattle.misp_sync.specs.declared.reply.SyncReply.{SyncReply}
 use Rattle.misp_effects.specs.declared.stop.Stop.{Stop}
 

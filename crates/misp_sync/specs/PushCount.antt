@@ -2,11 +2,11 @@
 use Rattle.std.specs.Prelude.{◌≡◌, ◌⊎◌, ◌==◌, ℕ, cond, List, [], ◌∷◌, None, Some, Result}
 use Rattle.misp_ids.specs.declared.refusal.Refusal.{Refusal}
 use Rattle.misp_sync.specs.Comes.{Comes, IsCauseOf, IsReadOf, IsUnasked}
-use Rattle.misp_sync.specs.Counts.{no_tally, with_groups, with_rows}
+use Rattle.misp_protocol.specs.Counts.{no_tally, with_groups, with_rows}
 use Rattle.misp_sync.specs.Handing.{HandGroups, HandPart, Handing, most_in}
 use Rattle.misp_sync.specs.Replied.{taken_in}
-use Rattle.misp_sync.specs.declared.count.SyncCount.{SyncCount}
-use Rattle.misp_sync.specs.declared.count.Tally.{Tally}
+use Rattle.misp_protocol.specs.declared.count.SyncCount.{SyncCount}
+use Rattle.misp_protocol.specs.declared.count.Tally.{Tally}
 use Rattle.misp_sync.specs.declared.replies.FetchFault.{FetchFault}
 use Rattle.misp_sync.specs.declared.reply.SyncReply.{SyncReply}
 

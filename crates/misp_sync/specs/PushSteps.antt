@@ -11,7 +11,7 @@ use Rattle.misp_sync.specs.Handing.{Handing, IsLeftBy, IsSameHost, handed_there,
 use Rattle.misp_sync.specs.Serving.{Meet}
 use Rattle.misp_sync.specs.Steps.{Stand, Takes, cause_of, stop_told}
 use Rattle.misp_sync.specs.Telling.{IsCutShort, Shows, stop_refusal, taken_told}
-use Rattle.misp_sync.specs.declared.count.Tally.{Tally}
+use Rattle.misp_protocol.specs.declared.count.Tally.{Tally}
 
 -- ---- one hand-in
 

@@ -11,7 +11,7 @@ use Rattle.misp_sync.specs.Handing.{HandGroups, HandPart, Handing, hand_text, ha
 use Rattle.misp_sync.specs.PushCount.{CountsBy, CountsTo}
 use Rattle.misp_sync.specs.Pushed.{groups_carried, packages_sent}
 use Rattle.misp_sync.specs.Trail.{GoesBeyond, IfDone, IfOn}
-use Rattle.misp_sync.specs.declared.count.Tally.{Tally}
+use Rattle.misp_protocol.specs.declared.count.Tally.{Tally}
 use Rattle.misp_sync.specs.declared.reply.SyncReply.{SyncReply}
 
 -- ---- what is answered

@@ -21,7 +21,7 @@ use Rattle.misp_core.specs.Effects.{row_batches}
 use Rattle.misp_core.specs.Prelude.{Caller, Effect, EventId, Group, Host, Inst, OrgId, Refusal, Row, RuleName, Seen, bare}
 use Rattle.misp_core.specs.Pulling.{carries_to}
 use Rattle.misp_core.specs.Taking.{groups_taken, handed_rows, package_taken}
-use Rattle.misp_sync.specs.Counts.{count_of}
+use Rattle.misp_protocol.specs.Counts.{count_of}
 use Rattle.misp_sync.specs.Handing.{is_short, too_large}
 use Rattle.misp_sync.specs.Pulled.{behind_all, ends, synced}
 use Rattle.misp_core.specs.Sending.{packages_pushed}

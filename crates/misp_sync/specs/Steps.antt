@@ -19,11 +19,11 @@ use Rattle.misp_core.specs.declared.reply.EventParts.{EventParts}
 use Rattle.misp_core.specs.Prelude.{Ask, Caller, Effect, EventId, Group, Held, Host, Inst, OrgId, Refusal, Row, RuleName, Standing, groups_of, is_permitted, scene_at, seeing, seen_in, spelled}
 use Rattle.misp_orgs.specs.Admin.{who_of}
 use Rattle.misp_orgs.specs.declared.link.Link.{Link}
-use Rattle.misp_sync.specs.Counts.{tally}
+use Rattle.misp_protocol.specs.Counts.{tally}
 use Rattle.misp_sync.specs.Pulled.{behind_all, package_batches}
 use Rattle.misp_sync.specs.Serving.{IsStill, Meet}
 use Rattle.misp_sync.specs.Telling.{stop_by, stop_refusal}
-use Rattle.misp_sync.specs.declared.count.Tally.{Tally}
+use Rattle.misp_protocol.specs.declared.count.Tally.{Tally}
 
 -- ---- where a pull is
 

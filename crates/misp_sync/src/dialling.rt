@@ -6,7 +6,7 @@ ghost use Rattle.misp_outside.specs.Causes.{HasCause};
 ghost use Rattle.misp_effects.specs.declared.stop.Side.TheVariants.{Here};
 ghost use Rattle.misp_effects.specs.declared.stop.Stop.TheVariants as stops;
 ghost use Rattle.misp_sync.specs.Came.{IsCameOver};
-ghost use Rattle.misp_sync.specs.Counts.{no_count};
+ghost use Rattle.misp_protocol.specs.Counts.{no_count};
 ghost use Rattle.misp_sync.specs.Dialled.{trail_to};
 ghost use Rattle.misp_sync.specs.Pulled.{bar_of, stop_in};
 ghost use Rattle.misp_sync.specs.PushTrail.{IsPushTrailOver};

@@ -2,7 +2,6 @@
 #![tactic(auto)]
 
 mod asking;
-mod count;
 mod dialling;
 mod event_list;
 mod fetching;
@@ -20,12 +19,12 @@ mod taken;
 mod unread;
 mod wire;
 
-pub use count::SyncCount;
 pub use dialling::{pull_from, push_to};
 pub use laws::{
     an_instance_pulls_by_the_history, an_instance_pushes_by_the_history,
     what_is_asked_goes_to_one_address,
 };
+pub use misp_protocol::SyncCount;
 pub use over_dial::OverDial;
 pub use pulling::{pull, usable};
 pub use push_wire::PushWire;

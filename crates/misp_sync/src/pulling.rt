@@ -24,7 +24,7 @@ ghost use Rattle.misp_store.specs.declared.reach.Reach.TheVariants as reach;
 ghost use Rattle.misp_core.specs.Sound.{by_event};
 ghost use Rattle.misp_core.specs.Standing.{Standing, host_of};
 ghost use Rattle.misp_sync.specs.Came.{AllCome, EventComes, EventsCome, IsCameOver, OwnEventComes, PartsCome, RowsCome};
-ghost use Rattle.misp_sync.specs.Counts.{no_count};
+ghost use Rattle.misp_protocol.specs.Counts.{no_count};
 ghost use Rattle.misp_sync.specs.Pulled.{bar_of, ends, event_taken, events_sent, events_taken, pulled, pulled_by, reply_of, rows_pulled, stop_in, telling};
 ghost use Rattle.misp_sync.specs.Serving.{IsStill, Meet};
 ghost use Rattle.misp_sync.specs.Steps.{AreSent, AreTaken, IsPartTaken, IsStep, Sends, Takes, Tell, cause_of, listed_of, parts_coming, stand, stop_of_keeper, usable_link};
@@ -34,7 +34,6 @@ ghost use Rattle.misp_sync.specs.declared.query.Query.TheVariants as queries;
 ghost use Rattle.misp_sync.specs.declared.reply.SyncReply.{SyncReply as Told};
 ghost use Rattle.misp_sync.specs.declared.reply.SyncReply.TheVariants as replies;
 
-use crate::count::{SyncCount, Tally};
 use crate::fetching::{fetch_events, fetch_groups, fetch_part};
 use crate::reply::SyncReply;
 use crate::unread::unread;
@@ -44,6 +43,7 @@ use misp_ids::{ApiKey, EventId, InstId, OrgId, Refusal, RuleName};
 use misp_orgs::Link;
 use misp_outside::{Keeper, KeeperFault};
 use misp_package::Landing;
+use misp_protocol::{SyncCount, Tally};
 use std::alloc::Global;
 
 // The refusal of what the own keeper stopped.

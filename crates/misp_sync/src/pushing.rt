@@ -14,7 +14,7 @@ ghost use Rattle.misp_store.specs.Batches.{spelled};
 ghost use Rattle.misp_store.specs.Seen.{seen_in};
 ghost use Rattle.misp_store.specs.Sharing.{groups_of};
 ghost use Rattle.misp_core.specs.Standing.{Standing, host_of};
-ghost use Rattle.misp_sync.specs.Counts.{no_count, no_tally};
+ghost use Rattle.misp_protocol.specs.Counts.{no_count, no_tally};
 ghost use Rattle.misp_sync.specs.Handing.{HandPart, IsSameHost};
 ghost use Rattle.misp_sync.specs.Pulled.{bar_of, ends, reply_of, stop_in};
 ghost use Rattle.misp_sync.specs.PushSteps.{IsPushStep, Pushes, StaysSo, held_of};
@@ -30,7 +30,6 @@ ghost use Rattle.misp_sync.specs.Ways.{push_way};
 ghost use Rattle.misp_sync.specs.declared.reply.SyncReply.{SyncReply as Told};
 ghost use Rattle.misp_sync.specs.declared.reply.SyncReply.TheVariants as replies;
 
-use crate::count::{SyncCount, Tally};
 use crate::handing::{hand_groups, hand_part};
 use crate::pulling::usable;
 use crate::push_wire::PushWire;
@@ -42,6 +41,7 @@ use misp_ids::{ApiKey, InstId, NoMemory, Refusal, RuleName, Way};
 use misp_model::Package;
 use misp_orgs::Link;
 use misp_outside::Keeper;
+use misp_protocol::{SyncCount, Tally};
 use std::alloc::Global;
 
 // Hands in packages, one after another.

@@ -1,7 +1,7 @@
 //! What a synchronisation is told.
 
-use crate::count::SyncCount;
 use misp_ids::Refusal;
+use misp_protocol::SyncCount;
 
 /// What a synchronisation is told.
 #[derive(Drop)]

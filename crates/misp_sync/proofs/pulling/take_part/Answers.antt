@@ -59,7 +59,7 @@ returns-in-Ok-take_package-clause-taken g c = λ w rows first all more next own 
     (slice_of_drop c.args.part all first more at)
     (subst (λ x. Meet x (g.W.Wire.peer c.fetch_part.new.wire)
     (IsFetched (λ (p : Package). p) (part_told c.args.event c.args.part) c.args.key.now (Query.Part c.args.event c.args.part) (Ok c.in-Ok.package))) tell.peer_is c.in-Ok.ensures.told))
-    (subst IsPackage c.package.view_is c.package.invariant) tell.own_is owner lands took.put took.count took.landing c.add_rows.ensures
+    (subst IsPackage c.package.view_is c.package.invariant) tell.own_is owner lands took.put took.count took.landing c.add_rows.ensures.counted
 
 pub returns-clause-taken : goal.returns-clause-taken
 returns-clause-taken g c = λ w rows first all more next own there peer tell sends at owner lands.
@@ -108,6 +108,6 @@ returns-in-Ok-take_package-clause-came g c =
       came = one_came (IsCauseOf (package_in c.args.event c.args.part)) c.args.event c.args.part c.in-Ok.package trail k;
       whole = refl;
       put = parcel_came c.args.instance.now.name c.args.landing c.in-Ok-take_package.landed.landing c.in-Ok.package c.take_package.new.self.held c.args.tally.now _ c.in-Ok-take_package.landed.rows
-          (subst IsPackage c.package.view_is c.package.invariant) (rw (sym (event_came (IsCauseOf (package_in c.args.event c.args.part)) c.args.event c.args.part c.in-Ok.package trail k)) at c.add_rows.ensures) c.args.event c.args.instance.now.held
+          (subst IsPackage c.package.view_is c.package.invariant) (rw (sym (event_came (IsCauseOf (package_in c.args.event c.args.part)) c.args.event c.args.part c.in-Ok.package trail k)) at c.add_rows.ensures.counted) c.args.event c.args.instance.now.held
           (event_came (IsCauseOf (package_in c.args.event c.args.part)) c.args.event c.args.part c.in-Ok.package trail k) took.put took.count took.landing;
     }) c.in-Ok.ensures.came

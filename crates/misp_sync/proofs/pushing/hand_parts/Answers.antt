@@ -35,9 +35,9 @@ loop-part-preserved g c =
       trail = trail_more c.args.parts.now c.loop-part.part-index c.part-item.result c.part-item.result c.loop-part-test.true c.part-item.is c.args.key.now (told_of (g.W.PushWire.peer c.args.wire.now)) (told_of (g.W.PushWire.peer c.loop-part.wire)) (told_of (g.W.PushWire.peer c.hand_part.new.wire)) (g.W.PushWire.trail c.args.wire.now) (g.W.PushWire.trail c.loop-part.wire)
           (g.W.PushWire.trail c.hand_part.new.wire) was.trail c.in-Ok.taken told.trail;
       counts = count_more c.args.parts.now c.loop-part.part-index c.part-item.result c.part-item.result c.loop-part-test.true c.part-item.is (g.W.PushWire.trail c.args.wire.now) (g.W.PushWire.trail c.loop-part.wire) (g.W.PushWire.trail c.hand_part.new.wire) c.args.tally.now c.loop-part.tally was.counts
-          c.in-Ok.taken _ (rw c.get.ensures.value at c.add_rows.ensures) told.said;
+          c.in-Ok.taken _ (rw c.get.ensures.value at c.add_rows.ensures.counted) told.said;
       so = part_more (g.W.PushWire.peer c.args.wire.now) (g.W.PushWire.peer c.loop-part.wire) (g.W.PushWire.peer c.hand_part.new.wire) c.args.key.now c.args.parts.now c.loop-part.part-index c.args.tally.now c.loop-part.tally was.peer was.so
-          c.part-item.result c.part-item.result c.loop-part-test.true c.part-item.is told.fits c.in-Ok.taken _ told.told (rw c.get.ensures.value at c.add_rows.ensures);
+          c.part-item.result c.part-item.result c.loop-part-test.true c.part-item.is told.fits c.in-Ok.taken _ told.told (rw c.get.ensures.value at c.add_rows.ensures.counted);
     }
 
 pub returns-in-Err-clause-peer : goal.returns-in-Err-clause-peer

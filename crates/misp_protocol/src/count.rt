@@ -1,7 +1,7 @@
 //! What a synchronisation counts.
 
 ghost use Rattle.std.specs.Prelude.{◌≡◌, ◌==◌, cond};
-ghost use Rattle.misp_sync.specs.Counts.{event_more, no_count, no_tally, plus, with_groups, with_rows};
+ghost use Rattle.misp_protocol.specs.Counts.{event_more, no_count, no_tally, plus, with_groups, with_rows, with_taken};
 
 use misp_ids::EventId;
 
@@ -27,35 +27,18 @@ impl SyncCount {
             packages: 0,
         }
     }
-
-    // So much more was taken.
-    fn with(self, more: SyncCount) -> SyncCount
-        ensures { result ≡ record {
-          groups = plus self.groups more.groups;
-          events = plus self.events more.events;
-          elements = plus self.elements more.elements;
-          packages = plus self.packages more.packages;
-        } }
-    {
-        SyncCount {
-            groups: self.groups.saturating_add(more.groups),
-            events: self.events.saturating_add(more.events),
-            elements: self.elements.saturating_add(more.elements),
-            packages: self.packages.saturating_add(more.packages),
-        }
-    }
 }
 
 /// A count, and the event of which a row was taken last.
 #[derive(Clone, Copy, PartialEq, Eq)]
-pub(crate) struct Tally {
-    pub(crate) count: SyncCount,
-    pub(crate) last: Option<EventId>,
+pub struct Tally {
+    pub count: SyncCount,
+    pub last: Option<EventId>,
 }
 
 impl Tally {
     /// Nothing was taken.
-    pub(crate) fn none() -> Tally
+    pub fn none() -> Tally
         ensures { result ≡ no_tally }
     {
         Tally {
@@ -65,7 +48,7 @@ impl Tally {
     }
 
     /// So many groups were taken.
-    pub(crate) fn add_groups(&mut self, more: u64)
+    pub fn add_groups(&mut self, more: u64)
         ensures { self.new ≡ with_groups self.old more }
     {
         self.count.groups = self.count.groups.saturating_add(more);
@@ -83,18 +66,19 @@ impl Tally {
     }
 
     /// So many rows of a package of an event were taken, where there were any.
-    pub(crate) fn add_rows(&mut self, event: &EventId, rows: u64)
-        ensures { self.new
+    pub fn add_rows(&mut self, event: &EventId, rows: u64)
+        ensures taken { self.new ≡ with_taken self.old event.now rows }
+
+        // A batch without groups counts so.
+        ensures counted { self.new
             ≡ cond (rows == 0) self.old (with_rows (with_groups self.old 0) event.now rows) }
     {
         if rows != 0 {
-            let more = SyncCount {
-                groups: 0,
-                events: self.event_more(event),
-                elements: rows,
-                packages: 1,
-            };
-            self.count = self.count.with(more);
+            let _groups = self.count.groups;
+            let more = self.event_more(event);
+            self.count.events = self.count.events.saturating_add(more);
+            self.count.elements = self.count.elements.saturating_add(rows);
+            self.count.packages = self.count.packages.saturating_add(1);
             self.last = Some(*event);
         }
     }

@@ -1,10 +1,9 @@
 -- What is counted of batches that were put.
-use Rattle.std.specs.Prelude.{ℕ, ◌+◌, ◌^◌, ◌-◌, min, List, [], ◌∷◌, length, Option, None, Some, if◌then◌else◌}
+use Rattle.std.specs.Prelude.{ℕ, ◌==◌, ◌+◌, ◌^◌, ◌-◌, min, List, [], ◌∷◌, length, Option, None, Some, if◌then◌else◌}
 use Rattle.misp_effects.specs.Batches.{Batch}
-use Rattle.misp_model.specs.Prelude.{event_of, same_event}
-use Rattle.misp_core.specs.Prelude.{EventId, Row}
-use Rattle.misp_sync.specs.declared.count.SyncCount.{SyncCount}
-use Rattle.misp_sync.specs.declared.count.Tally.{Tally}
+use Rattle.misp_model.specs.Prelude.{EventId, Row, event_of, same_event}
+use Rattle.misp_protocol.specs.declared.count.SyncCount.{SyncCount}
+use Rattle.misp_protocol.specs.declared.count.Tally.{Tally}
 
 -- a sum that stays at the greatest value of its type
 abbrev pub plus : ℕ → ℕ → ℕ
@@ -33,6 +32,10 @@ with_rows t e n =
       };
       last = Some e;
     }
+
+-- so many rows of a package, where there were any
+abbrev pub with_taken : Tally → EventId → ℕ → Tally
+with_taken t e n = if n == 0 then t else with_rows t e n
 
 -- so many groups were
 abbrev pub with_groups : Tally → ℕ → Tally

@@ -1,0 +1,5 @@
+pub mod Chains
+pub mod Courses
+pub mod Faults
+pub mod Steps
+pub mod Taking

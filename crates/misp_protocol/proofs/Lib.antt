@@ -1,0 +1,4 @@
+pub mod Asking
+pub mod EachAsked
+pub mod Led
+pub mod PartsInTurn

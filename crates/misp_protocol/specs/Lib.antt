@@ -1,0 +1,6 @@
+pub mod Asked
+pub mod Counts
+pub mod Leading
+pub mod Parts
+pub mod Text
+pub mod Values
