@@ -1,0 +1,12 @@
+pub mod CallBytes
+pub mod GroupTexts
+pub mod JsonTexts
+pub mod Lists
+pub mod Manifests
+pub mod Moments
+pub mod ReadBack
+pub mod RefusalTexts
+pub mod RequestBytes
+pub mod Stops
+pub mod Suiting
+pub mod TakenTexts

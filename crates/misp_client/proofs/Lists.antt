@@ -1,0 +1,29 @@
+-- Groups that are read one item after another.
+use Rattle.std.proofs.Common.{◌≡◌, List, [], ◌∷◌, ◌++◌, Option, Some, None, option_map, option_and_then, refl, sym, ap, ◌∙◌, append_assoc}
+use Rattle.std.specs.Result.{result_ok}
+use Rattle.serde_json.specs.Data.{Data, Items, no_items, item}
+use Rattle.misp_format.specs.Groups.{group_body_at}
+use Rattle.misp_groups.specs.declared.group.GroupFields.{GroupFields as Group}
+use Rattle.misp_client.specs.Bodies.{groups_from}
+
+-- what was read before, and what is read after it
+abbrev pub onto : {A : Type 0} → List A → Option (List A) → Option (List A)
+onto done read = option_map (λ more. done ++ more) read
+
+onto_more : {A : Type 0} (done : List A) (x : A) (read : Option (List A)) → onto done (option_map (λ more. x ∷ more) read) ≡ onto (done ++ x ∷ []) read
+onto_more done x None = refl
+onto_more done x (Some more) = ap (λ l. Some l) (sym (append_assoc done (x ∷ []) more))
+
+-- one more is read
+pub group_next : (done : List Group) (d : Data) (ds : Items) (group : Group) → result_ok (group_body_at d) ≡ Some group → onto done (groups_from (item d ds)) ≡ onto (done ++ group ∷ []) (groups_from ds)
+unfolding groups_from
+group_next done d ds group h = ap (λ o. onto done (option_and_then (λ group. option_map (λ groups. group ∷ groups) (groups_from ds)) o)) h ∙ onto_more done group _
+
+-- or none is
+pub group_none : (done : List Group) (d : Data) (ds : Items) → result_ok (group_body_at d) ≡ None → onto done (groups_from (item d ds)) ≡ None
+unfolding groups_from
+group_none done d ds h = ap (λ o. onto done (option_and_then (λ group. option_map (λ groups. group ∷ groups) (groups_from ds)) o)) h
+
+pub group_end : (done : List Group) → onto done (groups_from no_items) ≡ Some (done ++ [])
+unfolding groups_from
+group_end done = refl

@@ -1,0 +1,6 @@
+pub mod Answers
+pub mod Bodies
+pub mod Calling
+pub mod Calls
+pub mod Requests
+pub mod Telling
