@@ -19,7 +19,7 @@ use std::alloc::Global;
 pub enum Call {
     /// The groups that pass.
     Groups,
-    /// Of which rows something passes.
+    /// Which rows pass, by their keys and stamps.
     Manifest,
     /// These rows of a package.
     Rows(Wanted),
