@@ -33,7 +33,7 @@ fn event_in(alloc: Global, body: &[u8], word: u128) -> Result<Command, FormatFau
     ensures { rows.Gives result (ask_command (event_in body.now word)) }
 {
     let value = read_json(alloc, body)?;
-    let submission = read_event(alloc, value, word)?;
+    let submission = read_event(alloc, &value, word)?;
     Ok(Command::Asks(Ask::Change(Change::AddEvent(submission))))
 }
 

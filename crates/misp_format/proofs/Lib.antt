@@ -17,6 +17,5 @@ mod StandardFacts
 mod Statements
 mod Tags
 mod TagsBack
-mod Taken
 mod Texts
 pub mod Utf8

@@ -14,7 +14,6 @@ use Rattle.misp_format.specs.Body.{Body}
 use Rattle.misp_format.specs.Elements.{unless_long, tag_at, tags_at, attribute_at, next_attribute, attributes_at, reference_at, object_and_others_at, objects_at}
 use Rattle.misp_format.specs.Gathered.{Gathered, none_from, with_part, with_reference}
 use Rattle.misp_format.specs.Labels.{label_at}
-use Rattle.misp_format.specs.Path.{member_path}
 use Rattle.misp_format.specs.Readers.{number_within, some_text_of, some_date_of}
 use Rattle.misp_format.specs.Rows.{Reading, ◌>>=◌, row, must_be, body_at, each}
 
@@ -62,12 +61,6 @@ event_itself_at it = do
 -- the attributes outside objects and the objects of an event, onto what was read before
 abbrev pub gathered_at : ℕ → Body → Gathered → Reading Gathered
 gathered_at word it so_far = attributes_at word None it so_far >>= objects_at word it
-
--- the same, where these are the items of the list of attributes
-abbrev pub gathered_of : ℕ → Body → Items → Gathered → Reading Gathered
-gathered_of word it items so_far =
-    each (next_attribute word None (member_path it.path (codes "Attribute"))) 0 so_far items
-    >>= objects_at word it
 
 -- what a body brings: an event, which has the place 0, and its elements in reading order. What
 -- comes without an identifier gets the one that is made of word and its place.

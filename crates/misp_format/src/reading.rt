@@ -22,7 +22,6 @@ mod reference;
 mod seen;
 mod sighting;
 mod tag;
-mod taken;
 
 pub use attribute_edit::read_attribute_edit;
 pub use event::read_event;

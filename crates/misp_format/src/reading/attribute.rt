@@ -185,30 +185,6 @@ pub(crate) fn attributes_in(
     Ok(())
 }
 
-/// The same of a list that is used up: each item is freed once its attribute is read.
-pub(crate) fn attributes_of(
-    alloc: Global,
-    path: &Path<'_>,
-    list: Vec<Value>,
-    object: Option<ElemId>,
-    word: u128,
-    elements: &mut Elements,
-) -> Result<(), FormatFault>
-    ensures { Shows (λ _. elements.new) result
-        (each (next_attribute word object (path_text path.now)) 0 elements.old
-        (items_of (map view list.items))) }
-{
-    let _count = list.len();
-    let mut index: usize = 0;
-    for value in list {
-        let path = Path::Item(&*path, index);
-        let number = elements.place()?;
-        elements.push_part(attribute(alloc, &path, object, word, number, &value)?)?;
-        index += 1;
-    }
-    Ok(())
-}
-
 /// The attributes of an event or of an object, after the elements that were read before them.
 #[tactic(auto, unfolding(crate::specs::Elements::attributes_at))]
 pub(crate) fn attributes(

@@ -1,23 +1,22 @@
 //! Events.
 
-ghost use Rattle.std.specs.Prelude.{◌≡◌, ◌+◌, [], ◌∷◌, None, Ok, IfOk, codes, length, map, min};
-ghost use Rattle.serde_json.specs.View.{view, items_of};
+ghost use Rattle.std.specs.Prelude.{◌≡◌, ◌+◌, [], ◌∷◌, None, Ok, IfOk, codes, length, min};
+ghost use Rattle.serde_json.specs.View.{view};
 ghost use Rattle.misp_elem.specs.Fields.{tags_size};
 ghost use Rattle.misp_elem.specs.Row.{IsLabelBut};
-ghost use Rattle.misp_format.specs.Members.{body_of, path_text};
+ghost use Rattle.misp_format.specs.Members.{body_of};
 ghost use Rattle.misp_format.specs.Readers.{some_date_of};
 ghost use Rattle.misp_format.specs.Rows.{Gives, Shows, row};
-ghost use Rattle.misp_format.specs.Tables.{unwrapped, event_itself_at, gathered_at, gathered_of, event_at};
+ghost use Rattle.misp_format.specs.Tables.{unwrapped, event_itself_at, gathered_at, event_at};
 
 use crate::fault::FormatFault;
-use crate::reading::attribute::{attributes, attributes_of};
+use crate::reading::attribute::attributes;
 use crate::reading::elements::Elements;
 use crate::reading::label::label;
 use crate::reading::members::Members;
 use crate::reading::object::objects;
 use crate::reading::path::Path;
 use crate::reading::tag::{tags, tags_size};
-use crate::reading::taken::{take_list, unwrap};
 use misp_elem::{EventDraft, Submission, Tag};
 use misp_fields::{self as fields, member};
 use misp_ids::{EventId, Label, Text, Uid};
@@ -80,23 +79,8 @@ fn event(it: &Members<'_>) -> Result<(EventDraft, Label), FormatFault>
     Ok((body, label))
 }
 
-// Gathers the attributes of the list, which is used up, and then the objects.
-fn gather_list(
-    it: &Members<'_>,
-    list: Vec<Value>,
-    word: u128,
-    elements: &mut Elements,
-) -> Result<(), FormatFault>
-    ensures { Shows (λ _. elements.new) result
-        (gathered_of word (body_of it.now) (items_of (map view list.items)) elements.old) }
-{
-    let path = Path::Member(it.path, "Attribute");
-    attributes_of(it.alloc, &path, list, None, word, elements)?;
-    objects(it, word, elements)
-}
-
 // Gathers the attributes outside objects, and then the objects.
-fn gather_rest(it: &Members<'_>, word: u128, elements: &mut Elements) -> Result<(), FormatFault>
+fn gather(it: &Members<'_>, word: u128, elements: &mut Elements) -> Result<(), FormatFault>
     ensures { Shows (λ _. elements.new) result
         (gathered_at word (body_of it.now) elements.old) }
 {
@@ -104,38 +88,14 @@ fn gather_rest(it: &Members<'_>, word: u128, elements: &mut Elements) -> Result<
     objects(it, word, elements)
 }
 
-// The same of an object that is used up. The attributes are freed one by one.
-fn gather(
-    alloc: Global,
-    path: &Path<'_>,
-    value: Value,
-    word: u128,
-    elements: &mut Elements,
-) -> Result<(), FormatFault>
-    ensures { Shows (λ _. elements.new) result
-        (gathered_at word (record { path = path_text path.now; value = view value }) elements.old) }
-{
-    let (list, rest) = take_list(value, "Attribute");
-    let it = Members {
-        alloc,
-        path: &*path,
-        value: &rest,
-    };
-    match list {
-        Some(list) => gather_list(&it, list, word, elements),
-        None => gather_rest(&it, word, elements),
-    }
-}
-
-/// The event that a body brings, of which the attributes are freed as they are read. Elements
-/// without an identifier get those that are made of `word` and their places.
+/// The event that a body brings. Elements without an identifier get those that are made of `word`
+/// and their places.
 #[tactic(auto, unfolding(crate::specs::Tables::event_at))]
-pub fn read_event(alloc: Global, body: Value, word: u128) -> Result<Submission, FormatFault>
-    ensures { Gives result (event_at word (view body)) }
+pub fn read_event(alloc: Global, body: &Value, word: u128) -> Result<Submission, FormatFault>
+    ensures { Gives result (event_at word (view body.now)) }
 {
     let path = Path::Body("Event");
-    let value = unwrap("Event", body);
-    let it = Members::of(alloc, &path, &value)?;
+    let it = Members::of(alloc, &path, unwrapped("Event", body))?;
     let uuid = it.uuid("uuid", Uid::made(word, 0))?;
     let (body, label) = event(&it)?;
     let mut elements = match Elements::with_room(alloc, 1, it.count("Attribute")) {
@@ -145,7 +105,7 @@ pub fn read_event(alloc: Global, body: Value, word: u128) -> Result<Submission, 
             return Err(fault);
         }
     };
-    if let Err(fault) = gather(alloc, &path, value, word, &mut elements) {
+    if let Err(fault) = gather(&it, word, &mut elements) {
         drop(body);
         drop(elements);
         return Err(fault);
