@@ -19,7 +19,7 @@ use Rattle.misp_api.specs.Request.{asked_rows, handed, is_byte, no_package, pack
 
 -- ---- bytes
 
-listed_bytes : (bytes : List ℕ) → IsBytes bytes → list_all is_byte bytes ≡ true
+pub listed_bytes : (bytes : List ℕ) → IsBytes bytes → list_all is_byte bytes ≡ true
 listed_bytes [] fits = refl
 listed_bytes (b ∷ bytes) fits = and_from (is_byte b) (list_all is_byte bytes) (lt-ltb b 256 (fits 0)) (listed_bytes bytes (IsBytes-rest b bytes fits))
 

@@ -1,5 +1,7 @@
 pub mod Apart
 pub mod Built
+pub mod Called
+pub mod CalledGroups
 pub mod Exchanges
 pub mod Formed
 pub mod Forms

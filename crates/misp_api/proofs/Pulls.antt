@@ -1,4 +1,4 @@
--- What a pull asks changes nothing that is held, and its reply is sound.
+-- What a pull asks changes nothing that is held, and what a synchronisation is replied is sound.
 use Rattle.std.proofs.Common.{◌≡◌, ◌<◌, ℕ, Bool, true, false, List, [], map, length, refl, sym, ap, ◌∙◌, subst, inl, inr, cond, Option, Some, None, Result, Ok, Err, IfSome, IfOk}
 use Rattle.misp_model.specs.Machine.{pulls}
 use Rattle.misp_model.specs.Answers.{brings, is_accepted}
@@ -14,9 +14,9 @@ use Rattle.misp_core.specs.Text.{reply_text}
 use Rattle.misp_core.specs.declared.planning.Plan.{Plan}
 use Rattle.misp_core.specs.declared.planning.NoPlan.{NoPlan}
 use Rattle.misp_store.specs.Seen.{Seen}
-use Rattle.misp_api.specs.Commands.{is_pulling}
+use Rattle.misp_api.specs.Commands.{is_pulling, is_syncing}
 use Rattle.misp_api.specs.Prelude.{Ask, Asked, AskFault, Caller, Command, Commanded, Effect, Group, Held, Host, Reading, Reply, RequestData, Standing, barred, command_effect, fault_reply, form_of, is_allowed, read_of, replied, seen_in}
-use Rattle.misp_api.specs.Answering.{IsPull, IsReplied, permitted}
+use Rattle.misp_api.specs.Answering.{IsPull, IsReplied, IsSync, permitted}
 use Rattle.misp_api.specs.declared.TheConstants.{CHANGE_TEXT}
 use Rattle.misp_api.proofs.Forms.{allowed}
 
@@ -87,13 +87,13 @@ barred_sound refusal old new planned bars = elim bars.just [
   | inr e ↦ subst PlansSound (sym e) tt
 ]
 
-by_role : (may : Bool) (it : Commanded) (planned : Result Plan NoPlan) → (may ≡ false → PlansSound planned) → (is_pulling it.1 ≡ true → PlansSound planned) → IsPull (allowed may it) → PlansSound planned
+by_role : (may : Bool) (it : Commanded) (planned : Result Plan NoPlan) → (may ≡ false → PlansSound planned) → (is_syncing it.1 ≡ true → PlansSound planned) → IsSync (allowed may it) → PlansSound planned
 by_role true it planned bars sound is = sound is
 by_role false it planned bars sound is = bars refl
 
 pub sound_told : {E : Type 0} (r : Result Reply E) (old mid : Standing) (request : RequestData) (it : Commanded) (planned : Result Plan NoPlan) → read_of old.admin request ≡ Ok it
-    → (is_allowed it ≡ false → IsBarred (barred it.1) old mid planned) → (is_pulling it.1 ≡ true → PlansSound planned)
-    → (PlansSound planned → IfOk r IsSound) → IsPull (form_of old.admin request) → IfOk r IsSound
+    → (is_allowed it ≡ false → IsBarred (barred it.1) old mid planned) → (is_syncing it.1 ≡ true → PlansSound planned)
+    → (PlansSound planned → IfOk r IsSound) → IsSync (form_of old.admin request) → IfOk r IsSound
 sound_told r old mid request it planned read bars sound told is =
     told (by_role (is_allowed it) it planned (λ not_. barred_sound (barred it.1) old mid planned (bars not_)) sound
-    (subst (λ form. IsPull (permitted form)) read is))
+    (subst (λ form. IsSync (permitted form)) read is))

@@ -6,7 +6,7 @@ use Rattle.misp_core.specs.Prelude.{Admin, Caller, Did, Effect, Held, Host, Rule
 use Rattle.misp_core.specs.declared.reply.Reply.{Reply}
 use Rattle.misp_api.specs.declared.command.Command.{Command}
 use Rattle.misp_api.specs.declared.route.Route.{Route}
-use Rattle.misp_api.specs.Commands.{Commanded, barred, command_effect, is_allowed, is_pulling}
+use Rattle.misp_api.specs.Commands.{Commanded, barred, command_effect, is_allowed, is_pulling, is_syncing}
 use Rattle.misp_api.specs.Route.{route_of}
 use Rattle.misp_api.specs.Request.{RequestData, Reading, command_of}
 
@@ -47,6 +47,11 @@ form_of admin request = permitted (read_of admin request)
 abbrev pub IsPull : Reading Commanded → Type 0
 IsPull (Ok it) = is_pulling it.1 ≡ true
 IsPull (Err refusal) = Unit {0}
+
+-- it is what a synchronisation asks, or is refused
+abbrev pub IsSync : Reading Commanded → Type 0
+IsSync (Ok it) = is_syncing it.1 ≡ true
+IsSync (Err refusal) = Unit {0}
 
 -- ---- a request of this form
 

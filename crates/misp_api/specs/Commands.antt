@@ -1,11 +1,12 @@
 -- What commands need to be permitted, and what they come to.
-use Rattle.std.specs.Prelude.{◌≡◌, ℕ, Bool, false, if◌then◌else◌}
+use Rattle.std.specs.Prelude.{◌≡◌, ℕ, Bool, true, false, if◌then◌else◌}
 use Rattle.misp_orgs.specs.Roles.{permits}
 use Rattle.misp_orgs.specs.declared.role.Perm.{Perm}
 use Rattle.misp_model.specs.Machine.{pulls}
 use Rattle.misp_model.specs.Permission.{permission_of, no_permission}
 use Rattle.misp_core.specs.HandedGroups.{groups_put}
 use Rattle.misp_core.specs.Prelude.{Caller, Effect, Host, IsBuilt, Refusal, Seen, administered, asked_where, refused}
+use Rattle.misp_core.specs.Sound.{syncs}
 use Rattle.misp_core.specs.Taking.{groups_taken}
 use Rattle.misp_core.specs.declared.reply.Reply.{Reply}
 use Rattle.misp_api.specs.declared.command.Command.{Command}
@@ -36,13 +37,19 @@ is_allowed it = permits it.0.role (permission_needed it.1)
 abbrev pub barred : Command → Refusal
 barred command = no_permission (permission_needed command)
 
--- ---- pulls
+-- ---- pulls and pushes
 
 -- whether it is what a pull asks
 abbrev pub is_pulling : Command → Bool
 is_pulling (Command.Asks ask) = pulls ask
 is_pulling (Command.TakesGroups groups) = false
 is_pulling (Command.Shares add g) = false
+
+-- whether it is what a synchronisation asks
+abbrev pub is_syncing : Command → Bool
+is_syncing (Command.Asks ask) = syncs ask
+is_syncing (Command.TakesGroups groups) = true
+is_syncing (Command.Shares add g) = false
 
 -- ---- what commands come to
 

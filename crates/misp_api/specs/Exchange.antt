@@ -5,19 +5,19 @@ use Rattle.misp_core.specs.Prelude.{Held, Standing, host_of}
 use Rattle.misp_core.specs.Sound.{IsSound, IsWorded}
 use Rattle.misp_core.specs.Text.{http_text}
 use Rattle.misp_core.specs.declared.reply.Reply.{Reply}
-use Rattle.misp_api.specs.Answering.{IsPull, IsReplied}
+use Rattle.misp_api.specs.Answering.{IsReplied, IsSync}
 use Rattle.misp_api.specs.Commands.{Commanded}
 use Rattle.misp_api.specs.Request.{Reading}
 use Rattle.misp_api.specs.Sending.{IsAnswered, read_form}
 use Rattle.misp_api.specs.Turn.{closes}
 
--- what was read was replied so, and these are the bytes of the reply; what a pull is replied can be
--- read back from its text
+-- what was read was replied so, and these are the bytes of the reply; what a synchronisation is
+-- replied can be read back from its text
 pub record IsExchanged (now word : ℕ) (read : Read) (old new : Standing) (bytes : List ℕ)
     : Type 0 where
   pub reply : Reply
   pub answered : IsAnswered now word read old new reply
-  pub sound : IsPull (read_form old.admin word read) → IsSound reply
+  pub sound : IsSync (read_form old.admin word read) → IsSound reply
   pub worded : IsWorded reply
   pub bytes_are : bytes ≡ http_text reply (closes read)
 

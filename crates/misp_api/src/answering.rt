@@ -1,13 +1,13 @@
 //! Answers a request at an instance.
 
-ghost use Rattle.std.specs.Prelude.{◌≡◌, true, false, ◌<◌, ◌++◌, Err, IfOk, IsOkAnd, IfSome, OnOk, OnErr, length, vec_len, vec_capacity};
+ghost use Rattle.std.specs.Prelude.{◌≡◌, true, false, ◌<◌, ◌++◌, Err, IfOk, IsOkAnd, IfSome, OnOk, OnErr, length, None, vec_len, vec_capacity};
 ghost use Rattle.misp_outside.specs.Causes.{HasCause};
 ghost use Rattle.misp_core.specs.Effects.{stop_in, by_keeper, refused_by, IsRefused};
 ghost use Rattle.misp_core.specs.Planning.{IsBarred, IsPlanned, stop_planned};
 ghost use Rattle.misp_core.specs.Sound.{IsSoundAnswer};
 ghost use Rattle.misp_store.specs.Seen.{seen_in};
-ghost use Rattle.misp_api.specs.Answering.{IsPull, IsReplied, caller_in, form_of, read_of};
-ghost use Rattle.misp_api.specs.Commands.{AsksBuilt, barred, commanded, is_allowed, is_pulling};
+ghost use Rattle.misp_api.specs.Answering.{IsPull, IsReplied, IsSync, caller_in, form_of, read_of};
+ghost use Rattle.misp_api.specs.Commands.{AsksBuilt, barred, commanded, is_allowed, is_syncing};
 ghost use Rattle.misp_api.specs.Unread.{fault_reply};
 ghost use Rattle.misp_api.specs.Order.{IsInOrder, order};
 ghost use Rattle.misp_core.specs.Sound.{IsSound};
@@ -75,7 +75,7 @@ fn plan<K: Keeper>(
         (commanded (host_of instance.old) now (caller.now, command) (seen_in held))) }
     ensures barred { is_allowed (caller.now, command) ≡ false →
         IsBarred (barred command) instance.old instance.new result }
-    ensures sound { is_pulling command ≡ true →
+    ensures sound { is_syncing command ≡ true →
         IfOk result (λ plan. IsSoundAnswer plan.answer) }
     ensures held { instance.new.held ≡ instance.old.held }
     ensures cause { HasCause instance.old.faults instance.new.faults
@@ -148,12 +148,13 @@ pub fn answer<K: Keeper>(
     ensures octets { IfOk result (λ reply.
         has_octets reply ≡ true → instance.new.held ≡ instance.old.held) }
 
-    // What a pull asks changes nothing either, even where memory runs out, and its reply can be read
-    // back from its text.
+    // What a pull asks changes nothing either, even where memory runs out. What a synchronisation is
+    // replied can be read back from its text.
     ensures pulled { IsPull (form_of instance.old.admin (request_data word request.now)) →
         instance.new.held ≡ instance.old.held }
-    ensures sound { IsPull (form_of instance.old.admin (request_data word request.now)) →
+    ensures sound { IsSync (form_of instance.old.admin (request_data word request.now)) →
         IfOk result IsSound }
+    ensures silent { instance.old.held ≡ None → instance.new.held ≡ None }
     ensures cause { HasCause instance.old.faults instance.new.faults
         (IsOkAnd result (λ reply. stop_in reply ≡ by_keeper)) }
     ensures name { instance.new.name ≡ instance.old.name }

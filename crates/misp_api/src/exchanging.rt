@@ -1,12 +1,12 @@
 //! Answers the bytes of one request, as a wire of one process needs it.
 
-ghost use Rattle.std.specs.Prelude.{◌≡◌, ◌≢◌, ◌≤◌, ◌++◌, ℕ, List, [], Option, Ok, Err, IfOk, IfSome, OnOk, OnErr};
+ghost use Rattle.std.specs.Prelude.{◌≡◌, ◌≢◌, ◌≤◌, ◌++◌, ℕ, List, [], Option, None, Ok, Err, IfOk, IfSome, OnOk, OnErr};
 ghost use Rattle.misp_http.specs.Reading.{IsRead};
 ghost use Rattle.misp_http.specs.declared.request.Read.{Read as WasRead};
 ghost use Rattle.misp_http.specs.declared.request.ReadEnd.{ReadEnd as NotRead};
 ghost use Rattle.misp_core.specs.Sound.{IsSound, IsWorded};
 ghost use Rattle.misp_core.specs.Text.{http_text, reply_text};
-ghost use Rattle.misp_api.specs.Answering.{IsPull};
+ghost use Rattle.misp_api.specs.Answering.{IsPull, IsSync};
 ghost use Rattle.misp_api.specs.Exchange.{IsExchanged, IsLeftSo};
 ghost use Rattle.misp_api.specs.Sending.{IsAnswered, read_form};
 
@@ -44,9 +44,10 @@ fn answer_to<K: Keeper>(
     ensures text { IfOk result (λ reply. text.new.items ≡ text.old.items ++ reply_text reply) }
     ensures answered { IfOk result (IsAnswered now word read.now instance.old instance.new) }
     ensures unwritten { OnErr result (instance.new.held ≡ instance.old.held) }
-    ensures sound { IsPull (read_form instance.old.admin word read.now) → IfOk result IsSound }
+    ensures sound { IsSync (read_form instance.old.admin word read.now) → IfOk result IsSound }
     ensures still { IsPull (read_form instance.old.admin word read.now) →
         instance.new.held ≡ instance.old.held }
+    ensures silent { instance.old.held ≡ None → instance.new.held ≡ None }
     ensures later { instance.old.faults ≤ instance.new.faults }
     ensures name { instance.new.name ≡ instance.old.name }
     ensures admin { instance.new.admin ≡ instance.old.admin }
@@ -100,6 +101,7 @@ fn reply_to_read<K: Keeper>(
         (read_form instance.old.admin word read.now) instance.old held instance.new.held)) }
     ensures still { IsPull (read_form instance.old.admin word read.now) →
         instance.new.held ≡ instance.old.held }
+    ensures silent { instance.old.held ≡ None → instance.new.held ≡ None }
     ensures later { instance.old.faults ≤ instance.new.faults }
     ensures name { instance.new.name ≡ instance.old.name }
     ensures admin { instance.new.admin ≡ instance.old.admin }
@@ -147,6 +149,7 @@ pub fn exchange<K: Keeper>(
     ensures still { (read : WasRead) (left : Option (List ℕ)) → IsRead bytes.items (Ok read) left
         → IsPull (read_form instance.old.admin word read)
         → instance.new.held ≡ instance.old.held }
+    ensures silent { instance.old.held ≡ None → instance.new.held ≡ None }
     ensures later { instance.old.faults ≤ instance.new.faults }
     ensures name { instance.new.name ≡ instance.old.name }
     ensures admin { instance.new.admin ≡ instance.old.admin }

@@ -3,10 +3,11 @@ use Rattle.std.proofs.Common.{◌≡◌, ◌<◌, ℕ, List, length, get_or, Opt
 use Rattle.std.proofs.lemmas.List.{get_or-map}
 use Rattle.misp_outside.specs.Wires.{Asked}
 use Rattle.misp_effects.specs.KeeperStates.{AreKept}
-use Rattle.misp_core.specs.Prelude.{Host, KeeperState, Refusal, Standing}
+use Rattle.misp_core.specs.Prelude.{Host, KeeperState, Standing}
 use Rattle.misp_script.specs.Faults.{Reading}
 use Rattle.misp_script.specs.declared.description.Entry.{Entry}
 use Rattle.misp_protocol.specs.Counts.{no_count}
+use Rattle.misp_protocol.specs.declared.cause.Cause.{Cause}
 use Rattle.misp_sync.specs.declared.reply.SyncReply.{SyncReply}
 use Rattle.misp_net.specs.Hosts.{nobody}
 use Rattle.misp_net.specs.Prelude.{Description, described_host, described_hosts, host_at}
@@ -25,7 +26,7 @@ pub host_there : (net : Description) (place : ℕ) (entry : Entry) → place < l
 host_there net place entry inside is = get_or-map described_host net.instances place entry nobody inside ∙ ap described_host (sym is)
 
 -- a dial that is as it was tells what it told
-pub told_barred : {X : Type 0} (o : Option Refusal) (reply : SyncReply) (start end : Standing) (asks : X → Option (List Asked)) (faults : X → ℕ) (old new : X)
+pub told_barred : {X : Type 0} (o : Option Cause) (reply : SyncReply) (start end : Standing) (asks : X → Option (List Asked)) (faults : X → ℕ) (old new : X)
     → IfSome o (λ why. (reply ≡ SyncReply.Stopped no_count why) × (end ≡ start) × (new ≡ old))
     → IfSome o (λ why. (reply ≡ SyncReply.Stopped no_count why) × (end ≡ start) × (dialled (asks new) (faults new) ≡ dialled (asks old) (faults old)))
 told_barred None reply start end asks faults old new held = tt

@@ -12,12 +12,12 @@ use Rattle.misp_effects.specs.declared.stop.Stop.TheVariants as stops
 use Rattle.misp_script.specs.Directory.{directory_of, place_of, roster_names}
 use Rattle.misp_store.specs.Sharing.{may_be_sound}
 use Rattle.misp_core.specs.Prelude.{Host, KeeperState, Standing, host_of}
-use Rattle.misp_sync.specs.Came.{IsCameOver}
+use Rattle.misp_dialogue.specs.Parties.{GrowsBy}
 use Rattle.misp_protocol.specs.Counts.{no_count}
+use Rattle.misp_sync.specs.Causes.{bar_of}
 use Rattle.misp_sync.specs.Dialled.{trail_to}
-use Rattle.misp_sync.specs.Pulled.{bar_of, stop_in}
-use Rattle.misp_sync.specs.PushTrail.{IsPushTrailOver}
-use Rattle.misp_sync.specs.Trail.{GrowsBy, IsTrailOver}
+use Rattle.misp_sync.specs.Pulled.{stop_in}
+use Rattle.misp_sync.specs.Synchronised.{IsTrailOver}
 use Rattle.misp_sync.specs.declared.reply.SyncReply.{SyncReply}
 use Rattle.misp_net.specs.Opening.{opened_states}
 use Rattle.misp_net.specs.Prelude.{Description}
@@ -58,11 +58,6 @@ pub record Dialled : Type 0 where
 abbrev pub dialled : Option (List Asked) → ℕ → Dialled
 dialled asks faults = record { asks = asks; faults = faults }
 
--- the requests of a pull or of a push over a link, with their replies
-abbrev pub IsTrailOf : Direction → Option Link → Standing → SyncReply → List (List ℕ) → Type 0
-IsTrailOf Direction.Pull link here reply = IsTrailOver link None reply
-IsTrailOf Direction.Push link here reply = IsPushTrailOver link here None reply
-
 -- An instance was synchronised over a link with a peer that is asked at an address, and this was
 -- told of it.
 pub record SyncsOver (words : SyncData) (address : List ℕ) (start end : Standing)
@@ -71,15 +66,12 @@ pub record SyncsOver (words : SyncData) (address : List ℕ) (start end : Standi
   pub barred : IfSome (bar_of (link_of start.admin.links words.link)) (λ why.
       (reply ≡ SyncReply.Stopped no_count why) × (end ≡ start) × (after ≡ before))
   -- What was asked and answered are the stated requests and their replies, from the first on, and
-  -- all of them where it is done. All of them went to the address, whatever was asked before.
-  pub trail : GrowsBy (trail_to address before.asks) (trail_to address after.asks)
-      (IsTrailOf words.direction (link_of start.admin.links words.link) start reply)
-  -- what is held after a pull, and counted, is what these replies bring
-  pub came : words.direction ≡ Direction.Pull → GrowsBy (trail_to address before.asks)
-      (trail_to address after.asks) (IsCameOver (link_of start.admin.links words.link)
-      start.name start.held end.held reply)
+  -- all of them where it is done. All of them went to the address, whatever was asked before. What
+  -- is held then, and counted, is what these replies bring.
+  pub course : GrowsBy (trail_to address before.asks) (trail_to address after.asks)
+      (IsTrailOver words.direction (link_of start.admin.links words.link) start end.held None reply)
   -- what is held where a push begins stays
-  pub own : words.direction ≡ Direction.Push → end.held ≡ start.held
+  pub kept : words.direction ≡ Direction.Push → end.held ≡ start.held
   -- rule 26 only where the count of the keeper rose
   pub cause : HasCause start.faults end.faults (stop_in reply ≡ Some (stops.Keeper Here))
   -- rule 25 only where that of the dial did

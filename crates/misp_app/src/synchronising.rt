@@ -16,11 +16,11 @@ ghost use Rattle.misp_words.specs.Words.{Sync, sync_data};
 use crate::Status;
 use crate::fault::{put, tell_fault};
 use misp_core::Instance;
-use misp_ids::{Direction, InstId, NoMemory, Text};
+use misp_ids::{InstId, NoMemory, Text};
 use misp_net::{close_first, open_first, put_synced_line};
 use misp_outside::{Dial, Keeper, Sink};
 use misp_script::{DescFault, Description, Directory, Entry, read_description, split_source};
-use misp_sync::{SyncReply, pull_from, push_to};
+use misp_sync::{SyncReply, synchronise_at};
 use misp_words::SyncWords;
 use std::alloc::Global;
 
@@ -86,7 +86,7 @@ fn entry_with_address(
     Ok(Some((entries.remove(place), address)))
 }
 
-// Pulls or pushes over a link, as the words say.
+// Synchronises over a link, as the words say.
 fn sync_over<K: Keeper, L: Dial>(
     alloc: Global,
     instance: &mut Instance<K>,
@@ -98,10 +98,7 @@ fn sync_over<K: Keeper, L: Dial>(
         (dialled (L.asks dial.old) (L.faults dial.old))
         (dialled (L.asks dial.new) (L.faults dial.new)) result }
 {
-    match words.direction {
-        Direction::Pull => pull_from(alloc, instance, &words.link, dial, address),
-        Direction::Push => push_to(alloc, instance, &words.link, dial, address),
-    }
+    synchronise_at(alloc, instance, words.direction, &words.link, dial, address)
 }
 
 // Writes the line of a synchronisation, and answers how the run ends.

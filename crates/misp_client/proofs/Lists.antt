@@ -1,5 +1,9 @@
--- Groups that are read one item after another.
-use Rattle.std.proofs.Common.{◌≡◌, List, [], ◌∷◌, ◌++◌, Option, Some, None, option_map, option_and_then, refl, sym, ap, ◌∙◌, append_assoc}
+-- Groups, one after another.
+use Rattle.std.proofs.Common.{◌≡◌, ◌+◌, ◌<◌, ◌≤◌, ℕ, List, [], ◌∷◌, ◌++◌, Option, Some, None, option_map, option_and_then, refl, sym, ap, ◌∙◌, append_assoc, get_or, length, subst, take, take_all}
+use Rattle.std.proofs.lemmas.List.{take_more}
+use Rattle.misp_groups.specs.Group.{IsGroup}
+use Rattle.misp_lists.proofs.All.{all_last}
+use Rattle.misp_lists.proofs.Prelude.{AllByRecursion}
 use Rattle.std.specs.Result.{result_ok}
 use Rattle.serde_json.specs.Data.{Data, Items, no_items, item}
 use Rattle.misp_format.specs.Groups.{group_body_at}
@@ -27,3 +31,12 @@ group_none done d ds h = ap (λ o. onto done (option_and_then (λ group. option_
 pub group_end : (done : List Group) → onto done (groups_from no_items) ≡ Some (done ++ [])
 unfolding groups_from
 group_end done = refl
+
+-- ---- each of a list
+
+-- one more is a group
+pub groups_more : (gs : List Group) (i : ℕ) (g : Group) → i < length gs → g ≡ get_or gs i g → AllByRecursion IsGroup (take i gs) → IsGroup g → AllByRecursion IsGroup (take (i + 1) gs)
+groups_more gs i g lt e h k = subst (AllByRecursion IsGroup) (sym (take_more gs i g lt)) (all_last IsGroup (take i gs) (get_or gs i g) h (subst IsGroup e k))
+
+pub groups_all : (gs : List Group) (i : ℕ) → length gs ≤ i → AllByRecursion IsGroup (take i gs) → AllByRecursion IsGroup gs
+groups_all gs i le h = subst (AllByRecursion IsGroup) (take_all i gs le) h

@@ -1,7 +1,10 @@
 //! What is asked of a peer, as requests.
 
-ghost use Rattle.std.specs.Prelude.{◌≡◌, IfOk, string_bytes};
+ghost use Rattle.std.specs.Prelude.{◌≡◌, IfOk};
 ghost use Rattle.misp_format.specs.WholeGroup.{groups_text};
+ghost use Rattle.std.specs.List.{AllByRecursion};
+ghost use Rattle.misp_groups.specs.Group.{IsGroup};
+ghost use Rattle.misp_client.specs.Calling.{IsCall, IsCallable};
 ghost use Rattle.misp_client.specs.Calls.{body_of, call_text, method_of, target_of};
 
 use misp_format::put_groups;
@@ -72,17 +75,52 @@ fn body(alloc: Global, call: &Call) -> Result<Vec<u8>, NoMemory>
     }
 }
 
+// ---- what holds of it
+
+// A group is one.
+fn is_group(group: &Group)
+    ensures { IsGroup group.now }
+{
+    let _carried = group.carried;
+}
+
+// Each of a list is.
+fn are_groups(groups: &[Group])
+    ensures { AllByRecursion IsGroup groups.now }
+{
+    for group in groups {
+        is_group(group);
+    }
+}
+
+// What is asked is a value of its type.
+fn is_call(call: &Call)
+    ensures { IsCall call.now }
+{
+    match call {
+        Call::Groups | Call::Manifest => {}
+        Call::Rows(wanted) => {
+            let _fields = wanted.get();
+        }
+        Call::TakeGroups(groups) => {
+            let _count = groups.as_slice().len();
+            are_groups(groups.as_slice());
+        }
+        Call::TakePart(parcel) => {
+            let _fields = parcel.get();
+        }
+    }
+}
+
+// ---- the whole
+
 /// The bytes of the request with this key, after which the connection is closed.
 pub fn call_bytes(alloc: Global, key: &ApiKey, call: &Call) -> Result<Vec<u8>, NoMemory>
-    ensures { IfOk result (λ bytes. bytes.items ≡ call_text key.now call.now) }
+    ensures bytes { IfOk result (λ bytes. bytes.items ≡ call_text key.now call.now) }
+    ensures fits { IsCallable key.now call.now }
 {
+    is_call(call);
+    let key = key.text();
     let body = body(alloc, call)?;
-    request_bytes(
-        alloc,
-        method(call),
-        target(call),
-        Some(key.text()),
-        &body,
-        true,
-    )
+    request_bytes(alloc, method(call), target(call), Some(key), &body, true)
 }

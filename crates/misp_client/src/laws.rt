@@ -49,7 +49,7 @@ pub fn a_call_comes_to_the_same_at_any_moment()
         → called peer now key call seen ≡ called peer 0 key call seen }
 {}
 
-/// A call for groups, a manifest or rows changes nothing.
+/// A call for groups, a manifest or rows puts nothing.
 pub fn a_call_that_takes_nothing_puts_nothing()
     ensures { (peer : Host) (now : ℕ) (key : List ℕ) (call : Call) (seen : Seen)
         → TakesNothing call → (called peer now key call seen).batches ≡ [] }

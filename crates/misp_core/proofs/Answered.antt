@@ -1,6 +1,6 @@
 -- What is planned for a request over a keeper that may not tell what it holds.
 use Rattle.std.proofs.Common.{◌≡◌, ℕ, List, Bool, true, false, cond, if◌then◌else◌, refl, ap, sym, subst, inl, inr, ◌∙◌, Option, Some, None, Result, Ok, Err, IfSome}
-use Rattle.misp_model.proofs.Prelude.{IfSome_then, IsTable}
+use Rattle.misp_model.proofs.Prelude.{IsTable}
 use Rattle.misp_store.specs.Loading.{NamesFault}
 use Rattle.misp_store.specs.Sharing.{HoldsGroups, or_none}
 use Rattle.misp_store.specs.declared.fault.LoadFault.{LoadFault}

@@ -1,13 +1,15 @@
 -- The landing that is kept is that of what is held.
-use Rattle.std.proofs.Common.{◌≡◌, ℕ, inl, inr, List, true, ◌&&◌, not, leb, refl, ap, sym, subst, ◌∙◌, option_map, Option, Some, None, Result, Ok, Err, IfOk, IfSome, IsSomeAnd}
+use Rattle.std.proofs.Common.{◌≡◌, ℕ, inl, inr, List, true, ◌&&◌, not, leb, ◌==◌, refl, ap, sym, subst, ◌∙◌, option_map, Option, Some, None, Result, Ok, Err, IfOk, IfSome, IsSomeAnd}
 use Rattle.misp_effects.specs.Prelude.{with_batch}
+use Rattle.misp_outside.specs.Held.{rows_of}
 use Rattle.misp_orgs.specs.Keys.{CallerFields as Caller}
-use Rattle.misp_model.proofs.Prelude.{AreRows, event_key, has_copy, has_gone, has_home, is_row_of, is_tombstone, put_all}
+use Rattle.misp_model.proofs.Prelude.{AreRows, event_key, has_copy, has_gone, has_home, is_row_of, is_tombstone, put_all, same_event}
 use Rattle.misp_model.specs.Machine.{pulls}
 use Rattle.misp_model.specs.declared.package.PackageFields.{PackageFields as Package}
 use Rattle.misp_copies.specs.Copies.{copy_state, state_by}
 use Rattle.misp_package.specs.Landing.{IsLanding}
 use Rattle.misp_package.specs.declared.landing.Landing.{Landing}
+use Rattle.misp_store.specs.Raw.{raw_row}
 use Rattle.misp_store.specs.Sharing.{HoldsGroups}
 use Rattle.misp_store.specs.declared.reach.Reach.{Reach}
 use Rattle.misp_core.specs.Answers.{bare_scene}
@@ -30,7 +32,7 @@ module _ (w : OrgId) (e : EventId) (xs ys : List Row) (alike : Alike xs ys) wher
       state_by (alike (λ r. is_row_of w (event_key e) r && is_tombstone r) j) (alike (λ r. is_row_of w (event_key e) r && (not (is_tombstone r) && not r.carried)) j)
       (alike (λ r. is_row_of w (event_key e) r && not (is_tombstone r)) j)
 
-  landing_alike : (l : Landing) (i : Inst) → IsLanding l i w e ys → IsLanding l i w e xs
+  pub landing_alike : (l : Landing) (i : Inst) → IsLanding l i w e ys → IsLanding l i w e xs
   landing_alike l i is = record {
     here = is.here;
     owner = is.owner;
@@ -82,9 +84,9 @@ module _ (here : Inst) (by : Caller) (rows : List Row) (s : Scene) where
 -- ---- rows are put
 
 whole_put : (here : Inst) (h : Held) (b : Put) (old new : Landing) → IsWholeLanding here h old → GoesOn b.rows old new → IsWholeLanding here (with_batch (spelled (batch_of b)) h) new
-unfolding with_batch
+unfolding with_batch rows_of raw_row same_event
 whole_put here h b old new whole on =
-    let read = rows_read_alike old.event b.rows on.are on.of_event h.rows whole.rows whole.rows whole.read whole.are (λ q. refl) in
+    let read = rows_read_alike (λ raw. raw.event.0.0 == old.event.0.0) b.rows on.are on.of_event h.rows whole.rows whole.rows whole.read whole.are (λ q. refl) in
     let put : IsLanding new here old.owner old.event (put_all b.rows whole.rows) = on.landing here old.owner old.event whole.rows whole.is in
     let there : IsLanding new here old.owner old.event read.0 = landing_alike old.owner old.event read.0 (put_all b.rows whole.rows) read.3 new here put in
     record {
@@ -132,13 +134,3 @@ module _ (host : Host) (now : ℕ) (by : Caller) (groups : List Group) (planned 
   landed_planned None ask kept may holds lands plans = tt
   landed_planned (Some h) ask None may holds lands plans = absurd plans
   landed_planned (Some h) ask (Some l) may holds lands plans = one_planned h ask l may holds lands plans
-
--- nothing is planned so for what a pull asks
-pull_apart : {P : Type 0} (w : OrgId) (ask : Ask) (l : Landing) → IsLandingFor w ask l → pulls ask ≡ true → P
-unfolding pulls
-pull_apart w (Ask.TakePart p) l is pull = absurd cc
-pull_apart w ask l is pull = absurd is
-
-pub never_pulls : {P : Type 0} (admin : Admin) (s : Scene) (ask : Ask) (planned : Result Plan NoPlan) (kept : Option Landing) → IsSomeAnd kept (PlansBy admin s ask planned) → pulls ask ≡ true → P
-never_pulls admin s ask planned None plans pull = absurd plans
-never_pulls admin s ask planned (Some l) plans pull = pull_apart s.by ask l plans.is_for pull

@@ -1,125 +1,124 @@
--- A landing looks at the rows of its owner alone, so that it is that of all rows of the event.
-use Rattle.std.proofs.Common.{◌≡◌, ℕ, nat_eq, List, [], ◌∷◌, ◌++◌, Bool, true, false, refl, sym, ap, subst, ◌∙◌, ◌&&◌, cond, Option, Some, None, Result, Ok, Err, IfOk, IfSome, filter, leb, not}
-use Rattle.std.specs.List.{starts_with}
-use Rattle.misp_lists.proofs.Lists.{any_cut, filter_twice}
+-- The own rows that are kept are those that are held.
+use Rattle.std.proofs.Common.{◌≡◌, ◌++◌, ℕ, nat_eq, refl, sym, ap, subst, ◌∙◌, Bool, true, List, [], ◌∷◌, length, option_map, Option, Some, None, Ok, IfSome}
+use Rattle.std.specs.List.{list_all, starts_with}
+use Rattle.misp_ids.proofs.Same.{same_org-sound}
+use Rattle.misp_outside.specs.Held.{is_named, raw_name, rows_named, with_batch}
 use Rattle.misp_outside.specs.declared.row.RawRow.{RawRow}
-use Rattle.misp_outside.specs.Held.{rows_named, rows_of}
-use Rattle.misp_elem.specs.Prelude.{key, row_of}
-use Rattle.misp_model.proofs.Prelude.{EventId, Inst, Key, OrgId, Row, and_parts, bytes_eq-Decides, event_key, has_copy, has_gone, has_home, is_row_of, is_tombstone, list_any, name_bytes, row_of_name, uid}
+use Rattle.misp_elem.specs.Prelude.{key}
+use Rattle.misp_elem.specs.declared.key.KeyForm.{KeyForm as Key}
+use Rattle.misp_manifest.specs.declared.manifest.KeyStamp.{KeyStamp}
+use Rattle.misp_model.proofs.Prelude.{EventId, Inst, OrgId, Row, and_from, and_parts, event_of, name_bytes, put_all, same_event, same_org, uid}
 use Rattle.misp_model.proofs.Spelled.{begins_with_itself}
-use Rattle.misp_copies.specs.Copies.{copy_state, state_by}
+use Rattle.misp_model.specs.declared.package.PackageFields.{PackageFields as Package}
 use Rattle.misp_package.specs.Landing.{IsLanding}
 use Rattle.misp_package.specs.declared.landing.Landing.{Landing}
-use Rattle.misp_store.specs.Raw.{onto, row_in, row_read, rows_in, stands_under}
-use Rattle.misp_store.proofs.TableRows.{onto_parts}
-use Rattle.misp_core.specs.Prelude.{Held}
-use Rattle.misp_core.specs.Taking.{IsLandingAt, IsLandingOf}
+use Rattle.misp_store.specs.Raw.{raw_row}
+use Rattle.misp_store.specs.Sharing.{HoldsGroups, or_none}
+use Rattle.misp_store.specs.declared.reach.Reach.{Reach}
+use Rattle.misp_store.proofs.HeldRows.{rows_put}
+use Rattle.misp_core.specs.KeptLanding.{GoesOn}
+use Rattle.misp_core.specs.Prelude.{Group, Held, groups_of, seen_in}
+use Rattle.misp_core.specs.Synced.{AreWanted, IsOwn, IsOwnLanding, IsSynced, StaysSynced}
+use Rattle.misp_core.specs.Taking.{package_taken, with_rows}
+use Rattle.misp_core.specs.Wanting.{IsSomeWanted, TakesOf, WantsOf}
+use Rattle.misp_core.specs.declared.synced.Own.{Own}
+use Rattle.misp_core.specs.declared.synced.OwnRows.{OwnRows}
+use Rattle.misp_core.proofs.KeptLandings.{landing_alike}
+use Rattle.misp_core.proofs.PutRead.{rows_read_alike}
 
--- ---- rows that are read
+-- ---- what is kept
 
--- what is read there has the name under which it is held
-read_name : (raw : RawRow) (read : Result Row ℕ) (r : Row) → row_read raw read ≡ Some r → raw.name ≡ name_bytes r
-unfolding stands_under
-read_name raw (Err left) r e = absurd cc
-read_name raw (Ok x) r e = one (stands_under raw x) refl e
-  where
-    one : (b : Bool) → stands_under raw x ≡ b → cond b (Some x) None ≡ Some r → raw.name ≡ name_bytes r
-    one true k f = let same : x ≡ r = cc in (bytes_eq-Decides raw.name (name_bytes x)).0 (and_parts _ _ k).1 ∙ ap name_bytes same
-    one false k f = absurd cc
+-- of another owner or event there is nothing
+pub kept_own : (kept : OwnRows) (i : Inst) (held : Option Held) (w : OrgId) (e : EventId) → kept.owner ≡ w → kept.event ≡ e → IsSynced i held kept → IsOwn i held w e kept.own
+kept_own kept i held w e owner event is = subst (λ (e : EventId). IsOwn i held w e kept.own) event (subst (λ (w : OrgId). IsOwn i held w kept.event kept.own) owner is)
 
-name_held : (raw : RawRow) (r : Row) → row_in raw ≡ Some r → raw.name ≡ name_bytes r
-unfolding row_in
-name_held raw r e = read_name raw (row_of raw.bytes) r e
+-- ---- rows are put
 
-module _ (front : List ℕ) where
-  -- held under a name that begins so
-  abbrev held_so : RawRow → Bool
-  held_so raw = starts_with nat_eq raw.name front
+module _ (w : OrgId) (e : EventId) where
+  -- held under a name of the owner, in the event
+  abbrev own_name : RawRow → Bool
+  own_name raw = is_named e (uid w.0) (raw_name raw)
 
-  -- of a name that begins so
-  abbrev named_so : Row → Bool
-  named_so r = starts_with nat_eq (name_bytes r) front
+  named : (r : Row) → same_org r.owner w ≡ true → same_event (event_of r.key) e ≡ true → own_name (raw_row r) ≡ true
+  unfolding raw_row name_bytes same_event
+  named r of_w of_e =
+      and_from _ _ of_e
+      (ap (λ (o : OrgId). starts_with nat_eq (uid o.0 ++ key r.key) (uid w.0)) (same_org-sound r.owner w of_w) ∙ begins_with_itself (uid w.0) (key r.key))
 
-  one_more : (b c : Bool) (raw : RawRow) (raws : List RawRow) (r : Row) (rows : List Row) → b ≡ c → row_in raw ≡ Some r → rows_in raws ≡ Ok rows
-      → rows_in (cond b (raw ∷ raws) raws) ≡ Ok (cond c (r ∷ rows) rows)
-  unfolding rows_in
-  one_more true true raw raws r rows same is are = ap (λ found. onto raw.name found (rows_in raws)) is ∙ ap (onto raw.name (Some r)) are
-  one_more false false raw raws r rows same is are = are
-  one_more true false raw raws r rows same is are = absurd cc
-  one_more false true raw raws r rows same is are = absurd cc
+  all_named : (rs : List Row) → list_all (λ row. same_org row.owner w) rs ≡ true → list_all (λ row. same_event (event_of row.key) e) rs ≡ true → list_all (λ row. own_name (raw_row row)) rs ≡ true
+  all_named [] of_w of_e = refl
+  all_named (r ∷ rs) of_w of_e =
+      let one = and_parts _ _ of_w in
+      let other = and_parts _ _ of_e in
+      and_from _ _ (named r one.0 other.0) (all_named rs one.1 other.1)
 
-  -- of rows that are all read, those whose names begin so are read too
-  read_so : (raws : List RawRow) (rows : List Row) → rows_in raws ≡ Ok rows → rows_in (filter held_so raws) ≡ Ok (filter named_so rows)
-  unfolding rows_in
-  read_so [] [] e = refl
-  read_so [] (r ∷ rows) e = absurd cc
-  read_so (raw ∷ raws) rows e =
-      let p = onto_parts raw.name (row_in raw) (rows_in raws) rows e in
-      let same : held_so raw ≡ named_so p.0.0 = ap (λ name. starts_with nat_eq name front) (name_held raw p.0.0 p.1) in
-      subst (λ rs. rows_in (filter held_so (raw ∷ raws)) ≡ Ok (filter named_so rs)) p.3
-      (one_more (held_so raw) (named_so p.0.0) raw (filter held_so raws) p.0.0 (filter named_so p.0.1) same p.1 (read_so raws p.0.1 p.2))
+module _ (i : Inst) (w : OrgId) (e : EventId) (rs : List Row) (old new : Landing) (on : GoesOn rs old new) (of_w : list_all (λ row. same_org row.owner w) rs ≡ true) (of_e : list_all (λ row. same_event (event_of row.key) e) rs ≡ true) where
+  own_held : (h : Held) → IsOwnLanding i (Some h) w e old → IsOwnLanding i (Some (with_rows rs h)) w e new
+  unfolding with_batch rows_named
+  own_held h is =
+      let read = rows_read_alike (own_name w e) rs on.are (all_named w e rs of_w of_e) h.rows is.rows is.rows is.own is.landed.are (λ q. refl) in
+      record {
+        rows = read.0;
+        own = read.1;
+        landed = record { are = read.2; is = landing_alike w e read.0 (put_all rs is.rows) read.3 new i (on.landing i w e is.rows is.landed.is) };
+      }
 
-  -- of an event
-  read_of_event : (e : EventId) (raws : List RawRow) (rows : List Row) → rows_in (rows_of e raws) ≡ Ok rows → rows_in (rows_named e front raws) ≡ Ok (filter named_so rows)
-  unfolding rows_of rows_named
-  read_of_event e raws rows are = ap rows_in (sym (filter_twice _ held_so raws)) ∙ read_so (rows_of e raws) rows are
-
--- ---- landings
-
-module _ (w : OrgId) (rows : List Row) where
-  -- of a name that begins with the bytes of the owner
-  abbrev of_owner : Row → Bool
-  of_owner r = named_so (uid w.0) r
-
-  owner_there : (k : Key) (r : Row) → is_row_of w k r ≡ true → of_owner r ≡ true
-  unfolding name_bytes
-  owner_there k r h = ap (λ o. starts_with nat_eq (uid o.0 ++ key r.key) (uid w.0)) (row_of_name w k r h).0 ∙ begins_with_itself (uid w.0) (key r.key)
-
-  -- what a test finds among the owner's rows of a key
-  any_own : (k : Key) (test : Row → Bool) → list_any (λ r. is_row_of w k r && test r) (filter of_owner rows) ≡ list_any (λ r. is_row_of w k r && test r) rows
-  any_own k test = any_cut _ of_owner (λ r f. owner_there k r (and_parts _ _ f).0) rows
-
-  state_own : (e : EventId) → copy_state (filter of_owner rows) w e ≡ copy_state rows w e
-  unfolding copy_state has_gone has_home has_copy
-  state_own e = λ j.
-      state_by (any_own (event_key e) is_tombstone j) (any_own (event_key e) (λ r. not (is_tombstone r) && not r.carried) j)
-      (any_own (event_key e) (λ r. not (is_tombstone r)) j)
-
-  -- the landing of the owner's rows is that of all
-  landing_whole : (l : Landing) (i : Inst) (e : EventId) → IsLanding l i w e (filter of_owner rows) → IsLanding l i w e rows
-  landing_whole l i e is = record {
-    here = is.here;
-    owner = is.owner;
-    event = is.event;
-    state = is.state ∙ state_own e;
-    newest = λ k s. is.newest k s ∙ any_own k (λ r. leb s r.stamp);
+  own_put : (held : Option Held) → IsOwnLanding i held w e old → IsOwnLanding i (option_map (with_rows rs) held) w e new
+  own_put (Some h) is = own_held h is
+  own_put None is = record {
+    rows = put_all rs is.rows;
+    own = tt;
+    landed = record { are = rows_put rs is.rows on.are is.landed.are; is = on.landing i w e is.rows is.landed.is };
   }
 
-module _ (l : Landing) (i : Inst) (w : OrgId) (e : EventId) (own : List Row) (is : IsLanding l i w e own) where
-  landing_read : (held : Held) (read : Result (List Row) (List ℕ)) → rows_in (rows_of e held.rows) ≡ read → rows_in (rows_named e (uid w.0) held.rows) ≡ Ok own → IfOk read (IsLanding l i w e)
-  landing_read held (Err name) r f = tt
-  landing_read held (Ok rows) r f =
-      let named : rows_in (rows_named e (uid w.0) held.rows) ≡ Ok (filter (of_owner w rows) rows) = read_of_event (uid w.0) e held.rows rows r in
-      let same : own ≡ filter (of_owner w rows) rows = cc in
-      landing_whole w rows l i e (subst (IsLanding l i w e) same is)
+-- the landing of its own owner and event
+own_itself : (i : Inst) (held : Option Held) (w : OrgId) (e : EventId) (l : Landing) → IsOwnLanding i held w e l → IsOwnLanding i held l.owner l.event l
+own_itself i held w e l is =
+    subst (λ (e : EventId). IsOwnLanding i held l.owner e l) (sym is.landed.is.event) (subst (λ (w : OrgId). IsOwnLanding i held w e l) (sym is.landed.is.owner) is)
 
-  -- where a keeper tells what it holds
-  pub landing_told : (held : Option Held) → IfSome held (λ h. rows_in (rows_named e (uid w.0) h.rows) ≡ Ok own) → IfSome held (IsLandingAt l i w e)
-  landing_told None f = tt
-  landing_told (Some h) f = landing_read h (rows_in (rows_of e h.rows)) refl f
+-- what is kept of a landing that goes on
+pub stays_synced : (rs : List Row) (old new : Landing) → list_all (λ row. same_org row.owner old.owner) rs ≡ true → GoesOn rs old new
+    → StaysSynced rs old (record { owner = new.owner; event = new.event; own = Own.Landed new })
+stays_synced rs old new owned on i held w e is =
+    own_itself i (option_map (with_rows rs) held) w e new
+    (own_put i w e rs old new on (subst (λ (w : OrgId). list_all (λ row. same_org row.owner w) rs ≡ true) is.landed.is.owner owned)
+    (subst (λ (e : EventId). list_all (λ row. same_event (event_of row.key) e) rs ≡ true) is.landed.is.event on.of_event) held is)
 
--- where the landing is made of what is loaded
-pub landing_loaded : {E : Type 0} (result : Result Landing E) (i : Inst) (w : OrgId) (e : EventId) (held : Option Held) (own rows : List Row)
-    → IfSome held (λ h. rows_in (rows_named e (uid w.0) h.rows) ≡ Ok own) → rows ≡ own → IfOk result (λ l. IsLanding l i w e rows) → IfOk result (λ l. IfSome held (IsLandingAt l i w e))
-landing_loaded (Err fault) i w e held own rows found same is = tt
-landing_loaded (Ok l) i w e held own rows found same is = landing_told l i w e own (subst (IsLanding l i w e) same is) held found
+-- the same of what is held then
+pub synced_then : (after : Option OwnRows) (rs taken : List Row) (l : Landing) (held new : Option Held) → rs ≡ taken → new ≡ option_map (with_rows taken) held → IfSome after (StaysSynced rs l)
+    → (i : Inst) (w : OrgId) (e : EventId) → IsOwnLanding i held w e l → IfSome after (IsSynced i new)
+synced_then None rs taken l held new same put stays i w e is = tt
+synced_then (Some s) rs taken l held new same put stays i w e is =
+    subst (λ (h : Option Held). IsSynced i h s) (ap (λ (rows : List Row). option_map (with_rows rows) held) same ∙ sym put) (stays i held w e is)
 
-own_told : (l : Landing) (i : Inst) (w : OrgId) (e : EventId) (own : List Row) → IsLanding l i w e own → (held : Option Held) → IfSome held (λ h. rows_in (rows_named e (uid w.0) h.rows) ≡ Ok own) → IfSome held (IsLandingOf l i w e)
-own_told l i w e own is None f = tt
-own_told l i w e own is (Some h) f = record { rows = own; read = f; is = is }
+-- ---- what is wanted
 
--- and it is that of what is loaded
-pub own_loaded : {E : Type 0} (result : Result Landing E) (i : Inst) (w : OrgId) (e : EventId) (held : Option Held) (own rows : List Row)
-    → IfSome held (λ h. rows_in (rows_named e (uid w.0) h.rows) ≡ Ok own) → rows ≡ own → IfOk result (λ l. IsLanding l i w e rows) → IfOk result (λ l. IfSome held (IsLandingOf l i w e))
-own_loaded (Err fault) i w e held own rows found same is = tt
-own_loaded (Ok l) i w e held own rows found same is = own_told l i w e own (subst (IsLanding l i w e) same is) held found
+module _ (i : Inst) (w : OrgId) (e : EventId) (keys : List KeyStamp) (wanted : List Key) where
+  pub wants : (held : Option Held) → AreWanted i held w e keys wanted → IfSome held (WantsOf i w e keys wanted)
+  wants None are = tt
+  wants (Some h) are = record { rows = are.rows; read = are.own; are = are.are }
+
+  pub wants_some : (held : Option Held) → AreWanted i held w e keys wanted → IsSomeWanted i w e keys wanted
+  wants_some held are = record { rows = are.rows; are = are.are }
+
+-- ---- what is taken
+
+module _ (i : Inst) (w : OrgId) (p : Package) (l : Landing) (groups : List Group) (mid new : Option Held)
+    (put : (i : Inst) (w : OrgId) (rows : List Row) → IsLanding l i w p.event rows → new ≡ option_map (with_rows (package_taken i rows groups w p)) mid) where
+  pub takes : (count : ℕ) (held : Option Held) (e : EventId) → mid ≡ held → e ≡ p.event → HoldsGroups held groups → IsOwnLanding i held w e l
+      → ((i : Inst) (w : OrgId) (rows : List Row) → IsLanding l i w p.event rows → count ≡ length (package_taken i rows groups w p)) → IfSome held (TakesOf i w p count new)
+  takes count None e same of holds is counts = tt
+  takes count (Some h) e same of holds is counts =
+      let there : IsLanding l i w p.event is.rows = subst (λ (e : EventId). IsLanding l i w e is.rows) of is.landed.is in
+      let known : groups ≡ groups_of h = sym (ap or_none holds) in
+      record {
+        rows = is.rows;
+        read = subst (λ (e : EventId). (seen_in h).rows (Reach.Own w e) ≡ Ok is.rows) of is.own;
+        count_is = counts i w is.rows there ∙ ap (λ (gs : List Group). length (package_taken i is.rows gs w p)) known;
+        put = put i w is.rows there ∙ ap (option_map _) same ∙ ap (λ (gs : List Group). Some (with_rows (package_taken i is.rows gs w p) h)) known;
+      }
+
+  -- where nothing is reported
+  pub takes_unseen : (held : Option Held) (e : EventId) → mid ≡ held → e ≡ p.event → IsOwnLanding i held w e l → held ≡ None → new ≡ None
+  takes_unseen held e same of is none =
+      put i w is.rows (subst (λ (e : EventId). IsLanding l i w e is.rows) of is.landed.is) ∙ ap (option_map _) (same ∙ none)

@@ -1,13 +1,13 @@
--- Rows of an event, as they are read of a keeper that was given rows of it.
+-- Rows that are held so, as they are read of a keeper that was given more of them.
 use Rattle.std.proofs.Common.{◌≡◌, ℕ, ◌==◌, ◌&&◌, ◌||◌, Bool, true, false, not, cond, bytes_eq, List, [], ◌∷◌, filter, map, Option, Some, None, Result, Ok, refl, sym, ap, subst, ◌∙◌, arith}
 use Rattle.std.specs.List.{list_all}
 use Rattle.misp_lists.proofs.Prelude.{put}
 use Rattle.misp_lists.proofs.Lists.{any_of_kept}
 use Rattle.misp_lists.proofs.Ordering.{any_put}
-use Rattle.misp_outside.specs.Held.{comes_before, put_raw, put_rows, rows_of, same_raw}
+use Rattle.misp_outside.specs.Held.{comes_before, put_raw, put_rows, same_raw}
 use Rattle.misp_outside.specs.declared.row.RawRow.{RawRow}
 use Rattle.misp_model.proofs.NameOrder.{same_in_bytes}
-use Rattle.misp_model.proofs.Prelude.{AreRows, EventId, IsRow, Row, and_parts, event_of, list_any, name_bytes, put_all, put_row, same_event, same_key, same_org, stands_before}
+use Rattle.misp_model.proofs.Prelude.{AreRows, IsRow, Row, and_parts, event_of, list_any, name_bytes, put_all, put_row, same_key, same_org, stands_before}
 use Rattle.misp_model.specs.Machine.{event_number}
 use Rattle.misp_store.specs.Raw.{onto, raw_row, row_in, rows_in}
 use Rattle.misp_store.proofs.HeldRows.{rows_again, rows_filtered}
@@ -35,10 +35,8 @@ one_more false raw raws s rows is are = are
 
 -- ---- a row is put
 
-module _ (e : EventId) (r : Row) (is : IsRow r) (of_e : same_event (event_of r.key) e ≡ true) where
-  abbrev within : RawRow → Bool
-  within raw = raw.event.0.0 == e.0.0
-
+-- rows that are held so are read, and this one is held so
+module _ (within : RawRow → Bool) (r : Row) (is : IsRow r) (there : within (raw_row r) ≡ true) where
   abbrev pub other_raw : RawRow → Bool
   other_raw raw = not (same_raw raw (raw_row r))
 
@@ -82,17 +80,13 @@ module _ (e : EventId) (r : Row) (is : IsRow r) (of_e : same_event (event_of r.k
   swap : (a b c : Bool) → (a || (b || c)) ≡ (b || (a || c))
   swap a b c = grind arith
 
-  within_own : within (raw_row r) ≡ true
-  unfolding raw_row same_event
-  within_own = of_e
-
   pub put_read : (raws : List RawRow) (rows : List Row) → rows_in (filter within raws) ≡ Ok rows
       → (more : List Row) × (rows_in (filter within (put comes_before (raw_row r) raws)) ≡ Ok more) × IsPut rows more × (AreRows rows → AreRows more)
   unfolding put rows_in
   put_read [] rows h = one rows h
     where
       one : (rows : List Row) → ◌≡◌ {A = Result (List Row) (List ℕ)} (Ok []) (Ok rows) → (more : List Row) × (rows_in (filter within (raw_row r ∷ [])) ≡ Ok more) × IsPut rows more × (AreRows rows → AreRows more)
-      one [] h = (r ∷ [], rw within_own (one_more true (raw_row r) [] r [] (row_there r is) refl), λ q. refl, λ are. (is, tt))
+      one [] h = (r ∷ [], rw there (one_more true (raw_row r) [] r [] (row_there r is) refl), λ q. refl, λ are. (is, tt))
       one (s ∷ rows) h = absurd cc
   put_read (raw ∷ raws) rows h = one (put_read raws) (comes_before (raw_row r) raw)
     where
@@ -100,7 +94,7 @@ module _ (e : EventId) (r : Row) (is : IsRow r) (of_e : same_event (event_of r.k
       Again = (rows : List Row) → rows_in (filter within raws) ≡ Ok rows → (more : List Row) × (rows_in (filter within (put comes_before (raw_row r) raws)) ≡ Ok more) × IsPut rows more × (AreRows rows → AreRows more)
 
       first : (more : List Row) × (rows_in (filter within (raw_row r ∷ raw ∷ raws)) ≡ Ok more) × IsPut rows more × (AreRows rows → AreRows more)
-      first = (r ∷ rows, rw within_own (one_more true (raw_row r) (filter within (raw ∷ raws)) r rows (row_there r is) h), λ q. refl, λ are. (is, are))
+      first = (r ∷ rows, rw there (one_more true (raw_row r) (filter within (raw ∷ raws)) r rows (row_there r is) h), λ q. refl, λ are. (is, are))
 
       later : Again → (b : Bool) → within raw ≡ b → rows_in (cond b (raw ∷ filter within raws) (filter within raws)) ≡ Ok rows
           → (more : List Row) × (rows_in (cond b (raw ∷ filter within (put comes_before (raw_row r) raws)) (filter within (put comes_before (raw_row r) raws))) ≡ Ok more) × IsPut rows more × (AreRows rows → AreRows more)
@@ -124,30 +118,30 @@ module _ (e : EventId) (r : Row) (is : IsRow r) (of_e : same_event (event_of r.k
 abbrev pub Alike : List Row → List Row → Type 0
 Alike xs ys = (q : Row → Bool) → list_any q xs ≡ list_any q ys
 
--- the rows of the event are read, are rows, and tests find the same in them
-abbrev pub ReadAlike : EventId → List RawRow → List Row → Type 0
-ReadAlike e raws ys = (more : List Row) × (rows_in (rows_of e raws) ≡ Ok more) × AreRows more × Alike more ys
+-- the rows that are held so are read, are rows, and tests find the same in them
+abbrev pub ReadAlike : (RawRow → Bool) → List RawRow → List Row → Type 0
+ReadAlike within raws ys = (more : List Row) × (rows_in (filter within raws) ≡ Ok more) × AreRows more × Alike more ys
 
 -- of rows two tests that agree on rows leave the same
 left_same : (f g : Row → Bool) → ((s : Row) → IsRow s → f s ≡ g s) → (rows : List Row) → AreRows rows → filter f rows ≡ filter g rows
 left_same f g h [] are = refl
 left_same f g h (s ∷ rows) are = λ i. cond (h s are.0 i) (s ∷ left_same f g h rows are.1 i) (left_same f g h rows are.1 i)
 
-module _ (e : EventId) (r : Row) (is : IsRow r) (of_e : same_event (event_of r.key) e ≡ true) where
+module _ (within : RawRow → Bool) (r : Row) (is : IsRow r) (there : within (raw_row r) ≡ true) where
   -- of another owner or key
   abbrev other_cell : Row → Bool
   other_cell s = not (same_org s.owner r.owner && same_key s.key r.key)
 
-  others_same : (rows : List Row) → AreRows rows → filter (other_row e r is of_e) rows ≡ filter other_cell rows
-  others_same rows are = left_same (other_row e r is of_e) other_cell (λ s s_is. ap not (sym (same_in_bytes s r s_is is))) rows are
+  others_same : (rows : List Row) → AreRows rows → filter (other_row within r is there) rows ≡ filter other_cell rows
+  others_same rows are = left_same (other_row within r is there) other_cell (λ s s_is. ap not (sym (same_in_bytes s r s_is is))) rows are
 
-  row_read_alike : (raws : List RawRow) (xs ys : List Row) → rows_in (rows_of e raws) ≡ Ok xs → AreRows xs → Alike xs ys → ReadAlike e (put_raw (raw_row r) raws) (put_row r ys)
-  unfolding rows_of put_raw put_row
+  row_read_alike : (raws : List RawRow) (xs ys : List Row) → rows_in (filter within raws) ≡ Ok xs → AreRows xs → Alike xs ys → ReadAlike within (put_raw (raw_row r) raws) (put_row r ys)
+  unfolding put_raw put_row
   row_read_alike raws xs ys read are alike =
-      let k = put_read e r is of_e (filter (other_raw e r is of_e) raws) (filter (other_row e r is of_e) xs) (others_read e r is of_e raws xs read) in (
+      let k = put_read within r is there (filter (other_raw within r is there) raws) (filter (other_row within r is there) xs) (others_read within r is there raws xs read) in (
         k.0,
         k.1,
-        k.3 (rows_filtered (other_row e r is of_e) xs are),
+        k.3 (rows_filtered (other_row within r is there) xs are),
         λ q.
             k.2 q
             ∙ ap (λ rows. q r || list_any q rows) (others_same xs are)
@@ -156,11 +150,11 @@ module _ (e : EventId) (r : Row) (is : IsRow r) (of_e : same_event (event_of r.k
       )
 
 -- the same of all that are put
-pub rows_read_alike : (e : EventId) (rs : List Row) → AreRows rs → list_all (λ row. same_event (event_of row.key) e) rs ≡ true → (raws : List RawRow) (xs ys : List Row)
-    → rows_in (rows_of e raws) ≡ Ok xs → AreRows xs → Alike xs ys → ReadAlike e (put_rows (map raw_row rs) raws) (put_all rs ys)
+pub rows_read_alike : (within : RawRow → Bool) (rs : List Row) → AreRows rs → list_all (λ row. within (raw_row row)) rs ≡ true → (raws : List RawRow) (xs ys : List Row)
+    → rows_in (filter within raws) ≡ Ok xs → AreRows xs → Alike xs ys → ReadAlike within (put_rows (map raw_row rs) raws) (put_all rs ys)
 unfolding put_rows put_all
-rows_read_alike e [] of_rs of_e raws xs ys read are alike = (xs, read, are, alike)
-rows_read_alike e (r ∷ rs) of_rs of_e raws xs ys read are alike =
-    let both = and_parts (same_event (event_of r.key) e) (list_all (λ row. same_event (event_of row.key) e) rs) of_e in
-    let one = row_read_alike e r of_rs.0 both.0 raws xs ys read are alike in
-    rows_read_alike e rs of_rs.1 both.1 (put_raw (raw_row r) raws) one.0 (put_row r ys) one.1 one.2 one.3
+rows_read_alike within [] of_rs there raws xs ys read are alike = (xs, read, are, alike)
+rows_read_alike within (r ∷ rs) of_rs there raws xs ys read are alike =
+    let both = and_parts (within (raw_row r)) (list_all (λ row. within (raw_row row)) rs) there in
+    let one = row_read_alike within r of_rs.0 both.0 raws xs ys read are alike in
+    rows_read_alike within rs of_rs.1 both.1 (put_raw (raw_row r) raws) one.0 (put_row r ys) one.1 one.2 one.3

@@ -1,6 +1,8 @@
 pub mod Administering
 pub mod Ahead
 pub mod Answers
+pub mod Caches
+pub mod Callers
 pub mod Changing
 pub mod Effects
 pub mod EventList
@@ -18,5 +20,7 @@ pub mod Sending
 pub mod Sharing
 pub mod Sound
 pub mod Standing
+pub mod Synced
 pub mod Taking
 pub mod Text
+pub mod Wanting

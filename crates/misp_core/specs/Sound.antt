@@ -1,5 +1,5 @@
 -- Replies that are read back from their texts.
-use Rattle.std.specs.Prelude.{◌≡◌, ◌^◌, ◌-◌, true, List}
+use Rattle.std.specs.Prelude.{◌≡◌, ◌^◌, ◌-◌, Bool, true, List}
 use Rattle.std.specs.List.{AllByRecursion}
 use Rattle.std.specs.List.Sorted.{IsStrictlySortedBy}
 use Rattle.std.specs.Str.{is_utf8}
@@ -7,11 +7,18 @@ use Rattle.misp_ids.specs.Uid.{IsUid}
 use Rattle.misp_lists.specs.Prelude.{Ordering, nat_cmp}
 use Rattle.misp_elem.specs.Fields.{IsBetween}
 use Rattle.misp_groups.specs.Group.{IsGroup}
+use Rattle.misp_model.specs.Machine.{pulls}
 use Rattle.misp_model.specs.Package.{IsPackage}
+use Rattle.misp_model.specs.declared.ask.Ask.{Ask}
 use Rattle.misp_wanted.specs.Manifests.{IsManifest}
 use Rattle.misp_core.specs.declared.reply.Answer.{Answer}
 use Rattle.misp_core.specs.declared.reply.EventParts.{EventParts}
 use Rattle.misp_core.specs.declared.reply.Reply.{Reply}
+
+-- whether it is what a synchronisation asks: what a pull asks, or that a package is taken
+abbrev pub syncs : Ask → Bool
+syncs (Ask.TakePart p) = true
+syncs ask = pulls ask
 
 -- by the number that the identifier of the event is
 abbrev pub by_event : EventParts → EventParts → Ordering

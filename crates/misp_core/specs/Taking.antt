@@ -1,5 +1,5 @@
 -- What arrives by a synchronisation, and what of it an instance takes.
-use Rattle.std.specs.Prelude.{◌≡◌, List, [], ◌∷◌, ◌++◌, Ok, Option, cond, map, true, IfOk}
+use Rattle.std.specs.Prelude.{◌≡◌, List, [], ◌∷◌, ◌++◌, Option, cond, map, true}
 use Rattle.std.specs.Option.{option_or}
 use Rattle.misp_outside.specs.Held.{with_batch}
 use Rattle.misp_groups.specs.Changes.{take_group, takes_group}
@@ -7,24 +7,9 @@ use Rattle.misp_groups.specs.Prelude.{GroupId, IsStrictlySortedBy, by_name, know
 use Rattle.misp_model.specs.declared.package.PackageFields.{PackageFields as Package}
 use Rattle.misp_history.specs.Merging.{handed, rows_taken}
 use Rattle.misp_effects.specs.Batches.{batch}
-use Rattle.misp_store.specs.declared.reach.Reach.{Reach}
-use Rattle.misp_package.specs.Landing.{IsLanding}
-use Rattle.misp_package.specs.declared.landing.Landing.{Landing}
-use Rattle.misp_core.specs.Prelude.{EventId, Group, Held, Inst, OrgId, Row, groups_of, seen_in, spelled}
+use Rattle.misp_core.specs.Prelude.{Group, Held, Inst, OrgId, Row, groups_of, spelled}
 
 -- ---- packages
-
--- where every row of the event decodes, it is the landing of all of them, whosever they are
-abbrev pub IsLandingAt : Landing → Inst → OrgId → EventId → Held → Type 0
-IsLandingAt landing here owner event held =
-    IfOk ((seen_in held).rows (Reach.Event event)) (IsLanding landing here owner event)
-
--- the owner's own rows of the event all decode, and it is the landing of these
-pub record IsLandingOf (landing : Landing) (here : Inst) (owner : OrgId) (event : EventId)
-    (held : Held) : Type 0 where
-  pub rows : List Row
-  pub read : (seen_in held).rows (Reach.Own owner event) ≡ Ok rows
-  pub is : IsLanding landing here owner event rows
 
 -- the rows of a package as they are handed in for an owner
 abbrev pub handed_rows : OrgId → Package → List Row

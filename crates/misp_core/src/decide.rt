@@ -3,7 +3,7 @@
 ghost use Rattle.std.specs.Prelude.{◌≡◌, List, IfOk, OnOk, false, true};
 ghost use Rattle.misp_elem.specs.declared.row.RowFields.{RowFields};
 ghost use Rattle.misp_model.specs.View.{IsTable};
-ghost use Rattle.misp_model.specs.Machine.{pulls, seeing};
+ghost use Rattle.misp_model.specs.Machine.{seeing};
 ghost use Rattle.misp_model.specs.declared.ask.Ask.TheVariants.{View};
 ghost use Rattle.misp_model.specs.declared.ask.Ask.TheVariants as asks;
 ghost use Rattle.misp_core.specs.Ahead.{StaysOrIsPacked};
@@ -11,7 +11,7 @@ ghost use Rattle.misp_core.specs.Answers.{IsBuilt, named_event};
 ghost use Rattle.misp_core.specs.Handing.{ChangesNone, IsOwn, scene_in, scene_for, pull_scene, knowing};
 ghost use Rattle.misp_core.specs.KeptLanding.{StaysOrLands};
 ghost use Rattle.misp_core.specs.Effects.{asked, by_keeper};
-ghost use Rattle.misp_core.specs.Sound.{IsSoundAnswer};
+ghost use Rattle.misp_core.specs.Sound.{IsSoundAnswer, syncs};
 ghost use Rattle.misp_core.specs.Planning.{Plans, stop_planned};
 
 use crate::ahead::Ahead;
@@ -139,7 +139,7 @@ fn plan_own(alloc: Global, site: &Site<'_>, ask: &Ask, rows: Vec<Row>) -> Result
     requires own { IsOwn ask.now }
     ensures plan { IsTable rows.items → Plans result (asked site.now.admin.now
         (seeing (scene_in site.now) rows.items) ask.now) }
-    ensures pulls { pulls ask.now ≡ false }
+    ensures apart { syncs ask.now ≡ false }
     ensures no_fault { stop_planned result ≡ by_keeper → ⊥ }
 {
     match ask {
@@ -179,7 +179,7 @@ fn plan_unchanged(
         ask.now kept.old kept.new }
     ensures landed { StaysOrLands site.now.here.now site.now.caller.now.org rows.items
         ask.now landed.old landed.new }
-    ensures sound { pulls ask.now ≡ true → IfOk result (λ plan. IsSoundAnswer plan.answer) }
+    ensures sound { syncs ask.now ≡ true → IfOk result (λ plan. IsSoundAnswer plan.answer) }
     ensures no_fault { stop_planned result ≡ by_keeper → ⊥ }
 {
     match ask {
@@ -213,7 +213,7 @@ pub(crate) fn plan_request(
         ask kept.old kept.new }
     ensures landed { StaysOrLands site.now.here.now site.now.caller.now.org rows.items
         ask landed.old landed.new }
-    ensures sound { pulls ask ≡ true → IfOk result (λ plan. IsSoundAnswer plan.answer) }
+    ensures sound { syncs ask ≡ true → IfOk result (λ plan. IsSoundAnswer plan.answer) }
     ensures no_fault { stop_planned result ≡ by_keeper → ⊥ }
 {
     match ask {

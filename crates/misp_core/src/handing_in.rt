@@ -14,6 +14,7 @@ ghost use Rattle.misp_core.specs.HandedGroups.{group_batches, groups_handed};
 ghost use Rattle.misp_core.specs.Handing.{scene_in};
 ghost use Rattle.misp_core.specs.KeptLanding.{IsLandingFor, PlansBy, StaysOrLands};
 ghost use Rattle.misp_core.specs.Planning.{Plans, batches_of, rows_put, stop_planned};
+ghost use Rattle.misp_core.specs.Sound.{IsSoundAnswer};
 ghost use Rattle.misp_core.specs.Taking.{package_taken};
 
 use crate::answering::forbidden;
@@ -72,6 +73,7 @@ fn plan_landed(
         IsLanding landing.now site.now.here.now site.now.caller.now.org coming.now.event rows →
         Plans result (asked site.now.admin.now
         (seeing (scene_in site.now) rows) (TakePart coming.now)) }
+    ensures sound { IfOk result (λ plan. IsSoundAnswer plan.answer) }
     ensures no_fault { stop_planned result ≡ by_keeper → ⊥ }
 {
     let rows = rows_taken(alloc, site, landing, coming)?;
@@ -91,6 +93,7 @@ pub(crate) fn plan_package(
         (seeing (scene_in site.now) rows.items) (TakePart coming.now)) }
     ensures kept { StaysOrLands site.now.here.now site.now.caller.now.org rows.items
         (TakePart coming.now) kept.old kept.new }
+    ensures sound { IfOk result (λ plan. IsSoundAnswer plan.answer) }
 {
     let owner = asker(site.caller);
     let event = coming.get().event;
@@ -124,6 +127,7 @@ pub(crate) fn plan_kept(
     requires { IsSomeAnd kept.now (IsLandingFor site.now.caller.now.org ask.now) }
     ensures plans { IsSomeAnd kept.now
         (PlansBy site.now.admin.now (scene_in site.now) ask.now result) }
+    ensures sound { IfOk result (λ plan. IsSoundAnswer plan.answer) }
     ensures no_fault { stop_planned result ≡ by_keeper → ⊥ }
 {
     let Ask::TakePart(coming) = ask else {
@@ -151,7 +155,8 @@ pub(crate) fn plan_groups(
     caller: &Caller,
     coming: Vec<Group>,
 ) -> Result<Plan, NoPlan>
-    ensures { Plans result (groups_handed caller.now coming.items groups.now) }
+    ensures plans { Plans result (groups_handed caller.now coming.items groups.now) }
+    ensures sound { IfOk result (λ plan. IsSoundAnswer plan.answer) }
 {
     if !may(caller.role, Perm::Sync) {
         return Err(forbidden(alloc, Perm::Sync));

@@ -1,6 +1,6 @@
 //! An instance over a keeper.
 
-ghost use Rattle.std.specs.Prelude.{◌≡◌, ◌≤◌, false, true, Err, filter, length, List, IfOk, IfErr, IfSome, OnOk, OnErr, IsOk, Ok, option_map};
+ghost use Rattle.std.specs.Prelude.{◌≡◌, ◌≤◌, ℕ, false, true, Err, None, Some, filter, length, List, IfOk, IfErr, IfSome, OnOk, OnErr, IsOk, Ok, option_map};
 ghost use Rattle.std.specs.List.{AllByRecursion};
 ghost use Rattle.misp_outside.specs.Causes.{HasCause, StaysUnless};
 ghost use Rattle.misp_outside.specs.Held.{with_batch};
@@ -11,25 +11,24 @@ ghost use Rattle.misp_store.specs.Seen.{seen_in};
 ghost use Rattle.misp_core.specs.Answers.{IsBuilt};
 ghost use Rattle.misp_core.specs.Standing.{standing, host_of};
 ghost use Rattle.misp_store.specs.Loading.{NamesFault};
-ghost use Rattle.misp_model.specs.Machine.{pulls};
 ghost use Rattle.misp_model.specs.Package.{IsPackage};
 ghost use Rattle.misp_model.specs.Permission.{is_permitted, forbidden, no_permission};
 ghost use Rattle.misp_core.specs.Effects.{requested, by_keeper};
 ghost use Rattle.misp_core.specs.Planning.{Plans, IsPlanned, batch_of, stop_planned, IsBarred};
 ghost use Rattle.misp_core.specs.Administering.{administered};
 ghost use Rattle.misp_core.specs.HandedGroups.{groups_handed};
+ghost use Rattle.misp_ids.specs.Uid.{IsUid};
+ghost use Rattle.misp_orgs.specs.Keys.{CallerFields};
 ghost use Rattle.misp_orgs.specs.Roles.{permits};
 ghost use Rattle.misp_orgs.specs.declared.role.Perm.{Perm};
 ghost use Rattle.misp_core.specs.Pulling.{carries_to};
 ghost use Rattle.misp_core.specs.Sending.{packages_pushed};
-ghost use Rattle.misp_core.specs.Sound.{IsSoundAnswer};
-ghost use Rattle.misp_core.specs.Taking.{IsLandingAt, IsLandingOf, groups_taken, handed_rows, package_taken, with_groups_taken, with_package};
-ghost use Rattle.misp_ids.specs.declared.uid.OrgId.{OrgId as Owner};
+ghost use Rattle.misp_core.specs.Sound.{IsSoundAnswer, syncs};
+ghost use Rattle.misp_core.specs.Taking.{groups_taken, with_groups_taken};
+ghost use Rattle.misp_core.specs.Wanting.{IsSomeWanted, TakesOf, WantsOf};
 ghost use Rattle.misp_elem.specs.declared.row.RowFields.{RowFields};
 ghost use Rattle.misp_groups.specs.Changes.{take_groups};
 ghost use Rattle.misp_groups.specs.Group.{IsGroup};
-ghost use Rattle.misp_history.specs.Merging.{merged};
-ghost use Rattle.misp_package.specs.Landing.{IsLanding};
 ghost use Rattle.misp_store.specs.declared.reach.Reach.TheVariants as reach;
 ghost use Rattle.misp_store.specs.declared.fault.LoadFault.TheVariants as faults;
 ghost use Rattle.misp_orgs.specs.Admin.{who_of, link_of};
@@ -37,6 +36,7 @@ ghost use Rattle.misp_orgs.specs.Admin.{who_of, link_of};
 use crate::administering::plan_group;
 use crate::ahead::Ahead;
 use crate::answering::forbidden;
+use crate::callers::keys_are_owned;
 use crate::handing_in::plan_groups;
 use crate::kept_landing::settle_beside;
 use crate::opening::load_whole;
@@ -45,10 +45,14 @@ use crate::pulling::carrying;
 use crate::pushing::{load_outgoing, via_from};
 use crate::reading::plan_permitted;
 use crate::site::Site;
-use crate::taking::{Landed, load_landing, take_package};
+use crate::synced::OwnRows;
+use crate::taking::take_part;
 use crate::taking_groups::take_groups;
+use crate::wanting::wanted_keys;
+use misp_elem::Key;
 use misp_groups::{Group, Groups};
 use misp_ids::{ApiKey, EventId, InstId, NoMemory, OrgId, Stamp, Way};
+use misp_manifest::KeyStamp;
 use misp_model::{Ask, Package, permission_for};
 use misp_orgs::{Admin, Caller, Link, may};
 use misp_outside::{Keeper, KeeperFault};
@@ -58,9 +62,9 @@ use std::alloc::Global;
 use std::marker::Model;
 
 /// An instance, seen as its name, its administration, what its keeper holds, and the count of the
-/// keeper's faults. It keeps the groups beside, as they stand among the rows of the administration,
-/// what is packed of the event that a partner asked for last, and what the caller has of the event
-/// of which it handed in a package last.
+/// keeper's faults. It caches the groups, as they are among the rows of the administration, what is
+/// packed of the event that a partner asked for last, what the caller has of the event of which it
+/// handed in a package last, and the own rows of the owner and event that were synchronised last.
 #[derive(Drop)]
 pub struct Instance<K: Keeper> {
     name: InstId,
@@ -69,6 +73,7 @@ pub struct Instance<K: Keeper> {
     keeper: K,
     ahead: Option<Ahead>,
     landed: Option<Landing>,
+    synced: Option<OwnRows>,
 }
 
 impl<K: Keeper> Model for Instance<K> {
@@ -83,10 +88,10 @@ impl<K: Keeper> Model for Instance<K> {
       faults = (K.state a.keeper).faults;
     } };
 
-    ghost use Rattle.misp_core.specs.Ahead.{IsBeside};
+    ghost use Rattle.misp_core.specs.Caches.{AreCached};
 
-    ghost invariant = { λ a. IsBeside (record { name = a.name; admin = a.admin })
-        (K.state a.keeper).held a.groups a.ahead a.landed };
+    ghost invariant = { λ a. AreCached (record { name = a.name; admin = a.admin })
+        (K.state a.keeper).held a.groups a.ahead a.landed a.synced };
 }
 
 impl<K: Keeper> Instance<K> {
@@ -126,6 +131,7 @@ impl<K: Keeper> Instance<K> {
                 keeper,
                 ahead: None,
                 landed: None,
+                synced: None,
             }),
             Err(fault) => Err((fault, keeper)),
         }
@@ -160,6 +166,15 @@ impl<K: Keeper> Instance<K> {
         let _groups = &self.groups;
     }
 
+    /// Shows what holds of every instance: each of its keys is of an organisation.
+    #[tactic(auto, using(crate::proofs::Owners::owner_of))]
+    pub fn has_owners(&self)
+        ensures { (key : List ℕ) (caller : CallerFields) →
+            who_of self.now.admin key ≡ Some caller → IsUid caller.org.0 }
+    {
+        keys_are_owned(self.admin.keys.as_slice());
+    }
+
     /// Plans what a request of this moment comes to. Nothing is put.
     pub fn plan(
         &mut self,
@@ -178,8 +193,8 @@ impl<K: Keeper> Instance<K> {
         ensures forbidden { is_permitted caller.now ask ≡ false →
             IsBarred (forbidden ask) self.old self.new result }
 
-        // What a pull is answered can be read back from its text.
-        ensures sound { pulls ask ≡ true → IfOk result (λ plan. IsSoundAnswer plan.answer) }
+        // What a synchronisation is answered can be read back from its text.
+        ensures sound { syncs ask ≡ true → IfOk result (λ plan. IsSoundAnswer plan.answer) }
 
         // What is held stays.
         ensures held { self.new.held ≡ self.old.held }
@@ -244,6 +259,7 @@ impl<K: Keeper> Instance<K> {
         // What the role of the caller forbids is refused just so.
         ensures forbidden { permits caller.now.role Perm.Sync ≡ false →
             IsBarred (no_permission Perm.Sync) self.now self.now result }
+        ensures sound { IfOk result (λ plan. IsSoundAnswer plan.answer) }
         ensures no_fault { stop_planned result ≡ by_keeper → ⊥ }
     {
         plan_groups(alloc, &self.groups, caller, coming)
@@ -263,6 +279,7 @@ impl<K: Keeper> Instance<K> {
         ensures admin { self.new.admin ≡ self.old.admin }
     {
         self.ahead = None; // It is packed of what was held.
+        self.synced = None; // These were held before the batch.
         settle_beside(
             &mut self.keeper,
             &mut self.groups,
@@ -272,23 +289,24 @@ impl<K: Keeper> Instance<K> {
         )
     }
 
-    /// What an organisation has of an event here, as far as it decides what is taken of packages.
-    /// Its own rows of the event are read once.
-    pub fn landing(
+    /// The keys of a package of an event of which an organisation wants the rows, in their order. Its
+    /// own rows of the event are kept for the packages that follow.
+    pub fn wanted(
         &mut self,
         alloc: Global,
         owner: &OrgId,
         event: &EventId,
-    ) -> Result<Landing, LoadFault>
-        // Where all rows of the event decode, it is the landing of all of them.
-        ensures landing { IfOk result (λ landing. IfSome self.old.held
-            (IsLandingAt landing self.old.name owner.now event.now)) }
+        keys: &[KeyStamp],
+    ) -> Result<Vec<Key>, LoadFault>
+        // They are wanted over its own rows of the event, which all decode.
+        ensures found { IfOk result (λ wanted. IfSome self.old.held
+            (WantsOf self.old.name owner.now event.now keys.now wanted.items)) }
 
-        // All rows that are read decode, and it is the landing of these.
-        ensures own { IfOk result (λ landing. IfSome self.old.held
-            (IsLandingOf landing self.old.name owner.now event.now)) }
+        // Whatever the keeper reports, they are wanted over some rows.
+        ensures some { IfOk result (λ wanted.
+            IsSomeWanted self.old.name owner.now event.now keys.now wanted.items) }
 
-        // Of the rows that are read, it names the first that does not decode.
+        // Of these rows, it names the first that does not decode.
         ensures bad { IfErr result (λ fault. IfSome self.old.held (λ held.
             NamesFault ((seen_in held).rows (reach.Own owner.now event.now)) fault)) }
         ensures held { self.new.held ≡ self.old.held }
@@ -299,47 +317,56 @@ impl<K: Keeper> Instance<K> {
         ensures name { self.new.name ≡ self.old.name }
         ensures admin { self.new.admin ≡ self.old.admin }
     {
-        load_landing(&mut self.keeper, alloc, owner, event, &self.name)
+        wanted_keys(
+            &mut self.keeper,
+            &mut self.synced,
+            alloc,
+            owner,
+            event,
+            &self.name,
+            keys,
+        )
     }
 
-    /// Takes what is new of a package to the owner of the landing, in one batch. All memory is taken
-    /// before it is put. The landing comes back with what is taken, and not at all after a fault,
-    /// since it may be ahead of what is held then.
-    pub fn take_package(
+    /// Takes what is new of a package to an organisation, in one batch, or in none where nothing
+    /// is. All memory is taken before it is put. What it has of the event is kept for the packages that
+    /// follow.
+    pub fn take_part(
         &mut self,
         alloc: Global,
-        landing: Landing,
+        owner: &OrgId,
         coming: &Package,
-    ) -> Result<Landed, KeeperFault>
-        // Over any rows of which it is the landing, those of the package are taken that are new.
-        ensures count { IfOk result (λ landed. IfSome self.old.held (λ held.
-            (w : Owner) (rows : List RowFields) →
-            IsLanding landing self.old.name w coming.now.event rows → landed.rows
-            ≡ length (package_taken self.old.name rows (groups_of held) w coming.now))) }
-        ensures put { OnOk result ((w : Owner) (rows : List RowFields) →
-            IsLanding landing self.old.name w coming.now.event rows → self.new.held
-            ≡ option_map (with_package self.old.name rows w coming.now) self.old.held) }
+    ) -> Result<u64, LoadFault>
+        // So many rows are taken over its own rows of the event, which all decode.
+        ensures taken { IfOk result (λ count. IfSome self.old.held
+            (TakesOf self.old.name owner.now coming.now count self.new.held)) }
 
-        // What comes back is the landing of these rows with those that are taken.
-        ensures landing { IfOk result (λ landed. IfSome self.old.held (λ held.
-            (w : Owner) (rows : List RowFields) →
-            IsLanding landing self.old.name w coming.now.event rows →
-            IsLanding landed.landing self.old.name w coming.now.event
-            (merged self.old.name rows (groups_of held) (handed_rows w coming.now)))) }
+        // Of these rows, it names the first that does not decode.
+        ensures bad { IfErr result (λ fault. IfSome self.old.held (λ held.
+            NamesFault ((seen_in held).rows (reach.Own owner.now coming.now.event)) fault)) }
 
-        // Where nothing is taken no keeper is asked.
-        ensures none { IfOk result (λ landed. landed.rows ≡ 0 → self.new ≡ self.old) }
+        // A keeper that reports nothing reports nothing then.
+        ensures silent { self.old.held ≡ None → self.new.held ≡ None }
+        ensures none { result ≡ Ok 0 → self.new.held ≡ self.old.held }
         ensures err { OnErr result (self.new.held ≡ self.old.held) }
         ensures cause { HasCause self.old.faults self.new.faults
-            (result ≡ Err KeeperFault.Failed) }
+            (result ≡ Err faults.KeeperFault) }
         ensures stays { StaysUnless self.old.faults self.new.faults
-            (result ≡ Err KeeperFault.Failed) }
+            (result ≡ Err faults.KeeperFault) }
         ensures name { self.new.name ≡ self.old.name }
         ensures admin { self.new.admin ≡ self.old.admin }
     {
         self.ahead = None;
         self.landed = None;
-        take_package(&mut self.keeper, &mut self.groups, alloc, landing, coming)
+        take_part(
+            &mut self.keeper,
+            &mut self.groups,
+            &mut self.synced,
+            alloc,
+            owner,
+            &self.name,
+            coming,
+        )
     }
 
     /// Takes what is new of groups that come by a synchronisation, in one batch, or in none where
@@ -368,6 +395,7 @@ impl<K: Keeper> Instance<K> {
     {
         self.ahead = None;
         self.landed = None;
+        self.synced = None;
         take_groups(&mut self.keeper, &mut self.groups, alloc, coming)
     }
 

@@ -63,8 +63,8 @@ fn are_of(rows: &[Row], event: &EventId) -> bool
     rows.iter().all(|row| is_of(row, event))
 }
 
-// What the owner has once these rows are put: where all are of the event, and memory suffices.
-fn going_on(kept: Option<Landing>, rows: &[Row]) -> Option<Landing>
+/// What the owner has once these rows are put: where all are of the event, and memory suffices.
+pub(crate) fn going_on(kept: Option<Landing>, rows: &[Row]) -> Option<Landing>
     ensures { IfSome result (λ new. IsSomeAnd kept (λ old. GoesOn rows.now old new)) }
 {
     let Some(mut landing) = kept else {

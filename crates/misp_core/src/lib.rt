@@ -6,6 +6,7 @@ mod administering;
 mod ahead;
 mod answering;
 mod by_event;
+mod callers;
 mod changing;
 mod decide;
 mod handing_in;
@@ -25,8 +26,10 @@ mod settling;
 mod sharing;
 mod site;
 mod stating;
+mod synced;
 mod taking;
 mod taking_groups;
+mod wanting;
 
 pub use instance::Instance;
 pub use laws::{
@@ -38,4 +41,3 @@ pub use misp_store::LoadFault;
 pub use planning::{Batch, NoPlan, Plan};
 pub use reply::{Answer, EventParts, Reply};
 pub use sharing::groups_are_shared_by_the_history;
-pub use taking::Landed;

@@ -2,7 +2,6 @@
 
 ghost use Rattle.std.specs.Prelude.{◌≡◌, true, Ok, Err, Some, IfOk, IfErr, IfSome};
 ghost use Rattle.misp_outside.specs.Causes.{HasCause, StaysUnless};
-ghost use Rattle.misp_model.specs.Machine.{pulls};
 ghost use Rattle.misp_model.specs.Permission.{is_permitted};
 ghost use Rattle.misp_model.specs.View.{IsTable};
 ghost use Rattle.misp_model.specs.Looking.{more_for_change, more_looks, over};
@@ -18,7 +17,7 @@ ghost use Rattle.misp_core.specs.Effects.{by_keeper, requested};
 ghost use Rattle.misp_core.specs.Handing.{host_at, scene_in};
 ghost use Rattle.misp_core.specs.Planning.{IsPlanned, stop_planned};
 ghost use Rattle.misp_core.specs.Reading.{rows_read};
-ghost use Rattle.misp_core.specs.Sound.{IsSoundAnswer};
+ghost use Rattle.misp_core.specs.Sound.{IsSoundAnswer, syncs};
 
 use crate::ahead::{Ahead, take_kept};
 use crate::answering::unread;
@@ -155,7 +154,7 @@ pub(crate) fn plan_permitted<K: Keeper>(
         site.now.groups.now ahead.old landed.old }
     ensures planned { IfSome (K.state keeper.old).held (λ held. IsPlanned result
         (requested (host_at site.now) site.now.moment (site.now.caller.now, ask) (seen_in held))) }
-    ensures sound { pulls ask ≡ true → IfOk result (λ plan. IsSoundAnswer plan.answer) }
+    ensures sound { syncs ask ≡ true → IfOk result (λ plan. IsSoundAnswer plan.answer) }
     ensures held { (K.state keeper.new).held ≡ (K.state keeper.old).held }
     ensures beside { IsBeside (host_at site.now) (K.state keeper.new).held
         site.now.groups.now ahead.new landed.new }

@@ -88,7 +88,7 @@ module _ {H Q R C : Type 0} (k : Conduct H Q R C) where
   share_then x xs last old mid new e s = record {
     fits = ((e.askable, e.sound), s.fits);
     askable = s.askable;
-    held = told_then old.held mid.held new.held _ _ _ (λ a b c is more. (b, is, more)) e.held s.held;
+    held = told_then old.held mid.held new.held _ _ _ (λ a b c is more. (b, is.0, is.1, more)) e.held s.held;
     trail = grows_then old.trail mid.trail new.trail _ _ _ (goes_on x xs last) e.trail s.trail;
     why = s.why;
     cause = cause_then _ _ _ _ e.cause.later s.cause;

@@ -114,7 +114,7 @@ module _ {HA HB Q R N C : Type 0} (memory : C) (ka : Conduct HA Q R C) (kb : Con
         → ByStates memory ka kb (Ask n Side.Source q more) s t new ending
     source_refused n q more cause s t ending fit is a b e = record {
       count = 1;
-      fits = ((fit, subst (IsAnswerBy ka.IsSound) (sym is) tt), tt);
+      fits = ((fit, subst (IsAnswerBy (λ r. ka.IsHeld s × ka.IsSound r)) (sym is) tt), tt);
       ends = subst (λ x. EndsIn ending (by_source n more s t x)) (sym is) (e, holds new s1 t1 source_is sink_is s t a b);
     }
 
@@ -123,7 +123,7 @@ module _ {HA HB Q R N C : Type 0} (memory : C) (ka : Conduct HA Q R C) (kb : Con
         → ByStates memory ka kb (Ask n Side.Sink q more) s t new ending
     sink_refused n q more cause s t ending fit is a b e = record {
       count = 1;
-      fits = ((fit, subst (IsAnswerBy kb.IsSound) (sym is) tt), tt);
+      fits = ((fit, subst (IsAnswerBy (λ r. kb.IsHeld t × kb.IsSound r)) (sym is) tt), tt);
       ends = subst (λ x. EndsIn ending (by_sink n more s t x)) (sym is) (e, holds new s1 t1 source_is sink_is s t a b);
     }
 
@@ -166,24 +166,24 @@ module _ {HA HB Q R N C : Type 0} (memory : C) (ka : Conduct HA Q R C) (kb : Con
     going (Ask n Side.Source q more) (r ∷ rs) last s t ending a b f e =
         let rest : Fitting (more r) rs last =
         record { source = f.source.1; sink = f.sink; source_last = f.source_last; sink_last = f.sink_last } in
-        let w = going (more r) rs last a.0 t ending a.2 b rest e in
+        let w = going (more r) rs last a.0 t ending a.3 b rest e in
         let P : Result (R × HA) C → Type 0 = λ x. EndsIn ending (gone ka kb w.count (by_source n more s t x)) in
         let F : Result (R × HA) C → Type 0 = λ x. Fits ka kb w.count (by_source n more s t x) in
         record {
           count = suc w.count;
-          fits = ((f.source.0.0, subst (IsAnswerBy ka.IsSound) (sym a.1) f.source.0.1), subst F (sym a.1) w.fits);
-          ends = subst P (sym a.1) w.ends;
+          fits = ((f.source.0.0, subst (IsAnswerBy (λ r. ka.IsHeld s × ka.IsSound r)) (sym a.2) (a.1, f.source.0.1)), subst F (sym a.2) w.fits);
+          ends = subst P (sym a.2) w.ends;
         }
     going (Ask n Side.Sink q more) (r ∷ rs) last s t ending a b f e =
         let rest : Fitting (more r) rs last =
         record { source = f.source; sink = f.sink.1; source_last = f.source_last; sink_last = f.sink_last } in
-        let w = going (more r) rs last s b.0 ending a b.2 rest e in
+        let w = going (more r) rs last s b.0 ending a b.3 rest e in
         let P : Result (R × HB) C → Type 0 = λ x. EndsIn ending (gone ka kb w.count (by_sink n more s t x)) in
         let F : Result (R × HB) C → Type 0 = λ x. Fits ka kb w.count (by_sink n more s t x) in
         record {
           count = suc w.count;
-          fits = ((f.sink.0.0, subst (IsAnswerBy kb.IsSound) (sym b.1) f.sink.0.1), subst F (sym b.1) w.fits);
-          ends = subst P (sym b.1) w.ends;
+          fits = ((f.sink.0.0, subst (IsAnswerBy (λ r. kb.IsHeld t × kb.IsSound r)) (sym b.2) (b.1, f.sink.0.1)), subst F (sym b.2) w.fits);
+          ends = subst P (sym b.2) w.ends;
         }
 
   pub by_states : (d : Dialogue Q R N C) (old new : PartyState HA × PartyState HB) (ending : Ending N C)

@@ -63,25 +63,25 @@ module _ {HA HB Q R N C B : Type 0} (ka : Conduct HA Q R C) (kb : Conduct HB Q R
 
   -- the source replies, and nothing is taken
   pub asked : (n : N) (q : Q) (more : R → Dialogue Q R N C) (reply : R) (s : HA) (t : HB) (all : List B) (why : Option C)
-      → ka.answer s q ≡ Ok (reply, s) → (ka.IsAskable q → ka.IsSound reply → Takes ka kb b (more reply) s t n all why)
+      → ka.answer s q ≡ Ok (reply, s) → (ka.IsAskable q → ka.IsHeld s → ka.IsSound reply → Takes ka kb b (more reply) s t n all why)
       → Takes ka kb b (Ask n Side.Source q more) s t n all why
   asked n q more reply s t all why is takes zero fit =
       asking n Side.Source q more s t all why (source_kept n more s t _ reply is) (λ next. inl (source_still n more s t _))
   asked n q more reply s t all why is takes (suc k) fit =
       let there : Fits ka kb k (course (more reply) s t) = subst (λ x. Fits ka kb k (by_source n more s t x)) is fit.1 in
-      let sound : ka.IsSound reply = subst (IsAnswerBy ka.IsSound) is fit.0.1 in
-      subst (λ x. At ka kb b s t n all why (gone ka kb k (by_source n more s t x))) (sym is) (takes fit.0.0 sound k there)
+      let sound : ka.IsHeld s × ka.IsSound reply = subst (IsAnswerBy (λ r. ka.IsHeld s × ka.IsSound r)) is fit.0.1 in
+      subst (λ x. At ka kb b s t n all why (gone ka kb k (by_source n more s t x))) (sym is) (takes fit.0.0 sound.0 sound.1 k there)
 
   -- the sink replies, and nothing is taken
   pub looked : (n : N) (q : Q) (more : R → Dialogue Q R N C) (reply : R) (s : HA) (t : HB) (all : List B) (why : Option C)
-      → kb.answer t q ≡ Ok (reply, t) → (kb.IsAskable q → kb.IsSound reply → Takes ka kb b (more reply) s t n all why)
+      → kb.answer t q ≡ Ok (reply, t) → (kb.IsAskable q → kb.IsHeld t → kb.IsSound reply → Takes ka kb b (more reply) s t n all why)
       → Takes ka kb b (Ask n Side.Sink q more) s t n all why
   looked n q more reply s t all why is takes zero fit =
       asking n Side.Sink q more s t all why (sink_still n more s t _) (λ next. inl (sink_to n more s t _ reply t is))
   looked n q more reply s t all why is takes (suc k) fit =
       let there : Fits ka kb k (course (more reply) s t) = subst (λ x. Fits ka kb k (by_sink n more s t x)) is fit.1 in
-      let sound : kb.IsSound reply = subst (IsAnswerBy kb.IsSound) is fit.0.1 in
-      subst (λ x. At ka kb b s t n all why (gone ka kb k (by_sink n more s t x))) (sym is) (takes fit.0.0 sound k there)
+      let sound : kb.IsHeld t × kb.IsSound reply = subst (IsAnswerBy (λ r. kb.IsHeld t × kb.IsSound r)) is fit.0.1 in
+      subst (λ x. At ka kb b s t n all why (gone ka kb k (by_sink n more s t x))) (sym is) (takes fit.0.0 sound.0 sound.1 k there)
 
   -- a party refuses, and that ends it
   pub source_refused : (n : N) (q : Q) (more : R → Dialogue Q R N C) (cause : C) (s : HA) (t : HB)
@@ -121,16 +121,16 @@ module _ {HA HB Q R N C B : Type 0} (ka : Conduct HA Q R C) (kb : Conduct HB Q R
   -- the sink takes a batch
   pub took : (n : N) (q : Q) (more : R → Dialogue Q R N C) (reply : R) (one : B) (s : HA) (t : HB) (all : List B) (why : Option C)
       → kb.answer t q ≡ Ok (reply, b.put one t) → (kb.IsAskable q → b.IsBatch one)
-      → (kb.IsAskable q → kb.IsSound reply → Takes ka kb b (more reply) s (b.put one t) (b.tally n one) all why)
+      → (kb.IsAskable q → kb.IsHeld t → kb.IsSound reply → Takes ka kb b (more reply) s (b.put one t) (b.tally n one) all why)
       → Takes ka kb b (Ask n Side.Sink q more) s t n (one ∷ all) why
   took n q more reply one s t all why is fits takes zero fit =
       asking n Side.Sink q more s t (one ∷ all) why (sink_still n more s t _)
       (λ next. inr (record { one = one; rest = all; later_is = refl; new_is = sink_to n more s t _ reply _ is; fits = fits next }))
   took n q more reply one s t all why is fits takes (suc k) fit =
       let there : Fits ka kb k (course (more reply) s (b.put one t)) = subst (λ x. Fits ka kb k (by_sink n more s t x)) is fit.1 in
-      let sound : kb.IsSound reply = subst (IsAnswerBy kb.IsSound) is fit.0.1 in
+      let sound : kb.IsHeld t × kb.IsSound reply = subst (IsAnswerBy (λ r. kb.IsHeld t × kb.IsSound r)) is fit.0.1 in
       subst (λ x. At ka kb b s t n (one ∷ all) why (gone ka kb k (by_sink n more s t x))) (sym is)
-      (behind s t one n all why _ (fits fit.0.0) (takes fit.0.0 sound k there))
+      (behind s t one n all why _ (fits fit.0.0) (takes fit.0.0 sound.0 sound.1 k there))
 
   -- ---- the whole
 

@@ -53,11 +53,13 @@ module _ {HA HB Q R N C : Type 0} (ka : Conduct HA Q R C) (kb : Conduct HB Q R C
   NextFits (Ask n Side.Source q more) = ka.IsAskable q
   NextFits (Ask n Side.Sink q more) = kb.IsAskable q
 
-  -- so is its stated reply
+  -- so is its stated reply, and what is held there
   abbrev pub ReplyFits : Dialogue Q R N C → HA → HB → Type 0
   ReplyFits (Over n why) s t = Unit {0}
-  ReplyFits (Ask n Side.Source q more) s t = IsAnswerBy ka.IsSound (ka.answer s q)
-  ReplyFits (Ask n Side.Sink q more) s t = IsAnswerBy kb.IsSound (kb.answer t q)
+  ReplyFits (Ask n Side.Source q more) s t =
+      IsAnswerBy (λ r. ka.IsHeld s × ka.IsSound r) (ka.answer s q)
+  ReplyFits (Ask n Side.Sink q more) s t =
+      IsAnswerBy (λ r. kb.IsHeld t × kb.IsSound r) (kb.answer t q)
 
   -- and so are as many from here on
   abbrev pub Fits : ℕ → Course HA HB Q R N C → Type 0

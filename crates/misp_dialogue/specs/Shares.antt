@@ -51,7 +51,8 @@ abbrev pub Keeps : {H Q R C : Type 0} → Conduct H Q R C → List (Exchange Q R
 Keeps k [] None old new = new ≡ old
 Keeps k [] (Some f) old new = IsReply k f.request (Err f.cause) old new
 Keeps k (x ∷ xs) last old new =
-    (mid : _) × (k.answer old x.request ≡ Ok (x.reply, mid)) × Keeps k xs last mid new
+    (mid : _) × k.IsHeld old × (k.answer old x.request ≡ Ok (x.reply, mid))
+    × Keeps k xs last mid new
 
 -- the bytes of each request went, and after them those of which its reply is read
 abbrev pub Goes : {H Q R C : Type 0} → Conduct H Q R C → List (Exchange Q R)
@@ -107,9 +108,11 @@ pub record ByReplies {HA HB Q R N C : Type 0} (memory : C) (ka : Conduct HA Q R 
   pub replies : List R
   pub last : Option C
   pub source :
-      Share ka (share Side.Source d replies) (failure Side.Source (after d replies) last) old.0 new.0
+      Share ka (share Side.Source d replies) (failure Side.Source (after d replies) last)
+      old.0 new.0
   pub sink :
-      Share kb (share Side.Sink d replies) (failure Side.Sink (after d replies) last) old.1 new.1
+      Share kb (share Side.Sink d replies) (failure Side.Sink (after d replies) last)
+      old.1 new.1
   pub ends : EndsBy memory (after d replies) last ending
 
 -- ---- causes

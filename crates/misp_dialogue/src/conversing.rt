@@ -55,11 +55,13 @@ fn exchange<
     A: Party<Q, R, C>,
     B: Party<Q, R, C>,
 >(alloc: Global, leader: &mut L, source: &mut A, sink: &mut B) -> Result<(), Ending<N, C>>
-    ensures step { OnOk result (IsStep (between (A.conduct (A.setting source.old)) (B.conduct (B.setting sink.old)))
+    ensures step { OnOk result (IsStep
+        (between (A.conduct (A.setting source.old)) (B.conduct (B.setting sink.old)))
         (L.dialogue leader.old) (L.dialogue leader.new) (A.state source.old, B.state sink.old)
         (A.state source.new, B.state sink.new)) }
     ensures ended { IfErr result (Conversed L.memory
-        (between (A.conduct (A.setting source.old)) (B.conduct (B.setting sink.old))) (L.dialogue leader.old)
+        (between (A.conduct (A.setting source.old)) (B.conduct (B.setting sink.old)))
+        (L.dialogue leader.old)
         (A.state source.old, B.state sink.old) (A.state source.new, B.state sink.new)) }
     ensures less { OnOk result (L.left leader.new < L.left leader.old) }
     ensures source { A.setting source.new ≡ A.setting source.old }
@@ -100,7 +102,7 @@ pub fn converse<
         (B.conduct (B.setting sink.old)) (L.dialogue leader.old)
         (A.state source.old, B.state sink.old) (A.state source.new, B.state sink.new) result }
 
-    // Where both report what they hold, it is what so many requests with their stated answers leave.
+    // Where both report what they hold, it is what so many stated answers leave.
     ensures states { (s s1 : A.Holds) (t t1 : B.Holds) →
         (A.state source.old).held ≡ Some s → (B.state sink.old).held ≡ Some t →
         (A.state source.new).held ≡ Some s1 → (B.state sink.new).held ≡ Some t1 →

@@ -5,15 +5,13 @@ use Rattle.std.proofs.lemmas.Bool.{cases_Bool}
 use Rattle.std.proofs.lemmas.Bool.Decides.{eqb_tells}
 use Rattle.std.proofs.lemmas.List.{length-map, get_or-map}
 use Rattle.misp_model.proofs.Prelude.{map-map}
-use Rattle.misp_ids.specs.Refusal.{bare}
-use Rattle.misp_ids.specs.declared.refusal.RuleName.{RuleName}
-use Rattle.misp_ids.specs.declared.refusal.RuleName.TheVariants.{LinkOff, NoLink}
 use Rattle.misp_orgs.specs.Admin.{link_of}
 use Rattle.misp_orgs.specs.declared.link.Link.{Link}
 use Rattle.misp_outside.specs.Causes.{HasCause, RoseBy}
 use Rattle.misp_effects.specs.declared.stop.Stop.{Stop}
 use Rattle.misp_script.specs.Directory.{Roster, directory_of, place_of, roster_names, roster_of}
 use Rattle.misp_protocol.specs.Counts.{no_count}
+use Rattle.misp_protocol.specs.declared.cause.Cause.{Cause}
 use Rattle.misp_sync.specs.declared.reply.SyncReply.{SyncReply}
 use Rattle.misp_sync.specs.declared.reply.SyncReply.TheVariants as replies
 use Rattle.misp_net.specs.Acts.{Syncs, act}
@@ -66,21 +64,21 @@ eqb_same n = elim (eqb_tells n n) [
 
 -- ---- choices
 
-place_from : (place peer : ℕ) (alone : Bool) → (if alone then Err NoLink else Ok place) ≡ Ok peer → (place ≡ peer) × (alone ≡ false)
+place_from : (place peer : ℕ) (alone : Bool) → (if alone then Err Cause.NoLink else Ok place) ≡ Ok peer → (place ≡ peer) × (alone ≡ false)
 place_from place peer true is = cc
 place_from place peer false is = (let same : place ≡ peer = cc in same, refl)
 
-none_from : (place : ℕ) (name : RuleName) (alone : Bool) → (if alone then Err NoLink else Ok place) ≡ Err name → (NoLink ≡ name) × (alone ≡ true)
-none_from place name true is = (let same : NoLink ≡ name = cc in same, refl)
-none_from place name false is = cc
+none_from : (place : ℕ) (why : Cause) (alone : Bool) → (if alone then Err Cause.NoLink else Ok place) ≡ Err why → (Cause.NoLink ≡ why) × (alone ≡ true)
+none_from place why true is = (let same : Cause.NoLink ≡ why = cc in same, refl)
+none_from place why false is = cc
 
-peer_from : (on : Bool) (asked : Result ℕ RuleName) (peer : ℕ) → (if on then asked else Err LinkOff) ≡ Ok peer → (on ≡ true) × (asked ≡ Ok peer)
+peer_from : (on : Bool) (asked : Result ℕ Cause) (peer : ℕ) → (if on then asked else Err Cause.LinkOff) ≡ Ok peer → (on ≡ true) × (asked ≡ Ok peer)
 peer_from true asked peer is = (refl, is)
 peer_from false asked peer is = cc
 
-pub bar_from : (on : Bool) (asked : Result ℕ RuleName) (name : RuleName) → (if on then asked else Err LinkOff) ≡ Err name → ((on ≡ true) × (asked ≡ Err name)) ⊎ ((on ≡ false) × (LinkOff ≡ name))
-bar_from true asked name is = inl (refl, is)
-bar_from false asked name is = inr (refl, let same : LinkOff ≡ name = cc in same)
+pub bar_from : (on : Bool) (asked : Result ℕ Cause) (why : Cause) → (if on then asked else Err Cause.LinkOff) ≡ Err why → ((on ≡ true) × (asked ≡ Err why)) ⊎ ((on ≡ false) × (Cause.LinkOff ≡ why))
+bar_from true asked why is = inl (refl, is)
+bar_from false asked why is = inr (refl, let same : Cause.LinkOff ≡ why = cc in same)
 
 module _ (hosts : List Host) (at : ℕ) (link : Link) where
   -- a place that is found is that of the peer
@@ -91,9 +89,9 @@ module _ (hosts : List Host) (at : ℕ) (link : Link) where
       (sym other.0 ∙ rw is refl, subst (λ p. eqb p at ≡ false) other.0 other.1)
 
   -- and else there is no other instance
-  pub asked_none : (name : RuleName) (found : Option ℕ) → place_named hosts link.peer ≡ found → asked_at at found ≡ Err name → (NoLink ≡ name) × (eqb (peer_place hosts at (Some link)) at ≡ true)
-  asked_none name None is asked = (let same : NoLink ≡ name = cc in same, rw is (eqb_same at))
-  asked_none name (Some place) is asked = let alone = none_from place name (eqb place at) asked in (alone.0, rw is alone.1)
+  pub asked_none : (why : Cause) (found : Option ℕ) → place_named hosts link.peer ≡ found → asked_at at found ≡ Err why → (Cause.NoLink ≡ why) × (eqb (peer_place hosts at (Some link)) at ≡ true)
+  asked_none why None is asked = (let same : Cause.NoLink ≡ why = cc in same, rw is (eqb_same at))
+  asked_none why (Some place) is asked = let alone = none_from place why (eqb place at) asked in (alone.0, rw is alone.1)
 
 -- the peer is the other instance
 pub asked_peer : (rosters : List Roster) (hosts : List Host) (at : ℕ) (name : List ℕ) (peer : ℕ) → roster_names rosters ≡ names_of hosts → (link : Option Link) → link_at hosts at name ≡ link
@@ -104,19 +102,19 @@ asked_peer rosters hosts at name peer same (Some link) is asked =
     rw is (asked_place hosts at link peer (place_named hosts link.peer) refl (ap (asked_at at) (sym (place_same rosters hosts link.peer same)) ∙ found))
 
 -- a synchronisation with nobody is refused, and leaves all keepers as they were
-pub refused_act : (rosters : List Roster) (hosts : List Host) (time word : ℕ) (line : SyncData) (old : List KeeperState) (name : RuleName) → roster_names rosters ≡ names_of hosts
-    → (link : Option Link) → link_at hosts line.at line.link ≡ link → asked_over rosters line.at link ≡ Err name
-    → IsAct hosts (act time word (Syncs line)) old old (Synced (replies.Stopped no_count (bare name)))
-refused_act rosters hosts time word line old name same None is asked =
-    let none : NoLink ≡ name = cc in
-    subst (λ n. IsAct hosts (act time word (Syncs line)) old old (Synced (replies.Stopped no_count (bare n)))) none (barred_act hosts time word line old (bare NoLink) (rw is refl))
-refused_act rosters hosts time word line old name same (Some link) is asked =
-    let by : RuleName → Type 0 = λ n. IsAct hosts (act time word (Syncs line)) old old (Synced (replies.Stopped no_count (bare n))) in
-    elim (bar_from link.on (asked_at line.at (place_of (roster_names rosters) link.peer)) name asked) [
+pub refused_act : (rosters : List Roster) (hosts : List Host) (time word : ℕ) (line : SyncData) (old : List KeeperState) (why : Cause) → roster_names rosters ≡ names_of hosts
+    → (link : Option Link) → link_at hosts line.at line.link ≡ link → asked_over rosters line.at link ≡ Err why
+    → IsAct hosts (act time word (Syncs line)) old old (Synced (replies.Stopped no_count why))
+refused_act rosters hosts time word line old why same None is asked =
+    let none : Cause.NoLink ≡ why = cc in
+    subst (λ n. IsAct hosts (act time word (Syncs line)) old old (Synced (replies.Stopped no_count n))) none (barred_act hosts time word line old Cause.NoLink (rw is refl))
+refused_act rosters hosts time word line old why same (Some link) is asked =
+    let by : Cause → Type 0 = λ n. IsAct hosts (act time word (Syncs line)) old old (Synced (replies.Stopped no_count n)) in
+    elim (bar_from link.on (asked_at line.at (place_of (roster_names rosters) link.peer)) why asked) [
       | inl open_ ↦
-          let alone = asked_none hosts line.at link name (place_named hosts link.peer) refl (ap (asked_at line.at) (sym (place_same rosters hosts link.peer same)) ∙ open_.1) in
+          let alone = asked_none hosts line.at link why (place_named hosts link.peer) refl (ap (asked_at line.at) (sym (place_same rosters hosts link.peer same)) ∙ open_.1) in
           subst by alone.0 (alone_act hosts time word line old (rw is alone.1) (rw (is, open_.0) refl))
-      | inr off ↦ subst by off.1 (barred_act hosts time word line old (bare LinkOff) (rw (is, off.0) refl))
+      | inr off ↦ subst by off.1 (barred_act hosts time word line old Cause.LinkOff (rw (is, off.0) refl))
     ]
 
 -- the link of an instance is that of its place

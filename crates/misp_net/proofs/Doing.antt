@@ -9,7 +9,7 @@ use Rattle.hex.specs.Hex.{encode_lower}
 use Rattle.misp_api.specs.Session.{end_name, end_of}
 use Rattle.misp_api.specs.Turn.{Point}
 use Rattle.misp_effects.proofs.KeeperStates.{all_kept}
-use Rattle.misp_sync.specs.Trail.{GrowsBy}
+use Rattle.misp_dialogue.specs.Parties.{GrowsBy}
 use Rattle.misp_net.proofs.Appending.{one_ran}
 use Rattle.misp_net.specs.Prelude.{Act, AreKept, Bad, Done, Host, IsDone, KeeperState, Line, Nothing, Output, Ran, Replied, Seen, Standing, Unanswered, host_of, hosts_of, meaning, seen_in, spelled, states_of, stop_in}
 use Rattle.misp_net.specs.Acts.{Administers, Asks, Does, Idle, IsPlaced, One, Session, Syncs, act, asks_from, outputs_done}
@@ -64,13 +64,13 @@ pub nothing_ran : (time word : ℕ) (hosts : List Host) (old : List KeeperState)
     → RanLine hosts (Ok (record { time = time; word = word; command = commands.Nothing })) old old before after carry carry
 nothing_ran time word hosts old before after carry text =
     let d : Done = One (act time word (Idle Nothing)) Nothing in
-    (d, (Nothing, refl), idle_done hosts time word Nothing old refl refl, text, rose_none 0 carry.faults carry.faults refl (omega arith), grows_none carry.passed (IsPassedFor hosts old d) refl)
+    (d, (Nothing, refl), idle_done hosts time word Nothing old refl refl, text, rose_none 0 carry.faults carry.faults refl (omega arith), grows_none carry.passed (IsPassedFor hosts old old d) refl)
 
 pub bad_ran : (place : ℕ) (hosts : List Host) (old : List KeeperState) (before after : List ℕ) (carry : Carried) → after ≡ before ++ output_text (Bad place)
     → RanLine hosts (Err (record { place = place })) old old before after carry carry
 bad_ran place hosts old before after carry text =
     let d : Done = One (act 0 0 (Idle (Bad place))) (Bad place) in
-    (d, (Bad place, refl), idle_done hosts 0 0 (Bad place) old refl refl, text, rose_none 0 carry.faults carry.faults refl (omega arith), grows_none carry.passed (IsPassedFor hosts old d) refl)
+    (d, (Bad place, refl), idle_done hosts 0 0 (Bad place) old refl refl, text, rose_none 0 carry.faults carry.faults refl (omega arith), grows_none carry.passed (IsPassedFor hosts old old d) refl)
 
 -- a synchronisation among all keepers is what its line does
 pub sync_done : (time word : ℕ) (hosts : List Host) (line : SyncData) (old new : List KeeperState) (output : Output) → line.at < length hosts → IsAct hosts (act time word (Syncs line)) old new output
@@ -80,14 +80,14 @@ sync_done time word hosts line old new output lt is = ((output, refl), one_done 
 -- it is written
 pub sync_ran : (time word : ℕ) (hosts : List Host) (line : SyncData) (old new : List KeeperState) (output : Output) (before after : List ℕ) (first last : Carried) → line.at < length hosts
     → IsAct hosts (act time word (Syncs line)) old new output → after ≡ before ++ output_text output → RoseBy (carry_faults (output ∷ [])) first.faults last.faults
-    → GrowsBy first.passed last.passed (IsPassed hosts old (Syncs line) output)
+    → GrowsBy first.passed last.passed (IsPassed hosts old new (Syncs line) output)
     → RanLine hosts (sync_line time word line) old new before after first last
 sync_ran time word hosts line old new output before after first last lt is text rose passed =
     let (does, done) = sync_done time word hosts line old new output lt is in (One (act time word (Syncs line)) output, does, done, text, rose, passed)
 
 -- it was done, and is not written
 pub sync_cut : (time word : ℕ) (hosts : List Host) (line : SyncData) (old new : List KeeperState) (output : Output) (first last : Option Trail) → line.at < length hosts → IsAct hosts (act time word (Syncs line)) old new output
-    → GrowsBy first last (IsPassed hosts old (Syncs line) output) → CutLine hosts (sync_line time word line) old new first last
+    → GrowsBy first last (IsPassed hosts old new (Syncs line) output) → CutLine hosts (sync_line time word line) old new first last
 sync_cut time word hosts line old new output first last lt is passed =
     let (does, done) = sync_done time word hosts line old new output lt is in inr (One (act time word (Syncs line)) output, does, done, passed)
 
@@ -119,7 +119,7 @@ module _ (old : List Standing) (none new : Standing) (now word : ℕ) where
         (one_read now word r.at read old new none reply lt answered) (read_formed now word r.at read old new none reply lt answered) (placed old r.at lt),
     text ∙ ap (λ o. before ++ output_text o) output_is,
     rose_none _ carry.faults carry.faults (replies_none (reply ∷ [])) (omega arith),
-    grows_none carry.passed (IsPassedFor (hosts_of old) (states_of old) (One (act now word (Asks r.at read)) (Replied reply))) refl,
+    grows_none carry.passed (IsPassedFor (hosts_of old) (states_of old) (states_of (set old r.at new)) (One (act now word (Asks r.at read)) (Replied reply))) refl,
   )
   request_ran r lt output before after carry (Err end, left, whole, is, (output_is, new_is)) text =
       let out : Output = Unanswered (end_of end) in (
@@ -129,7 +129,7 @@ module _ (old : List Standing) (none new : Standing) (now word : ℕ) where
             (idle_done (hosts_of old) now word out (states_of old) refl refl),
         text ∙ ap (λ o. before ++ output_text o) output_is,
         rose_none 0 carry.faults carry.faults refl (omega arith),
-        grows_none carry.passed (IsPassedFor (hosts_of old) (states_of old) (One (act now word (Idle out)) out)) refl,
+        grows_none carry.passed (IsPassedFor (hosts_of old) (states_of old) (states_of (set old r.at new)) (One (act now word (Idle out)) out)) refl,
       )
 
   -- a group of a line
@@ -143,7 +143,7 @@ module _ (old : List Standing) (none new : Standing) (now word : ℕ) where
         (one_group now word line old new none reply lt did cause) (turned_output (group_form line.body) (get_or old line.at none) new reply away) (placed old line.at lt),
     text ∙ ap (λ o. before ++ output_text o) output_is,
     rose_none _ carry.faults carry.faults (replies_none (reply ∷ [])) (omega arith),
-    grows_none carry.passed (IsPassedFor (hosts_of old) (states_of old) (One (act now word (Administers line)) (Replied reply))) refl,
+    grows_none carry.passed (IsPassedFor (hosts_of old) (states_of old) (states_of (set old line.at new)) (One (act now word (Administers line)) (Replied reply))) refl,
   )
 
   -- a session of a line
@@ -152,7 +152,7 @@ module _ (old : List Standing) (none new : Standing) (now word : ℕ) where
         → (d : Done) × Does (Ok (record { time = now; word = word; command = commands.Raw r })) d
         × IsDone (hosts_of old) d (states_of old) (states_of (set old r.at new)) × Wrote (done_text d)
         × RoseBy (carry_faults (outputs_done d)) carry.faults carry.faults
-        × GrowsBy carry.passed carry.passed (IsPassedFor (hosts_of old) (states_of old) d)
+        × GrowsBy carry.passed carry.passed (IsPassedFor (hosts_of old) (states_of old) (states_of (set old r.at new)) d)
     session_ran Wrote carry (end, left, next, written, session, no_read, no_write, wrote) =
         let p : Point = record { bytes = r.bytes; instance = get_or old r.at none; word = word; written = [] } in
         let is = session_done now r.at old none lt p (refl, refl) end left new next written session no_read no_write in (
@@ -166,7 +166,7 @@ module _ (old : List Standing) (none new : Standing) (now word : ℕ) where
           },
           subst (λ text. Wrote (end_name end.end ++ 32 ∷ encode_lower text)) is.wrote wrote,
           rose_none _ carry.faults carry.faults (replies_none is.replies) (omega arith),
-          grows_none carry.passed (IsPassedFor (hosts_of old) (states_of old) (Session now word r.at is.reads is.replies end.end)) refl,
+          grows_none carry.passed (IsPassedFor (hosts_of old) (states_of old) (states_of (set old r.at new)) (Session now word r.at is.reads is.replies end.end)) refl,
         )
 
     pub session_hosts : (Wrote : List ℕ → Type 0) → HasSession now word r (get_or old r.at none) new Wrote → hosts_of (set old r.at new) ≡ hosts_of old

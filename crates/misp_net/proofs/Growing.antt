@@ -1,7 +1,8 @@
 -- What is told of the byte strings that passed grows by a part.
 use Rattle.std.proofs.Common.{◌≡◌, ℕ, List, [], ◌∷◌, ◌++◌, Option, Some, None, Result, Ok, Err, MatchResult, inl, inr, refl, sym, ◌∙◌, ap, subst, append_assoc, append-nil}
 use Rattle.misp_outside.specs.Wires.{GrowsByOne}
-use Rattle.misp_sync.specs.Trail.{GrowsBy, IsUnanswered}
+use Rattle.misp_dialogue.specs.Parties.{GrowsBy}
+use Rattle.misp_sync.specs.Wire.{IsUnanswered}
 
 module _ {A : Type 0} where
   -- by nothing

@@ -3,15 +3,15 @@ use Rattle.std.proofs.Common.{◌≡◌, ℕ, zero, suc, ◌<◌, ◌-◌, ◌+�
 use Rattle.std.specs.Prelude.{◌⊎◌}
 use Rattle.std.specs.List.{insert, remove}
 use Rattle.std.proofs.lemmas.Bool.{false≢true, eq-eqb, cases_order}
-use Rattle.misp_ids.specs.declared.refusal.Refusal.{Refusal}
 use Rattle.misp_core.specs.Prelude.{Standing}
 use Rattle.misp_protocol.specs.Counts.{no_count}
+use Rattle.misp_protocol.specs.declared.cause.Cause.{Cause}
 use Rattle.misp_sync.specs.declared.reply.SyncReply.{SyncReply}
 use Rattle.misp_net.specs.Lending.{IsHeldOff}
 use Rattle.std.proofs.lemmas.List.Edits.{get_or-remove_below, get_or-remove_above}
 
 -- a link that refuses it
-pub held_off : (own peer mine theirs : Standing) (reply : SyncReply) (bar : Option Refusal)
+pub held_off : (own peer mine theirs : Standing) (reply : SyncReply) (bar : Option Cause)
     → IfSome bar (λ why. (reply ≡ SyncReply.Stopped no_count why) × (mine ≡ own) × (theirs ≡ peer))
     → IfSome bar (λ why. IsHeldOff own peer mine theirs reply (SyncReply.Stopped no_count why))
 held_off own peer mine theirs reply None is = tt

@@ -7,10 +7,10 @@ use Rattle.misp_ids.specs.declared.label.Direction.{Direction}
 use Rattle.misp_orgs.specs.declared.link.Link.{Link}
 use Rattle.misp_script.proofs.Places.{first_place}
 use Rattle.misp_core.specs.Prelude.{Group, Host, Inst, World, same_inst}
+use Rattle.misp_sync.specs.Directions.{route_on}
 use Rattle.misp_net.specs.Prelude.{AreDistinct, host_at}
 use Rattle.misp_net.specs.Hosts.{nobody}
 use Rattle.misp_net.specs.Links.{links_of, peer_place, place_named, place_of_peer, route_at}
-use Rattle.misp_net.specs.Directions.{route_on}
 
 -- ---- instances by name
 

@@ -4,7 +4,7 @@ use Rattle.std.proofs.lemmas.List.{length-map}
 use Rattle.misp_outside.specs.Causes.{RoseBy}
 use Rattle.misp_effects.proofs.Courses.{no_lines, rose_more, run_kept}
 use Rattle.misp_effects.proofs.KeeperStates.{all_kept}
-use Rattle.misp_sync.specs.Trail.{GrowsBy}
+use Rattle.misp_dialogue.specs.Parties.{GrowsBy}
 use Rattle.misp_net.specs.Acts.{Does, acts_done, outputs_done}
 use Rattle.misp_net.specs.Carrying.{Carried, carry_faults}
 use Rattle.misp_net.specs.Meaning.{AreAsFormed}
@@ -46,7 +46,7 @@ more_carried dones d first next last rose more =
 
 pub one_more : (hosts : List Host) (lines : List Line) (line : Line) (old mid new : List KeeperState) (before after : List ℕ) (d : Done) (first next last : Carried)
     → HasRun hosts lines old mid first next before → Does line d → IsDone hosts d mid new → after ≡ before ++ line_of (1 + length lines) d
-    → RoseBy (carry_faults (outputs_done d)) next.faults last.faults → GrowsBy next.passed last.passed (IsPassedFor hosts mid d)
+    → RoseBy (carry_faults (outputs_done d)) next.faults last.faults → GrowsBy next.passed last.passed (IsPassedFor hosts mid new d)
     → HasRun hosts (lines ++ line ∷ []) old new first last after
 one_more hosts lines line old mid new before after d first next last run does is text_is rose grows =
     let long : length (outputs_of run.dones) ≡ length (acts_of run.dones) = run.ran.each ∙ length-map (acts_of run.dones) (λ a. (meaning hosts a).means) in

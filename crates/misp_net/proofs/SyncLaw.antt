@@ -5,8 +5,8 @@ use Rattle.misp_effects.specs.Effect.{under}
 use Rattle.misp_history.specs.Acts.{Net}
 use Rattle.misp_history.specs.Outcomes.{step_partly}
 use Rattle.misp_core.specs.Prelude.{AreReadable, Held, Host, Inst, Keeps, Outcome, World, left, same_inst, seen_in, spelled, tables}
+use Rattle.misp_sync.specs.Directions.{route_on, synced_on, taker, telling_on}
 use Rattle.misp_sync.specs.History.{applied, seen_of, sync_act}
-use Rattle.misp_net.specs.Directions.{route_on, synced_on, taker, telling_on}
 
 -- Where the keepers of two instances hold their tables and groups, a synchronisation of the one with the other comes to what the history says, and leaves what
 -- it is to leave.

@@ -3,10 +3,7 @@ use Rattle.std.proofs.Common.{◌≡◌, ◌≢◌, ℕ, ◌<◌, true, false, e
 use Rattle.std.proofs.lemmas.Bool.{cases_Bool, cases_eq}
 use Rattle.std.proofs.lemmas.Bool.Decides.{eqb_tells}
 use Rattle.std.proofs.lemmas.List.{set-get_or}
-use Rattle.misp_ids.specs.Refusal.{bare}
 use Rattle.misp_ids.specs.declared.label.Direction.{Direction}
-use Rattle.misp_ids.specs.declared.refusal.Refusal.{Refusal}
-use Rattle.misp_ids.specs.declared.refusal.RuleName.TheVariants.{LinkOff, NoLink}
 use Rattle.misp_orgs.specs.declared.link.Link.{Link}
 use Rattle.misp_outside.specs.Causes.{HasCause, RoseBy}
 use Rattle.misp_effects.specs.declared.stop.Side.TheVariants.{Here, There}
@@ -21,14 +18,15 @@ use Rattle.misp_effects.proofs.Places.{count_is, count_other, count_same, fault_
 use Rattle.misp_effects.proofs.Showing.{does_shown}
 use Rattle.misp_core.specs.Prelude.{AreReadable, Held, put_batches}
 use Rattle.misp_protocol.specs.Counts.{no_count}
-use Rattle.misp_sync.specs.Pulled.{bar_of}
+use Rattle.misp_protocol.specs.declared.cause.Cause.{Cause}
+use Rattle.misp_sync.specs.Causes.{bar_of}
+use Rattle.misp_sync.specs.Directions.{giver, synced_on, taker, telling_on}
 use Rattle.misp_sync.specs.declared.reply.SyncReply.{SyncReply}
 use Rattle.misp_sync.specs.declared.reply.SyncReply.TheVariants as replies
 use Rattle.misp_net.specs.Prelude.{Effect, Host, KeeperState, Output, Seen, Stop, SyncData, Synced, Tables, Tell, Went, held_at, host_at, nothing_held, seen_in, spelled, stop_in}
 use Rattle.misp_net.specs.Acts.{Syncs, act}
 use Rattle.misp_net.specs.Links.{link_at, place_of_peer, synced_at, unsynced}
 use Rattle.misp_net.specs.Meaning.{sync_telling}
-use Rattle.misp_net.specs.Directions.{giver, synced_on, taker, telling_on}
 use Rattle.misp_net.proofs.Directions.{bar_comes, taker_of, telling_shown}
 use Rattle.misp_effects.specs.Effect as effects
 use Rattle.misp_net.specs.Running as lines
@@ -174,23 +172,23 @@ lent_synced hosts time word line old new reply lt peer_lt other lends =
 -- ---- those that are barred
 
 -- what a link bars is put out, and no batch
-barred_there : (hosts : List Host) (line : SyncData) (own there : Seen) (why : Refusal) → bar_of (link_at hosts line.at line.link) ≡ Some why
+barred_there : (hosts : List Host) (line : SyncData) (own there : Seen) (why : Cause) → bar_of (link_at hosts line.at line.link) ≡ Some why
     → synced_at hosts line own there ≡ effects.effect (replies.Stopped no_count why) []
 barred_there hosts line own there why bar = elim (cases_Bool (eqb (place_of_peer hosts line.at line.link) line.at)) [
-  | inl alone ↦ synced_alone hosts line own there alone ∙ ap (λ b. effects.effect (replies.Stopped no_count (unwrap_or b (bare NoLink))) []) bar
+  | inl alone ↦ synced_alone hosts line own there alone ∙ ap (λ b. effects.effect (replies.Stopped no_count (unwrap_or b Cause.NoLink)) []) bar
   | inr other ↦
       synced_there hosts line own there other
       ∙ bar_comes line.direction (host_at line.at hosts) line.link (host_at (place_of_peer hosts line.at line.link) hosts) own there (link_at hosts line.at line.link) why refl bar
 ]
 
 -- such a refusal tells no stop
-bar_told : (link : Option Link) (why : Refusal) → bar_of link ≡ Some why → pulls.stop_in (replies.Stopped no_count why) ≡ None
-bar_told None why bar = let same : bare NoLink ≡ why = cc in subst (λ r. pulls.stop_in (replies.Stopped no_count r) ≡ None) same refl
+bar_told : (link : Option Link) (why : Cause) → bar_of link ≡ Some why → pulls.stop_in (replies.Stopped no_count why) ≡ None
+bar_told None why bar = let same : Cause.NoLink ≡ why = cc in subst (λ r. pulls.stop_in (replies.Stopped no_count r) ≡ None) same refl
 bar_told (Some link) why bar = elim (cases_Bool link.on) [
   | inl on ↦ absurd (let no_ : None ≡ Some why = rw on at bar in cc)
   | inr off ↦
-      let off_bar : Some (bare LinkOff) ≡ Some why = rw off at bar in
-      let same : bare LinkOff ≡ why = cc in subst (λ r. pulls.stop_in (replies.Stopped no_count r) ≡ None) same refl
+      let off_bar : Some Cause.LinkOff ≡ Some why = rw off at bar in
+      let same : Cause.LinkOff ≡ why = cc in subst (λ r. pulls.stop_in (replies.Stopped no_count r) ≡ None) same refl
 ]
 
 module _ (hosts : List Host) (time word : ℕ) (line : SyncData) (old : List KeeperState) where
@@ -216,7 +214,7 @@ module _ (hosts : List Host) (time word : ℕ) (line : SyncData) (old : List Kee
   }
 
   -- a link that is not there, or is off
-  pub barred_act : (why : Refusal) → bar_of (link_at hosts line.at line.link) ≡ Some why
+  pub barred_act : (why : Cause) → bar_of (link_at hosts line.at line.link) ≡ Some why
       → lines.IsAct hosts (act time word (Syncs line)) old old (Synced (replies.Stopped no_count why))
   barred_act why bar =
       nothing_synced (replies.Stopped no_count why) (bar_told (link_at hosts line.at line.link) why bar)
@@ -224,7 +222,7 @@ module _ (hosts : List Host) (time word : ℕ) (line : SyncData) (old : List Kee
 
   -- a link whose peer is no other instance
   pub alone_act : eqb (place_of_peer hosts line.at line.link) line.at ≡ true → bar_of (link_at hosts line.at line.link) ≡ None
-      → lines.IsAct hosts (act time word (Syncs line)) old old (Synced (replies.Stopped no_count (bare NoLink)))
+      → lines.IsAct hosts (act time word (Syncs line)) old old (Synced (replies.Stopped no_count Cause.NoLink))
   alone_act alone bar =
-      nothing_synced (replies.Stopped no_count (bare NoLink)) refl
-      (λ own there. synced_alone hosts line own there alone ∙ ap (λ b. effects.effect (replies.Stopped no_count (unwrap_or b (bare NoLink))) []) bar)
+      nothing_synced (replies.Stopped no_count Cause.NoLink) refl
+      (λ own there. synced_alone hosts line own there alone ∙ ap (λ b. effects.effect (replies.Stopped no_count (unwrap_or b Cause.NoLink)) []) bar)

@@ -3,7 +3,6 @@ use Rattle.std.proofs.Common.{◌≡◌, ℕ, eqb, List, [], ◌∷◌, Option, 
 use Rattle.std.proofs.lemmas.Bool.{cases_Bool}
 use Rattle.std.proofs.lemmas.List.{set-get_or}
 use Rattle.misp_ids.specs.declared.label.Direction.{Direction}
-use Rattle.misp_ids.specs.declared.refusal.Refusal.{Refusal}
 use Rattle.misp_orgs.specs.Admin.{link_of, who_of}
 use Rattle.misp_orgs.specs.Roles.{permits}
 use Rattle.misp_orgs.specs.declared.link.Link.{Link}
@@ -14,11 +13,13 @@ use Rattle.misp_store.specs.declared.reach.Reach.{Reach}
 use Rattle.misp_core.specs.Prelude.{Ask, Caller, EventId, Inst, OrgId, Row, is_permitted}
 use Rattle.misp_package.specs.Spelling.{spell_package}
 use Rattle.misp_model.specs.declared.package.PackageFields.{PackageFields as Package}
+use Rattle.misp_client.specs.Calling.{is_short}
 use Rattle.misp_protocol.specs.Counts.{count_of}
-use Rattle.misp_sync.specs.Handing.{is_short}
+use Rattle.misp_protocol.specs.declared.cause.Cause.{Cause}
+use Rattle.misp_sync.specs.Causes.{stop_cause}
+use Rattle.misp_sync.specs.Directions.{synced_on, taker}
 use Rattle.misp_sync.specs.Pulled.{event_taken, events_sent, events_taken, groups_sent, pulled, pulled_by, pulled_over, rows_pulled}
 use Rattle.misp_sync.specs.Pushed.{RowsOf, groups_carried, if_short, over_rows, packages_of, parts_pushed, parts_taken, pushed, pushed_by, pushed_over, rows_seen}
-use Rattle.misp_sync.specs.Telling.{stop_refusal}
 use Rattle.misp_protocol.specs.declared.count.SyncCount.{SyncCount}
 use Rattle.misp_sync.specs.declared.reply.SyncReply.{SyncReply}
 use Rattle.misp_groups.specs.Changes.{take_groups}
@@ -27,20 +28,19 @@ use Rattle.misp_net.specs.Prelude.{Effect, Host, Outcome, Seen, Stop, Stopped, S
 use Rattle.misp_net.specs.Links.{place_of_peer, synced_at}
 use Rattle.misp_net.specs.Meaning.{syncing}
 use Rattle.misp_net.specs.Promise.{IsBar, IsIdle}
-use Rattle.misp_net.specs.Directions.{synced_on, taker}
 use Rattle.misp_net.proofs.Syncs.{synced_alone, synced_there}
 use Rattle.misp_net.proofs.SyncsTold.{none_left}
 use Rattle.misp_effects.specs.Run as runs
 use Rattle.misp_sync.specs.Pulled as pulls
 
 -- it ends as a link bars it
-abbrev EndsBarred : Option Refusal → Type 0
+abbrev EndsBarred : Option Cause → Type 0
 EndsBarred None = ⊥
-EndsBarred (Some cause) = IsBar cause.name
+EndsBarred (Some cause) = IsBar cause
 
 -- ---- what is taken never ends so
 
-event_free : (here : Inst) (w : OrgId) (groups : List Group) (rows : Result (List Row) (List ℕ)) (ps : List (List Row)) (more : Effect (Option Refusal)) → (EndsBarred more.reply → ⊥)
+event_free : (here : Inst) (w : OrgId) (groups : List Group) (rows : Result (List Row) (List ℕ)) (ps : List (List Row)) (more : Effect (Option Cause)) → (EndsBarred more.reply → ⊥)
     → EndsBarred (event_taken here w groups rows ps more).reply → ⊥
 event_free here w groups (Ok rows) ps more free is = free is
 event_free here w groups (Err name) ps more free is = is
@@ -66,13 +66,13 @@ by_free here w peer (Some caller) own there is = elim (cases_Bool (is_permitted 
 
 -- ---- and neither does what is taken of a push
 
-short_free : (text : List ℕ) (e : Effect (Option Refusal)) → (EndsBarred e.reply → ⊥) → EndsBarred (if_short text e).reply → ⊥
+short_free : (text : List ℕ) (e : Effect (Option Cause)) → (EndsBarred e.reply → ⊥) → EndsBarred (if_short text e).reply → ⊥
 short_free text e free is = elim (cases_Bool (is_short text)) [
   | inl yes_ ↦ free (rw yes_ at is)
   | inr no_ ↦ rw no_ at is
 ]
 
-over_free : (rows : Result (List Row) (List ℕ)) (e : List Row → Effect (Option Refusal)) → ((rs : List Row) → EndsBarred (e rs).reply → ⊥) → EndsBarred (over_rows rows e).reply → ⊥
+over_free : (rows : Result (List Row) (List ℕ)) (e : List Row → Effect (Option Cause)) → ((rs : List Row) → EndsBarred (e rs).reply → ⊥) → EndsBarred (over_rows rows e).reply → ⊥
 over_free (Ok rs) e free is = free rs is
 over_free (Err name) e free is = is
 
@@ -104,14 +104,14 @@ over_idle here (Some link) peer own there is = elim (cases_Bool link.on) [
   | inr off ↦ rw off refl
 ]
 
-told_barred : (count : SyncCount) (end : Option Refusal) → IsIdle (Synced (pulls.reply_of count end)) → EndsBarred end
+told_barred : (count : SyncCount) (end : Option Cause) → IsIdle (Synced (pulls.reply_of count end)) → EndsBarred end
 told_barred count None is = is
 told_barred count (Some cause) is = is
 
 pulled_idle : (here : Host) (link : Inst) (peer : Host) (own there : Seen) → IsIdle (Synced (pulled here link peer own there).reply) → (pulled here link peer own there).batches ≡ []
 unfolding pulled
 pulled_idle here link peer own there is =
-    let e : Effect (Option Refusal) = pulled_over here.name (link_of here.admin.links link) peer own there in
+    let e : Effect (Option Cause) = pulled_over here.name (link_of here.admin.links link) peer own there in
     over_idle here.name (link_of here.admin.links link) peer own there (told_barred (count_of e.batches) e.reply is)
 
 push_over_idle : (here : Inst) (link : Option Link) (peer : Host) (own there : Seen) → EndsBarred (pushed_over here link peer own there).reply → (pushed_over here link peer own there).batches ≡ []
@@ -126,7 +126,7 @@ push_over_idle here (Some link) peer own there is = elim (cases_Bool link.on) [
 pushed_idle : (here : Host) (link : Inst) (peer : Host) (own there : Seen) → IsIdle (Synced (pushed here link peer own there).reply) → (pushed here link peer own there).batches ≡ []
 unfolding pushed
 pushed_idle here link peer own there is =
-    let e : Effect (Option Refusal) = pushed_over here.name (link_of here.admin.links link) peer own there in
+    let e : Effect (Option Cause) = pushed_over here.name (link_of here.admin.links link) peer own there in
     push_over_idle here.name (link_of here.admin.links link) peer own there (told_barred (count_of e.batches) e.reply is)
 
 -- in both directions
@@ -144,7 +144,7 @@ idle_at hosts line own there is = elim (cases_Bool (eqb (place_of_peer hosts lin
 ]
 
 -- what a stop is told by bars nothing
-stop_free : (stop : Stop) → IsBar (stop_refusal stop).name → ⊥
+stop_free : (stop : Stop) → IsBar (stop_cause stop) → ⊥
 stop_free (Stop.Keeper Here) is = is
 stop_free (Stop.Keeper There) is = is
 stop_free (Stop.Memory Here) is = is

@@ -13,13 +13,13 @@ use Rattle.misp_history.proofs.Adding.{below_next}
 use Rattle.misp_history.proofs.Numbered.{moved_within, newest_within, step_below}
 use Rattle.misp_history.proofs.Prelude.{all-filter, all_both, known_there, newest, newest_from, passes, row_of}
 use Rattle.misp_core.specs.Prelude.{AreReadable, Held, Host, Inst, Keeps, World, left, list_all, put_batches, same_inst, spelled}
+use Rattle.misp_sync.specs.Directions.{route_on, synced_on, taker, telling_on}
 use Rattle.misp_sync.specs.History.{applied, sync_act}
 use Rattle.misp_sync.specs.declared.reply.SyncReply.{SyncReply}
 use Rattle.misp_net.specs.Prelude.{AreDistinct, Effect, Outcome, Stopped, SyncData, Synced, Tables, Went, held_at, host_at, links_of, seen_in, step}
 use Rattle.misp_net.specs.Links.{link_at, place_of_peer, synced_at}
 use Rattle.misp_net.specs.Meaning.{sync_telling, syncing}
 use Rattle.misp_net.specs.History.{IsHistory, seen_by}
-use Rattle.misp_net.specs.Directions.{route_on, synced_on, taker, telling_on}
 use Rattle.misp_net.proofs.Peers.{no_route, peer_inside, route_apart, route_there}
 use Rattle.misp_net.proofs.SyncLaw.{AreSyncLaws}
 use Rattle.misp_net.proofs.Syncs.{synced_alone, synced_there}

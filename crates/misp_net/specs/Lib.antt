@@ -15,4 +15,3 @@ pub mod Run
 pub mod Running
 pub mod SyncText
 pub mod Text
-pub mod Directions

@@ -1,10 +1,8 @@
 -- Over which link an instance synchronises with which other.
 use Rattle.std.specs.Prelude.{ℕ, ◌==◌, List, [], Option, None, bytes_eq, if◌then◌else◌, position, unwrap_or}
 use Rattle.std.specs.Option.{option_map_or}
-use Rattle.misp_ids.specs.Refusal.{bare}
 use Rattle.misp_ids.specs.Same.{Inst}
 use Rattle.misp_ids.specs.declared.label.Direction.{Direction}
-use Rattle.misp_ids.specs.declared.refusal.RuleName.TheVariants.{NoLink}
 use Rattle.misp_orgs.specs.Admin.{link_of}
 use Rattle.misp_orgs.specs.declared.link.Link.{Link}
 use Rattle.misp_script.specs.Step.{SyncData}
@@ -13,11 +11,12 @@ use Rattle.misp_history.specs.Acts.{Net}
 use Rattle.misp_history.specs.Passing.{Route}
 use Rattle.misp_core.specs.Prelude.{Effect, Group, Host, Seen}
 use Rattle.misp_protocol.specs.Counts.{no_count}
-use Rattle.misp_sync.specs.Pulled.{bar_of}
+use Rattle.misp_protocol.specs.declared.cause.Cause.{Cause}
+use Rattle.misp_sync.specs.Causes.{bar_of}
+use Rattle.misp_sync.specs.Directions.{route_on, synced_on}
 use Rattle.misp_sync.specs.declared.reply.SyncReply.{SyncReply}
 use Rattle.misp_sync.specs.declared.reply.SyncReply.TheVariants as replies
 use Rattle.misp_net.specs.Hosts.{host_at}
-use Rattle.misp_net.specs.Directions.{route_on, synced_on}
 
 -- the place of the first instance of this name
 abbrev pub place_named : List Host → Inst → Option ℕ
@@ -41,7 +40,7 @@ place_of_peer hosts at link = peer_place hosts at (link_at hosts at link)
 -- without another instance as its peer it is refused: as its link bars it, or as that of a link
 -- that is not there
 abbrev pub unsynced : Option Link → Effect SyncReply
-unsynced link = effect (replies.Stopped no_count (unwrap_or (bar_of link) (bare NoLink))) []
+unsynced link = effect (replies.Stopped no_count (unwrap_or (bar_of link) Cause.NoLink)) []
 
 -- what a synchronisation of a line comes to: what is seen at its place, and at the peer
 abbrev pub synced_at : List Host → SyncData → Seen → Seen → Effect SyncReply

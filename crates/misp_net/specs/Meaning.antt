@@ -17,13 +17,13 @@ use Rattle.misp_net.specs.declared.line.Output.{Output}
 use Rattle.misp_net.specs.declared.line.Output.TheVariants.{Bad, Nothing, Replied, Synced, Unanswered}
 use Rattle.misp_api.specs.Sending.{read_form}
 use Rattle.misp_protocol.specs.Counts.{count_of}
+use Rattle.misp_sync.specs.Causes.{stop_cause}
+use Rattle.misp_sync.specs.Directions.{counted_on, taker}
 use Rattle.misp_sync.specs.History.{sync_act}
-use Rattle.misp_sync.specs.Telling.{stop_refusal}
 use Rattle.misp_sync.specs.declared.reply.SyncReply.TheVariants as synced
 use Rattle.misp_net.specs.Acts.{Act, Deed, Idle, Asks, Administers, Syncs}
 use Rattle.misp_net.specs.Hosts.{host_at}
 use Rattle.misp_net.specs.Links.{place_of_peer, synced_at}
-use Rattle.misp_net.specs.Directions.{counted_on, taker}
 use Rattle.misp_history.specs.Acts as model
 use Rattle.misp_core.specs.Effects as replies
 use Rattle.misp_sync.specs.Pulled as pulls
@@ -48,7 +48,7 @@ asks at comes =
 abbrev pub sync_telling : Direction → Telling Output
 sync_telling direction stop n lost e =
     effect (Synced (synced.Stopped (count_of (take (counted_on direction stop lost n) e.batches))
-    (stop_refusal stop))) (take n e.batches)
+    (stop_cause stop))) (take n e.batches)
 
 -- of an instance and the peer of a link the one takes what passes at the other
 abbrev pub syncing : List Host → SyncData → Meaning Seen Output

@@ -7,7 +7,7 @@ use Rattle.misp_effects.specs.Effect.{stop_of}
 use Rattle.misp_effects.specs.KeeperStates.{Tables}
 use Rattle.misp_erasure.specs.Kept.{start, erased}
 use Rattle.misp_core.specs.Prelude.{AllByRecursion, Host, IsRefused, KeeperState, OrgId, Outcome, Tell, Went, World, step}
-use Rattle.misp_ids.specs.declared.refusal.RuleName.{RuleName}
+use Rattle.misp_protocol.specs.declared.cause.Cause.{Cause}
 use Rattle.misp_sync.specs.declared.reply.SyncReply.{SyncReply}
 use Rattle.misp_net.specs.declared.line.Output.{Output}
 use Rattle.misp_net.specs.declared.line.Output.TheVariants.{Bad, Nothing, Replied, Synced, Unanswered}
@@ -116,11 +116,11 @@ pub record IsHistoryOf (hosts : List Host) (dones : List Done) (new : List Keepe
   pub private : ShowNoStop dones → (o : OrgId)
       → IsPrivateFor o hosts (acts_of dones) (outputs_of dones)
 
--- the rule by which a link bars a synchronisation: it is not there, or is off
-abbrev pub IsBar : RuleName → Type 0
-IsBar RuleName.NoLink = Unit {0}
-IsBar RuleName.LinkOff = Unit {0}
-IsBar name = ⊥
+-- a link bars a synchronisation so: it is not there, or is off
+abbrev pub IsBar : Cause → Type 0
+IsBar Cause.NoLink = Unit {0}
+IsBar Cause.LinkOff = Unit {0}
+IsBar cause = ⊥
 
 -- a line that is none, asks nothing, or has no reply; a refusal; or a synchronisation that its link
 -- bars. Before another refusal of a synchronisation something may have been taken.
@@ -130,7 +130,7 @@ IsIdle Nothing = Unit {0}
 IsIdle (Unanswered end) = Unit {0}
 IsIdle (Replied reply) = IsRefused reply
 IsIdle (Synced (SyncReply.Done count)) = ⊥
-IsIdle (Synced (SyncReply.Stopped count cause)) = IsBar cause.name
+IsIdle (Synced (SyncReply.Stopped count cause)) = IsBar cause
 
 -- THE headline: what is promised of the run of a script, of which this is the text.
 pub record IsNetRun (hosts : List Host) (lines : List Line) (old new : List KeeperState)

@@ -22,7 +22,8 @@ use Rattle.misp_effects.specs.Effect.{Does as DoesCall}
 use Rattle.misp_effects.specs.KeeperStates.{AreKept}
 use Rattle.misp_effects.specs.declared.stop.Side.TheVariants.{Here, There}
 use Rattle.misp_effects.specs.declared.stop.Stop.TheVariants as stops
-use Rattle.misp_sync.specs.Trail.{GrowsBy}
+use Rattle.misp_dialogue.specs.Parties.{GrowsBy}
+use Rattle.misp_sync.specs.Directions.{giver, synced_on, taker, telling_on}
 use Rattle.misp_sync.specs.declared.reply.SyncReply.{SyncReply}
 use Rattle.misp_net.specs.Acts.{Act, Does, Done, outputs_done}
 use Rattle.misp_net.specs.Carrying.{Carried, carry_faults}
@@ -33,7 +34,6 @@ use Rattle.misp_net.specs.Meaning.{meaning, stop_in}
 use Rattle.misp_net.specs.Passing.{IsPassedFor, Trail}
 use Rattle.misp_net.specs.Run.{IsDone}
 use Rattle.misp_net.specs.Text.{done_text}
-use Rattle.misp_net.specs.Directions.{giver, synced_on, taker, telling_on}
 use Rattle.misp_net.specs.declared.line.Output.{Output}
 use Rattle.misp_net.specs.declared.line.Output.TheVariants.{Replied, Unanswered}
 use Rattle.misp_net.specs.declared.places.NetFault.{NetFault}
@@ -117,7 +117,7 @@ abbrev pub RanLine : List Host → Line → List KeeperState → List KeeperStat
 RanLine hosts line old new before after carry left =
     (d : Done) × Does line d × IsDone hosts d old new × (after ≡ before ++ done_text d)
     × RoseBy (carry_faults (outputs_done d)) carry.faults left.faults
-    × GrowsBy carry.passed left.passed (IsPassedFor hosts old d)
+    × GrowsBy carry.passed left.passed (IsPassedFor hosts old new d)
 
 -- memory ran out: it did nothing, or all that it does, and is not written
 abbrev pub CutLine : List Host → Line → List KeeperState → List KeeperState
@@ -125,7 +125,7 @@ abbrev pub CutLine : List Host → Line → List KeeperState → List KeeperStat
 CutLine hosts line old new before after =
     (AreKept old new × (after ≡ before))
     ⊎ ((d : Done) × Does line d × IsDone hosts d old new
-    × GrowsBy before after (IsPassedFor hosts old d))
+    × GrowsBy before after (IsPassedFor hosts old new d))
 
 -- why the instances do not open, by why one of them does not
 abbrev pub fault_of : LoadFault → NetFault

@@ -13,7 +13,7 @@ ghost use Rattle.misp_net.specs.Passing.{IsPassedFor};
 ghost use Rattle.misp_net.specs.Running.{hosts_of, states_of, CutLine, IsAdministered, RanLine};
 ghost use Rattle.misp_net.specs.Lines.{lines_of};
 ghost use Rattle.misp_store.specs.Sharing.{may_be_sound};
-ghost use Rattle.misp_sync.specs.Trail.{GrowsBy};
+ghost use Rattle.misp_dialogue.specs.Parties.{GrowsBy};
 ghost use Rattle.misp_net.specs.Opening.{AreKeptOrOpened, IsStoppedBy, IsUnopened, opened_states};
 ghost use Rattle.misp_net.specs.Run.{IsDone};
 ghost use Rattle.misp_net.specs.Text.{output_text, line_of};
@@ -170,7 +170,8 @@ fn put_line<K: Keeper, C: Carry>(
         × (lines.new.items ≡ lines.old.items ++ line_of number d)
         × RoseBy (carry_faults (outputs_done d)) (C.faults carry.old) (C.faults carry.new)
         × GrowsBy (C.passed carry.old) (C.passed carry.new)
-        (IsPassedFor (hosts_of instances.old.items) (states_of instances.old.items) d)) }
+        (IsPassedFor (hosts_of instances.old.items) (states_of instances.old.items)
+        (states_of instances.new.items) d)) }
     ensures cut { OnErr result
         (CutLine (hosts_of instances.old.items) (step_of directory.now line.now)
         (states_of instances.old.items) (states_of instances.new.items)

@@ -1,21 +1,20 @@
 //! A wire to an instance of this process.
 
-ghost use Rattle.std.specs.Prelude.{◌≡◌, ◌≤◌, Some, [], ◌∷◌, Err, IfOk, IfSome, MatchResult, OnErr, Ok};
+ghost use Rattle.std.specs.Prelude.{◌≡◌, ◌≤◌, None, Some, [], ◌∷◌, Err, IfOk, IfSome, MatchResult, OnErr, Ok};
 ghost use Rattle.misp_outside.specs.Causes.{HasCause, StaysUnless};
 ghost use Rattle.misp_http.specs.Reading.{IsRead};
 ghost use Rattle.misp_http.specs.declared.request.Read.{Read as WasRead};
-ghost use Rattle.misp_api.specs.Answering.{IsPull};
 ghost use Rattle.misp_api.specs.Exchange.{IsExchanged, IsLeftSo};
 ghost use Rattle.misp_api.specs.Sending.{read_form};
-ghost use Rattle.misp_sync.specs.Handing.{IsSameHost};
-ghost use Rattle.misp_sync.specs.Trail.{GrowsBy, IsUnanswered};
+ghost use Rattle.misp_dialogue.specs.Parties.{GrowsBy};
+ghost use Rattle.misp_sync.specs.Wire.{IsSameHost, IsUnanswered};
 
-use misp_api::{Routes, exchange};
+use misp_api::{Routes, a_call_comes_to_what_is_stated, exchange};
+use misp_client::a_call_is_read_back;
 use misp_core::Instance;
-use misp_format::a_group_is_read_from_its_text;
 use misp_ids::Stamp;
 use misp_outside::{Carry, Keeper, WireFault};
-use misp_sync::{PushWire, Wire};
+use misp_sync::Wire;
 use std::alloc::Global;
 
 /// A wire to an instance of this process, over what carries bytes. Whatever goes over it is of one
@@ -64,11 +63,8 @@ impl<'a, K: Keeper, C: Carry> OverCarry<'a, K, C> {
             (read_form self.old.peer.now.admin self.old.word read)
             self.old.peer.now held self.new.peer.now.held)) }
 
-        // What a pull asks changes nothing that is held.
-        ensures still { (read : WasRead) → IsRead bytes.now (Ok read) (Some []) →
-            IsPull (read_form self.old.peer.now.admin self.old.word read) →
-            self.new.peer.now.held ≡ self.old.peer.now.held }
         ensures same { IsSameHost self.old.peer.now self.new.peer.now }
+        ensures silent { self.old.peer.now.held ≡ None → self.new.peer.now.held ≡ None }
         ensures later { self.old.peer.now.faults ≤ self.new.peer.now.faults }
         ensures told { GrowsBy (C.passed self.old.carry.now) (C.passed self.new.carry.now)
             (λ more. MatchResult result (λ reply. more ≡ bytes.now ∷ reply.items ∷ [])
@@ -99,22 +95,10 @@ impl<K: Keeper, C: Carry> Wire for OverCarry<'_, K, C> {
     ghost faults = { λ w. C.faults w.carry.now };
 
     fn ask(&mut self, alloc: Global, bytes: &[u8]) -> Result<Vec<u8>, WireFault> {
-        self.exchanged(alloc, bytes)
-    }
-}
-
-impl<K: Keeper, C: Carry> PushWire for OverCarry<'_, K, C> {
-    ghost peer = { λ w. Some w.peer.now };
-
-    ghost through = { λ w. w.peer.ghost_name ∷ w.carry.ghost_name ∷ [] };
-
-    ghost trail = { λ w. C.passed w.carry.now };
-
-    ghost faults = { λ w. C.faults w.carry.now };
-
-    fn hand(&mut self, alloc: Global, bytes: &[u8]) -> Result<Vec<u8>, WireFault> {
         self.peer.holds_groups_alone();
-        a_group_is_read_from_its_text();
+        self.peer.has_owners();
+        a_call_is_read_back();
+        a_call_comes_to_what_is_stated();
         self.exchanged(alloc, bytes)
     }
 }

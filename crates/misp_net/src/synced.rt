@@ -3,15 +3,73 @@
 ghost use Rattle.std.specs.Prelude.{◌≡◌, ◌<◌, [], ◌∷◌, ◌++◌, decimal, IfOk, OnOk, vec_len, vec_capacity};
 ghost use Rattle.json.specs.Token as tokens;
 ghost use Rattle.serde_json.specs.Written.{compact_text};
-ghost use Rattle.misp_net.specs.SyncText.{counted_data, stopped_data, sync_text, synced_line};
+ghost use Rattle.misp_net.specs.SyncText.{body_name, counted_data, stopped_data, stopped_text, sync_text, synced_line, words_of};
 ghost use Rattle.misp_sync.specs.declared.reply.SyncReply.TheVariants as replies;
 
 use crate::line::put_front;
 use json::Writer;
 use misp_api::{put_number, put_text};
-use misp_ids::{NoMemory, Refusal};
-use misp_sync::{SyncCount, SyncReply};
+use misp_ids::{NoMemory, Refusal, RuleName, Text};
+use misp_protocol::{Body, Cause, SyncCount};
+use misp_sync::SyncReply;
 use std::alloc::Global;
+use std::fmt::Write;
+
+// What of a reply is not of the form.
+fn name_of(body: Body) -> &'static str
+    ensures { result.now ≡ body_name body }
+{
+    match body {
+        Body::Head => "head",
+        Body::Body => "body",
+        Body::Groups => "groups",
+        Body::Manifest => "manifest",
+        Body::Package => "package",
+        Body::Taken => "taken",
+    }
+}
+
+// A refusal of this rule that says this of its place.
+fn placed(name: RuleName, place: String) -> Refusal
+    ensures { result ≡ record { name = name; place = place.bytes.items } }
+{
+    Refusal {
+        name,
+        place: Text::of(place),
+    }
+}
+
+// What a status and a rule are written as.
+fn numbers(alloc: Global, status: u16, rule: u64) -> Result<String, NoMemory>
+    ensures { IfOk result (λ text. text.bytes.items ≡ decimal status ++ 32 ∷ decimal rule) }
+{
+    let mut text = String::new(alloc);
+    write!(text, "{status} {rule}")?;
+    Ok(text)
+}
+
+// Why a synchronisation ended before its end, in words.
+fn words(alloc: Global, cause: &Cause) -> Result<Refusal, NoMemory>
+    ensures { IfOk result (λ refusal. refusal ≡ words_of cause.now) }
+{
+    Ok(match cause {
+        Cause::NoLink => Refusal::bare(alloc, RuleName::NoLink),
+        Cause::LinkOff => Refusal::bare(alloc, RuleName::LinkOff),
+        Cause::Refused { status, rule } => {
+            placed(RuleName::PeerRefused, numbers(alloc, *status, *rule)?)
+        }
+        Cause::Garbled(body) => {
+            placed(
+                RuleName::PeerGarbled,
+                String::from_str(alloc, name_of(*body))?,
+            )
+        }
+        Cause::Link => Refusal::bare(alloc, RuleName::LinkFault),
+        Cause::Keeper => Refusal::bare(alloc, RuleName::KeeperFault),
+        Cause::NoMemory => Refusal::bare(alloc, RuleName::NoMemory),
+        Cause::BadRow(name) => placed(RuleName::BadRow, hex::encode(alloc, name.as_slice())?),
+    })
+}
 
 // Puts down a member that is a number.
 fn put_count(out: &mut Writer, name: &str, count: u64) -> Result<(), NoMemory>
@@ -62,18 +120,32 @@ fn write_stopped(alloc: Global, count: &SyncCount, cause: &Refusal) -> Result<Ve
 }
 
 // Writes the status of the rule that refused or stopped it, a space, and the refusal.
-fn put_stopped(
+fn put_refused(
     lines: &mut Vec<u8>,
     alloc: Global,
     count: &SyncCount,
     cause: &Refusal,
 ) -> Result<(), NoMemory>
-    ensures { OnOk result (lines.new.items
-        ≡ lines.old.items ++ sync_text (replies.Stopped count.now cause.now)) }
+    ensures { OnOk result
+        (lines.new.items ≡ lines.old.items ++ stopped_text count.now cause.now) }
 {
     put_number(lines, alloc, usize::from(cause.status()))?;
     put_text(lines, " ")?;
     Ok(lines.extend_from_slice(&write_stopped(alloc, count, cause)?)?)
+}
+
+// Writes why it ended before its end.
+fn put_stopped(
+    lines: &mut Vec<u8>,
+    alloc: Global,
+    count: &SyncCount,
+    cause: &Cause,
+) -> Result<(), NoMemory>
+    ensures { OnOk result (lines.new.items
+        ≡ lines.old.items ++ sync_text (replies.Stopped count.now cause.now)) }
+{
+    let refusal = words(alloc, cause)?;
+    put_refused(lines, alloc, count, &refusal)
 }
 
 // Writes that all was taken that passes, and how much.

@@ -1,16 +1,15 @@
 //! The synchronisations of lines.
 
 ghost use Rattle.std.specs.Prelude.{◌≡◌, ◌≤◌, ◌<◌, false, eqb, Some, OnOk, OnErr, vec_len, vec_capacity};
-ghost use Rattle.misp_ids.specs.Refusal.{bare};
 ghost use Rattle.misp_orgs.specs.Admin.{link_of};
 ghost use Rattle.misp_outside.specs.Causes.{HasCause};
 ghost use Rattle.misp_effects.specs.KeeperStates.{Lends};
 ghost use Rattle.misp_effects.specs.declared.stop.Stop.TheVariants as stops;
 ghost use Rattle.misp_script.specs.Directory.{roster_names};
 ghost use Rattle.misp_script.specs.Step.{sync_data};
+ghost use Rattle.misp_dialogue.specs.Parties.{GrowsBy};
 ghost use Rattle.misp_protocol.specs.Counts.{no_count};
 ghost use Rattle.misp_sync.specs.Pulled.{stop_in};
-ghost use Rattle.misp_sync.specs.Trail.{GrowsBy};
 ghost use Rattle.misp_sync.specs.declared.reply.SyncReply.TheVariants as replies;
 ghost use Rattle.misp_net.specs.Acts.{Syncs, act};
 ghost use Rattle.misp_net.specs.Asking.{asked_over, names_of};
@@ -25,35 +24,36 @@ use crate::lending::sync_between;
 use crate::synced::put_synced;
 use misp_api::Routes;
 use misp_core::Instance;
-use misp_ids::{NoMemory, Refusal, RuleName, Stamp};
+use misp_ids::{NoMemory, Stamp};
 use misp_outside::{Carry, Keeper};
+use misp_protocol::{Cause, SyncCount};
 use misp_script::{Directory, SyncLine};
-use misp_sync::{SyncCount, SyncReply, usable};
+use misp_sync::{SyncReply, usable};
 use std::alloc::Global;
 
-// The place of the peer of a link, or the rule by which a synchronisation over it is refused.
+// The place of the peer of a link, or why a synchronisation over it is refused.
 fn asked<K: Keeper>(
     directory: &Directory,
     instance: &Instance<K>,
     line: &SyncLine,
-) -> Result<usize, RuleName>
+) -> Result<usize, Cause>
     ensures { result
         ≡ asked_over directory.now line.now.at (link_of instance.now.admin.links line.now.link) }
 {
     let link = usable(instance, &line.link)?;
     match directory.place_of(link.peer.text().as_bytes()) {
         Some(peer) if peer != line.at => Ok(peer),
-        _ => Err(RuleName::NoLink),
+        _ => Err(Cause::NoLink),
     }
 }
 
 // Refuses a synchronisation with nobody.
-fn refused(alloc: Global, name: RuleName) -> SyncReply
-    ensures { result ≡ replies.Stopped no_count (bare name) }
+fn refused(cause: Cause) -> SyncReply
+    ensures { result ≡ replies.Stopped no_count cause }
 {
     SyncReply::Stopped {
         count: SyncCount::none(),
-        cause: Refusal::bare(alloc, name),
+        cause,
     }
 }
 
@@ -78,7 +78,7 @@ fn lend<K: Keeper, C: Carry>(
         (stop_in result ≡ Some stops.Carry) }
     ensures passed { GrowsBy (C.passed carry.old) (C.passed carry.new)
         (IsSyncPassed (hosts_of instances.old.items) (states_of instances.old.items)
-        (sync_data line.now) result) }
+        (states_of instances.new.items) (sync_data line.now) result) }
     ensures hosts { hosts_of instances.new.items ≡ hosts_of instances.old.items }
 {
     sync_between(
@@ -115,12 +115,12 @@ fn sync_at<K: Keeper, C: Carry>(
         (stop_in result ≡ Some stops.Carry) }
     ensures passed { GrowsBy (C.passed carry.old) (C.passed carry.new)
         (IsSyncPassed (hosts_of instances.old.items) (states_of instances.old.items)
-        (sync_data line.now) result) }
+        (states_of instances.new.items) (sync_data line.now) result) }
     ensures hosts { hosts_of instances.new.items ≡ hosts_of instances.old.items }
 {
     match asked(directory, &instances[line.at], line) {
         Ok(peer) => lend(alloc, routes, instances, carry, now, word, line, peer),
-        Err(name) => refused(alloc, name),
+        Err(cause) => refused(cause),
     }
 }
 

@@ -1,5 +1,5 @@
 -- What is counted of batches that were put.
-use Rattle.std.specs.Prelude.{ℕ, ◌==◌, ◌+◌, ◌^◌, ◌-◌, min, List, [], ◌∷◌, length, Option, None, Some, if◌then◌else◌}
+use Rattle.std.specs.Prelude.{ℕ, ◌==◌, ◌<◌, ◌+◌, ◌^◌, ◌-◌, min, List, [], ◌∷◌, length, Option, None, Some, if◌then◌else◌}
 use Rattle.misp_effects.specs.Batches.{Batch}
 use Rattle.misp_model.specs.Prelude.{EventId, Row, event_of, same_event}
 use Rattle.misp_protocol.specs.declared.count.SyncCount.{SyncCount}
@@ -14,6 +14,10 @@ no_count = record { groups = 0; events = 0; elements = 0; packages = 0 }
 
 abbrev pub no_tally : Tally
 no_tally = record { count = no_count; last = None }
+
+-- its groups are counted in 64 bits
+abbrev pub IsTally : Tally → Type 0
+IsTally t = t.count.groups < 2 ^ 64
 
 -- 1 for another event than the last
 abbrev pub event_more : Option EventId → EventId → ℕ

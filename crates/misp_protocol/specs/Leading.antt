@@ -23,7 +23,8 @@ led_by d ks ps n Stage.Groups = synchronising d n
 led_by d ks ps n (Stage.TakesGroups groups) = taking_groups d n groups
 led_by d ks ps n Stage.Lists = listing d n
 led_by d ks ps n Stage.Next = rest_of d ks ps n
-led_by d ks ps n (Stage.Fetches wanted) = Ask n Source (Request.Rows wanted) (packed n (rest_of d ks ps))
+led_by d ks ps n (Stage.Fetches wanted) =
+    Ask n Source (Request.Rows wanted) (packed n (rest_of d ks ps))
 led_by d ks ps n (Stage.Takes p) = taking n p (rest_of d ks ps)
 led_by d ks ps n (Stage.Over cause) = Over n cause
 led_by d ks ps n waits = Over n None

@@ -22,7 +22,8 @@ pub record IsPartKeys (p : PartKeysFields) : Type 0 where
 -- lists of keys as parts of an event, numbered from here on
 abbrev pub parts_from : EventId → ℕ → List (List KeyStamp) → List PartKeysFields
 parts_from e n [] = []
-parts_from e n (keys ∷ rest) = record { event = e; part = n; keys = keys } ∷ parts_from e (suc n) rest
+parts_from e n (keys ∷ rest) =
+    record { event = e; part = n; keys = keys } ∷ parts_from e (suc n) rest
 
 -- of an event, numbered from 0
 abbrev pub parts_of : ManifestFields → List PartKeysFields

@@ -20,7 +20,7 @@ pub fn each_side_is_asked_its_part()
     ensures { (d : Direction) (n : Tally) → AsksOnly (IsAskedOf d) (synchronising d n) }
 {}
 
-/// Rows of a part are asked for exactly where the sink wants some, and they are those that it wants.
+/// Rows of a part are asked for exactly where the sink wants some, and are those that it wants.
 pub fn what_is_wanted_is_asked_for()
     ensures { (d : Direction) (n : Tally) → AsksAsWanted None (synchronising d n) }
 {}

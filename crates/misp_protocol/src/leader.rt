@@ -180,7 +180,8 @@ impl SyncLeader {
 
     // Receives how many rows of a package were taken.
     fn counts_rows(&mut self, event: &EventId, most: u64, answer: Answer)
-        ensures led { led self.new ≡ awaited_at self.old (stages.AwaitsTaken event.now most) answer }
+        ensures led { led self.new
+            ≡ awaited_at self.old (stages.AwaitsTaken event.now most) answer }
         ensures less { left_of self.new ≤ left_at self.old (stages.AwaitsTaken event.now most) }
     {
         match taken_in(most, answer) {

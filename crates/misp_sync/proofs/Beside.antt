@@ -8,9 +8,9 @@ use Rattle.misp_effects.specs.Batches.{batch, put_batches}
 use Rattle.misp_model.proofs.Prelude.{EventId, OrgId, Row, event_of, nat_tests, same_event, uid, and_parts}
 use Rattle.misp_store.specs.Raw.{raw_row, rows_in}
 use Rattle.misp_core.specs.Effects.{row_batches}
-use Rattle.misp_core.specs.Prelude.{spelled}
+use Rattle.misp_core.specs.Prelude.{groups_of, seen_in, spelled}
+use Rattle.misp_store.specs.declared.reach.Reach.{Reach}
 use Rattle.misp_core.proofs.Keeping.{rows_left}
-use Rattle.misp_sync.specs.Steps.{IsBeside}
 
 -- ---- what is left out
 
@@ -56,6 +56,12 @@ batch_put_so [] held = refl
 batch_put_so (row ∷ rows) held = refl
 
 -- ---- what is beside
+
+-- what an owner has of other events, and the groups, are as they were
+pub record IsBeside (w : OrgId) (e : EventId) (old new : Held) : Type 0 where
+  pub groups : groups_of new ≡ groups_of old
+  pub rows : (other : EventId) → same_event e other ≡ false
+      → (seen_in new).rows (Reach.Own w other) ≡ (seen_in old).rows (Reach.Own w other)
 
 pub beside_put : (w : OrgId) (e : EventId) (rows : List Row) (held : Held) → list_all (λ row. same_event (event_of row.key) e) rows ≡ true
     → IsBeside w e held (put_batches (map spelled (row_batches rows)) held)

@@ -1,7 +1,6 @@
 -- What a pull comes to, where what is seen is what the history shows.
 use Rattle.std.proofs.Common.{◌≡◌, ℕ, true, List, [], ◌∷◌, Option, Some, None, Ok, refl, sym, ap, ◌∙◌, filter, length, map}
 use Rattle.misp_lists.specs.Order.{in_order}
-use Rattle.misp_lists.proofs.Lists.{all-filter, map_twice}
 use Rattle.misp_groups.specs.Audience.{carries}
 use Rattle.misp_groups.specs.Changes.{take_groups}
 use Rattle.misp_effects.specs.Batches.{Batch, batch}
@@ -10,7 +9,7 @@ use Rattle.misp_format.specs.WholeGroup.{uncarried}
 use Rattle.misp_model.specs.Package.{nobody}
 use Rattle.misp_model.specs.Packing.{is_own, packages}
 use Rattle.misp_model.specs.Pulling.{pulled_events, pulled_groups, pulled_packages, pulled_rows}
-use Rattle.misp_model.proofs.Prelude.{AreRows, EventId, Group, Inst, IsTable, OrgId, Row, Scene, event_of, event_rows, list_all, same_event, same_org, seeing, stands_before}
+use Rattle.misp_model.proofs.Prelude.{AreRows, EventId, Group, Inst, IsTable, OrgId, Row, Scene, event_of, event_rows, list_all, same_org, seeing, stands_before}
 use Rattle.misp_history.specs.Acts.{World, known_at, scene, synced_groups}
 use Rattle.misp_history.specs.Answered.{PullsBy}
 use Rattle.misp_history.specs.History.{tables}
@@ -31,7 +30,8 @@ use Rattle.misp_sync.specs.Pulled.{all_pulled, events_sent, events_taken, groups
 use Rattle.misp_sync.proofs.Bringing.{owned, parts, table}
 use Rattle.misp_sync.proofs.Events.{Tells, events_are}
 use Rattle.misp_sync.proofs.GroupsTaken.{taken_uncarried}
-use Rattle.misp_sync.proofs.Handed.{arriving_handed, event_handed, own_handed, packages_handed, sorted_handed}
+use Rattle.misp_sync.proofs.Handed.{arriving_handed}
+use Rattle.misp_sync.proofs.Listed.{events_listed, sent_handed}
 use Rattle.misp_sync.proofs.Parts.{as_batches}
 
 -- what is seen here and at a peer is what the history shows there, as far as it is looked at
@@ -91,19 +91,11 @@ module _ (w : World) (peer : Host) (caller : Caller) where
         ap (map (handed holder)) (pulled_is 0 w (act_at peer 0 (caller, Ask.SyncEvents)) (caller_at peer.admin caller) route pulls)
         ∙ arriving_handed (tables w.log peer.name) (w.groups peer.name) route
 
-    sent_handed : (e : EventId) → map (map (handed holder)) (sent e) ≡ packages (event_rows e (arriving w route))
-    sent_handed e =
-        packages_handed nobody holder (event_rows e comes) (all-filter (λ row. same_org row.owner nobody) (λ row. same_event (event_of row.key) e) comes comes_nobodys)
-        ∙ ap packages (event_handed holder e comes ∙ ap (event_rows e) comes_handed)
+    sent_is : (e : EventId) → map (map (handed holder)) (sent e) ≡ packages (event_rows e (arriving w route))
+    sent_is e = sent_handed there_scene holder (arriving w route) comes_nobodys comes_handed e
 
-    events_listed : with_packages there_scene ≡ map (λ x. (event_of x.key, sent (event_of x.key))) (filter is_own (in_order stands_before (arriving w route)))
-    unfolding pulled_events handed
-    events_listed =
-        let owns : List Row = filter is_own (in_order stands_before comes) in
-        map_twice (λ row. (event_of row.key, length (sent (event_of row.key)))) (λ e. (e.0, sent e.0)) (λ x. (event_of x.key, sent (event_of x.key))) (λ x. refl) owns
-        ∙ sym (map_twice (handed holder) (λ x. (event_of x.key, sent (event_of x.key))) (λ x. (event_of x.key, sent (event_of x.key))) (λ x. refl) owns)
-        ∙ ap (map (λ x. (event_of x.key, sent (event_of x.key))))
-        (own_handed nobody holder (in_order stands_before comes) ∙ ap (filter is_own) (sorted_handed nobody holder comes comes_nobodys ∙ ap (in_order stands_before) comes_handed))
+    listed_is : with_packages there_scene ≡ map (λ x. (event_of x.key, sent (event_of x.key))) (filter is_own (in_order stands_before (arriving w route)))
+    listed_is = events_listed there_scene holder (arriving w route) comes_nobodys comes_handed
 
     module _ (own there : Seen) (sees : Sees w here peer own there) (are : AreRows (tables w.log peer.name)) where
       groups_then : take_groups own.groups (map uncarried (carried_by w route)) ≡ synced_groups w.groups route here
@@ -113,13 +105,13 @@ module _ (w : World) (peer : Host) (caller : Caller) where
           ≡ effect None (as_batches (parts (takes w route (synced_groups w.groups route here)) [] (packages (arriving w route))))
       unfolding takes
       events_come =
-          events_are here holder (synced_groups w.groups route here) (tables w.log here) (arriving w route) (table w route are) (owned w route are) sent sent_handed own
+          events_are here holder (synced_groups w.groups route here) (tables w.log here) (arriving w route) (table w route are) (owned w route are) sent sent_is own
           (sees.tells holder (synced_groups w.groups route here) (arriving w route) (table w route are) (owned w route are))
 
       pub pulled_with : all_pulled here holder own (groups_sent peer caller there.groups) (events_sent peer caller there.groups (there.rows Reach.All)) ≡ effect None (batches_by w (Some route))
       pulled_with =
           (λ i. all_pulled here holder own (groups_sent peer caller (sees.there_groups i)) (events_sent peer caller (sees.there_groups i) (sees.there_rows i)))
-          ∙ (λ i. all_pulled here holder own (groups_there i) (Ok (events_listed i)))
+          ∙ (λ i. all_pulled here holder own (groups_there i) (Ok (listed_is i)))
           ∙ (λ i.
           behind (batch [] (groups_taken (sees.own_groups i) (map uncarried (carried_by w route))))
           (events_taken here holder (groups_then i) own (map (λ x. (event_of x.key, sent (event_of x.key))) (filter is_own (in_order stands_before (arriving w route))))))

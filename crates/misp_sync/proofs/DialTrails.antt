@@ -5,8 +5,9 @@ use Rattle.std.proofs.lemmas.Slice.Eq.{bytes_eq-Decides}
 use Rattle.misp_outside.specs.Wires.{Asked, GrowsByOne}
 use Rattle.misp_outside.specs.declared.fault.WireFault.{WireFault}
 use Rattle.misp_sync.specs.Dialled.{ask_trail, ask_trail_to, asks_trail, trail_to}
-use Rattle.misp_sync.specs.Trail.{GrowsBy, IsUnanswered}
-use Rattle.misp_sync.proofs.Trails.{grows_none, grows_so}
+use Rattle.misp_dialogue.specs.Parties.{GrowsBy}
+use Rattle.misp_sync.specs.Wire.{IsUnanswered}
+use Rattle.misp_sync.proofs.Growing.{grows_none, grows_so}
 
 -- an ask of these bytes
 abbrev ask_of : List ℕ → List ℕ → Option (List ℕ) → Asked
@@ -29,7 +30,7 @@ module _ (address : List ℕ) where
     refl,
   )
 
-  -- what is told of a call of the dial is told of the wire
+  -- what the dial reports of an ask, the wire reports
   pub told_by : {A : Type 0} (items : A → List ℕ) (bytes : List ℕ) (old new : Option (List Asked)) (result : Result A WireFault)
       → IfOk result (λ reply. GrowsByOne old new (record { address = address; bytes = bytes; reply = Some (items reply) }))
       → (result ≡ Err WireFault.Failed → GrowsByOne old new (record { address = address; bytes = bytes; reply = None }))

@@ -17,13 +17,14 @@ use Rattle.misp_history.specs.Merging.{IsPackageOf, arrives, brought, handed, is
 use Rattle.misp_history.proofs.Packing.{packages_are}
 use Rattle.misp_history.proofs.Pulled.{packages_by_event}
 use Rattle.misp_store.specs.declared.reach.Reach.{Reach}
-use Rattle.misp_core.specs.Prelude.{Effect, Refusal, Seen}
+use Rattle.misp_core.specs.Prelude.{Effect, Seen}
+use Rattle.misp_protocol.specs.declared.cause.Cause.{Cause}
 use Rattle.misp_sync.specs.Pulled.{behind_all, event_taken, events_taken, package_batches}
 use Rattle.misp_sync.proofs.Bringing.{parts}
 use Rattle.misp_sync.proofs.Parts.{as_batches, batches_are, brought_from, parts_alike, parts_append, parts_apart}
 
 -- nothing refuses the rest after these batches
-abbrev pub whole : List (List Row) → Effect (Option Refusal)
+abbrev pub whole : List (List Row) → Effect (Option Cause)
 whole ps = effect None (as_batches ps)
 
 -- rows of another event have none of its names
@@ -95,7 +96,7 @@ module _ (i : Inst) (w : OrgId) (groups : List Group) (rows coming : List Row) (
 
   module _ (sent : EventId → List (List Row)) (is : (e : EventId) → map (map (handed w)) (sent e) ≡ of_event e) (own : Seen) (tells : (e : EventId) → Tells own e) where
     -- of the packages of an event
-    event_is : (so : List Row) (x : Row) (xs : List Row) (more : Effect (Option Refusal)) → Clear so (x ∷ xs)
+    event_is : (so : List Row) (x : Row) (xs : List Row) (more : Effect (Option Cause)) → Clear so (x ∷ xs)
         → event_taken i w groups (own.rows (Reach.Own w (event_of x.key))) (sent (event_of x.key)) more ≡ behind_all (as_batches (parts test so (of_event (event_of x.key)))) more
     event_is so x xs more clear =
         let e : EventId = event_of x.key in

@@ -6,11 +6,12 @@ use Rattle.misp_outside.specs.Held.{Held}
 use Rattle.misp_model.proofs.Prelude.{AreRows, Inst, OrgId}
 use Rattle.misp_history.specs.Acts.{World}
 use Rattle.misp_history.specs.History.{tables}
-use Rattle.misp_core.specs.Prelude.{Ask, Caller, Host, Keeps, RuleName, Seen, bare, forbidden, is_permitted, seen_in}
+use Rattle.misp_core.specs.Prelude.{Ask, Caller, Host, Keeps, Seen, forbidden, is_permitted, seen_in}
 use Rattle.misp_core.proofs.Keeping.{groups_there}
+use Rattle.misp_protocol.specs.declared.cause.Cause.{Cause}
 use Rattle.misp_sync.specs.History.{seen_of}
 use Rattle.misp_sync.specs.Pulled.{ends, pulled, pulled_by, pulled_over, synced as told}
-use Rattle.misp_sync.specs.Telling.{peer_refused}
+use Rattle.misp_client.specs.Telling.{refused_as}
 use Rattle.misp_sync.proofs.Coming.{Sees, pulled_for}
 use Rattle.misp_sync.proofs.OwnRows.{held_tells, history_tells}
 use Rattle.misp_store.specs.Raw.{rows_in}
@@ -37,12 +38,12 @@ module _ (w : World) (here : Inst) (peer : Host) (are : AreRows (tables w.log pe
   by_alike : (holder : OrgId) (caller : Option Caller) → pulled_by here holder peer caller own there ≡ pulled_by here holder peer caller own' there'
   by_alike holder None = refl
   by_alike holder (Some caller) =
-      ap (λ e. if is_permitted caller Ask.SyncGroups then e else ends (Some (peer_refused (forbidden Ask.SyncGroups))))
+      ap (λ e. if is_permitted caller Ask.SyncGroups then e else ends (Some (refused_as (forbidden Ask.SyncGroups))))
       (pulled_for w peer caller here holder own there a are ∙ sym (pulled_for w peer caller here holder own' there' b are))
 
   over_alike : (link : Option Link) → pulled_over here link peer own there ≡ pulled_over here link peer own' there'
   over_alike None = refl
-  over_alike (Some link) = ap (λ e. if link.on then e else ends (Some (bare RuleName.LinkOff))) (by_alike link.holder (who_of peer.admin link.key))
+  over_alike (Some link) = ap (λ e. if link.on then e else ends (Some Cause.LinkOff)) (by_alike link.holder (who_of peer.admin link.key))
 
 -- where what is seen is what the history shows, a pull comes to what the history says
 pub told_there : (w : World) (here peer : Host) (link : Inst) (own there : Held) → Keeps here.name w own → Keeps peer.name w there

@@ -1,12 +1,12 @@
 -- What is taken for a holder is told by its own rows of the event, and by all rows of the event, as by all rows.
-use Rattle.std.proofs.Common.{◌≡◌, ◌&&◌, ◌||◌, not, Bool, true, List, ◌++◌, Contains, filter, leb, nat_eq, refl, ap, subst, ◌∙◌}
+use Rattle.std.proofs.Common.{◌≡◌, ◌&&◌, ◌||◌, not, Bool, true, List, ◌++◌, Contains, filter, leb, map, nat_eq, Ok, refl, ap, subst, ◌∙◌}
 use Rattle.std.specs.List.{starts_with}
 use Rattle.misp_lists.proofs.Lists.{and_where, any_agree, any_cut}
 use Rattle.misp_lists.proofs.Elements.{all_has}
 use Rattle.misp_outside.specs.Held.{Held, rows_named}
 use Rattle.misp_elem.specs.Prelude.{key}
 use Rattle.misp_groups.specs.Audience.{label_is_known}
-use Rattle.misp_model.proofs.Prelude.{EventId, Group, Inst, IsTable, Key, OrgId, Row, all_implies, and_from, and_parts, event_key, event_of}
+use Rattle.misp_model.proofs.Prelude.{AreRows, EventId, Group, Inst, IsTable, Key, OrgId, Row, all_implies, and_from, and_parts, event_key, event_of}
 use Rattle.misp_model.proofs.Prelude.{has_copy, has_gone, has_home, is_made_at, is_row_of, is_statement, is_tombstone, list_all, list_any, name_bytes, row_of_name, same_event, same_event-refl}
 use Rattle.misp_model.proofs.Prelude.{same_key, same_key-sound, same_org, same_org-sound, uid}
 use Rattle.misp_model.proofs.Spelled.{begins_with_itself}
@@ -14,7 +14,7 @@ use Rattle.misp_history.specs.Acts.{World}
 use Rattle.misp_history.specs.History.{tables}
 use Rattle.misp_history.specs.Merging.{arrives, counts_row, has_event_row, is_newer_row, is_taken, is_welcome_row}
 use Rattle.misp_history.proofs.Packing.{event_of_own}
-use Rattle.misp_store.specs.Raw.{rows_in}
+use Rattle.misp_store.specs.Raw.{raw_row, rows_in}
 use Rattle.misp_store.specs.declared.reach.Reach.{Reach}
 use Rattle.misp_store.proofs.HeldRows.{rows_again}
 use Rattle.misp_core.specs.Prelude.{Keeps, seen_in}
@@ -27,14 +27,19 @@ pub event_so : (w : OrgId) (e : EventId) (k : Key) (r : Row) → event_of k ≡ 
 event_so w e k r of h = ap (λ j. same_event (event_of j) e) (row_of_name w k r h).1 ∙ ap (λ f. same_event f e) of ∙ same_event-refl e
 
 -- and is among those that are so named
-named_so : (w : OrgId) (e : EventId) (k : Key) (r : Row) → event_of k ≡ e → is_row_of w k r ≡ true → (same_event (event_of r.key) e && starts_with nat_eq (name_bytes r) (uid w.0)) ≡ true
+pub named_so : (w : OrgId) (e : EventId) (k : Key) (r : Row) → event_of k ≡ e → is_row_of w k r ≡ true → (same_event (event_of r.key) e && starts_with nat_eq (name_bytes r) (uid w.0)) ≡ true
 unfolding name_bytes
 named_so w e k r of h =
     and_from _ _ (event_so w e k r of h)
     (ap (λ o. starts_with nat_eq (uid o.0 ++ key r.key) (uid w.0)) (row_of_name w k r h).0 ∙ begins_with_itself (uid w.0) (key r.key))
 
+-- what is read of what a keeper holds
+pub own_read : (w : OrgId) (e : EventId) (rows : List Row) (held : Held) → held.rows ≡ map raw_row rows → AreRows rows
+    → (seen_in held).rows (Reach.Own w e) ≡ Ok (filter (λ r. same_event (event_of r.key) e && starts_with nat_eq (name_bytes r) (uid w.0)) rows)
+own_read w e rows held holds are = ap (λ raws. rows_in (rows_named e (uid w.0) raws)) holds ∙ ap rows_in (rows_of_name w e rows) ∙ rows_again _ (named_rows_kept w e rows are)
+
 module _ (i : Inst) (w : OrgId) (groups : List Group) (rows coming : List Row) (table : IsTable coming) (owned : list_all (arrives w) coming ≡ true) where
-  all_ours : list_all (λ row. same_org row.owner w) coming ≡ true
+  pub all_ours : list_all (λ row. same_org row.owner w) coming ≡ true
   unfolding arrives
   all_ours = all_implies (arrives w) (λ row. same_org row.owner w) (λ row h. (and_parts _ _ h).0) coming owned
 
@@ -70,18 +75,18 @@ module _ (i : Inst) (w : OrgId) (groups : List Group) (rows coming : List Row) (
         && (is_statement x.key || (any_here x.owner (event_key (event_of x.key)) (λ r. not (is_tombstone r)) same (own_key x of) j || comes_here (event_key (event_of x.key)) (own_key x of) j)))
         && not (any_here x.owner x.key (λ r. leb x.stamp r.stamp) same of j)
 
+  -- what a keeper holds tells it
+  pub rows_tell : (held : Held) → held.rows ≡ map raw_row rows → AreRows rows → (e : EventId) → Tells i w groups rows coming table owned (seen_in held) e
+  rows_tell held holds are e = record {
+    seen = table_within (Reach.Own w e) rows;
+    read = own_read w e rows held holds are;
+    same = taken_here e _ (named_so w e);
+  }
+
 -- what is held and what the history shows tell alike
 module _ (here : Inst) (v : World) (w : OrgId) (groups : List Group) (coming : List Row) (table : IsTable coming) (owned : list_all (arrives w) coming ≡ true) where
   pub held_tells : (held : Held) → Keeps here v held → (e : EventId) → Tells here w groups (tables v.log here) coming table owned (seen_in held) e
-  held_tells held keeps e = record {
-    seen = table_within (Reach.Own w e) (tables v.log here);
-    read = (
-        ap (λ raws. rows_in (rows_named e (uid w.0) raws)) keeps.rows
-        ∙ ap rows_in (rows_of_name w e (tables v.log here))
-        ∙ rows_again _ (named_rows_kept w e (tables v.log here) keeps.are_rows)
-        );
-    same = taken_here here w groups (tables v.log here) coming table owned e _ (named_so w e);
-  }
+  held_tells held keeps = rows_tell here w groups (tables v.log here) coming table owned held keeps.rows keeps.are_rows
 
   pub history_tells : (e : EventId) → Tells here w groups (tables v.log here) coming table owned (seen_of v here) e
   history_tells e = record { seen = tables v.log here; read = refl; same = λ x m of. refl }

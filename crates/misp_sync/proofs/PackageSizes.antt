@@ -18,7 +18,7 @@ use Rattle.misp_model.specs.Prelude.{Content, Row, Tag}
 use Rattle.misp_model.specs.declared.package.PackageFields.{PackageFields as Package}
 use Rattle.misp_package.specs.Spelling.{form, framed_row, framed_rows, number, spell_package}
 use Rattle.misp_package.proofs.FieldSizes.{flag_size, flags_size, key_size, label_size, more_of, more_size, optional_size, stamp_size, text_size as text_is, uid_size}
-use Rattle.misp_sync.specs.Handing.{is_short}
+use Rattle.misp_client.specs.Calling.{is_short}
 
 -- ---- names
 

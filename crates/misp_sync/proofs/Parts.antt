@@ -17,7 +17,7 @@ as_batches ps = map (λ rows. batch rows []) ps
 
 -- ---- lists
 
-filter_alike : {X : Type 0} (p q : X → Bool) (xs : List X) → ((x : X) → Contains xs x → p x ≡ q x) → filter p xs ≡ filter q xs
+pub filter_alike : {X : Type 0} (p q : X → Bool) (xs : List X) → ((x : X) → Contains xs x → p x ≡ q x) → filter p xs ≡ filter q xs
 filter_alike p q [] h = refl
 filter_alike p q (x ∷ xs) h = λ i. cond (h x (here x xs) i) (x ∷ filter_alike p q xs (λ y m. h y (there x xs y m)) i) (filter_alike p q xs (λ y m. h y (there x xs y m)) i)
 

@@ -19,13 +19,14 @@ use Rattle.misp_store.specs.Batches.{spelled}
 use Rattle.misp_store.specs.Raw.{rows_in}
 use Rattle.misp_store.proofs.GroupRows.{AreReadBack}
 use Rattle.misp_store.proofs.HeldRows.{rows_again, rows_filtered, rows_of_event}
-use Rattle.misp_core.specs.Prelude.{Caller, Host, Keeps, RuleName, Seen, bare, seen_in}
+use Rattle.misp_core.specs.Prelude.{Caller, Host, Keeps, Seen, seen_in}
 use Rattle.misp_core.specs.Pulling.{carries_to}
 use Rattle.misp_core.proofs.Keeping.{groups_there}
+use Rattle.misp_protocol.specs.declared.cause.Cause.{Cause}
 use Rattle.misp_sync.specs.History.{applied, push_act, push_route_of, seen_of}
 use Rattle.misp_sync.specs.Pulled.{ends, synced as told}
 use Rattle.misp_sync.specs.Pushed.{groups_carried, if_short, packages_sent, push_telling, pushed, pushed_by, pushed_over, pushed_through, rows_seen}
-use Rattle.misp_sync.specs.Telling.{peer_refused}
+use Rattle.misp_client.specs.Telling.{refused_as}
 use Rattle.misp_sync.proofs.Elsewhere.{groups_after, tables_after}
 use Rattle.misp_sync.proofs.Events.{Tells}
 use Rattle.misp_sync.proofs.Left.{left_under}
@@ -71,7 +72,7 @@ module _ (w : World) (here : Inst) (peer : Host) (are : AreRows (tables w.log he
       → pushed_by peer caller there (groups_carried link own) (packages_sent here link own) ≡ pushed_by peer caller there' (groups_carried link own') (packages_sent here link own')
   push_by_alike link None = refl
   push_by_alike link (Some caller) =
-      ap (λ e. if permits caller.role Perm.Sync then e else ends (Some (peer_refused (no_permission Perm.Sync))))
+      ap (λ e. if permits caller.role Perm.Sync then e else ends (Some (refused_as (no_permission Perm.Sync))))
       (pushed_with_route w here peer link caller.org are own there a ∙ sym (pushed_with_route w here peer link caller.org are own' there' b))
 
   push_through_alike : (link : Link) → pushed_through here link peer own there ≡ pushed_through here link peer own' there'
@@ -79,7 +80,7 @@ module _ (w : World) (here : Inst) (peer : Host) (are : AreRows (tables w.log he
 
   push_alike : (link : Option Link) → pushed_over here link peer own there ≡ pushed_over here link peer own' there'
   push_alike None = refl
-  push_alike (Some link) = ap (λ e. if link.on then e else ends (Some (bare RuleName.LinkOff))) (push_through_alike link)
+  push_alike (Some link) = ap (λ e. if link.on then e else ends (Some Cause.LinkOff)) (push_through_alike link)
 
 -- where what is seen is what the history shows, a push comes to what the history says
 pub push_told : (w : World) (here peer : Host) (link : Inst) (own there : Held) → Keeps here.name w own → Keeps peer.name w there

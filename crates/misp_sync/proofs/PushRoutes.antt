@@ -10,13 +10,14 @@ use Rattle.misp_model.proofs.Prelude.{AreRows, Group, Inst}
 use Rattle.misp_model.specs.Permission.{no_permission}
 use Rattle.misp_history.specs.Acts.{World}
 use Rattle.misp_history.specs.History.{tables}
-use Rattle.misp_core.specs.Prelude.{Caller, Effect, Host, Refusal, RuleName, Seen, bare}
+use Rattle.misp_core.specs.Prelude.{Caller, Effect, Host, Seen}
 use Rattle.misp_core.specs.Pulling.{carries_to}
-use Rattle.misp_sync.specs.Handing.{is_short, too_large}
+use Rattle.misp_client.specs.Calling.{is_short, too_large}
+use Rattle.misp_protocol.specs.declared.cause.Cause.{Cause}
 use Rattle.misp_sync.specs.History.{push_route_by, push_route_over, push_route_to, push_route_with}
 use Rattle.misp_sync.specs.Pulled.{ends}
 use Rattle.misp_sync.specs.Pushed.{all_pushed, groups_carried, if_short, packages_sent, push_telling, pushed_by, pushed_over, pushed_through}
-use Rattle.misp_sync.specs.Telling.{peer_refused}
+use Rattle.misp_client.specs.Telling.{refused_as}
 use Rattle.misp_sync.specs.declared.reply.SyncReply.{SyncReply}
 use Rattle.misp_sync.proofs.PushComing.{Shows, pushed_with_route}
 use Rattle.misp_sync.proofs.Routes.{Comes, IsBetween, between_if, comes_if, put_under}
@@ -46,18 +47,18 @@ module _ (here : Inst) (peer : Host) where
     push_comes_by link None = inr (refl, refl)
     push_comes_by link (Some caller) =
         comes_if w (permits caller.role Perm.Sync) (all_pushed peer.name caller.org there (map uncarried (groups_carried link own)) (packages_sent here link own))
-        (ends (Some (peer_refused (no_permission Perm.Sync)))) (Some (push_route_to here link peer caller.org))
-        (inl (ap (λ (e : Effect (Option Refusal)). e.batches) (pushed_with_route w here peer link caller.org are own there shows))) refl
+        (ends (Some (refused_as (no_permission Perm.Sync)))) (Some (push_route_to here link peer caller.org))
+        (inl (ap (λ (e : Effect (Option Cause)). e.batches) (pushed_with_route w here peer link caller.org are own there shows))) refl
 
     push_comes_with : (link : Link) → Comes w (pushed_through here link peer own there).batches (push_route_with here link peer (w.groups here))
     push_comes_with link =
-        let e : Effect (Option Refusal) = pushed_by peer (who_of peer.admin link.key) there (groups_carried link own) (packages_sent here link own) in
+        let e : Effect (Option Cause) = pushed_by peer (who_of peer.admin link.key) there (groups_carried link own) (packages_sent here link own) in
         subst (λ gs. Comes w (if_short (groups_text (filter (carries_to link.push_org link.peer) gs)) e).batches (push_route_with here link peer (w.groups here))) (sym shows.own_groups)
-        (comes_if w (is_short (groups_text (filter (carries_to link.push_org link.peer) (w.groups here)))) e (ends (Some (peer_refused too_large)))
+        (comes_if w (is_short (groups_text (filter (carries_to link.push_org link.peer) (w.groups here)))) e (ends (Some (refused_as too_large)))
         (push_route_by here link peer (who_of peer.admin link.key)) (push_comes_by link (who_of peer.admin link.key)) refl)
 
     -- the batches are those of the route
     pub push_comes : (link : Option Link) → Comes w (pushed_over here link peer own there).batches (push_route_over here link peer (w.groups here))
     push_comes None = inr (refl, refl)
     push_comes (Some link) =
-        comes_if w link.on (pushed_through here link peer own there) (ends (Some (bare RuleName.LinkOff))) (push_route_with here link peer (w.groups here)) (push_comes_with link) refl
+        comes_if w link.on (pushed_through here link peer own there) (ends (Some Cause.LinkOff)) (push_route_with here link peer (w.groups here)) (push_comes_with link) refl

@@ -13,8 +13,8 @@ use Rattle.misp_core.specs.Taking.{handed_rows, package_taken}
 use Rattle.misp_sync.specs.Pulled.{behind_all, ends, event_taken, events_taken, package_batches}
 use Rattle.misp_sync.specs.Pushed.{RowsOf, over_rows, parts_taken, with_event}
 use Rattle.misp_core.specs.Sending.{all_numbered, numbered_from}
-use Rattle.misp_sync.specs.Telling.{peer_refused}
-use Rattle.misp_sync.specs.Handing.{too_large}
+use Rattle.misp_client.specs.Telling.{refused_as}
+use Rattle.misp_client.specs.Calling.{too_large}
 use Rattle.misp_sync.proofs.PackageSizes.{package_short}
 
 -- rows that fit into a package
@@ -46,7 +46,7 @@ module _ (i : Inst) (w : OrgId) (groups : List Group) where
   first_taken p ps of rows read fits =
       let next : (List Row → Effect _) =
       λ rows. behind_all (row_batches (package_taken i rows groups w p)) (parts_taken i w groups (with_event p.event (merged i rows groups (handed_rows w p)) of) ps) in
-      ap (λ b. if b then over_rows (of p.event) next else ends (Some (peer_refused too_large))) (package_short p fits.0 fits.1) ∙ ap (λ found. over_rows found next) read
+      ap (λ b. if b then over_rows (of p.event) next else ends (Some (refused_as too_large))) (package_short p fits.0 fits.1) ∙ ap (λ found. over_rows found next) read
 
   -- the packages of an event, after which the rows of others are as they were
   event_parts : (e : EventId) (count n : ℕ) (ps : List (List Row)) (more : List Package) (of : RowsOf) (rows : List Row) → of e ≡ Ok rows → AllByRecursion Fits ps

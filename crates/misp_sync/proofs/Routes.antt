@@ -13,10 +13,11 @@ use Rattle.misp_history.specs.History.{tables}
 use Rattle.misp_history.specs.Outcomes.{step_partly, synced_partly}
 use Rattle.misp_history.specs.Passing.{Route}
 use Rattle.misp_core.specs.Partners.{partner_of}
-use Rattle.misp_core.specs.Prelude.{Ask, Caller, Effect, Host, Refusal, RuleName, Seen, bare, forbidden, is_permitted}
+use Rattle.misp_core.specs.Prelude.{Ask, Caller, Effect, Host, Seen, forbidden, is_permitted}
+use Rattle.misp_protocol.specs.declared.cause.Cause.{Cause}
 use Rattle.misp_sync.specs.History.{applied, route_by, route_for, route_over, sync_act}
 use Rattle.misp_sync.specs.Pulled.{ends, pulled_by, all_pulled, events_sent, groups_sent, pulled_over, telling}
-use Rattle.misp_sync.specs.Telling.{peer_refused}
+use Rattle.misp_client.specs.Telling.{refused_as}
 use Rattle.misp_sync.specs.declared.reply.SyncReply.{SyncReply}
 use Rattle.misp_sync.proofs.Coming.{Sees, batches_by, pulled_for}
 
@@ -31,7 +32,7 @@ IsBetween here peer (Some r) = (r.into ≡ here) × (r.from ≡ peer)
 abbrev pub Comes : World → List Batch → Option Route → Type 0
 Comes w bs o = (bs ≡ batches_by w o) ⊎ ((bs ≡ []) × (o ≡ None))
 
-pub comes_if : (w : World) (b : Bool) (x y : Effect (Option Refusal)) (o : Option Route) → Comes w x.batches o → y.batches ≡ [] → Comes w (if b then x else y).batches (if b then o else None)
+pub comes_if : (w : World) (b : Bool) (x y : Effect (Option Cause)) (o : Option Route) → Comes w x.batches o → y.batches ≡ [] → Comes w (if b then x else y).batches (if b then o else None)
 comes_if w true x y o c e = c
 comes_if w false x y o c e = inr (e, refl)
 
@@ -58,13 +59,13 @@ module _ (here : Inst) (peer : Host) where
     comes_by holder (Some caller) =
         comes_if w (is_permitted caller Ask.SyncGroups)
         (all_pulled here holder own (groups_sent peer caller there.groups) (events_sent peer caller there.groups (there.rows Reach.All)))
-        (ends (Some (peer_refused (forbidden Ask.SyncGroups)))) (route_for here holder peer caller.org (partner_of caller))
-        (inl (ap (λ (e : Effect (Option Refusal)). e.batches) (pulled_for w peer caller here holder own there a are))) refl
+        (ends (Some (refused_as (forbidden Ask.SyncGroups)))) (route_for here holder peer caller.org (partner_of caller))
+        (inl (ap (λ (e : Effect (Option Cause)). e.batches) (pulled_for w peer caller here holder own there a are))) refl
 
     pub comes_over : (link : Option Link) → Comes w (pulled_over here link peer own there).batches (route_over here link peer)
     comes_over None = inr (refl, refl)
     comes_over (Some link) =
-        comes_if w link.on (pulled_by here link.holder peer (who_of peer.admin link.key) own there) (ends (Some (bare RuleName.LinkOff)))
+        comes_if w link.on (pulled_by here link.holder peer (who_of peer.admin link.key) own there) (ends (Some Cause.LinkOff))
         (route_by here link.holder peer (who_of peer.admin link.key)) (comes_by link.holder (who_of peer.admin link.key)) refl
 
 -- ---- acts

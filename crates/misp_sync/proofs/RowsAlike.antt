@@ -35,7 +35,7 @@ module _ {A : Type 0} (P : A → Type 0) (f g : A → Bool) (same : (x : A) → 
   filter_alike [] all = refl
   filter_alike (x ∷ xs) all = λ i. cond (same x all.0 i) (x ∷ filter_alike xs all.1 i) (filter_alike xs all.1 i)
 
-all_kept : {A : Type 0} (P : A → Type 0) (f : A → Bool) (xs : List A) → AllByRecursion P xs → AllByRecursion P (filter f xs)
+pub all_kept : {A : Type 0} (P : A → Type 0) (f : A → Bool) (xs : List A) → AllByRecursion P xs → AllByRecursion P (filter f xs)
 all_kept P f [] all = tt
 all_kept P f (x ∷ xs) all = one (f x) (all_kept P f xs all.1)
   where
@@ -99,6 +99,14 @@ find_kept f p true h [] = refl
 find_kept f p false h [] = refl
 find_kept f p c h (s ∷ rows) = grind (arith, h s, find_kept f p c h rows)
 
+-- what is held of the event
+abbrev pub within : EventId → RawRow → Bool
+within e raw = raw.event.0.0 == e.0.0
+
+pub there : (e : EventId) (r : Row) → same_event (event_of r.key) e ≡ true → within e (raw_row r) ≡ true
+unfolding raw_row same_event
+there e r of_e = of_e
+
 module _ (e : EventId) (r : Row) (is : IsRow r) (of_e : same_event (event_of r.key) e ≡ true) (x : Row) (x_is : IsRow x) (test : Row → Bool) where
   abbrev like : Row → Bool
   like = is_like x test
@@ -106,7 +114,7 @@ module _ (e : EventId) (r : Row) (is : IsRow r) (of_e : same_event (event_of r.k
   abbrev other_cell : Row → Bool
   other_cell s = not (same_org s.owner r.owner && same_key s.key r.key)
 
-  like_held : (s : Row) → like s ≡ true → other_row e r is of_e s ≡ other_row e r is of_e x
+  like_held : (s : Row) → like s ≡ true → other_row (within e) r is (there e r of_e) s ≡ other_row (within e) r is (there e r of_e) x
   unfolding name_bytes event_number
   like_held s h =
       let n : (s.owner ≡ x.owner) × (s.key ≡ x.key) = row_of_name x.owner x.key s (and_parts (is_row_of x.owner x.key s) (test s) h).0 in
@@ -117,16 +125,16 @@ module _ (e : EventId) (r : Row) (is : IsRow r) (of_e : same_event (event_of r.k
       let n : (s.owner ≡ x.owner) × (s.key ≡ x.key) = row_of_name x.owner x.key s (and_parts (is_row_of x.owner x.key s) (test s) h).0 in
       λ i. not (same_org (n.0 i) r.owner && same_key (n.1 i) r.key)
 
-  cell_is_held : other_cell x ≡ other_row e r is of_e x
+  cell_is_held : other_cell x ≡ other_row (within e) r is (there e r of_e) x
   cell_is_held = ap not (same_in_bytes x r x_is is)
 
   -- what is found among what is read is found among the rows
-  pub found_alike : (xs ys more : List Row) → list_any like xs ≡ list_any like ys → IsPut e r is of_e (filter (other_row e r is of_e) xs) more → list_any like more ≡ list_any like (put_row r ys)
+  pub found_alike : (xs ys more : List Row) → list_any like xs ≡ list_any like ys → IsPut (within e) r is (there e r of_e) (filter (other_row (within e) r is (there e r of_e)) xs) more → list_any like more ≡ list_any like (put_row r ys)
   unfolding put_row
   found_alike xs ys more same h =
       h like
       ∙ ap (λ b. like r || b) (
-      find_kept (other_row e r is of_e) like (other_row e r is of_e x) like_held xs
+      find_kept (other_row (within e) r is (there e r of_e)) like (other_row (within e) r is (there e r of_e) x) like_held xs
       ∙ (λ i. sym cell_is_held i && same i)
       ∙ sym (find_kept other_cell like (other_cell x) like_cell ys))
       ∙ sym (any_put stands_before like r (filter other_cell ys))
@@ -139,8 +147,8 @@ agree_row : (e : EventId) (r : Row) → IsRow r → same_event (event_of r.key) 
     → ReadSo e (put_raw (raw_row r) raws) (put_row r ys)
 unfolding rows_of put_raw
 agree_row e r is of_e raws xs ys read agree =
-    let others = others_read e r is of_e raws xs read in
-    let k = put_read e r is of_e (filter (other_raw e r is of_e) raws) (filter (other_row e r is of_e) xs) others in
+    let others = others_read (within e) r is (there e r of_e) raws xs read in
+    let k = put_read (within e) r is (there e r of_e) (filter (other_raw (within e) r is (there e r of_e)) raws) (filter (other_row (within e) r is (there e r of_e)) xs) others in
     (k.0, k.1, λ x x_is x_of test. found_alike e r is of_e x x_is test xs ys k.0 (agree x x_is x_of test) k.2)
 
 -- the same of all that are put

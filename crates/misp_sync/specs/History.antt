@@ -13,7 +13,7 @@ use Rattle.misp_history.specs.Passing.{Route}
 use Rattle.misp_core.specs.Partners.{partner_of}
 use Rattle.misp_core.specs.Prelude.{Ask, Caller, Group, Host, Inst, OrgId, Seen, World, is_permitted, tables}
 use Rattle.misp_core.specs.Pulling.{carries_to}
-use Rattle.misp_sync.specs.Handing.{is_short}
+use Rattle.misp_client.specs.Calling.{is_short}
 use Rattle.misp_sync.specs.Ways.{push_way}
 use Rattle.misp_history.specs.Acts as model
 use Rattle.misp_history.specs.Outcomes as parts

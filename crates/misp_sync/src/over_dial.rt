@@ -2,7 +2,6 @@
 
 ghost use Rattle.std.specs.Prelude.{◌≡◌, None, []};
 
-use crate::push_wire::PushWire;
 use crate::wire::Wire;
 use misp_outside::{Dial, WireFault};
 use std::alloc::Global;
@@ -39,23 +38,6 @@ impl<L: Dial> Wire for OverDial<'_, L> {
     ghost faults = { λ w. L.faults w.dial.now };
 
     fn ask(&mut self, alloc: Global, bytes: &[u8]) -> Result<Vec<u8>, WireFault> {
-        self.dial.ask(alloc, self.address, bytes)
-    }
-}
-
-impl<L: Dial> PushWire for OverDial<'_, L> {
-    ghost use Rattle.std.specs.Prelude.{◌∷◌};
-    ghost use Rattle.misp_sync.specs.Dialled.{trail_to};
-
-    ghost peer = { λ _. None };
-
-    ghost through = { λ w. w.dial.ghost_name ∷ w.address.now };
-
-    ghost trail = { λ w. trail_to w.address.now (L.asks w.dial.now) };
-
-    ghost faults = { λ w. L.faults w.dial.now };
-
-    fn hand(&mut self, alloc: Global, bytes: &[u8]) -> Result<Vec<u8>, WireFault> {
         self.dial.ask(alloc, self.address, bytes)
     }
 }

@@ -1,7 +1,6 @@
 //! What a synchronisation is told.
 
-use misp_ids::Refusal;
-use misp_protocol::SyncCount;
+use misp_protocol::{Cause, SyncCount};
 
 /// What a synchronisation is told.
 #[derive(Drop)]
@@ -9,5 +8,5 @@ pub enum SyncReply {
     /// All that passes was taken, so far as it is new.
     Done(SyncCount),
     /// So much was taken before this refused or stopped it.
-    Stopped { count: SyncCount, cause: Refusal },
+    Stopped { count: SyncCount, cause: Cause },
 }

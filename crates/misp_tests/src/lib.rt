@@ -4,6 +4,8 @@
 #[cfg(test)]
 mod app;
 #[cfg(test)]
+mod lying;
+#[cfg(test)]
 mod opening;
 #[cfg(test)]
 mod outside;

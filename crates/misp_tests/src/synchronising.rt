@@ -23,6 +23,10 @@ const NET: &str = "[[org]]\nname = \"Beta\"\nuuid = \"bbbbbbbb-0000-4000-8000-00
 const NONE: &str = "HTTP/1.1 200 OK\r\nContent-Type: application/json\r\nContent-Length: 2\r\n\
     Connection: close\r\n\r\n[]";
 
+/// The manifest of no event.
+const NOTHING: &str = "HTTP/1.1 200 OK\r\nContent-Type: application/octet-stream\r\n\
+    Content-Length: 8\r\nConnection: close\r\n\r\nMSP2\0\0\0\0";
+
 /// That no group was taken.
 const TAKEN: &str = "HTTP/1.1 200 OK\r\nContent-Type: application/json\r\nContent-Length: 11\r\n\
     Connection: close\r\n\r\n{\"taken\":0}";
@@ -48,7 +52,7 @@ const ENDS: [(&str, [&str; 2], Status, &str, usize, &str); 9] = [
     ),
     (
         "sync b ba pull",
-        [NONE, NONE],
+        [NONE, NOTHING],
         Status::Done,
         "1 200 {\"elements\":0,\"events\":0,\"groups\":0,\"packages\":0}\n",
         2,

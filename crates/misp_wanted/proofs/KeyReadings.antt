@@ -16,7 +16,7 @@ use Rattle.misp_model.specs.Prelude.{Element, Key, Place, Proposal, Reference, S
 use Rattle.misp_manifest.specs.Wanted.{IsOwnKeyAfter}
 use Rattle.misp_package.proofs.BoundedFields.{IsBounded, Within, before, between_bounded, final, front_bounded, key_bounded, own_event_bounded}
 use Rattle.misp_package.proofs.FieldSizes.{key_size}
-use Rattle.misp_wanted.specs.ManifestReading.{first_key_at, first_key_of, later_key_of, listed_key_of, own_key_of, wanted_key_of}
+use Rattle.misp_wanted.specs.ManifestReading.{first_key_at, first_key_of, later_key_of, list_key_of, listed_key_of, own_key_of, wanted_key_of}
 use Rattle.misp_wanted.proofs.ListFields.{IsWholly}
 
 -- ---- the first key
@@ -148,13 +148,17 @@ later_fault e b bytes left h = one (own_key_of e bytes) (own_fault e bytes) h
     one (Ok k) within r = omega (arith, left_is (is_after (key b) (key k)) k (length bytes) left r)
     one (Err m) within r = let same : m ≡ left = cc in omega (arith, within m refl)
 
-pub listed_fault : (e : EventId) (b : Option Key) (bytes : List ℕ) (left : ℕ) → listed_key_of e b bytes ≡ Err left → left ≤ length bytes
+listed_fault : (e : EventId) (b : Option Key) (bytes : List ℕ) (left : ℕ) → listed_key_of e b bytes ≡ Err left → left ≤ length bytes
 listed_fault e None bytes left h = first_fault e bytes left h
 listed_fault e (Some b) bytes left h = later_fault e b bytes left h
 
-pub wanted_fault : (e : EventId) (b : Option Key) (bytes : List ℕ) (left : ℕ) → wanted_key_of e b bytes ≡ Err left → left ≤ length bytes
+wanted_fault : (e : EventId) (b : Option Key) (bytes : List ℕ) (left : ℕ) → wanted_key_of e b bytes ≡ Err left → left ≤ length bytes
 wanted_fault e None bytes left h = own_fault e bytes left h
 wanted_fault e (Some b) bytes left h = later_fault e b bytes left h
+
+pub list_fault : (own_first : Bool) (e : EventId) (b : Option Key) (bytes : List ℕ) (left : ℕ) → list_key_of own_first e b bytes ≡ Err left → left ≤ length bytes
+list_fault true e b bytes left h = listed_fault e b bytes left h
+list_fault false e b bytes left h = wanted_fault e b bytes left h
 
 -- ---- what a decoder answers
 

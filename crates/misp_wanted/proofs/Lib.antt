@@ -1,3 +1,4 @@
+pub mod Ascending
 pub mod HeldRows
 pub mod KeyReadings
 pub mod KeySets

@@ -1,6 +1,6 @@
 -- Reading manifests and wanted lists from left to right. A fault is how many bytes were left where
 -- the first field stands that is not of its form.
-use Rattle.std.specs.Prelude.{◌≡◌, ℕ, zero, suc, ◌-◌, ◌^◌, ◌&&◌, List, [], ◌∷◌, length, take, drop, Bool, true, Option, Some, None, Result, Ok, Err, nat_eq, nat_lt, nat_le, if◌then◌else◌}
+use Rattle.std.specs.Prelude.{◌≡◌, ℕ, zero, suc, ◌-◌, ◌^◌, ◌&&◌, List, [], ◌∷◌, length, take, drop, Bool, false, true, Option, Some, None, Result, Ok, Err, nat_eq, nat_lt, nat_le, if◌then◌else◌}
 use Rattle.std.specs.Int.{w32}
 use Rattle.std.specs.List.{starts_with}
 use Rattle.misp_elem.specs.Prelude.{◌>>=◌, Reading, between_at, event_at, event_key, is_after, key, stamp_at}
@@ -115,6 +115,11 @@ listed_key_of e (Some before) bytes = later_key_of e before bytes
 abbrev pub wanted_key_of : EventId → Option Key → List ℕ → Result Key ℕ
 wanted_key_of e None bytes = own_key_of e bytes
 wanted_key_of e (Some before) bytes = later_key_of e before bytes
+
+-- a key of either list: of a package, where the event's own comes first
+abbrev pub list_key_of : Bool → EventId → Option Key → List ℕ → Result Key ℕ
+list_key_of true = listed_key_of
+list_key_of false = wanted_key_of
 
 -- ---- manifests
 

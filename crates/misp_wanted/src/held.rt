@@ -1,9 +1,10 @@
 //! Rows that ascend by their keys, as a keeper has those of one owner and event.
 
-ghost use Rattle.std.specs.Prelude.{◌≡◌, ◌&&◌, Bool, false, leb};
+ghost use Rattle.std.specs.Prelude.{◌≡◌, ◌&&◌, Bool, false, true, leb};
 ghost use Rattle.std.specs.List.{find, list_any};
 ghost use Rattle.std.specs.List.Sorted.{IsStrictlySortedBy};
 ghost use Rattle.std.specs.Option.{option_copied};
+ghost use Rattle.std.specs.Ordering.{is_lt};
 ghost use Rattle.misp_lists.specs.Prelude.{option_map_or};
 ghost use Rattle.misp_elem.specs.SameKey.{same_key};
 ghost use Rattle.misp_elem.specs.declared.row.RowFields.{RowFields};
@@ -25,6 +26,21 @@ fn compare(row: &Row, key: &Key) -> Ordering
 {
     let _form = key.form;
     compare_keys(&row.key, key)
+}
+
+// Whether the key of the first goes before that of the second.
+#[tactic(auto, unfolding(misp_package::specs::Packing::key_order))]
+fn goes_before(a: &Row, b: &Row) -> bool
+    ensures { result ≡ is_lt (key_order a.now b.now) }
+{
+    compare(a, &b.key).is_lt()
+}
+
+/// Whether the rows ascend by their keys.
+pub fn ascend(held: &[Row]) -> bool
+    ensures { result ≡ true → IsStrictlySortedBy key_order held.now }
+{
+    held.is_sorted_by(|a, b| goes_before(a, b))
 }
 
 // The row of the key.

@@ -9,6 +9,7 @@ mod selecting;
 mod wanting;
 mod writing;
 
+pub use held::ascend;
 pub use laws::what_is_wanted_is_all_that_is_taken;
 pub use reading::{read_manifest, read_wanted};
 pub use selecting::only;

@@ -1,6 +1,6 @@
 //! Which rows of a package an owner wants.
 
-ghost use Rattle.std.specs.Prelude.{◌≡◌, ◌<◌, [], List, filter, length, map, slice_index_or, IfOk};
+ghost use Rattle.std.specs.Prelude.{◌≡◌, List, filter, map, IfOk};
 ghost use Rattle.std.specs.List.Sorted.{IsStrictlySortedBy};
 ghost use Rattle.misp_elem.specs.declared.row.RowFields.{RowFields};
 ghost use Rattle.misp_ids.specs.Same.{Inst};
@@ -15,7 +15,7 @@ use crate::held::{has_as_new, state};
 use misp_copies::{CopyState, takes};
 use misp_elem::{Key, Row};
 use misp_ids::{EventId, InstId, NoMemory, OrgId};
-use misp_manifest::{KeyStamp, ManifestEvent};
+use misp_manifest::KeyStamp;
 use misp_package::{Landing, Stamps};
 use std::alloc::Global;
 
@@ -101,40 +101,20 @@ fn keys_wanted_at(
     Ok(wanted)
 }
 
-// The keys of those of the event that are wanted.
-fn keys_wanted_of(
+/// The keys of a package of an event of which the owner wants the rows, in their order, where these
+/// rows of the event are held and ascend by their keys. A package of which none is wanted brings
+/// nothing. No landing is made for it.
+pub fn wanted(
     alloc: Global,
+    event: &EventId,
+    keys: &[KeyStamp],
     held: &[Row],
     owner: &OrgId,
     here: &InstId,
-    event: &EventId,
-    keys: &[KeyStamp],
 ) -> Result<Vec<Key>, NoMemory>
     ensures { IsStrictlySortedBy key_order held.now → IfOk result (λ wanted. wanted.items
         ≡ wanted_keys here.now held.now owner.now event.now keys.now) }
 {
     let state = state(held, owner, event);
     keys_wanted_at(alloc, held, owner, here, state, keys)
-}
-
-/// The keys of a package of an event of which the owner wants the rows, in their order, where these
-/// rows of the event are held and ascend by their keys. A package of which none is wanted brings
-/// nothing. No landing is made for it.
-pub fn wanted(
-    alloc: Global,
-    event: &ManifestEvent,
-    part: u32,
-    held: &[Row],
-    owner: &OrgId,
-    here: &InstId,
-) -> Result<Vec<Key>, NoMemory>
-    requires { part < length «event».now.parts }
-    ensures { IsStrictlySortedBy key_order held.now → IfOk result (λ wanted. wanted.items
-        ≡ wanted_keys here.now held.now owner.now «event».now.event
-        (slice_index_or «event».now.parts part [])) }
-{
-    let fields = event.get();
-    let parts = fields.parts.as_slice();
-    let keys = parts[part as usize].as_slice();
-    keys_wanted_of(alloc, held, owner, here, &fields.event, keys)
 }

@@ -1,7 +1,7 @@
 //! Reading keys of an event.
 
 ghost use Rattle.std.specs.Prelude.{◌≡◌};
-ghost use Rattle.misp_wanted.specs.ManifestReading.{Gives, GivesAll, first_key_at, first_key_of, framed_at, later_key_of, listed_key_of, own_key_of, wanted_key_of};
+ghost use Rattle.misp_wanted.specs.ManifestReading.{Gives, GivesAll, first_key_at, first_key_of, framed_at, later_key_of, list_key_of, listed_key_of, own_key_of, wanted_key_of};
 
 use crate::reading::{Reader, Stop};
 use misp_elem::{DecodeFault, Key, KeyForm, Place, compare_keys, decode_key};
@@ -86,41 +86,27 @@ fn wanted_key(bytes: &[u8], event: EventId, before: Option<Key>) -> Result<Key, 
     }
 }
 
-impl Reader<'_> {
-    // A key of a package after its length.
-    #[tactic(auto, unfolding(crate::specs::ManifestReading::framed_at))]
-    pub(super) fn framed_listed_key(
-        &mut self,
-        event: EventId,
-        before: Option<Key>,
-    ) -> Result<Key, Stop>
-        ensures { Gives result self.new (framed_at (listed_key_of event before) self.old) }
-    {
-        let bad = self.bad();
-        let len = self.u32()? as usize;
-        if self.rest.len() < len {
-            return Err(bad);
-        }
-        let after_len = self.rest.len();
-        let (front, rest) = self.rest.split_at(len);
-        self.rest = rest;
-        match listed_key(front, event, before) {
-            Ok(key) => Ok(key),
-            Err(Stop::Bad(left)) => Err(Stop::Bad(after_len.saturating_sub(
-                front.len().saturating_sub(left),
-            ))),
-            Err(Stop::NoMemory) => Err(Stop::NoMemory),
-        }
+// A key of a list, of whose first key the flag says whether it is the event's own.
+fn list_key(bytes: &[u8], event: EventId, before: Option<Key>, own_first: bool) -> Result<Key, Stop>
+    ensures { GivesAll result (list_key_of own_first event before bytes.now) }
+{
+    if own_first {
+        listed_key(bytes, event, before)
+    } else {
+        wanted_key(bytes, event, before)
     }
+}
 
-    // A key of a wanted list after its length.
+impl Reader<'_> {
+    // A key of a list after its length.
     #[tactic(auto, unfolding(crate::specs::ManifestReading::framed_at))]
-    pub(super) fn framed_wanted_key(
+    pub(super) fn framed_key(
         &mut self,
         event: EventId,
         before: Option<Key>,
+        own_first: bool,
     ) -> Result<Key, Stop>
-        ensures { Gives result self.new (framed_at (wanted_key_of event before) self.old) }
+        ensures { Gives result self.new (framed_at (list_key_of own_first event before) self.old) }
     {
         let bad = self.bad();
         let len = self.u32()? as usize;
@@ -130,7 +116,7 @@ impl Reader<'_> {
         let after_len = self.rest.len();
         let (front, rest) = self.rest.split_at(len);
         self.rest = rest;
-        match wanted_key(front, event, before) {
+        match list_key(front, event, before, own_first) {
             Ok(key) => Ok(key),
             Err(Stop::Bad(left)) => Err(Stop::Bad(after_len.saturating_sub(
                 front.len().saturating_sub(left),

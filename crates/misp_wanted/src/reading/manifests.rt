@@ -32,7 +32,7 @@ impl Reader<'_> {
     fn key_stamp(&mut self, event: EventId, before: Option<Key>) -> Result<KeyStamp, Stop>
         ensures { Gives result self.new (key_stamp_at event before self.old) }
     {
-        let key = self.framed_listed_key(event, before)?;
+        let key = self.framed_key(event, before, true)?;
         let stamp = self.stamp()?;
         Ok(KeyStamp { key, stamp })
     }

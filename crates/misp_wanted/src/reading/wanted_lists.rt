@@ -24,7 +24,7 @@ impl Reader<'_> {
         let mut keys: Vec<Key> = Vec::new(alloc);
         let mut before = None;
         for _ in 0..count {
-            let key = self.framed_wanted_key(event, before)?;
+            let key = self.framed_key(event, before, false)?;
             before = Some(key);
             keys.push(key)?;
         }

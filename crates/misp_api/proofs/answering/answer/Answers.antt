@@ -26,6 +26,9 @@ returns-in-Ok-clause-pulled g c =
     (λ long. c.tell.ensures.kept long ∙ c.plan-planned.ensures.held)
     (λ none. c.tell.ensures.silent (c.plan-planned.ensures.held ∙ none))
 
+pub returns-in-Ok-clause-silent : goal.returns-in-Ok-clause-silent
+returns-in-Ok-clause-silent g c = λ none. c.tell.ensures.silent (c.plan-planned.ensures.held ∙ none)
+
 pub returns-in-Ok-clause-order : goal.returns-in-Ok-clause-order
 returns-in-Ok-clause-order g c =
     ordered_told c.tell.result c.args.instance.now c.args.now (request_data c.args.word c.args.request.now) _ c.plan-planned.result _ _

@@ -10,7 +10,7 @@ returns-clause-answered g c =
     let same = sym c.worded-reply.ensures.same in
     exchanged _ c.bytes_of.result c.args.now c.args.word c.args.read.now c.args.instance.now c.answer_to.new.instance c.worded-reply.result c.closes-close.result c.closes-close.ensures
     (subst (IsAnswered c.args.now c.args.word c.args.read.now c.args.instance.now c.answer_to.new.instance) same c.in_ok-reply.ensures.answered)
-    (λ pull. subst IsSound same (c.in_ok-reply.ensures.sound pull)) c.worded-reply.ensures.worded c.bytes_of.ensures
+    (λ asks. subst IsSound same (c.in_ok-reply.ensures.sound asks)) c.worded-reply.ensures.worded c.bytes_of.ensures
 
 -- no text was written
 pub returns-in_err-reply-clause-left : goal.returns-in_err-reply-clause-left

@@ -1,6 +1,6 @@
 use Rattle.std.proofs.Common.{refl, subst}
 use Rattle.misp_manifest.specs.declared.wanted.WantedFields.{WantedFields as Wanted}
-use Rattle.std.specs.Prelude.{◌≡◌, IsSomeAnd}
+use Rattle.std.specs.Prelude.{IsSomeAnd}
 use Rattle.misp_core.specs.Ahead.{IsKept}
 use Rattle.misp_core.proofs.KeptParts.{rows_kept}
 use Rattle.misp_core.proofs.ahead.take_rows.Goals as goal

@@ -2,9 +2,8 @@ use Rattle.std.proofs.Common.{ap, sym, ◌∙◌}
 use Rattle.misp_manifest.specs.declared.wanted.WantedFields.{WantedFields as Wanted}
 use Rattle.misp_model.specs.Machine.{seeing}
 use Rattle.misp_model.specs.Pulling.{pulled_part}
-use Rattle.misp_core.specs.Ahead.{StaysOrIsPacked}
 use Rattle.misp_core.specs.Handing.{pull_scene}
-use Rattle.misp_core.specs.Prelude.{Ask, EventId, Scene}
+use Rattle.misp_core.specs.Prelude.{Scene}
 use Rattle.misp_core.proofs.Decisions.{rows_refused, rows_shown}
 use Rattle.misp_core.proofs.pulling.plan_rows.Goals as goal
 

@@ -4,7 +4,7 @@ use Rattle.misp_store.specs.declared.fault.LoadFault.{LoadFault}
 use Rattle.misp_core.specs.Ahead.{IsBeside, IsKeptFor}
 use Rattle.misp_core.specs.Handing.{host_at, scene_in}
 use Rattle.misp_core.proofs.Answered.{asked_planned, keeper_told, told_of_keeper, unread_planned}
-use Rattle.misp_core.proofs.KeptLandings.{landed_planned, never_pulls, still_lands}
+use Rattle.misp_core.proofs.KeptLandings.{landed_planned, still_lands}
 use Rattle.misp_core.proofs.KeptParts.{kept_planned, left_answers, still_answers}
 use Rattle.misp_core.proofs.reading.plan_permitted.Goals as goal
 
@@ -38,9 +38,6 @@ pub returns-then-is_landed-clause-planned : goal.returns-then-is_landed-clause-p
 returns-then-is_landed-clause-planned g c =
     landed_planned (host_at c.args.site.now) c.args.site.now.moment c.args.site.now.caller.now c.args.site.now.groups.now c.plan_kept-plan.result _ c.args.ask c.args.landed.now
     c.requires.permitted c.requires.beside.groups c.requires.beside.landed c.plan_kept-plan.ensures.plans
-
-pub returns-then-is_landed-clause-sound : goal.returns-then-is_landed-clause-sound
-returns-then-is_landed-clause-sound g c = λ pull. never_pulls _ _ _ _ _ c.plan_kept-plan.ensures.plans pull
 
 pub returns-then-is_landed-clause-beside : goal.returns-then-is_landed-clause-beside
 returns-then-is_landed-clause-beside g c = record {

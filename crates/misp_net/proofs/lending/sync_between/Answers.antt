@@ -1,22 +1,25 @@
 use Rattle.std.proofs.Common.{◌∙◌, ap, subst, slice_index_or, arith, length}
 use Rattle.std.specs.List.{insert}
-use Rattle.misp_net.specs.Lending.{HasCarriedSync, HasSynced}
+use Rattle.misp_net.specs.Carrying.{carried}
+use Rattle.misp_net.specs.Lending.{HasSynced}
 use Rattle.misp_net.proofs.Lent.{both_back, lent, set_in, set_long, shorter, within_rest}
 use Rattle.misp_net.proofs.lending.sync_between.Goals as goal
 
-pub returns-clause-synced : goal.returns-clause-synced
-returns-clause-synced g c =
+pub returns : goal.returns
+returns g c =
     let xs = c.args.instances.now.items in
     let own = c.args.own in
     let peer = c.args.peer in
     let place = c.place_without-place.result in
     let from = c.sync_with-reply.ensures.synced in
+    let before = carried (g.C.Carry.faults c.args.carry.now) (g.C.Carry.passed c.args.carry.now) in
+    let after = carried (g.C.Carry.faults c.sync_with-reply.new.carry) (g.C.Carry.passed c.sync_with-reply.new.carry) in
     record {
       mine = c.sync_with-reply.new.own;
       theirs = from.theirs;
       went = λ d.
-          subst (λ a. HasSynced c.args.direction c.args.link.now a (slice_index_or xs peer d) c.sync_with-reply.new.own from.theirs c.sync_with-reply.result) (c.take_out-mine.ensures.out d)
-          (subst (λ b. HasSynced c.args.direction c.args.link.now c.take_out-mine.result b c.sync_with-reply.new.own from.theirs c.sync_with-reply.result)
+          subst (λ a. HasSynced c.args.direction c.args.link.now before after a (slice_index_or xs peer d) c.sync_with-reply.new.own from.theirs c.sync_with-reply.result) (c.take_out-mine.ensures.out d)
+          (subst (λ b. HasSynced c.args.direction c.args.link.now before after c.take_out-mine.result b c.sync_with-reply.new.own from.theirs c.sync_with-reply.result)
           (ap (λ l. slice_index_or l place d) c.take_out-mine.ensures.rest ∙ lent xs own peer place c.requires.own c.requires.apart c.place_without-place.ensures.below c.place_without-place.ensures.above d)
           (from.went d));
       left =
@@ -24,19 +27,6 @@ returns-clause-synced g c =
           ∙ ap (λ l. insert l own c.sync_with-reply.new.own) (from.left ∙ ap (set_in place from.theirs) c.take_out-mine.ensures.rest)
           ∙ both_back xs own peer place c.requires.own c.requires.apart c.place_without-place.ensures.below c.place_without-place.ensures.above c.sync_with-reply.new.own from.theirs;
     }
-
-pub returns-clause-passed : goal.returns-clause-passed
-returns-clause-passed g c = λ d.
-    let xs = c.args.instances.now.items in
-    let own = c.args.own in
-    let peer = c.args.peer in
-    let place = c.place_without-place.result in
-    let before = g.C.Carry.passed c.args.carry.now in
-    let after = g.C.Carry.passed c.sync_with-reply.new.carry in
-    subst (λ a. HasCarriedSync c.args.direction c.args.link.now a (slice_index_or xs peer d) c.sync_with-reply.result before after) (c.take_out-mine.ensures.out d)
-    (subst (λ b. HasCarriedSync c.args.direction c.args.link.now c.take_out-mine.result b c.sync_with-reply.result before after)
-    (ap (λ l. slice_index_or l place d) c.take_out-mine.ensures.rest ∙ lent xs own peer place c.requires.own c.requires.apart c.place_without-place.ensures.below c.place_without-place.ensures.above d)
-    (c.sync_with-reply.ensures.passed d))
 
 pub sync_with-reply-requires : goal.sync_with-reply-requires
 sync_with-reply-requires g c =

@@ -43,7 +43,7 @@ returns-in-Err-clause-act g c =
     let hosts = hosts_of c.args.instances.now.items in
     let olds = states_of c.args.instances.now.items in
     subst (λ reply. IsAct hosts (act c.args.now c.args.word (Syncs (sync_data c.args.line.now))) olds olds (Synced reply)) (sym c.refused.ensures)
-    (refused_act c.args.directory.now hosts c.args.now c.args.word (sync_data c.args.line.now) olds c.in-Err.name c.requires.names _ there (sym c.in-Err.ensures))
+    (refused_act c.args.directory.now hosts c.args.now c.args.word (sync_data c.args.line.now) olds c.in-Err.cause c.requires.names _ there (sym c.in-Err.ensures))
 
 -- nothing passed
 pub returns-in-Err-clause-passed : goal.returns-in-Err-clause-passed
@@ -53,5 +53,5 @@ returns-in-Err-clause-passed g c =
     ∙ ap (λ (i : Standing). link_of i.admin.links c.args.line.now.link) (sym c.index.ensures) in
     let hosts = hosts_of c.args.instances.now.items in
     let olds = states_of c.args.instances.now.items in
-    grows_none (g.C.Carry.passed c.args.carry.now) (IsSyncPassed hosts olds (sync_data c.args.line.now) c.refused.result)
-    (refused_passed c.args.directory.now hosts olds (sync_data c.args.line.now) c.refused.result c.in-Err.name c.requires.names _ there (sym c.in-Err.ensures))
+    grows_none (g.C.Carry.passed c.args.carry.now) (IsSyncPassed hosts olds olds (sync_data c.args.line.now) c.refused.result)
+    (refused_passed c.args.directory.now hosts olds olds (sync_data c.args.line.now) c.refused.result c.in-Err.cause c.requires.names _ there (sym c.in-Err.ensures))

@@ -6,7 +6,8 @@ use Rattle.misp_api.specs.Exchange.{IsExchanged}
 use Rattle.misp_api.specs.Sending.{read_form}
 use Rattle.misp_api.proofs.Exchanges.{left_alone, left_replied}
 use Rattle.misp_api.proofs.Outgoing.{where_full}
-use Rattle.misp_sync.specs.Trail.{GrowsBy, IsUnanswered}
+use Rattle.misp_dialogue.specs.Parties.{GrowsBy}
+use Rattle.misp_sync.specs.Wire.{IsUnanswered}
 use Rattle.misp_net.proofs.Growing.{asked_whole, none_asked, only_asked}
 use Rattle.misp_net.proofs.over_carry.OverCarry.exchanged.Goals as goal
 
@@ -46,16 +47,6 @@ returns-in-Ok-clause-left g c = λ read is.
     let e = c.in-Ok.ensures.answered read (Some []) sent in
     where_full c.pass-in-Ok.result
     (left_replied now.now (read_form now.peer.now.admin now.word read) now.peer.now now.peer.now.held c.exchange-replied.new.instance.held e.reply e.answered.replied)
-
--- ---- what stays
-
-pub returns-in-Err-clause-still : goal.returns-in-Err-clause-still
-returns-in-Err-clause-still g c = λ read is pull.
-    c.exchange-replied.ensures.still read (Some []) (came c.in_ok-sent.sent.items c.args.bytes.now read c.in_ok-sent.ensures.bytes is) pull
-
-pub returns-in-Ok-clause-still : goal.returns-in-Ok-clause-still
-returns-in-Ok-clause-still g c = λ read is pull.
-    c.exchange-replied.ensures.still read (Some []) (came c.in_ok-sent.sent.items c.args.bytes.now read c.in_ok-sent.ensures.bytes is) pull
 
 -- ---- what passed
 

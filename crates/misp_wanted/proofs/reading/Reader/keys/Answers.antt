@@ -15,7 +15,7 @@ pub loop-preserved : goal.loop-preserved
 loop-preserved c =
     rw c.in_ok-push.ensures.items
     (goes_on (λ before. framed_at (wanted_key_of c.args.event before)) wanted_before c.loop.before c.loop.keys.items c.args.count c.loop.counter c.loop.self (items_after (λ before. framed_at (wanted_key_of c.args.event before)) wanted_before None c.args.count c.args.self.now)
-    c.in_ok-key.key c.framed_wanted_key.new.self c.loop-test.true c.in_ok-key.ensures c.loop.invariant)
+    c.in_ok-key.key c.framed_key.new.self c.loop-test.true c.in_ok-key.ensures c.loop.invariant)
 
 pub returns : goal.returns
 returns c =

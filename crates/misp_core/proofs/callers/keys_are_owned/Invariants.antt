@@ -1,0 +1,8 @@
+use Rattle.std.proofs.Common.{take}
+use Rattle.std.specs.List.{AllByRecursion}
+use Rattle.misp_core.specs.Callers.{IsOwned}
+use Rattle.misp_core.proofs.callers.keys_are_owned.Given as goal
+
+-- the first are of organisations
+abbrev pub invariant-loop-record : goal.invariant-loop-record
+invariant-loop-record l = AllByRecursion IsOwned (take l.record-index l.keys)

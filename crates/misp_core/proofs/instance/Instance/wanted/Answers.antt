@@ -1,0 +1,4 @@
+use Rattle.misp_core.proofs.instance.Instance.wanted.Goals as goal
+
+pub invariant_of-self : goal.invariant_of-self
+invariant_of-self g c = record { beside = rw c.wanted_keys.ensures.held c.self.invariant.beside; synced = c.wanted_keys.ensures.synced }

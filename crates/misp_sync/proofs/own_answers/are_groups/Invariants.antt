@@ -1,0 +1,8 @@
+use Rattle.std.proofs.Common.{take}
+use Rattle.std.specs.List.{AllByRecursion}
+use Rattle.misp_groups.specs.Group.{IsGroup}
+use Rattle.misp_sync.proofs.own_answers.are_groups.Given as goal
+
+-- the first are groups
+abbrev pub invariant-loop-group : goal.invariant-loop-group
+invariant-loop-group l = AllByRecursion IsGroup (take l.group-index l.groups)
