@@ -1,8 +1,9 @@
 -- The one request that bytes are.
 use Rattle.std.proofs.Common.{◌≡◌, ◌≢◌, ◌++◌, ℕ, Bool, List, [], append-nil, refl, ap, ◌∙◌, subst, arith, inl, inr, Option, Some, None, Result, Ok, Err, IfOk, IfSome, OnOk, OnErr}
-use Rattle.std.proofs.lemmas.Option.{IfSome_then}
 use Rattle.std.specs.Io.KnownBytes.{prepend_known}
 use Rattle.misp_outside.specs.Causes.{HasCause}
+use Rattle.misp_outside.specs.Reporting.{StaysHeld, WhereReported}
+use Rattle.misp_outside.proofs.Reporting.{reported_so}
 use Rattle.misp_http.specs.Reading.{IsRead}
 use Rattle.misp_http.specs.declared.request.Read.{Read}
 use Rattle.misp_http.specs.declared.request.ReadEnd.{ReadEnd}
@@ -68,11 +69,10 @@ unless_told (Ok v) P holds = tt
 unless_told (Err short) P holds = holds tt
 
 -- what is held stays
-pub left_alone : (now : ℕ) (form : Reading Commanded) (i : Standing) (old new : Option Held) → new ≡ old → IfSome old (λ held. IsLeftSo now form i held new)
-left_alone now form i None new same = tt
-left_alone now form i (Some held) new same = inl same
+pub left_alone : (now : ℕ) (form : Reading Commanded) (i : Standing) (old new : Option Held) → StaysHeld old new → WhereReported old new (IsLeftSo now form i)
+left_alone now form i old new = reported_so old new _ _ (λ held left same. inl same)
 
 -- or it is what the reply leaves whose bytes were not made
-pub left_replied : (now : ℕ) (form : Reading Commanded) (i : Standing) (old new : Option Held) (reply : Reply) → IfSome old (λ held. IsReplied (host_of i) now form held reply new)
-    → IfSome old (λ held. IsLeftSo now form i held new)
-left_replied now form i old new reply replied = IfSome_then old replied (λ held is. inr (reply, is))
+pub left_replied : (now : ℕ) (form : Reading Commanded) (i : Standing) (old new : Option Held) (reply : Reply) → WhereReported old new (λ held left. IsReplied (host_of i) now form held reply left)
+    → WhereReported old new (IsLeftSo now form i)
+left_replied now form i old new reply = reported_so old new _ _ (λ held left is. inr (reply, is))

@@ -1,7 +1,9 @@
 -- The reply to a request refuses by the first rule that refuses it.
-use Rattle.std.proofs.Common.{◌≡◌, ℕ, Bool, true, false, List, [], ◌∷◌, refl, ap, sym, subst, ◌∙◌, map, option_map, Option, Some, None, Result, Ok, Err, ◌==◌, not, is_some, bytes_eq, if◌then◌else◌, IfSome}
+use Rattle.std.proofs.Common.{◌≡◌, ℕ, Bool, true, false, List, [], ◌∷◌, refl, ap, sym, subst, ◌∙◌, map, option_map, Option, Some, None, Result, Ok, Err, ◌==◌, not, is_some, bytes_eq, if◌then◌else◌}
+use Rattle.misp_outside.specs.Reporting.{WhereReported}
+use Rattle.misp_outside.proofs.Reporting.{reported_so}
 use Rattle.misp_effects.specs.Effect.{under, stop_of}
-use Rattle.misp_model.proofs.Prelude.{IfSome_then, Rule, VisibleEvent, answer, first_rule, ok_answer, shown}
+use Rattle.misp_model.proofs.Prelude.{Rule, VisibleEvent, answer, first_rule, ok_answer, shown}
 use Rattle.misp_model.specs.Machine.{event_changed}
 use Rattle.misp_manifest.specs.declared.wanted.WantedFields.{WantedFields}
 use Rattle.misp_model.specs.Manifests.{only_of, pulled_only}
@@ -149,7 +151,7 @@ of_effect effects.Went e none = refl
 of_effect (effects.Stopped stop k lost) e none = absurd cc
 
 -- of a command, over what is held
-in_order : (host : Host) (now : ℕ) (it : Commanded) (held : Held) (reply : Reply) (new : Option Held) → AsksBuilt it.1
+in_order : (host : Host) (now : ℕ) (it : Commanded) (held : Held) (reply : Reply) (new : Held) → AsksBuilt it.1
     → Did (commanded host now it (seen_in held)) held reply new → IsInOrder (grounds host now it (seen_in held)) reply
 in_order host now it held reply new built did went =
     ap rule_of (did.reply_is ∙ of_effect did.outcome (commanded host now it (seen_in held)) (did.agree ∙ went))
@@ -244,16 +246,16 @@ module _ (host : Host) (now : ℕ) (held : Held) where
 
 -- what was read is answered by the instance in its order
 pub order_by_step : (i : Standing) (now : ℕ) (request : RequestData) (it : Commanded) (reply : Reply) (old new : Option Held)
-    → read_of i.admin request ≡ Ok it → AsksBuilt it.1 → IfSome old (λ held. Did (commanded (host_of i) now it (seen_in held)) held reply new)
-    → IfSome old (λ held. IsInOrder (order (host_of i) now request held) reply)
-order_by_step i now request it reply old new is built answered = IfSome_then old answered (λ held did went.
-    in_order (host_of i) now it held reply new built did went
+    → read_of i.admin request ≡ Ok it → AsksBuilt it.1 → WhereReported old new (λ held left. Did (commanded (host_of i) now it (seen_in held)) held reply left)
+    → WhereReported old new (λ held _. IsInOrder (order (host_of i) now request held) reply)
+order_by_step i now request it reply old new is built = reported_so old new _ _ (λ held left did went.
+    in_order (host_of i) now it held reply left built did went
     ∙ sym (subst (λ read. IsFirst (host_of i) now held read (first_ground (order (host_of i) now request held))) is (ordered (host_of i) now held request)))
 
 -- what was not read is refused by its first rule
 pub order_by_fault : (i : Standing) (now : ℕ) (request : RequestData) (fault : AskFault) (old : Option Held)
     → Gives (Err fault) (read_of i.admin request)
-    → IfSome old (λ held. IsInOrder (order (host_of i) now request held) (fault_reply fault))
+    → WhereReported old old (λ held _. IsInOrder (order (host_of i) now request held) (fault_reply fault))
 order_by_fault i now request fault None given = tt
 order_by_fault i now request (AskFault.Refused refusal) (Some held) given = λ went.
     subst (λ read. IsFirst (host_of i) now held read (first_ground (order (host_of i) now request held))) given (ordered (host_of i) now held request) went

@@ -2,7 +2,9 @@
 use Rattle.std.proofs.Common.{◌≡◌, ℕ, ◌<◌, ◌^◌, Bool, List, [], ◌++◌, drop, length, Option, Some, None, Result, Ok, Err, refl, sym, ap, ◌∙◌, subst, inl, inr, arith, IfSome, IfOk, OnErr, OnOk, IsOkAnd}
 use Rattle.std.specs.Io.KnownBytes.{Appends}
 use Rattle.misp_outside.specs.Causes.{HasCause}
+use Rattle.misp_outside.specs.Reporting.{StaysHeld, WhereReported}
 use Rattle.misp_outside.specs.declared.fault.KeeperFault.{KeeperFault}
+use Rattle.misp_outside.proofs.Reporting.{reported_so, stays_same}
 use Rattle.misp_http.specs.Faults.{fault_refusal}
 use Rattle.misp_http.specs.Texts as http
 use Rattle.misp_http.specs.declared.kind.BodyKind.{BodyKind}
@@ -26,10 +28,9 @@ use Rattle.misp_api.proofs.HttpTexts.{body_behind, long_text, no_memory, text_lo
 -- ---- memory ran out
 
 -- where nothing is put, it may be told that memory ran out
-lost_did : (host : Host) (now : ℕ) (form : Reading Commanded) (old new : Option Held) → new ≡ old
-    → IfSome old (λ held. IsReplied host now form held (refused_by RuleName.NoMemory) new)
-lost_did host now form None new same = tt
-lost_did host now form (Some held) new same = stopped_did KeeperFault.NoMemory (replied host now form (seen_in held)) (Some held) new same
+lost_did : (host : Host) (now : ℕ) (form : Reading Commanded) (old new : Option Held) → StaysHeld old new
+    → WhereReported old new (λ held left. IsReplied host now form held (refused_by RuleName.NoMemory) left)
+lost_did host now form old new = reported_so old new _ _ (λ held left same. stopped_did KeeperFault.NoMemory (replied host now form (seen_in held)) (Some held) (Some left) same)
 
 lost_turned : {A : Type 0} (form : Reading A) (old new : Standing) (reply : Reply) → TurnsAway form old new reply → TurnsAway form old new (refused_by RuleName.NoMemory)
 lost_turned (Ok x) old new reply away = tt
@@ -41,17 +42,17 @@ module _ {E : Type 0} (result : Result Reply E) (now word : ℕ) (request : Requ
   abbrev form : Reading Commanded
   form = form_of old.admin (request_data word request)
 
-  pub request_answered : IfOk result (λ reply. IfSome old.held (λ held. IsReplied (host_of old) now form held reply new.held)) → IfOk result (λ reply. TurnsAway form old new reply)
+  pub request_answered : IfOk result (λ reply. WhereReported old.held new.held (λ held left. IsReplied (host_of old) now form held reply left)) → IfOk result (λ reply. TurnsAway form old new reply)
       → HasCause old.faults new.faults (IsOkAnd result (λ reply. stop_in reply ≡ by_keeper)) → new.name ≡ old.name → new.admin ≡ old.admin
       → IfOk result (IsAnswered now word (reads.Request request) old new)
   request_answered replies forms cause name admin = answered_in result replies forms cause
     where
-      answered_in : (r : Result Reply E) → IfOk r (λ reply. IfSome old.held (λ held. IsReplied (host_of old) now form held reply new.held)) → IfOk r (λ reply. TurnsAway form old new reply)
+      answered_in : (r : Result Reply E) → IfOk r (λ reply. WhereReported old.held new.held (λ held left. IsReplied (host_of old) now form held reply left)) → IfOk r (λ reply. TurnsAway form old new reply)
           → HasCause old.faults new.faults (IsOkAnd r (λ reply. stop_in reply ≡ by_keeper)) → IfOk r (IsAnswered now word (reads.Request request) old new)
       answered_in (Ok reply) replies forms cause = record { replied = replies; formed = forms; cause = record { later = cause.later; rose = cause.rose }; name = name; admin = admin }
       answered_in (Err short) replies forms cause = tt
 
-  pub request_dropped : IfOk result (λ reply. TurnsAway form old new reply) → OnErr result (TurnsAway form old new (refused_by RuleName.NoMemory)) → new.held ≡ old.held
+  pub request_dropped : IfOk result (λ reply. TurnsAway form old new reply) → OnErr result (TurnsAway form old new (refused_by RuleName.NoMemory)) → StaysHeld old.held new.held
       → HasCause old.faults new.faults (IsOkAnd result (λ reply. stop_in reply ≡ by_keeper)) → new.name ≡ old.name → new.admin ≡ old.admin
       → IsAnswered now word (reads.Request request) old new (refused_by RuleName.NoMemory)
   request_dropped forms unformed held cause name admin = record {
@@ -80,7 +81,7 @@ none_by_keeper : {found : Option _} → found ≡ None → found ≡ by_keeper �
 none_by_keeper none is = let both : None ≡ by_keeper = sym none ∙ is in absurd cc
 
 module _ (now word : ℕ) (fault : Fault) (i : Standing) where
-  fault_did : (old : Option Held) → IfSome old (λ held. IsReplied (host_of i) now (Err (fault_refusal fault)) held (Reply.Refused (fault_refusal fault)) old)
+  fault_did : (old : Option Held) → WhereReported old old (λ held left. IsReplied (host_of i) now (Err (fault_refusal fault)) held (Reply.Refused (fault_refusal fault)) left)
   fault_did None = tt
   fault_did (Some held) = refused_did (NoPlan.Refused (fault_refusal fault)) (refused (fault_refusal fault)) (Some held) (Some held) (record { is = refl; no_stop = fault_tells_none fault }) refl
 
@@ -98,7 +99,7 @@ module _ (now word : ℕ) (fault : Fault) (i : Standing) where
 
   pub fault_dropped : IsAnswered now word (reads.Refused fault) i i (refused_by RuleName.NoMemory)
   fault_dropped = record {
-    replied = lost_did (host_of i) now (Err (fault_refusal fault)) i.held i.held refl;
+    replied = lost_did (host_of i) now (Err (fault_refusal fault)) i.held i.held (stays_same i.held i.held refl);
     formed = record { just = inr refl; no_fault = λ is. absurd cc; still = refl };
     cause = record { later = omega arith; rose = λ is. absurd cc };
     name = refl;

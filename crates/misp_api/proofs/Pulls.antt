@@ -1,5 +1,7 @@
 -- What a pull asks changes nothing that is held, and what a synchronisation is replied is sound.
-use Rattle.std.proofs.Common.{◌≡◌, ◌<◌, ℕ, Bool, true, false, List, [], map, length, refl, sym, ap, ◌∙◌, subst, inl, inr, cond, Option, Some, None, Result, Ok, Err, IfSome, IfOk}
+use Rattle.std.proofs.Common.{◌≡◌, ◌<◌, ℕ, Bool, true, false, List, [], map, length, refl, sym, ap, ◌∙◌, subst, inl, inr, cond, Option, Result, Ok, Err, IfOk}
+use Rattle.misp_outside.specs.Reporting.{StaysHeld, WhereReported}
+use Rattle.misp_outside.proofs.Reporting.{reported_so}
 use Rattle.misp_model.specs.Machine.{pulls}
 use Rattle.misp_model.specs.Answers.{brings, is_accepted}
 use Rattle.misp_model.specs.Scene.{Scene}
@@ -60,12 +62,11 @@ left_same Went e held none = ap (λ batches. put_batches (map spelled batches) h
 left_same (Stopped stop n lost) e held none = refl
 
 pub stays : {E : Type 0} (r : Result Reply E) (host : Host) (now : ℕ) (form : Reading Commanded) (old new : Option Held)
-    → IfOk r (λ reply. IfSome old (λ held. IsReplied host now form held reply new))
-    → (IfOk r (λ reply. CHANGE_TEXT < length (reply_text reply)) → new ≡ old) → (old ≡ None → new ≡ None) → IsPull form → new ≡ old
-stays (Ok reply) host now form None new replies kept silent is = silent refl
-stays (Ok reply) host now form (Some held) new replies kept silent is =
-    replies.held_is ∙ ap Some (left_same replies.outcome (replied host now form (seen_in held)) held (replied_none host now form (seen_in held) is))
-stays (Err short) host now form old new replies kept silent is = kept tt
+    → IfOk r (λ reply. WhereReported old new (λ held left. IsReplied host now form held reply left))
+    → (IfOk r (λ reply. CHANGE_TEXT < length (reply_text reply)) → StaysHeld old new) → IsPull form → StaysHeld old new
+stays (Ok reply) host now form old new replies kept is = reported_so old new _ _ (λ held left did.
+    did.held_is ∙ left_same did.outcome (replied host now form (seen_in held)) held (replied_none host now form (seen_in held) is)) replies
+stays (Err short) host now form old new replies kept is = kept tt
 
 -- ---- what is replied is sound
 

@@ -1,6 +1,7 @@
 -- The reply to a request by its form.
-use Rattle.std.proofs.Common.{◌≡◌, ◌⊎◌, ℕ, Bool, true, false, List, refl, sym, ◌∙◌, subst, inl, inr, Option, Some, None, Result, Ok, Err, IfSome, bytes_eq, if◌then◌else◌}
-use Rattle.std.proofs.lemmas.Option.{IfSome_then}
+use Rattle.std.proofs.Common.{◌≡◌, ◌⊎◌, ℕ, Bool, true, false, List, refl, sym, ◌∙◌, subst, inl, inr, Option, Some, None, Result, Ok, Err, bytes_eq, if◌then◌else◌}
+use Rattle.misp_outside.specs.Reporting.{WhereReported}
+use Rattle.misp_outside.proofs.Reporting.{reported_so}
 use Rattle.misp_effects.specs.declared.stop.Side.TheVariants.{Here}
 use Rattle.misp_effects.specs.Effect.{Stopped}
 use Rattle.misp_core.specs.Prelude.{Did, Refusal, bare, host_of, refused}
@@ -22,11 +23,11 @@ command_replied host now it false held = refl
 
 -- a command is answered by the instance
 pub by_step : (i : Standing) (now : ℕ) (request : RequestData) (it : Commanded) (reply : Reply) (old new : Option Held)
-    → read_of i.admin request ≡ Ok it → IfSome old (λ held. Did (commanded (host_of i) now it (seen_in held)) held reply new)
-    → IfSome old (λ held. IsReplied (host_of i) now (form_of i.admin request) held reply new)
-by_step i now request it reply old new is answered = IfSome_then old answered (λ held did.
-    subst (λ read. IsReplied (host_of i) now (permitted read) held reply new) (sym is)
-    (subst (λ e. Did e held reply new) (sym (command_replied (host_of i) now it (is_allowed it) held)) did))
+    → read_of i.admin request ≡ Ok it → WhereReported old new (λ held left. Did (commanded (host_of i) now it (seen_in held)) held reply left)
+    → WhereReported old new (λ held left. IsReplied (host_of i) now (form_of i.admin request) held reply left)
+by_step i now request it reply old new is = reported_so old new _ _ (λ held left did.
+    subst (λ read. IsReplied (host_of i) now (permitted read) held reply left) (sym is)
+    (subst (λ e. Did e held reply left) (sym (command_replied (host_of i) now it (is_allowed it) held)) did))
 
 -- a refusal by the form of a request comes from no keeper, and from memory only where memory ran out
 abbrev pub IsFormal : Refusal → Type 0
@@ -77,27 +78,27 @@ unfolding read_of
 read_by_form admin request = route_by_form (route_of request.method request.target) (caller_in admin request.key) request.body request.word (target_by_form request.method request.target)
 
 -- where memory ran out, nothing is left
-pub out_of_memory : (e : Effect Reply) (held : Held) → Did e held (fault_reply AskFault.NoMemory) (Some held)
+pub out_of_memory : (e : Effect Reply) (held : Held) → Did e held (fault_reply AskFault.NoMemory) held
 out_of_memory e held = record { outcome = Stopped (Stop.Memory Here) 0 false; agree = refl; reply_is = refl; held_is = refl; fits = tt }
 
 -- such a refusal is the stated one
-formal_reply : (held : Held) (refusal : Refusal) → IsFormal refusal → Did (refused refusal) held (Reply.Refused refusal) (Some held)
+formal_reply : (held : Held) (refusal : Refusal) → IsFormal refusal → Did (refused refusal) held (Reply.Refused refusal) held
 formal_reply held refusal (inl none) = record { outcome = effects.Went; agree = sym none; reply_is = refl; held_is = refl; fits = tt }
 formal_reply held refusal (inr out) =
-    subst (λ r. Did (refused r) held (Reply.Refused r) (Some held)) (sym out) (out_of_memory (refused (bare RuleName.NoMemory)) held)
+    subst (λ r. Did (refused r) held (Reply.Refused r) held) (sym out) (out_of_memory (refused (bare RuleName.NoMemory)) held)
 
 -- what was not read is refused, and what is held stays
 pub by_fault : {A : Type 0} (comes : Reading A → Effect Reply) → ((refusal : Refusal) → comes (Err refusal) ≡ refused refusal)
-    → (read : Reading A) (fault : AskFault) (held : Held) → Gives (Err fault) read → ByForm read → Did (comes read) held (fault_reply fault) (Some held)
+    → (read : Reading A) (fault : AskFault) (held : Held) → Gives (Err fault) read → ByForm read → Did (comes read) held (fault_reply fault) held
 by_fault comes refuses read (AskFault.Refused refusal) held given formed =
     let formal : IsFormal refusal = subst ByForm given formed in
-    subst (λ r. Did (comes r) held (Reply.Refused refusal) (Some held)) (sym given)
-    (subst (λ e. Did e held (Reply.Refused refusal) (Some held)) (sym (refuses refusal)) (formal_reply held refusal formal))
+    subst (λ r. Did (comes r) held (Reply.Refused refusal) held) (sym given)
+    (subst (λ e. Did e held (Reply.Refused refusal) held) (sym (refuses refusal)) (formal_reply held refusal formal))
 by_fault comes refuses read AskFault.NoMemory held given formed = out_of_memory (comes read) held
 
 pub refused_by_form : (i : Standing) (now : ℕ) (request : RequestData) (fault : AskFault) (old : Option Held)
     → Gives (Err fault) (read_of i.admin request)
-    → IfSome old (λ held. IsReplied (host_of i) now (form_of i.admin request) held (fault_reply fault) old)
+    → WhereReported old old (λ held left. IsReplied (host_of i) now (form_of i.admin request) held (fault_reply fault) left)
 refused_by_form i now request fault None given = tt
 refused_by_form i now request fault (Some held) given =
     by_fault (λ read. replied (host_of i) now (permitted read) (seen_in held)) (λ refusal. refl)

@@ -2,7 +2,9 @@
 use Rattle.std.proofs.Common.{◌≡◌, ◌⊎◌, ℕ, false, ◌≤◌, List, [], ◌++◌, length, take, length-append, refl, sym, ◌∙◌, ap, subst, inl, inr, arith, Option, Some, None, Result, Ok, Err, take_at, IfSome, IfOk, IfErr, IsOkAnd, OnOk, OnErr}
 use Rattle.std.proofs.lemmas.Option.{IfSome_then}
 use Rattle.misp_outside.specs.Causes.{Rose, HasCause}
+use Rattle.misp_outside.specs.Reporting.{StaysHeld, WhereReported}
 use Rattle.misp_outside.specs.declared.fault.KeeperFault.{KeeperFault}
+use Rattle.misp_outside.proofs.Reporting.{reported_later}
 use Rattle.misp_effects.specs.Effect.{effect}
 use Rattle.misp_core.specs.Effects.{rule_of_stop}
 use Rattle.misp_core.specs.Prelude.{AreReadable, Did, Effect, Held, IsPlanned, IsRefused, Plans, Standing, host_of, left, seen_in, spelled, stop_in}
@@ -44,15 +46,21 @@ module _ {E : Type 0} where
   of_told (Ok told) reply P same holds = subst P (sym same) holds
   of_told (Err short) reply P same holds = tt
 
-  -- what was planned over what is held was done
-  pub done_there : (r : Result Reply E) (comes : Held → Effect Reply) (planned : Result Plan NoPlan) (old mid new : Option Held) → mid ≡ old
-      → IfSome old (λ held. IsPlanned planned (comes held))
+  -- what was planned over what is held was done; who ceased to report reports nothing afterwards
+  pub done_there : (r : Result Reply E) (comes : Held → Effect Reply) (planned : Result Plan NoPlan) (old mid new : Option Held) → StaysHeld old mid
+      → (mid ≡ None → new ≡ None) → IfSome mid (λ held. IsPlanned planned (comes held))
       → ((e : Effect Reply) → IsPlanned planned e → IfOk r (λ reply. DidThere e mid reply new))
-      → IfOk r (λ reply. IfSome old (λ held. Did (comes held) held reply new))
-  done_there (Ok reply) comes planned None mid new same plans done = tt
-  done_there (Ok reply) comes planned (Some held) mid new same plans done =
-      subst (λ (m : Option Held). DidThere (comes held) m reply new) same (done (comes held) plans)
-  done_there (Err short) comes planned old mid new same plans done = tt
+      → IfOk r (λ reply. WhereReported old new (λ held left. Did (comes held) held reply left))
+  done_there (Ok reply) comes planned old mid new same silent plans done =
+      reported_later old mid new (λ held left. Did (comes held) held reply left) same (over mid new silent plans done)
+    where
+      over : (mid new : Option Held) → (mid ≡ None → new ≡ None) → IfSome mid (λ held. IsPlanned planned (comes held))
+          → ((e : Effect Reply) → IsPlanned planned e → DidThere e mid reply new) → WhereReported mid new (λ held left. Did (comes held) held reply left)
+      over None None silent plans done = tt
+      over None (Some now) silent plans done = let none = silent refl in absurd cc
+      over (Some held) None silent plans done = tt
+      over (Some held) (Some now) silent plans done = done (comes held) plans
+  done_there (Err short) comes planned old mid new same silent plans done = tt
 
   -- what the role forbids is turned away
   pub turned_told : (r : Result Reply E) (old mid new : Standing) (request : RequestData) (it : Commanded) (planned : Result Plan NoPlan) → read_of old.admin request ≡ Ok it
@@ -129,7 +137,7 @@ nothing_did p e (Some held) plans none =
       outcome = effects.Went;
       agree = refl;
       reply_is = sym (ap (λ (x : Effect Reply). x.reply) is);
-      held_is = sym (ap (λ (x : Effect Reply). Some (left spelled x held)) is);
+      held_is = sym (ap (λ (x : Effect Reply). left spelled x held) is);
       fits = subst (λ (x : Effect Reply). AreReadable x.batches) (sym is) tt;
     }
 
@@ -137,20 +145,20 @@ nothing_did p e (Some held) plans none =
 
 -- what was planned of it was replied
 pub replied_told : {E : Type 0} (r : Result Reply E) (i : Standing) (now : ℕ) (request : RequestData) (it : Commanded) (planned : Result Plan NoPlan) (mid new : Option Held)
-    → read_of i.admin request ≡ Ok it → mid ≡ i.held
-    → IfSome i.held (λ held. IsPlanned planned (commanded (host_of i) now it (seen_in held)))
+    → read_of i.admin request ≡ Ok it → StaysHeld i.held mid → (mid ≡ None → new ≡ None)
+    → IfSome mid (λ held. IsPlanned planned (commanded (host_of i) now it (seen_in held)))
     → ((e : Effect Reply) → IsPlanned planned e → IfOk r (λ reply. DidThere e mid reply new))
-    → IfOk r (λ reply. IfSome i.held (λ held. IsReplied (host_of i) now (form_of i.admin request) held reply new))
-replied_told r i now request it planned mid new is same plans done =
+    → IfOk r (λ reply. WhereReported i.held new (λ held left. IsReplied (host_of i) now (form_of i.admin request) held reply left))
+replied_told r i now request it planned mid new is same silent plans done =
     of_reply r (λ reply answered. by_step i now request it reply i.held new is answered)
-    (done_there r (λ held. commanded (host_of i) now it (seen_in held)) planned i.held mid new same plans done)
+    (done_there r (λ held. commanded (host_of i) now it (seen_in held)) planned i.held mid new same silent plans done)
 
 -- and by the first of its rules
 pub ordered_told : {E : Type 0} (r : Result Reply E) (i : Standing) (now : ℕ) (request : RequestData) (it : Commanded) (planned : Result Plan NoPlan) (mid new : Option Held)
-    → read_of i.admin request ≡ Ok it → AsksBuilt it.1 → mid ≡ i.held
-    → IfSome i.held (λ held. IsPlanned planned (commanded (host_of i) now it (seen_in held)))
+    → read_of i.admin request ≡ Ok it → AsksBuilt it.1 → StaysHeld i.held mid → (mid ≡ None → new ≡ None)
+    → IfSome mid (λ held. IsPlanned planned (commanded (host_of i) now it (seen_in held)))
     → ((e : Effect Reply) → IsPlanned planned e → IfOk r (λ reply. DidThere e mid reply new))
-    → IfOk r (λ reply. IfSome i.held (λ held. IsInOrder (order (host_of i) now request held) reply))
-ordered_told r i now request it planned mid new is built same plans done =
+    → IfOk r (λ reply. WhereReported i.held new (λ held _. IsInOrder (order (host_of i) now request held) reply))
+ordered_told r i now request it planned mid new is built same silent plans done =
     of_reply r (λ reply answered. order_by_step i now request it reply i.held new is built answered)
-    (done_there r (λ held. commanded (host_of i) now it (seen_in held)) planned i.held mid new same plans done)
+    (done_there r (λ held. commanded (host_of i) now it (seen_in held)) planned i.held mid new same silent plans done)

@@ -1,5 +1,5 @@
 -- Adding or editing a sharing group: what it is by its text, and what it is replied.
-use Rattle.std.specs.Prelude.{ℕ, ◌≤◌, Bool, List, Ok, Err, Option}
+use Rattle.std.specs.Prelude.{ℕ, ◌≤◌, Bool, List, Ok, Err}
 use Rattle.misp_format.specs.Prelude.{LAST_SECOND, group_in_text}
 use Rattle.misp_core.specs.Prelude.{Did, Effect, Group, Held, IsGroup, OrgId, administered, groups_of, refused}
 use Rattle.misp_core.specs.declared.reply.Reply.{Reply}
@@ -21,6 +21,6 @@ grouped now by add (Err refusal) groups = refused refusal
 
 -- it was replied so, and left this
 abbrev pub IsDone :
-    ℕ → OrgId → Bool → Reading Group → Held → Reply → Option Held → Type 0
+    ℕ → OrgId → Bool → Reading Group → Held → Reply → Held → Type 0
 IsDone now by add form held reply new =
     Did (grouped now by add form (groups_of held)) held reply new

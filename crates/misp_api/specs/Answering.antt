@@ -61,6 +61,6 @@ replied host now (Ok it) here = command_effect host now it.0 it.1 here
 replied host now (Err refusal) here = refused refusal
 
 -- it was replied so, and left this
-abbrev pub IsReplied : Host → ℕ → Reading Commanded → Held → Reply → Option Held → Type 0
+abbrev pub IsReplied : Host → ℕ → Reading Commanded → Held → Reply → Held → Type 0
 IsReplied host now form held reply new =
     Did (replied host now form (seen_in held)) held reply new

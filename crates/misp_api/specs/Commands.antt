@@ -53,8 +53,9 @@ is_syncing (Command.Shares add g) = false
 
 -- ---- what commands come to
 
--- what a command of this caller comes to, where this is seen: of groups that are handed in those are
--- put that are taken, and one that is added or edited is administered by the caller's organisation
+-- what a command of this caller comes to, where this is seen: of groups that are handed in those
+-- are put that are taken, and one that is added or edited is administered by the caller's
+-- organisation
 abbrev pub command_effect : Host → ℕ → Caller → Command → Seen → Effect Reply
 command_effect host now caller (Command.Asks ask) seen = asked_where host now (caller, ask) seen
 command_effect host now caller (Command.TakesGroups coming) seen =

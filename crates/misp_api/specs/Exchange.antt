@@ -1,5 +1,5 @@
 -- What bytes are replied over a wire of one process.
-use Rattle.std.specs.Prelude.{◌≡◌, ◌⊎◌, ℕ, List, Option, Some}
+use Rattle.std.specs.Prelude.{◌≡◌, ◌⊎◌, ℕ, List}
 use Rattle.misp_http.specs.declared.request.Read.{Read}
 use Rattle.misp_core.specs.Prelude.{Held, Standing, host_of}
 use Rattle.misp_core.specs.Sound.{IsSound, IsWorded}
@@ -22,6 +22,6 @@ pub record IsExchanged (now word : ℕ) (read : Read) (old new : Standing) (byte
   pub bytes_are : bytes ≡ http_text reply (closes read)
 
 -- what is held where no reply came: what was held, or what some reply to this form leaves
-abbrev pub IsLeftSo : ℕ → Reading Commanded → Standing → Held → Option Held → Type 0
+abbrev pub IsLeftSo : ℕ → Reading Commanded → Standing → Held → Held → Type 0
 IsLeftSo now form old held new =
-    (new ≡ Some held) ⊎ ((reply : Reply) × IsReplied (host_of old) now form held reply new)
+    (new ≡ held) ⊎ ((reply : Reply) × IsReplied (host_of old) now form held reply new)

@@ -1,6 +1,7 @@
 -- What a request of a connection is replied, or bytes that are none, and the bytes of the reply.
-use Rattle.std.specs.Prelude.{◌≡◌, ◌⊎◌, ℕ, ◌<◌, Bool, true, false, List, length, codes, Result, Ok, Err, IfOk, IfSome}
+use Rattle.std.specs.Prelude.{◌≡◌, ◌⊎◌, ℕ, ◌<◌, Bool, true, false, List, length, codes, Result, Ok, Err, IfOk}
 use Rattle.misp_outside.specs.Causes.{HasCause}
+use Rattle.misp_outside.specs.Reporting.{WhereReported}
 use Rattle.misp_http.specs.Faults.{fault_refusal}
 use Rattle.misp_http.specs.declared.request.Read.{Read}
 use Rattle.misp_http.specs.declared.request.Read.TheVariants as reads
@@ -24,9 +25,9 @@ read_form admin word (reads.Refused fault) = Err (fault_refusal fault)
 -- it was replied so at this moment, and the instance is left so
 pub record IsAnswered (now word : ℕ) (read : Read) (old new : Standing) (reply : Reply)
     : Type 0 where
-  -- where the keeper tells, reply and rows are the stated functions of what was read and is held
-  pub replied : IfSome old.held
-      (λ held. IsReplied (host_of old) now (read_form old.admin word read) held reply new.held)
+  -- where the keeper reports, reply and rows are the stated functions of what was read and is held
+  pub replied : WhereReported old.held new.held
+      (λ held left. IsReplied (host_of old) now (read_form old.admin word read) held reply left)
   -- what its form refuses is refused just so, and the instance stands as it stood
   pub formed : TurnsAway (read_form old.admin word read) old new reply
   pub cause : HasCause old.faults new.faults (stop_in reply ≡ by_keeper)

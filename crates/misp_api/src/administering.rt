@@ -1,8 +1,9 @@
 //! Adds or edits a sharing group at an instance.
 
-ghost use Rattle.std.specs.Prelude.{◌≡◌, true, ◌<◌, ◌++◌, None, IfOk, IsOkAnd, IfSome, OnOk, OnErr, vec_len, vec_capacity};
+ghost use Rattle.std.specs.Prelude.{◌≡◌, true, ◌<◌, ◌++◌, None, IfOk, IsOkAnd, OnOk, OnErr, vec_len, vec_capacity};
 ghost use Rattle.misp_groups.specs.Group.{IsGroup};
 ghost use Rattle.misp_outside.specs.Causes.{HasCause};
+ghost use Rattle.misp_outside.specs.Reporting.{StaysHeld, WhereReported};
 ghost use Rattle.misp_core.specs.Effects.{by_keeper, stop_in, IsRefused};
 ghost use Rattle.misp_api.specs.Administering.{group_form, FormFits, IsDone};
 ghost use Rattle.misp_api.specs.Request.{Gives};
@@ -56,12 +57,13 @@ pub fn administer<K: Keeper>(
     ensures room { OnOk result (vec_len text.new < vec_capacity text.new) }
 
     // Where memory runs out for the text, nothing is put.
-    ensures kept { OnErr result (instance.new.held ≡ instance.old.held) }
+    ensures kept { OnErr result (StaysHeld instance.old.held instance.new.held) }
 
     // Reply and groups are the stated functions of the request and of what is held.
-    ensures replied { IfOk result (λ reply. IfSome instance.old.held (λ held.
+    ensures replied { IfOk result (λ reply.
+        WhereReported instance.old.held instance.new.held (λ held new.
         IsDone now request.now.by request.now.add (group_form request.now.body.now)
-        held reply instance.new.held)) }
+        held reply new)) }
 
     // What is read and not stopped is a group, at a moment that has a stamp.
     ensures fits { IfOk result (λ reply.
@@ -73,9 +75,9 @@ pub fn administer<K: Keeper>(
 
     // A refused request changes nothing, and neither does one that is answered octets.
     ensures refused { IfOk result (λ reply.
-        IsRefused reply → instance.new.held ≡ instance.old.held) }
+        IsRefused reply → StaysHeld instance.old.held instance.new.held) }
     ensures octets { IfOk result (λ reply.
-        has_octets reply ≡ true → instance.new.held ≡ instance.old.held) }
+        has_octets reply ≡ true → StaysHeld instance.old.held instance.new.held) }
     ensures cause { HasCause instance.old.faults instance.new.faults
         (IsOkAnd result (λ reply. stop_in reply ≡ by_keeper)) }
     ensures name { instance.new.name ≡ instance.old.name }

@@ -2,6 +2,7 @@
 
 ghost use Rattle.std.specs.Prelude.{◌≡◌, true, false, ◌<◌, ◌++◌, Err, IfOk, IsOkAnd, IfSome, OnOk, OnErr, length, None, vec_len, vec_capacity};
 ghost use Rattle.misp_outside.specs.Causes.{HasCause};
+ghost use Rattle.misp_outside.specs.Reporting.{StaysHeld, WhereReported};
 ghost use Rattle.misp_core.specs.Effects.{stop_in, by_keeper, refused_by, IsRefused};
 ghost use Rattle.misp_core.specs.Planning.{IsBarred, IsPlanned, stop_planned};
 ghost use Rattle.misp_core.specs.Sound.{IsSoundAnswer};
@@ -71,13 +72,13 @@ fn plan<K: Keeper>(
     command: Command,
 ) -> Result<Plan, NoPlan>
     requires { AsksBuilt command }
-    ensures planned { IfSome instance.old.held (λ held. IsPlanned result
+    ensures planned { IfSome instance.new.held (λ held. IsPlanned result
         (commanded (host_of instance.old) now (caller.now, command) (seen_in held))) }
     ensures barred { is_allowed (caller.now, command) ≡ false →
         IsBarred (barred command) instance.old instance.new result }
     ensures sound { is_syncing command ≡ true →
         IfOk result (λ plan. IsSoundAnswer plan.answer) }
-    ensures held { instance.new.held ≡ instance.old.held }
+    ensures held { StaysHeld instance.old.held instance.new.held }
     ensures cause { HasCause instance.old.faults instance.new.faults
         (stop_planned result ≡ by_keeper) }
     ensures name { instance.new.name ≡ instance.old.name }
@@ -121,16 +122,17 @@ pub fn answer<K: Keeper>(
 
     // Where memory runs out for the text, or it is longer than that of any change, nothing is put.
     ensures kept { IfOk result (λ reply. CHANGE_TEXT < length (reply_text reply)) →
-        instance.new.held ≡ instance.old.held }
+        StaysHeld instance.old.held instance.new.held }
 
     // Reply and rows are the stated functions of the request and of what is held.
-    ensures replied { IfOk result (λ reply. IfSome instance.old.held (λ held. IsReplied
+    ensures replied { IfOk result (λ reply.
+        WhereReported instance.old.held instance.new.held (λ held new. IsReplied
         (host_of instance.old) now
-        (form_of instance.old.admin (request_data word request.now))
-        held reply instance.new.held)) }
+        (form_of instance.old.admin (request_data word request.now)) held reply new)) }
 
     // Where several rules refuse the request, the first in the one order is answered.
-    ensures order { IfOk result (λ reply. IfSome instance.old.held (λ held. IsInOrder
+    ensures order { IfOk result (λ reply.
+        WhereReported instance.old.held instance.new.held (λ held _. IsInOrder
         (order (host_of instance.old) now (request_data word request.now) held) reply)) }
 
     // What the form of the request refuses, or the role of its caller, is refused just so, and the
@@ -144,14 +146,14 @@ pub fn answer<K: Keeper>(
 
     // A refused request changes nothing, and neither does one that is answered octets.
     ensures refused { IfOk result (λ reply.
-        IsRefused reply → instance.new.held ≡ instance.old.held) }
+        IsRefused reply → StaysHeld instance.old.held instance.new.held) }
     ensures octets { IfOk result (λ reply.
-        has_octets reply ≡ true → instance.new.held ≡ instance.old.held) }
+        has_octets reply ≡ true → StaysHeld instance.old.held instance.new.held) }
 
-    // What a pull asks changes nothing either, even where memory runs out. What a synchronisation is
-    // replied can be read back from its text.
+    // What a pull asks changes nothing either, even where memory runs out. What a synchronisation
+    // is replied can be read back from its text.
     ensures pulled { IsPull (form_of instance.old.admin (request_data word request.now)) →
-        instance.new.held ≡ instance.old.held }
+        StaysHeld instance.old.held instance.new.held }
     ensures sound { IsSync (form_of instance.old.admin (request_data word request.now)) →
         IfOk result IsSound }
     ensures silent { instance.old.held ≡ None → instance.new.held ≡ None }

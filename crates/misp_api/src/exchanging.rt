@@ -1,6 +1,7 @@
 //! Answers the bytes of one request, as a wire of one process needs it.
 
-ghost use Rattle.std.specs.Prelude.{◌≡◌, ◌≢◌, ◌≤◌, ◌++◌, ℕ, List, [], Option, None, Ok, Err, IfOk, IfSome, OnOk, OnErr};
+ghost use Rattle.std.specs.Prelude.{◌≡◌, ◌≢◌, ◌≤◌, ◌++◌, ℕ, List, [], Option, None, Ok, Err, IfOk, OnOk, OnErr};
+ghost use Rattle.misp_outside.specs.Reporting.{StaysHeld, WhereReported};
 ghost use Rattle.misp_http.specs.Reading.{IsRead};
 ghost use Rattle.misp_http.specs.declared.request.Read.{Read as WasRead};
 ghost use Rattle.misp_http.specs.declared.request.ReadEnd.{ReadEnd as NotRead};
@@ -43,10 +44,10 @@ fn answer_to<K: Keeper>(
 ) -> Result<Reply, NoMemory>
     ensures text { IfOk result (λ reply. text.new.items ≡ text.old.items ++ reply_text reply) }
     ensures answered { IfOk result (IsAnswered now word read.now instance.old instance.new) }
-    ensures unwritten { OnErr result (instance.new.held ≡ instance.old.held) }
+    ensures unwritten { OnErr result (StaysHeld instance.old.held instance.new.held) }
     ensures sound { IsSync (read_form instance.old.admin word read.now) → IfOk result IsSound }
     ensures still { IsPull (read_form instance.old.admin word read.now) →
-        instance.new.held ≡ instance.old.held }
+        StaysHeld instance.old.held instance.new.held }
     ensures silent { instance.old.held ≡ None → instance.new.held ≡ None }
     ensures later { instance.old.faults ≤ instance.new.faults }
     ensures name { instance.new.name ≡ instance.old.name }
@@ -97,10 +98,10 @@ fn reply_to_read<K: Keeper>(
 ) -> Result<Vec<u8>, NoMemory>
     ensures answered { IfOk result (λ bytes.
         IsExchanged now word read.now instance.old instance.new bytes.items) }
-    ensures left { OnErr result (IfSome instance.old.held (λ held. IsLeftSo now
-        (read_form instance.old.admin word read.now) instance.old held instance.new.held)) }
+    ensures left { OnErr result (WhereReported instance.old.held instance.new.held
+        (IsLeftSo now (read_form instance.old.admin word read.now) instance.old)) }
     ensures still { IsPull (read_form instance.old.admin word read.now) →
-        instance.new.held ≡ instance.old.held }
+        StaysHeld instance.old.held instance.new.held }
     ensures silent { instance.old.held ≡ None → instance.new.held ≡ None }
     ensures later { instance.old.faults ≤ instance.new.faults }
     ensures name { instance.new.name ≡ instance.old.name }
@@ -141,14 +142,14 @@ pub fn exchange<K: Keeper>(
 
     // Where memory runs out, what is held is as it was, or what some reply to the request leaves.
     ensures left { (read : WasRead) (left : Option (List ℕ)) → IsRead bytes.items (Ok read) left
-        → OnErr result (IfSome instance.old.held (λ held. IsLeftSo now
-        (read_form instance.old.admin word read) instance.old held instance.new.held)) }
+        → OnErr result (WhereReported instance.old.held instance.new.held
+        (IsLeftSo now (read_form instance.old.admin word read) instance.old)) }
 
     // What a pull asks and what is refused by its form changes nothing that is held, even where
-    // memory runs out.
+    // memory runs out. A keeper that reports nothing reports nothing then.
     ensures still { (read : WasRead) (left : Option (List ℕ)) → IsRead bytes.items (Ok read) left
         → IsPull (read_form instance.old.admin word read)
-        → instance.new.held ≡ instance.old.held }
+        → StaysHeld instance.old.held instance.new.held }
     ensures silent { instance.old.held ≡ None → instance.new.held ≡ None }
     ensures later { instance.old.faults ≤ instance.new.faults }
     ensures name { instance.new.name ≡ instance.old.name }

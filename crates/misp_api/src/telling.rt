@@ -1,7 +1,8 @@
 //! Tells what was planned, and puts it.
 
-ghost use Rattle.std.specs.Prelude.{◌≡◌, true, false, ◌⊎◌, ◌+◌, ◌<◌, ◌≤◌, ◌++◌, None, Some, Err, IfOk, IfErr, IfSome, OnOk, OnErr, length, take, option_map, vec_len, vec_capacity};
+ghost use Rattle.std.specs.Prelude.{◌≡◌, true, false, ◌⊎◌, ◌+◌, ◌<◌, ◌≤◌, ◌++◌, None, Some, Err, IfOk, IfErr, OnOk, OnErr, length, take, vec_len, vec_capacity};
 ghost use Rattle.misp_outside.specs.Causes.{Rose, HasCause};
+ghost use Rattle.misp_outside.specs.Reporting.{StaysHeld, WhereReported};
 ghost use Rattle.misp_outside.specs.Held.{with_batch};
 ghost use Rattle.misp_effects.specs.Effect.{Effect};
 ghost use Rattle.misp_store.specs.Batches.{spelled};
@@ -119,10 +120,10 @@ fn put_or_refuse<K: Keeper>(
     ensures text { IfErr result (λ stop. text.new.items ≡
         take start text.old.items ++ reply_text (refused_by (rule_of_stop stop))) }
     ensures room { vec_len text.new < vec_capacity text.new }
-    ensures put { OnOk result (instance.new.held ≡
-        option_map (with_batch (spelled (batch_of put))) instance.old.held) }
+    ensures put { OnOk result (WhereReported instance.old.held instance.new.held
+        (λ held new. new ≡ with_batch (spelled (batch_of put)) held)) }
     ensures storable { OnOk result (AreStorable put.groups) }
-    ensures err { OnErr result (instance.new.held ≡ instance.old.held) }
+    ensures err { OnErr result (StaysHeld instance.old.held instance.new.held) }
     ensures cause { HasCause instance.old.faults instance.new.faults
         (result ≡ Err KeeperFault.Failed) }
     ensures name { instance.new.name ≡ instance.old.name }
@@ -156,11 +157,12 @@ fn settled<K: Keeper>(
     ensures room { vec_len text.new < vec_capacity text.new }
     ensures done { (p : Planned) (e : Effect Answered) → reply ≡ Answered.Ok p.answer →
         p.batch ≡ Some put → IsPlan p e →
-        IfSome instance.old.held (λ held. Did e held result instance.new.held) }
-    ensures refused { IsRefused result → instance.new.held ≡ instance.old.held }
+        WhereReported instance.old.held instance.new.held
+        (λ held new. Did e held result new) }
+    ensures refused { IsRefused result → StaysHeld instance.old.held instance.new.held }
     ensures long { CHANGE_TEXT < length (reply_text result) →
-        instance.new.held ≡ instance.old.held }
-    ensures octets { has_octets result ≡ true → instance.new.held ≡ instance.old.held }
+        StaysHeld instance.old.held instance.new.held }
+    ensures octets { has_octets result ≡ true → StaysHeld instance.old.held instance.new.held }
     ensures silent { instance.old.held ≡ None → instance.new.held ≡ None }
     ensures sound { IsSound reply → IsSound result }
     ensures cause { HasCause instance.old.faults instance.new.faults
@@ -185,16 +187,17 @@ fn told_and_put<K: Keeper>(
     ensures text { IfOk result (λ reply. text.new.items ≡ text.old.items ++ reply_text reply) }
     ensures room { OnOk result (vec_len text.new < vec_capacity text.new) }
     ensures kept { IfOk result (λ reply. CHANGE_TEXT < length (reply_text reply)) →
-        instance.new.held ≡ instance.old.held }
+        StaysHeld instance.old.held instance.new.held }
     ensures octets { IfOk result (λ reply.
-        has_octets reply ≡ true → instance.new.held ≡ instance.old.held) }
+        has_octets reply ≡ true → StaysHeld instance.old.held instance.new.held) }
     ensures done { (p : Planned) (e : Effect Answered) → p.answer ≡ answer →
         p.batch ≡ Some put → IsPlan p e → IfOk result (λ reply.
-        IfSome instance.old.held (λ held. Did e held reply instance.new.held)) }
+        WhereReported instance.old.held instance.new.held
+        (λ held new. Did e held reply new)) }
     ensures silent { instance.old.held ≡ None → instance.new.held ≡ None }
     ensures sound { IsSoundAnswer answer → IfOk result IsSound }
     ensures refused { IfOk result (λ reply.
-        IsRefused reply → instance.new.held ≡ instance.old.held) }
+        IsRefused reply → StaysHeld instance.old.held instance.new.held) }
     ensures later { instance.old.faults ≤ instance.new.faults }
     ensures rose { IfOk result (λ reply. stop_in reply ≡ by_keeper →
         Rose instance.old.faults instance.new.faults) }
@@ -218,17 +221,18 @@ pub(crate) fn tell<K: Keeper>(
 
     // Where memory runs out for the text, or it is longer than that of any change, nothing is put.
     ensures kept { IfOk result (λ reply. CHANGE_TEXT < length (reply_text reply)) →
-        instance.new.held ≡ instance.old.held }
+        StaysHeld instance.old.held instance.new.held }
     ensures octets { IfOk result (λ reply.
-        has_octets reply ≡ true → instance.new.held ≡ instance.old.held) }
+        has_octets reply ≡ true → StaysHeld instance.old.held instance.new.held) }
 
     // Else reply and rows are those of the plan.
     ensures done { (e : Effect Answered) → IsPlanned planned e → IfOk result (λ reply.
-        IfSome instance.old.held (λ held. Did e held reply instance.new.held)) }
+        WhereReported instance.old.held instance.new.held
+        (λ held new. Did e held reply new)) }
     ensures unplanned { IfErr planned (λ why. IfOk result (λ reply. reply ≡ unplanned why)) }
     ensures still { OnErr planned (instance.new ≡ instance.old) }
     ensures refused { IfOk result (λ reply.
-        IsRefused reply → instance.new.held ≡ instance.old.held) }
+        IsRefused reply → StaysHeld instance.old.held instance.new.held) }
     ensures silent { instance.old.held ≡ None → instance.new.held ≡ None }
     ensures sound { IfOk planned (λ plan. IsSoundAnswer plan.answer) → IfOk result IsSound }
 

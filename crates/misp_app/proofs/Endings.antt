@@ -129,7 +129,7 @@ module _ (hosts : List Host) (lines : List Line) (old new : List KeeperState) (b
   by_keeper NetFault.NoMemory status same stopped is = absurd (let no_ : Status.KeeperFault ≡ Status.OutOfMemory = cc in cc)
 
   -- and only a bad row
-  pub by_row : (fault : NetFault) (status : Status) → status ≡ status_after fault → IsStoppedBy hosts lines old new before after fault → status ≡ Status.BadRow → may_be_unsound old ≡ true
+  pub by_row : (fault : NetFault) (status : Status) → status ≡ status_after fault → IsStoppedBy hosts lines old new before after fault → status ≡ Status.BadRow → may_be_unsound new ≡ true
   by_row NetFault.KeeperFault status same stopped is = absurd (let no_ : Status.BadRow ≡ Status.KeeperFault = cc in cc)
   by_row NetFault.BadRow status same stopped is = stopped
   by_row NetFault.NoMemory status same stopped is = absurd (let no_ : Status.BadRow ≡ Status.OutOfMemory = cc in cc)

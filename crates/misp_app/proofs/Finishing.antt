@@ -1,32 +1,54 @@
 -- Over keepers that hold nothing, where nothing fails, a command stops only where memory runs out.
-use Rattle.std.proofs.Common.{◌≡◌, ℕ, zero, suc, List, [], ◌∷◌, ◌<◌, ◌≤◌, true, nat_lt, length, take, Option, Some, None, refl, sym, ◌∙◌, ap, subst, inl, inr, arith, IfSome, Ok, Err, option_map}
+use Rattle.std.proofs.Common.{◌≡◌, ℕ, zero, suc, List, [], ◌∷◌, ◌<◌, ◌≤◌, ◌⊎◌, true, nat_lt, length, take, Option, Some, None, refl, sym, ◌∙◌, ap, subst, inl, inr, arith, IfSome, Ok, Err, option_map}
 use Rattle.std.proofs.lemmas.Bool.{cases_Bool}
 use Rattle.std.proofs.lemmas.Bool.Decides.{nat_tests}
+use Rattle.misp_outside.proofs.Reporting.{reported_at}
+use Rattle.misp_outside.specs.Held.{Held}
 use Rattle.misp_script.specs.Faults.{Reading}
-use Rattle.misp_effects.specs.KeeperStates.{OneFailed}
+use Rattle.misp_effects.specs.KeeperStates.{AllReport, OneFailed}
 use Rattle.misp_effects.proofs.KeeperStates.{one_of_all}
 use Rattle.misp_store.specs.Renewing.{renewed}
 use Rattle.misp_store.specs.Sharing.{may_be_unsound}
 use Rattle.misp_net.specs.History.{empty_tables}
-use Rattle.misp_net.specs.Opening.{opened_state, opened_states}
+use Rattle.misp_net.specs.Opening.{AreKeptOrOpened, IsKeptOrOpened, opened_state, opened_states}
 use Rattle.misp_net.specs.Prelude.{Description, Host, KeeperState, Tell, nothing_held}
 use Rattle.misp_net.proofs.Openings.{nothing_is_sound}
 use Rattle.misp_words.specs.Words.{CommandData, Net, Check, Serve, Sync}
 use Rattle.misp_app.specs.Causes.{Faults, HasCauses, IsFaultless}
 use Rattle.misp_app.specs.declared.status.Status.{Status}
-use Rattle.misp_app.specs.Status.{EndsAs, Finishes}
+use Rattle.misp_app.specs.Status.{EndsAs, Finishes, IsUnopened}
 use Rattle.misp_app.specs.Limits.{source_limit}
 use Rattle.misp_app.specs.Source.{described, status_of, status_over, IsUnsound, HasFailed, HoldNothing}
 
--- who holds nothing holds no row that is none
-none_unsound : (old : List KeeperState) (n : ℕ) → HoldNothing old → may_be_unsound (take n old) ≡ true → ⊥
-none_unsound [] zero empty bad = cc
-none_unsound [] (suc n) empty bad = cc
-none_unsound (s ∷ old) zero empty bad = cc
-none_unsound (s ∷ old) (suc n) empty bad =
+-- who held nothing holds nothing, where it still reports what it holds
+still_nothing : (s t : KeeperState) (now : Held) → s.held ≡ Some nothing_held → IsKeptOrOpened s t → t.held ≡ Some now → t.held ≡ Some nothing_held
+unfolding nothing_held renewed
+still_nothing s t now first kept is =
+    elim (reported_at s.held t.held (λ held now. (now ≡ held) ⊎ (now ≡ renewed held)) nothing_held now first is kept.held) [
+      | inl same ↦ is ∙ ap (λ held. Some held) same
+      | inr same ↦ is ∙ ap (λ held. Some held) same
+    ]
+
+-- the first of keepers that all report does, and so do the others
+first_reports : (t : KeeperState) (new : List KeeperState) → AllReport (t ∷ new) → ((now : Held) × (t.held ≡ Some now)) × AllReport new
+first_reports t new ([], tell) = absurd cc
+first_reports t new (now ∷ tables, tell) =
+    let first : t.held ≡ Some now = cc in
+    let rest : Tell new tables = cc in ((now, first), (tables, rest))
+
+-- who held nothing holds no row that is none
+none_unsound : (old new : List KeeperState) (n : ℕ) → HoldNothing old → AllReport new → AreKeptOrOpened old new → may_be_unsound (take n new) ≡ true → ⊥
+none_unsound [] [] zero empty all kept bad = cc
+none_unsound [] [] (suc n) empty all kept bad = cc
+none_unsound [] (t ∷ new) n empty all kept bad = absurd kept
+none_unsound (s ∷ old) [] n empty all kept bad = absurd kept
+none_unsound (s ∷ old) (t ∷ new) zero empty all kept bad = cc
+none_unsound (s ∷ old) (t ∷ new) (suc n) empty all kept bad =
+    let reports = first_reports t new all in
     let first : s.held ≡ Some nothing_held = cc in
     let rest : HoldNothing old = cc in
-    none_unsound old n rest (rw (first, nothing_is_sound) at bad)
+    let nothing = still_nothing s t reports.0.0 first kept.0 reports.0.1 in
+    none_unsound old new n rest reports.1 kept.1 (rw (nothing, nothing_is_sound) at bad)
 
 -- over such keepers instances open with nothing
 pub opens_empty : (hosts : List Host) (old : List KeeperState) → HoldNothing old → length hosts ≤ length old → Tell (opened_states (take (length hosts) old)) (empty_tables hosts)
@@ -39,9 +61,9 @@ opens_empty (host ∷ hosts) (s ∷ old) empty enough =
     let opened : (opened_state s).held ≡ Some nothing_held = ap (option_map renewed) first in
     rw (opened, opens_empty hosts old rest (omega (arith, enough))) refl
 
-unsound_none : (read : Reading Description) (old : List KeeperState) → HoldNothing old → IsUnsound read old → ⊥
-unsound_none (Ok net) old empty bad = none_unsound old (length net.instances) empty bad
-unsound_none (Err fault) old empty bad = bad
+unsound_none : (read : Reading Description) (old new : List KeeperState) → HoldNothing old → AllReport new → AreKeptOrOpened old new → IsUnsound read new → ⊥
+unsound_none (Ok net) old new empty all kept bad = none_unsound old new (length net.instances) empty all kept bad
+unsound_none (Err fault) old new empty all kept bad = bad
 
 failed_one : (read : Reading Description) (old new : List KeeperState) → HasFailed read old new → OneFailed old new
 failed_one (Ok net) old new failed = one_of_all old new (length net.instances) failed
@@ -66,14 +88,14 @@ finishes (Serve words) decided Status.Stopped end read write door keeper bad = i
 finishes Net decided Status.Stopped end read write door keeper bad = inr (inr end)
 finishes Check decided Status.Stopped end read write door keeper bad = inr (inr end)
 
-pub finished : (o : Option CommandData) (source : Option (List ℕ)) (status : Status) (old new : List KeeperState) (before after : Faults) → IsFaultless old new before after → HoldNothing old
-    → HasCauses source old new before after status → IfSome o (λ command. IfSome source (λ left. EndsAs status command (status_of command left)))
+pub finished : (o : Option CommandData) (source : Option (List ℕ)) (status : Status) (old new : List KeeperState) (before after : Faults) → IsFaultless old new before after → HoldNothing old → AllReport new
+    → (IsUnopened status → AreKeptOrOpened old new) → HasCauses source old new before after status → IfSome o (λ command. IfSome source (λ left. EndsAs status command (status_of command left)))
     → IfSome o (λ command. IfSome source (λ left. Finishes command (status_of command left) status))
-finished None source status old new before after whole empty causes ends = tt
-finished (Some command) None status old new before after whole empty causes ends = tt
-finished (Some command) (Some left) status old new before after whole empty causes ends =
+finished None source status old new before after whole empty all kept causes ends = tt
+finished (Some command) None status old new before after whole empty all kept causes ends = tt
+finished (Some command) (Some left) status old new before after whole empty all kept causes ends =
     finishes command (status_of command left) status ends (λ is. whole.source (causes.read is)) (λ is. whole.sink (causes.write is)) (λ is. whole.door (causes.door is))
-    (λ is. whole.keepers (failed_one (described left) old new (causes.keeper is))) (λ is. unsound_none (described left) old empty (causes.bad_row is))
+    (λ is. whole.keepers (failed_one (described left) old new (causes.keeper is))) (λ is. unsound_none (described left) old new empty all (kept (subst IsUnopened (sym is) tt)) (causes.bad_row is))
 
 below : (m n : ℕ) → nat_lt m n ≡ true → m < n
 below m n is = grind (arith, nat_tests)

@@ -4,7 +4,7 @@ use Rattle.misp_script.specs.Directory.{directory_of}
 use Rattle.misp_script.specs.Faults.{Reading}
 use Rattle.misp_script.specs.Source.{script_part}
 use Rattle.misp_effects.proofs.KeeperStates.{all_kept}
-use Rattle.misp_store.specs.Sharing.{may_be_sound}
+use Rattle.misp_store.specs.Sharing.{WereSound}
 use Rattle.misp_net.specs.Carrying.{Carried}
 use Rattle.misp_net.specs.Opening.{IsStoppedBy, opened_states}
 use Rattle.misp_net.specs.Prelude.{AreDistinct, Description, KeeperState, described_hosts, lines_of}
@@ -20,7 +20,7 @@ use Rattle.misp_app.specs.declared.status.Status.{Status}
 
 module _ (net : Description) (script : List ℕ) (old new : List KeeperState) (before after : Carried) (written behind : Option (List ℕ)) where
   -- its lines were run, and written so
-  pub ran_ends : (lines : List ℕ) (status : Status) → AreDistinct (described_hosts net) → may_be_sound (take (length net.instances) old) ≡ true
+  pub ran_ends : (lines : List ℕ) (status : Status) → AreDistinct (described_hosts net) → WereSound (take (length net.instances) old) (take (length net.instances) new)
       → IsNetRun (described_hosts net) (lines_of (directory_of net) script) (opened_states (take (length net.instances) old)) (take (length net.instances) new) before after lines
       → IsPutEnd status → (Writes status → Wrote status written behind lines) → EndsRun status net script old new before after written behind
   ran_ends lines Status.Done distinct sound ran end wrote = record { lines = lines; distinct = distinct; sound = sound; ran = ran; written = wrote tt }

@@ -23,7 +23,7 @@ faults source sink door carry dial =
     record { source = source; sink = sink; door = door; carry = carry; dial = dial }
 
 -- A fault is told only where its count rose, a source that is too long only where it is, and a bad
--- row only where a keeper may hold one, as far as source and keepers tell. No fault of the source
+-- row only where a keeper may hold one, as far as source and keepers report. No fault of the source
 -- is told as anything else, and the counts of what carries and of the dial do not fall.
 pub record HasCauses (source : Option (List ℕ)) (old new : List KeeperState)
     (before after : Faults) (status : Status) : Type 0 where
@@ -32,7 +32,7 @@ pub record HasCauses (source : Option (List ℕ)) (old new : List KeeperState)
   pub door : status ≡ DoorFault → Rose before.door after.door
   pub too_much : status ≡ TooMuch → IfSome source (λ left. source_limit < length left)
   pub keeper : status ≡ KeeperFault → IfSome source (λ left. HasFailed (described left) old new)
-  pub bad_row : status ≡ BadRow → IfSome source (λ left. IsUnsound (described left) old)
+  pub bad_row : status ≡ BadRow → IfSome source (λ left. IsUnsound (described left) new)
   pub stays : StaysUnless before.source after.source (status ≡ ReadFault)
   pub carry : before.carry ≤ after.carry
   pub dial : before.dial ≤ after.dial

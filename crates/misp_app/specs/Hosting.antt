@@ -2,7 +2,7 @@
 use Rattle.std.specs.Prelude.{◌≡◌, ◌≢◌, ℕ, true, List, [], ◌∷◌, All, Option, Some, Result, Ok, Err}
 use Rattle.misp_outside.specs.Wires.{Connection}
 use Rattle.misp_effects.specs.KeeperStates.{AreKept}
-use Rattle.misp_store.specs.Sharing.{may_be_sound}
+use Rattle.misp_store.specs.Sharing.{WereSound}
 use Rattle.misp_core.specs.Prelude.{Host, KeeperState, Standing, host_of}
 use Rattle.misp_net.specs.Opening.{AreKeptOrOpened, opened_states}
 use Rattle.misp_net.specs.Running.{state_of}
@@ -38,7 +38,7 @@ HasLinesServed status = ⊥
 
 -- An instance of this host was opened over the keeper, and served so many connections of those that
 -- were to come, or as many as door, sink and memory allowed. Then its keeper was put back. It is
--- opened only where every row that the keeper tells decodes.
+-- opened only where every row that the keeper holds decodes, where it reports.
 pub record HasServed (host : Host) (time count word : ℕ) (back coming : List Connection)
     (old new : List KeeperState) (next : Option ℕ) (given left : Option (List Connection))
     (before behind : Option (List ℕ)) (status : Status) : Type 0 where
@@ -49,7 +49,7 @@ pub record HasServed (host : Host) (time count word : ℕ) (back coming : List C
   pub begun : AreKeptOrOpened old (state_of start ∷ [])
   pub opened : status ≢ OutOfMemory → AreKept (opened_states old) (state_of start ∷ [])
   pub closed : new ≡ state_of end ∷ []
-  pub sound : status ≢ OutOfMemory → may_be_sound old ≡ true
+  pub sound : status ≢ OutOfMemory → WereSound old (state_of start ∷ [])
   pub how_is : serving_status how ≡ status
   pub served : Served time count (record { instance = start; word = word; back = back }) coming
       end next given left before behind how

@@ -3,7 +3,7 @@ use Rattle.std.specs.Prelude.{◌≡◌, ℕ, true, List, length, take, Option}
 use Rattle.std.specs.Io.KnownBytes.{Appends}
 use Rattle.misp_http.specs.Streams.{AppendsSome}
 use Rattle.misp_script.specs.Directory.{directory_of}
-use Rattle.misp_store.specs.Sharing.{may_be_sound}
+use Rattle.misp_store.specs.Sharing.{WereSound}
 use Rattle.misp_net.specs.Carrying.{Carried}
 use Rattle.misp_net.specs.Opening.{IsCutShort, opened_states}
 use Rattle.misp_net.specs.Prelude.{AreDistinct, Description, KeeperState, described_hosts, lines_of}
@@ -16,8 +16,8 @@ pub record HasRun (net : Description) (script : List ℕ) (old new : List Keeper
     (before after : Carried) (Writes : List ℕ → Type 0) : Type 0 where
   pub lines : List ℕ
   pub distinct : AreDistinct (described_hosts net)
-  -- every row that the keepers tell decodes
-  pub sound : may_be_sound (take (length net.instances) old) ≡ true
+  -- every row that the keepers held decodes
+  pub sound : WereSound (take (length net.instances) old) (take (length net.instances) new)
   pub ran : IsNetRun (described_hosts net) (lines_of (directory_of net) script)
       (opened_states (take (length net.instances) old)) (take (length net.instances) new)
       before after lines

@@ -52,11 +52,11 @@ IsTold (Ok net) Writes = Unit {0}
 IsTold (Err (DescFault.Bad path need)) Writes = Writes (fault_line path need)
 IsTold (Err DescFault.NoMemory) Writes = ⊥
 
--- the source describes a network, and as far as the keepers of its instances tell, one of them
+-- the source describes a network, and as far as the keepers of its instances report, one of them
 -- holds a row that is none
 abbrev pub IsUnsound : Reading Description → List KeeperState → Type 0
-IsUnsound (Ok net) old = may_be_unsound (take (length net.instances) old) ≡ true
-IsUnsound (Err fault) old = ⊥
+IsUnsound (Ok net) new = may_be_unsound (take (length net.instances) new) ≡ true
+IsUnsound (Err fault) new = ⊥
 
 -- the source describes a network, and the count of faults of a keeper of its instances rose
 abbrev pub HasFailed : Reading Description → List KeeperState → List KeeperState → Type 0
@@ -69,6 +69,6 @@ abbrev pub OthersStay : Reading Description → List KeeperState → List Keeper
 OthersStay (Ok net) old new = drop (length net.instances) new ≡ drop (length net.instances) old
 OthersStay (Err fault) old new = new ≡ old
 
--- all of them tell that they hold nothing
+-- all of them report that they hold nothing
 abbrev pub HoldNothing : List KeeperState → Type 0
 HoldNothing old = told old ≡ map (λ state. Some nothing_held) old

@@ -5,12 +5,13 @@ use Rattle.misp_ids.specs.declared.label.Direction.{Direction}
 use Rattle.misp_orgs.specs.Admin.{link_of}
 use Rattle.misp_orgs.specs.declared.link.Link.{Link}
 use Rattle.misp_outside.specs.Causes.{HasCause}
+use Rattle.misp_outside.specs.Reporting.{StaysHeld}
 use Rattle.misp_outside.specs.Wires.{Asked}
 use Rattle.misp_effects.specs.KeeperStates.{AreKept}
 use Rattle.misp_effects.specs.declared.stop.Side.TheVariants.{Here}
 use Rattle.misp_effects.specs.declared.stop.Stop.TheVariants as stops
 use Rattle.misp_script.specs.Directory.{directory_of, place_of, roster_names}
-use Rattle.misp_store.specs.Sharing.{may_be_sound}
+use Rattle.misp_store.specs.Sharing.{WereSound}
 use Rattle.misp_core.specs.Prelude.{Host, KeeperState, Standing, host_of}
 use Rattle.misp_dialogue.specs.Parties.{GrowsBy}
 use Rattle.misp_protocol.specs.Counts.{no_count}
@@ -69,9 +70,10 @@ pub record SyncsOver (words : SyncData) (address : List ℕ) (start end : Standi
   -- all of them where it is done. All of them went to the address, whatever was asked before. What
   -- is held then, and counted, is what these replies bring.
   pub course : GrowsBy (trail_to address before.asks) (trail_to address after.asks)
-      (IsTrailOver words.direction (link_of start.admin.links words.link) start end.held None reply)
+      (IsTrailOver words.direction (link_of start.admin.links words.link) start end.held None None
+      reply)
   -- what is held where a push begins stays
-  pub kept : words.direction ≡ Direction.Push → end.held ≡ start.held
+  pub kept : words.direction ≡ Direction.Push → StaysHeld start.held end.held
   -- rule 26 only where the count of the keeper rose
   pub cause : HasCause start.faults end.faults (stop_in reply ≡ Some (stops.Keeper Here))
   -- rule 25 only where that of the dial did
@@ -80,7 +82,7 @@ pub record SyncsOver (words : SyncData) (address : List ℕ) (start end : Standi
   pub admin : end.admin ≡ start.admin
 
 -- An instance of this host was opened over the keeper, and synchronised. Then its keeper was put
--- back. It is opened only where every row that the keeper tells decodes.
+-- back. It is opened only where every row that the keeper holds decodes, where it reports.
 pub record Synchronised (host : Host) (words : SyncData) (address : List ℕ)
     (old new : List KeeperState) (before after : Dialled) (reply : SyncReply) : Type 0 where
   pub start : Standing
@@ -88,7 +90,7 @@ pub record Synchronised (host : Host) (words : SyncData) (address : List ℕ)
   pub host_is : host_of start ≡ host
   pub opened : AreKept (opened_states old) (state_of start ∷ [])
   pub closed : new ≡ state_of end ∷ []
-  pub sound : may_be_sound old ≡ true
+  pub sound : WereSound old (state_of start ∷ [])
   pub syncs : SyncsOver words address start end before after reply
 
 -- ---- how it ends

@@ -5,6 +5,7 @@ ghost use Rattle.std.specs.Io.KnownBytes.{Appends};
 ghost use Rattle.misp_ids.specs.Moments.{last_stamp};
 ghost use Rattle.misp_outside.specs.Causes.{Rose, StaysUnless};
 ghost use Rattle.misp_outside.specs.Wires.{Connection};
+ghost use Rattle.misp_effects.specs.KeeperStates.{AllReport};
 ghost use Rattle.misp_script.specs.Source.{script_part};
 ghost use Rattle.misp_net.specs.Carrying.{carried};
 ghost use Rattle.misp_net.specs.Opening.{AreKeptOrOpened};
@@ -93,14 +94,16 @@ pub fn run<S: Source, W: Sink, K: Keeper, C: Carry, D: Door, L: Dial, T: Clock>(
     ensures status { IfSome (command_of words.now) (λ command.
         IfSome (S.left source.old) (λ left. EndsAs result command (status_of command left))) }
 
-    // Over keepers that hold nothing, where nothing fails, only want of memory stops it.
+    // Over keepers that hold nothing and report that to the end, where nothing fails, only want of
+    // memory stops it.
     ensures finished { IsFaultless
         (map K.state keepers.old.items) (map K.state keepers.new.items)
         (faults (S.faults source.old) (W.faults sink.old) (D.faults door.old)
         (C.faults carry.old) (L.faults dial.old))
         (faults (S.faults source.new) (W.faults sink.new) (D.faults door.new)
         (C.faults carry.new) (L.faults dial.new)) →
-        HoldNothing (map K.state keepers.old.items) → IfSome (command_of words.now) (λ command.
+        HoldNothing (map K.state keepers.old.items) →
+        AllReport (map K.state keepers.new.items) → IfSome (command_of words.now) (λ command.
         IfSome (S.left source.old) (λ left. Finishes command (status_of command left) result)) }
 
     // A fault is told only where it was met, and one of the source as nothing else.
@@ -167,7 +170,7 @@ fn run_command<S: Source, W: Sink, K: Keeper, C: Carry, D: Door, L: Dial, T: Clo
     ensures keeper { result ≡ Status.KeeperFault → IfSome (S.left source.old) (λ left. HasFailed
         (described left) (map K.state keepers.old.items) (map K.state keepers.new.items)) }
     ensures bad_row { result ≡ Status.BadRow → IfSome (S.left source.old)
-        (λ left. IsUnsound (described left) (map K.state keepers.old.items)) }
+        (λ left. IsUnsound (described left) (map K.state keepers.new.items)) }
     ensures unopened { IsUnopened result →
         (command_of words.now ≢ Some Check)
         × AreKeptOrOpened (map K.state keepers.old.items) (map K.state keepers.new.items) }
@@ -257,7 +260,7 @@ fn run_source<W: Sink, K: Keeper, C: Carry>(
     ensures keeper { result ≡ Status.KeeperFault → HasFailed (described bytes.now)
         (map K.state keepers.old.items) (map K.state keepers.new.items) }
     ensures bad_row { result ≡ Status.BadRow →
-        IsUnsound (described bytes.now) (map K.state keepers.old.items) }
+        IsUnsound (described bytes.now) (map K.state keepers.new.items) }
     ensures unopened { IsUnopened result →
         AreKeptOrOpened (map K.state keepers.old.items) (map K.state keepers.new.items) }
     ensures told { TellsFault result → IsTold (described bytes.now)

@@ -74,7 +74,7 @@ fn serve_entry<K: Keeper, D: Door, W: Sink, T: Clock>(
     ensures keeper { result ≡ Status.KeeperFault → OneFailed
         (take 1 (map K.state keepers.old.items)) (take 1 (map K.state keepers.new.items)) }
     ensures bad_row { result ≡ Status.BadRow →
-        may_be_unsound (take 1 (map K.state keepers.old.items)) ≡ true }
+        may_be_unsound (take 1 (map K.state keepers.new.items)) ≡ true }
     ensures unopened { IsUnopened result → AreKept
         (take 1 (map K.state keepers.old.items)) (take 1 (map K.state keepers.new.items)) }
     ensures others { drop 1 (map K.state keepers.new.items)
@@ -123,7 +123,7 @@ fn serve_net<K: Keeper, D: Door, W: Sink, T: Clock>(
         (take (length net.instances) (map K.state keepers.old.items))
         (take (length net.instances) (map K.state keepers.new.items)) }
     ensures bad_row { result ≡ Status.BadRow → may_be_unsound
-        (take (length net.instances) (map K.state keepers.old.items)) ≡ true }
+        (take (length net.instances) (map K.state keepers.new.items)) ≡ true }
     ensures unopened { IsUnopened result →
         AreKept (map K.state keepers.old.items) (map K.state keepers.new.items) }
     ensures others { drop (length net.instances) (map K.state keepers.new.items)
@@ -169,7 +169,7 @@ pub(crate) fn serve_source<K: Keeper, D: Door, W: Sink, T: Clock>(
     ensures keeper { result ≡ Status.KeeperFault → HasFailed (described bytes.now)
         (map K.state keepers.old.items) (map K.state keepers.new.items) }
     ensures bad_row { result ≡ Status.BadRow →
-        IsUnsound (described bytes.now) (map K.state keepers.old.items) }
+        IsUnsound (described bytes.now) (map K.state keepers.new.items) }
     ensures unopened { IsUnopened result →
         AreKept (map K.state keepers.old.items) (map K.state keepers.new.items) }
     ensures others { OthersStay (described bytes.now)

@@ -61,8 +61,8 @@ fn address_over<'a>(
     }
 }
 
-// The instance that the words name, where there is one, and the address of the peer of the link that
-// they name, or nothing where it has no such link.
+// The instance that the words name, where there is one, and the address of the peer of the link
+// that they name, or nothing where it has no such link.
 #[tactic(auto, using(crate::proofs::Synchronised::host_there))]
 fn entry_with_address(
     alloc: Global,
@@ -151,7 +151,7 @@ fn sync_entry<K: Keeper, L: Dial, W: Sink>(
     ensures keeper { result ≡ Status.KeeperFault → OneFailed
         (take 1 (map K.state keepers.old.items)) (take 1 (map K.state keepers.new.items)) }
     ensures bad_row { result ≡ Status.BadRow →
-        may_be_unsound (take 1 (map K.state keepers.old.items)) ≡ true }
+        may_be_unsound (take 1 (map K.state keepers.new.items)) ≡ true }
     ensures unopened { IsUnopened result → AreKept
         (take 1 (map K.state keepers.old.items)) (take 1 (map K.state keepers.new.items)) }
     ensures unasked { IsUnopened result → dial.new ≡ dial.old }
@@ -200,7 +200,7 @@ fn sync_net<K: Keeper, L: Dial, W: Sink>(
         (take (length net.instances) (map K.state keepers.old.items))
         (take (length net.instances) (map K.state keepers.new.items)) }
     ensures bad_row { result ≡ Status.BadRow → may_be_unsound
-        (take (length net.instances) (map K.state keepers.old.items)) ≡ true }
+        (take (length net.instances) (map K.state keepers.new.items)) ≡ true }
     ensures unopened { IsUnopened result →
         AreKept (map K.state keepers.old.items) (map K.state keepers.new.items) }
     ensures unasked { IsUnasked result → dial.new ≡ dial.old }
@@ -253,7 +253,7 @@ pub(crate) fn sync_source<K: Keeper, L: Dial, W: Sink>(
     ensures keeper { result ≡ Status.KeeperFault → HasFailed (described bytes.now)
         (map K.state keepers.old.items) (map K.state keepers.new.items) }
     ensures bad_row { result ≡ Status.BadRow →
-        IsUnsound (described bytes.now) (map K.state keepers.old.items) }
+        IsUnsound (described bytes.now) (map K.state keepers.new.items) }
     ensures unopened { IsUnopened result →
         AreKept (map K.state keepers.old.items) (map K.state keepers.new.items) }
     ensures unasked { IsUnasked result → dial.new ≡ dial.old }

@@ -6,7 +6,9 @@ pub mod Manifests
 pub mod Moments
 pub mod ReadBack
 pub mod RefusalTexts
+pub mod RefusedCalls
 pub mod RequestBytes
+pub mod ShortBodies
 pub mod Stops
 pub mod Suiting
 pub mod TakenTexts

@@ -149,7 +149,7 @@ suits_under call Went e h = h
 suits_under call (Stopped stop n lost) e h = tt
 
 -- where a keeper tells what it holds
-pub suits_did : (peer : Host) (now : ℕ) (key : List ℕ) (call : Call) → IsCall call → (held : Held) (reply : Reply) (new : Option Held) → Did (called peer now key call (seen_in held)) held reply new → Suits call reply
+pub suits_did : (peer : Host) (now : ℕ) (key : List ℕ) (call : Call) → IsCall call → (held : Held) (reply : Reply) (new : Held) → Did (called peer now key call (seen_in held)) held reply new → Suits call reply
 suits_did peer now key call is held reply new did =
     let e = called peer now key call (seen_in held) in
     subst (Suits call) (sym did.reply_is) (suits_under call did.outcome e (suits_called peer now key call is (seen_in held)))

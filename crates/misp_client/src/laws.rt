@@ -39,7 +39,7 @@ pub fn a_reply_is_read_back()
 /// refusal.
 pub fn a_reply_suits_its_call()
     ensures { (peer : Host) (now : ℕ) (key : List ℕ) (call : Call) (held : Held) (reply : Reply)
-        (new : Option Held) → IsCall call
+        (new : Held) → IsCall call
         → Did (called peer now key call (seen_in held)) held reply new → Suits call reply }
 {}
 

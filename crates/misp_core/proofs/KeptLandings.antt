@@ -1,5 +1,5 @@
 -- The landing that is kept is that of what is held.
-use Rattle.std.proofs.Common.{◌≡◌, ℕ, inl, inr, List, true, ◌&&◌, not, leb, ◌==◌, refl, ap, sym, subst, ◌∙◌, option_map, Option, Some, None, Result, Ok, Err, IfOk, IfSome, IsSomeAnd}
+use Rattle.std.proofs.Common.{◌≡◌, ℕ, inl, inr, List, true, ◌&&◌, not, leb, ◌==◌, refl, ap, sym, subst, ◌∙◌, Option, Some, None, Result, Ok, Err, IfOk, IfSome, IsSomeAnd}
 use Rattle.misp_effects.specs.Prelude.{with_batch}
 use Rattle.misp_outside.specs.Held.{rows_of}
 use Rattle.misp_orgs.specs.Keys.{CallerFields as Caller}
@@ -20,6 +20,7 @@ use Rattle.misp_core.specs.Prelude.{Admin, Ask, EventId, Group, Held, Host, Inst
 use Rattle.misp_core.specs.declared.planning.Batch.{Batch as Put}
 use Rattle.misp_core.specs.declared.planning.NoPlan.{NoPlan}
 use Rattle.misp_core.proofs.Answered.{planned_over}
+use Rattle.misp_core.proofs.Carried.{IsPutThere}
 use Rattle.misp_core.proofs.PutRead.{Alike, rows_read_alike}
 
 -- ---- landings
@@ -96,19 +97,21 @@ whole_put here h b old new whole on =
       is = landing_own new here old.owner old.event read.0 there;
     }
 
-put_beside : (here : Inst) (held after : Option Held) (b : Put) (old new : Landing) → after ≡ option_map (with_batch (spelled (batch_of b))) held → LandsBeside here held old → GoesOn b.rows old new → LandsBeside here after new
-put_beside here None after b old new is lands on = subst (λ (h : Option Held). LandsBeside here h new) (sym is) tt
-put_beside here (Some h) after b old new is lands on = subst (λ (h : Option Held). LandsBeside here h new) (sym is) (whole_put here h b old new lands on)
+put_beside : (here : Inst) (held after : Option Held) (b : Put) (old new : Landing) → IsPutThere b held after → LandsBeside here held old → GoesOn b.rows old new → LandsBeside here after new
+put_beside here None None b old new is lands on = tt
+put_beside here None (Some now) b old new is lands on = absurd is
+put_beside here (Some h) None b old new is lands on = tt
+put_beside here (Some h) (Some now) b old new is lands on = subst (λ (h : Held). IsWholeLanding here h new) (sym is) (whole_put here h b old new lands on)
 
 -- what it goes on with is the landing of what is held then
-lands_on : (here : Inst) (held after : Option Held) (b : Put) (rows : List Row) (old new : Option Landing) → rows ≡ b.rows → after ≡ option_map (with_batch (spelled (batch_of b))) held
+lands_on : (here : Inst) (held after : Option Held) (b : Put) (rows : List Row) (old new : Option Landing) → rows ≡ b.rows → IsPutThere b held after
     → IfSome old (LandsBeside here held) → IfSome new (λ n. IsSomeAnd old (λ o. GoesOn rows o n)) → IfSome new (LandsBeside here after)
 lands_on here held after b rows old None same is lands on = tt
 lands_on here held after b rows None (Some n) same is lands on = absurd on
 lands_on here held after b rows (Some o) (Some n) same is lands on = put_beside here held after b o n is lands (subst (λ (rs : List Row). GoesOn rs o n) same on)
 
 -- where it is taken from what was kept
-pub lands_taken : (here : Inst) (held after : Option Held) (b : Put) (rows : List Row) (was old new : Option Landing) → old ≡ was → rows ≡ b.rows → after ≡ option_map (with_batch (spelled (batch_of b))) held
+pub lands_taken : (here : Inst) (held after : Option Held) (b : Put) (rows : List Row) (was old new : Option Landing) → old ≡ was → rows ≡ b.rows → IsPutThere b held after
     → IfSome was (LandsBeside here held) → IfSome new (λ n. IsSomeAnd old (λ o. GoesOn rows o n)) → IfSome new (LandsBeside here after)
 lands_taken here held after b rows was old new taken same is lands on =
     lands_on here held after b rows old new same is (subst (λ (o : Option Landing). IfSome o (LandsBeside here held)) (sym taken) lands) on

@@ -17,6 +17,7 @@ use Rattle.misp_core.specs.Answers.{bad_row, bare_scene}
 use Rattle.misp_core.specs.Reading.{rows_read}
 use Rattle.misp_core.proofs.Answered.{by_role}
 use Rattle.misp_core.proofs.Decisions.{part_shown, rows_of_shown}
+use Rattle.misp_core.proofs.Reported.{ahead_unseen}
 
 -- in slots the package of a number is the one of that number in the list
 pub in_slots : (ps : List Package) (n : ℕ) → get_or (map Some ps) n None ≡ slice_get ps n
@@ -96,16 +97,11 @@ module _ (host : Host) where
         (λ i. requested host now (packed.caller i, Ask.SyncPart (packed.event i) n) (seen_in h)) ∙ part_answered w.event n p may found (packed.parts n p k) now
     packed_answers ask (Some a) may found packed = absurd packed
 
-  -- what a keeper does not report says nothing
-  unreported : (new : Option Ahead) → IfSome new (AnswersAhead host None)
-  unreported None = tt
-  unreported (Some a) = λ n p k. tt
-
   -- what is kept once an ask is planned are answers
   pub still_answers : (held : Option Held) (groups : List Group) (rows : List Row) (moment : ℕ) (by : Caller) (ask : Ask) (old new : Option Ahead) → is_permitted by ask ≡ true → HoldsGroups held groups
       → IfSome held (λ h. rows_read (bare_scene host moment by groups) ask (seen_in h).rows ≡ Ok rows) → IfSome held (λ h. IsTable rows) → IfSome old (AnswersAhead host held)
       → (IsTable rows → StaysOrIsPacked (seeing (scene_at host moment by groups) rows) by ask old new) → IfSome new (AnswersAhead host held)
-  still_answers None groups rows moment by ask old new may holds found table answers stays = unreported new
+  still_answers None groups rows moment by ask old new may holds found table answers stays = ahead_unseen host new
   still_answers (Some h) groups rows moment by ask old new may holds found table answers stays = one (stays table)
     where
       one : StaysOrIsPacked (seeing (scene_at host moment by groups) rows) by ask old new → IfSome new (AnswersAhead host (Some h))

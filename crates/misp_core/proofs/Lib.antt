@@ -1,6 +1,8 @@
 pub mod Alike
+pub mod AlikeTaken
 pub mod Answered
 pub mod Arriving
+pub mod Cached
 pub mod Carried
 pub mod Decisions
 pub mod HandedAsks
@@ -13,11 +15,15 @@ pub mod KeptParts
 pub mod Listed
 pub mod LooksThen
 pub mod Numbered
+pub mod OpenedWhole
+pub mod OtherEvents
 pub mod OwnRows
 pub mod Owners
 pub mod Pulled
 pub mod PulledEvents
 pub mod PutRead
+pub mod Reported
+pub mod RowsAlike
 pub mod Sending
 pub mod SharedGroups
 pub mod TakenGroups

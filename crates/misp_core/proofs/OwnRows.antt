@@ -3,6 +3,7 @@ use Rattle.std.proofs.Common.{◌≡◌, ◌++◌, ℕ, nat_eq, refl, sym, ap, s
 use Rattle.std.specs.List.{list_all, starts_with}
 use Rattle.misp_ids.proofs.Same.{same_org-sound}
 use Rattle.misp_outside.specs.Held.{is_named, raw_name, rows_named, with_batch}
+use Rattle.misp_outside.specs.Reporting.{WhereReported}
 use Rattle.misp_outside.specs.declared.row.RawRow.{RawRow}
 use Rattle.misp_elem.specs.Prelude.{key}
 use Rattle.misp_elem.specs.declared.key.KeyForm.{KeyForm as Key}
@@ -25,6 +26,7 @@ use Rattle.misp_core.specs.declared.synced.Own.{Own}
 use Rattle.misp_core.specs.declared.synced.OwnRows.{OwnRows}
 use Rattle.misp_core.proofs.KeptLandings.{landing_alike}
 use Rattle.misp_core.proofs.PutRead.{rows_read_alike}
+use Rattle.misp_core.proofs.Reported.{own_unseen}
 
 -- ---- what is kept
 
@@ -85,11 +87,18 @@ stays_synced rs old new owned on i held w e is =
     (subst (λ (e : EventId). list_all (λ row. same_event (event_of row.key) e) rs ≡ true) is.landed.is.event on.of_event) held is)
 
 -- the same of what is held then
-pub synced_then : (after : Option OwnRows) (rs taken : List Row) (l : Landing) (held new : Option Held) → rs ≡ taken → new ≡ option_map (with_rows taken) held → IfSome after (StaysSynced rs l)
-    → (i : Inst) (w : OrgId) (e : EventId) → IsOwnLanding i held w e l → IfSome after (IsSynced i new)
+synced_one : (s : OwnRows) (rs : List Row) (l : Landing) (held new : Option Held) → WhereReported held new (λ held now. now ≡ with_rows rs held) → StaysSynced rs l s
+    → (i : Inst) (w : OrgId) (e : EventId) → IsOwnLanding i held w e l → IsSynced i new s
+synced_one s rs l None None put stays i w e is = stays i None w e is
+synced_one s rs l None (Some now) put stays i w e is = absurd put
+synced_one s rs l (Some h) None put stays i w e is = stays i None w e (own_unseen i h w e l is)
+synced_one s rs l (Some h) (Some now) put stays i w e is = subst (λ (h : Held). IsSynced i (Some h) s) (sym put) (stays i (Some h) w e is)
+
+pub synced_then : (after : Option OwnRows) (rs taken : List Row) (l : Landing) (held new : Option Held) → rs ≡ taken → WhereReported held new (λ held now. now ≡ with_rows taken held)
+    → IfSome after (StaysSynced rs l) → (i : Inst) (w : OrgId) (e : EventId) → IsOwnLanding i held w e l → IfSome after (IsSynced i new)
 synced_then None rs taken l held new same put stays i w e is = tt
 synced_then (Some s) rs taken l held new same put stays i w e is =
-    subst (λ (h : Option Held). IsSynced i h s) (ap (λ (rows : List Row). option_map (with_rows rows) held) same ∙ sym put) (stays i held w e is)
+    synced_one s taken l held new put (subst (λ (rows : List Row). StaysSynced rows l s) same stays) i w e is
 
 -- ---- what is wanted
 
@@ -103,22 +112,28 @@ module _ (i : Inst) (w : OrgId) (e : EventId) (keys : List KeyStamp) (wanted : L
 
 -- ---- what is taken
 
-module _ (i : Inst) (w : OrgId) (p : Package) (l : Landing) (groups : List Group) (mid new : Option Held)
-    (put : (i : Inst) (w : OrgId) (rows : List Row) → IsLanding l i w p.event rows → new ≡ option_map (with_rows (package_taken i rows groups w p)) mid) where
-  pub takes : (count : ℕ) (held : Option Held) (e : EventId) → mid ≡ held → e ≡ p.event → HoldsGroups held groups → IsOwnLanding i held w e l
-      → ((i : Inst) (w : OrgId) (rows : List Row) → IsLanding l i w p.event rows → count ≡ length (package_taken i rows groups w p)) → IfSome held (TakesOf i w p count new)
-  takes count None e same of holds is counts = tt
-  takes count (Some h) e same of holds is counts =
-      let there : IsLanding l i w p.event is.rows = subst (λ (e : EventId). IsLanding l i w e is.rows) of is.landed.is in
+-- by the landing of own rows so many rows are taken, and these are put
+module _ (i : Inst) (w : OrgId) (p : Package) (l : Landing) (groups : List Group) (old new : Option Held)
+    (put : (i : Inst) (w : OrgId) (rows : List Row) → IsLanding l i w p.event rows → WhereReported old new (λ held now. now ≡ with_rows (package_taken i rows groups w p) held))
+    (count : ℕ) (counts : (i : Inst) (w : OrgId) (rows : List Row) → IsLanding l i w p.event rows → count ≡ length (package_taken i rows groups w p)) where
+  takes_one : (h now : Held) → HoldsGroups (Some h) groups → (is : IsOwnLanding i (Some h) w p.event l) → now ≡ with_rows (package_taken i is.rows groups w p) h → TakesOf i w p count h now
+  takes_one h now holds is are =
       let known : groups ≡ groups_of h = sym (ap or_none holds) in
       record {
         rows = is.rows;
-        read = subst (λ (e : EventId). (seen_in h).rows (Reach.Own w e) ≡ Ok is.rows) of is.own;
-        count_is = counts i w is.rows there ∙ ap (λ (gs : List Group). length (package_taken i is.rows gs w p)) known;
-        put = put i w is.rows there ∙ ap (option_map _) same ∙ ap (λ (gs : List Group). Some (with_rows (package_taken i is.rows gs w p) h)) known;
+        read = is.own;
+        count_is = counts i w is.rows is.landed.is ∙ ap (λ (gs : List Group). length (package_taken i is.rows gs w p)) known;
+        put = are ∙ ap (λ (gs : List Group). with_rows (package_taken i is.rows gs w p) h) known;
       }
 
-  -- where nothing is reported
-  pub takes_unseen : (held : Option Held) (e : EventId) → mid ≡ held → e ≡ p.event → IsOwnLanding i held w e l → held ≡ None → new ≡ None
-  takes_unseen held e same of is none =
-      put i w is.rows (subst (λ (e : EventId). IsLanding l i w e is.rows) of is.landed.is) ∙ ap (option_map _) (same ∙ none)
+  pub takes : (e : EventId) → e ≡ p.event → HoldsGroups old groups → IsOwnLanding i old w e l → WhereReported old new (TakesOf i w p count)
+  takes e of holds is = there (subst (λ (e : EventId). IsOwnLanding i old w e l) of is)
+    where
+      one : (held after : Option Held) → HoldsGroups held groups → (is : IsOwnLanding i held w p.event l) → WhereReported held after (λ held now. now ≡ with_rows (package_taken i is.rows groups w p) held) → WhereReported held after (TakesOf i w p count)
+      one None None holds is are = tt
+      one None (Some now) holds is are = absurd are
+      one (Some h) None holds is are = tt
+      one (Some h) (Some now) holds is are = takes_one h now holds is are
+
+      there : IsOwnLanding i old w p.event l → WhereReported old new (TakesOf i w p count)
+      there is = one old new holds is (put i w is.rows is.landed.is)

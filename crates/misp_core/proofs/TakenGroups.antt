@@ -10,6 +10,8 @@ use Rattle.misp_groups.proofs.Putting.{known_put}
 use Rattle.misp_groups.proofs.Sorted.{sorted_put}
 use Rattle.misp_effects.specs.Prelude.{put_admins, put_group, put_groups, with_batch}
 use Rattle.misp_outside.specs.Held.{put_rows}
+use Rattle.misp_outside.specs.Reporting.{WhereReported}
+use Rattle.misp_outside.proofs.Reporting.{reported_same}
 use Rattle.misp_core.specs.Prelude.{Group, Held}
 use Rattle.misp_core.specs.Taking.{IsOver, groups_taken, latest_of, with_groups}
 
@@ -142,10 +144,12 @@ groups_after groups (g ∷ gs) = put_newly (takes_group groups g) groups g (grou
 -- ---- what is held
 
 -- where no groups are put what is held stays
-pub no_groups_held : (held : Option Held) (groups : List Group) → groups ≡ [] → held ≡ option_map (with_groups groups) held
+no_groups_one : (held : Held) (groups : List Group) → groups ≡ [] → held ≡ with_groups groups held
 unfolding with_batch put_rows put_admins
-no_groups_held None groups is = refl
-no_groups_held (Some held) groups is = subst (λ gs. Some held ≡ option_map (with_groups gs) (Some held)) (sym is) refl
+no_groups_one held groups is = subst (λ gs. held ≡ with_groups gs held) (sym is) refl
+
+pub no_groups_held : (held : Option Held) (groups : List Group) → groups ≡ [] → WhereReported held held (λ held now. now ≡ with_groups groups held)
+no_groups_held held groups is = reported_same held held (λ held now. now ≡ with_groups groups held) refl (λ held. no_groups_one held groups is)
 
 -- no groups are none
 pub no_more : (xs : List Group) → length xs < 1 → xs ≡ []

@@ -93,5 +93,5 @@ requested host now it seen =
     if is_permitted it.0 it.1 then asked_where host now it seen else refused (forbidden it.1)
 
 -- a call that was to have this effect did what it comes to under some outcome
-abbrev pub Did : Effect Reply → Held → Reply → Option Held → Type 0
+abbrev pub Did : Effect Reply → Held → Reply → Held → Type 0
 Did e held reply new = Does Reply spelled stop_in telling e held reply new

@@ -1,5 +1,5 @@
 -- What an owner wants of a package of an event, and takes of one, over its own rows of the event.
-use Rattle.std.specs.Prelude.{◌≡◌, ℕ, List, length, Option, Some, Ok}
+use Rattle.std.specs.Prelude.{◌≡◌, ℕ, List, length, Ok}
 use Rattle.misp_elem.specs.declared.key.KeyForm.{KeyForm as Key}
 use Rattle.misp_manifest.specs.declared.manifest.KeyStamp.{KeyStamp}
 use Rattle.misp_model.specs.declared.package.PackageFields.{PackageFields as Package}
@@ -23,8 +23,8 @@ pub record IsSomeWanted (here : Inst) (owner : OrgId) (event : EventId) (keys : 
 
 -- They all decode, so many rows of the package are taken over them, and these are put.
 pub record TakesOf (here : Inst) (owner : OrgId) (coming : Package) (count : ℕ)
-    (new : Option Held) (held : Held) : Type 0 where
+    (held new : Held) : Type 0 where
   pub rows : List Row
   pub read : (seen_in held).rows (Reach.Own owner coming.event) ≡ Ok rows
   pub count_is : count ≡ length (package_taken here rows (groups_of held) owner coming)
-  pub put : new ≡ Some (with_package here rows owner coming held)
+  pub put : new ≡ with_package here rows owner coming held

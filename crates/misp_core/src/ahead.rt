@@ -135,9 +135,9 @@ fn take_rows(
     }
 }
 
-/// The package that is kept for what the caller asks, or those of its rows that are asked for, where
-/// there is one. Where something is asked for of another event or by another caller, no package
-/// stays.
+/// The package that is kept for what the caller asks, or those of its rows that are asked for,
+/// where there is one. Where something is asked for of another event or by another caller, no
+/// package stays.
 pub(crate) fn take_kept(
     alloc: Global,
     ahead: &mut Option<Ahead>,

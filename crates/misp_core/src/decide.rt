@@ -131,8 +131,8 @@ fn list(alloc: Global, site: &Site<'_>) -> Result<Plan, NoPlan>
     Ok(told(Answer::Groups(Items::of(groups))))
 }
 
-// What is planned for a request that neither changes an event, nor pulls, nor hands in, over the rows
-// that are read for it.
+// What is planned for a request that neither changes an event, nor pulls, nor hands in, over the
+// rows that are read for it.
 #[tactic(auto, unfolding(misp_model::specs::Machine::pulls))]
 fn plan_own(alloc: Global, site: &Site<'_>, ask: &Ask, rows: Vec<Row>) -> Result<Plan, NoPlan>
     requires built { IsBuilt ask.now }

@@ -80,8 +80,8 @@ fn plan_landed(
     Ok(taken(alloc, rows))
 }
 
-/// What is planned where a caller hands in a package, over all rows of its event that are read. What
-/// the caller has of the event is kept.
+/// What is planned where a caller hands in a package, over all rows of its event that are read.
+/// What the caller has of the event is kept.
 pub(crate) fn plan_package(
     alloc: Global,
     site: &Site<'_>,

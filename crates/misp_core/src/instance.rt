@@ -1,15 +1,16 @@
 //! An instance over a keeper.
 
-ghost use Rattle.std.specs.Prelude.{◌≡◌, ◌≤◌, ℕ, false, true, Err, None, Some, filter, length, List, IfOk, IfErr, IfSome, OnOk, OnErr, IsOk, Ok, option_map};
+ghost use Rattle.std.specs.Prelude.{◌≡◌, ◌≤◌, ℕ, false, true, Err, Some, filter, length, List, IfOk, IfErr, IfSome, OnOk, OnErr, IsOk, Ok, option_map};
 ghost use Rattle.std.specs.List.{AllByRecursion};
 ghost use Rattle.misp_outside.specs.Causes.{HasCause, StaysUnless};
+ghost use Rattle.misp_outside.specs.Reporting.{StaysHeld, WhereReported};
 ghost use Rattle.misp_outside.specs.Held.{with_batch};
 ghost use Rattle.misp_store.specs.Sharing.{groups_of, has_groups_alone, AreStorable};
 ghost use Rattle.misp_store.specs.Renewing.{opened, renewed};
 ghost use Rattle.misp_store.specs.Batches.{spelled};
 ghost use Rattle.misp_store.specs.Seen.{seen_in};
 ghost use Rattle.misp_core.specs.Answers.{IsBuilt};
-ghost use Rattle.misp_core.specs.Standing.{standing, host_of};
+ghost use Rattle.misp_core.specs.Standing.{host_of};
 ghost use Rattle.misp_store.specs.Loading.{NamesFault};
 ghost use Rattle.misp_model.specs.Package.{IsPackage};
 ghost use Rattle.misp_model.specs.Permission.{is_permitted, forbidden, no_permission};
@@ -96,27 +97,28 @@ impl<K: Keeper> Model for Instance<K> {
 
 impl<K: Keeper> Instance<K> {
     /// An instance of this name and administration over a keeper, of which it reads the groups and
-    /// every row, and puts the rows of the first form anew in the second. A keeper over which none is
-    /// opened comes back as it was.
+    /// every row, and puts the rows of the first form anew in the second. A keeper over which none
+    /// is opened comes back as it was.
     pub fn open(
         alloc: Global,
         name: InstId,
         admin: Admin,
         keeper: K,
     ) -> Result<Instance<K>, (LoadFault, K)>
-        ensures ok { IfOk result (λ instance.
-            instance ≡ standing name admin (option_map renewed (K.state keeper).held)
-            instance.faults) }
+        ensures name { IfOk result (λ instance. instance.name ≡ name) }
+        ensures admin { IfOk result (λ instance. instance.admin ≡ admin) }
+        ensures renewed { IfOk result (λ instance. WhereReported (K.state keeper).held
+            instance.held (λ held new. new ≡ renewed held)) }
 
         // All that is held decodes.
-        ensures read { OnOk result
-            (IfSome (K.state keeper).held (λ held. IsOk (opened held))) }
+        ensures read { IfOk result (λ instance. WhereReported (K.state keeper).held
+            instance.held (λ held _. IsOk (opened held))) }
         ensures count { IfOk result (λ instance. (K.state keeper).faults ≤ instance.faults) }
-        ensures back { IfErr result (λ e. (K.state e.1).held ≡ (K.state keeper).held) }
+        ensures back { IfErr result (λ e. StaysHeld (K.state keeper).held (K.state e.1).held) }
 
         // It names the first row that does not decode.
         ensures bad { IfErr result (λ e.
-            IfSome (K.state keeper).held (λ held. NamesFault (opened held) e.0)) }
+            IfSome (K.state e.1).held (λ held. NamesFault (opened held) e.0)) }
         ensures cause { IfErr result (λ e.
             HasCause (K.state keeper).faults (K.state e.1).faults (e.0 ≡ faults.KeeperFault)) }
         ensures stays { IfErr result (λ e. StaysUnless (K.state keeper).faults
@@ -186,7 +188,7 @@ impl<K: Keeper> Instance<K> {
         requires { IsBuilt ask }
 
         // The plan is the stated function of what is held, and of what stopped the reading of it.
-        ensures planned { IfSome self.old.held (λ held. IsPlanned result
+        ensures planned { IfSome self.new.held (λ held. IsPlanned result
             (requested (host_of self.old) now (caller.now, ask) (seen_in held))) }
 
         // What the role of the caller forbids is refused just so, and the keeper is as it was.
@@ -196,8 +198,8 @@ impl<K: Keeper> Instance<K> {
         // What a synchronisation is answered can be read back from its text.
         ensures sound { syncs ask ≡ true → IfOk result (λ plan. IsSoundAnswer plan.answer) }
 
-        // What is held stays.
-        ensures held { self.new.held ≡ self.old.held }
+        // What is held stays, where it is still reported.
+        ensures held { StaysHeld self.old.held self.new.held }
         ensures cause { HasCause self.old.faults self.new.faults
             (stop_planned result ≡ by_keeper) }
         ensures stays { StaysUnless self.old.faults self.new.faults
@@ -267,10 +269,10 @@ impl<K: Keeper> Instance<K> {
 
     /// Takes all memory for a batch, and puts it; or puts nothing.
     pub fn settle(&mut self, alloc: Global, put: Batch) -> Result<(), KeeperFault>
-        ensures put { OnOk result
-            (self.new.held ≡ option_map (with_batch (spelled (batch_of put))) self.old.held) }
+        ensures put { OnOk result (WhereReported self.old.held self.new.held
+            (λ held new. new ≡ with_batch (spelled (batch_of put)) held)) }
         ensures storable { OnOk result (AreStorable put.groups) }
-        ensures err { OnErr result (self.new.held ≡ self.old.held) }
+        ensures err { OnErr result (StaysHeld self.old.held self.new.held) }
         ensures cause { HasCause self.old.faults self.new.faults
             (result ≡ Err KeeperFault.Failed) }
         ensures stays { StaysUnless self.old.faults self.new.faults
@@ -289,8 +291,8 @@ impl<K: Keeper> Instance<K> {
         )
     }
 
-    /// The keys of a package of an event of which an organisation wants the rows, in their order. Its
-    /// own rows of the event are kept for the packages that follow.
+    /// The keys of a package of an event of which an organisation wants the rows, in their order.
+    /// Its own rows of the event are kept for the packages that follow.
     pub fn wanted(
         &mut self,
         alloc: Global,
@@ -299,7 +301,7 @@ impl<K: Keeper> Instance<K> {
         keys: &[KeyStamp],
     ) -> Result<Vec<Key>, LoadFault>
         // They are wanted over its own rows of the event, which all decode.
-        ensures found { IfOk result (λ wanted. IfSome self.old.held
+        ensures found { IfOk result (λ wanted. IfSome self.new.held
             (WantsOf self.old.name owner.now event.now keys.now wanted.items)) }
 
         // Whatever the keeper reports, they are wanted over some rows.
@@ -307,9 +309,9 @@ impl<K: Keeper> Instance<K> {
             IsSomeWanted self.old.name owner.now event.now keys.now wanted.items) }
 
         // Of these rows, it names the first that does not decode.
-        ensures bad { IfErr result (λ fault. IfSome self.old.held (λ held.
+        ensures bad { IfErr result (λ fault. IfSome self.new.held (λ held.
             NamesFault ((seen_in held).rows (reach.Own owner.now event.now)) fault)) }
-        ensures held { self.new.held ≡ self.old.held }
+        ensures held { StaysHeld self.old.held self.new.held }
         ensures cause { HasCause self.old.faults self.new.faults
             (result ≡ Err faults.KeeperFault) }
         ensures stays { StaysUnless self.old.faults self.new.faults
@@ -329,8 +331,8 @@ impl<K: Keeper> Instance<K> {
     }
 
     /// Takes what is new of a package to an organisation, in one batch, or in none where nothing
-    /// is. All memory is taken before it is put. What it has of the event is kept for the packages that
-    /// follow.
+    /// is. All memory is taken before it is put. What it has of the event is kept for the packages
+    /// that follow.
     pub fn take_part(
         &mut self,
         alloc: Global,
@@ -338,17 +340,15 @@ impl<K: Keeper> Instance<K> {
         coming: &Package,
     ) -> Result<u64, LoadFault>
         // So many rows are taken over its own rows of the event, which all decode.
-        ensures taken { IfOk result (λ count. IfSome self.old.held
-            (TakesOf self.old.name owner.now coming.now count self.new.held)) }
+        ensures taken { IfOk result (λ count. WhereReported self.old.held self.new.held
+            (TakesOf self.old.name owner.now coming.now count)) }
 
         // Of these rows, it names the first that does not decode.
-        ensures bad { IfErr result (λ fault. IfSome self.old.held (λ held.
+        ensures bad { IfErr result (λ fault. IfSome self.new.held (λ held.
             NamesFault ((seen_in held).rows (reach.Own owner.now coming.now.event)) fault)) }
 
-        // A keeper that reports nothing reports nothing then.
-        ensures silent { self.old.held ≡ None → self.new.held ≡ None }
-        ensures none { result ≡ Ok 0 → self.new.held ≡ self.old.held }
-        ensures err { OnErr result (self.new.held ≡ self.old.held) }
+        ensures none { result ≡ Ok 0 → StaysHeld self.old.held self.new.held }
+        ensures err { OnErr result (StaysHeld self.old.held self.new.held) }
         ensures cause { HasCause self.old.faults self.new.faults
             (result ≡ Err faults.KeeperFault) }
         ensures stays { StaysUnless self.old.faults self.new.faults
@@ -374,18 +374,18 @@ impl<K: Keeper> Instance<K> {
     pub fn take_groups(&mut self, alloc: Global, coming: Vec<Group>) -> Result<u64, KeeperFault>
         ensures count { IfOk result (λ n. IfSome self.old.held (λ held.
             n ≡ length (groups_taken (groups_of held) coming.items))) }
-        ensures put { OnOk result
-            (self.new.held ≡ option_map (with_groups_taken coming.items) self.old.held) }
+        ensures put { OnOk result (WhereReported self.old.held self.new.held
+            (λ held new. new ≡ with_groups_taken coming.items held)) }
 
         // The groups that are held then are those of before with these.
-        ensures groups { OnOk result (IfSome self.old.held (λ held. IfSome self.new.held (λ new.
-            groups_of new ≡ take_groups (groups_of held) coming.items))) }
+        ensures groups { OnOk result (WhereReported self.old.held self.new.held (λ held new.
+            groups_of new ≡ take_groups (groups_of held) coming.items)) }
         ensures fits { OnOk result (IfSome self.old.held (λ held.
             AllByRecursion IsGroup (groups_taken (groups_of held) coming.items))) }
 
         // Where nothing is taken no keeper is asked.
         ensures none { result ≡ Ok 0 → self.new ≡ self.old }
-        ensures err { OnErr result (self.new.held ≡ self.old.held) }
+        ensures err { OnErr result (StaysHeld self.old.held self.new.held) }
         ensures cause { HasCause self.old.faults self.new.faults
             (result ≡ Err KeeperFault.Failed) }
         ensures stays { StaysUnless self.old.faults self.new.faults
@@ -423,17 +423,17 @@ impl<K: Keeper> Instance<K> {
         dest: &InstId,
     ) -> Result<Vec<Package>, LoadFault>
         // They are those of all rows that are held, and all of these decode.
-        ensures packed { IfOk result (λ all. IfSome self.old.held (λ held.
+        ensures packed { IfOk result (λ all. IfSome self.new.held (λ held.
             (rows : List RowFields) → (seen_in held).rows reach.All ≡ Ok rows → all.items
             ≡ packages_pushed way self.old.name (groups_of held) org.now dest.now rows)) }
         ensures read { OnOk result
-            (IfSome self.old.held (λ held. IsOk ((seen_in held).rows reach.All))) }
+            (IfSome self.new.held (λ held. IsOk ((seen_in held).rows reach.All))) }
         ensures each { IfOk result (λ all. AllByRecursion IsPackage all.items) }
 
         // Of the rows that are read, it names the first that does not decode.
-        ensures bad { IfErr result (λ fault. IfSome self.old.held (λ held.
+        ensures bad { IfErr result (λ fault. IfSome self.new.held (λ held.
             NamesFault ((seen_in held).rows reach.All) fault)) }
-        ensures held { self.new.held ≡ self.old.held }
+        ensures held { StaysHeld self.old.held self.new.held }
         ensures cause { HasCause self.old.faults self.new.faults
             (result ≡ Err faults.KeeperFault) }
         ensures stays { StaysUnless self.old.faults self.new.faults

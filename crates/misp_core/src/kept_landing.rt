@@ -1,12 +1,13 @@
 //! What an owner has of an event, as it is kept for the packages that follow.
 
-ghost use Rattle.std.specs.Prelude.{◌≡◌, true, Err, IfOk, IfSome, IsSomeAnd, OnErr, OnOk, option_map};
+ghost use Rattle.std.specs.Prelude.{◌≡◌, true, Err, IfOk, IfSome, IsSomeAnd, OnErr, OnOk};
 ghost use Rattle.std.specs.List.{list_all};
 ghost use Rattle.misp_elem.specs.Parents.{event_of};
 ghost use Rattle.misp_elem.specs.Row.{AreRows};
 ghost use Rattle.misp_ids.specs.Same.{same_event};
 ghost use Rattle.misp_ids.specs.Same.{Inst};
 ghost use Rattle.misp_outside.specs.Causes.{HasCause, StaysUnless};
+ghost use Rattle.misp_outside.specs.Reporting.{StaysHeld, WhereReported};
 ghost use Rattle.misp_outside.specs.Held.{with_batch};
 ghost use Rattle.misp_store.specs.Batches.{spelled};
 ghost use Rattle.misp_store.specs.Sharing.{AreStorable, HoldsGroups};
@@ -88,10 +89,10 @@ pub(crate) fn settle_beside<K: Keeper>(
     alloc: Global,
     put: Batch,
 ) -> Result<(), KeeperFault>
-    ensures put { OnOk result ((K.state keeper.new).held
-        ≡ option_map (with_batch (spelled (batch_of put))) (K.state keeper.old).held) }
+    ensures put { OnOk result (WhereReported (K.state keeper.old).held (K.state keeper.new).held
+        (λ held new. new ≡ with_batch (spelled (batch_of put)) held)) }
     ensures storable { OnOk result (AreStorable put.groups) }
-    ensures err { OnErr result ((K.state keeper.new).held ≡ (K.state keeper.old).held) }
+    ensures err { OnErr result (StaysHeld (K.state keeper.old).held (K.state keeper.new).held) }
     ensures groups { HoldsGroups (K.state keeper.old).held groups.old →
         HoldsGroups (K.state keeper.new).held groups.new }
     ensures landed { (here : Inst) →

@@ -1,7 +1,8 @@
 //! What a keeper holds, read when an instance is opened over it.
 
-ghost use Rattle.std.specs.Prelude.{◌≡◌, Err, IfOk, IfErr, IfSome, IsOk, OnOk, OnErr, option_map};
+ghost use Rattle.std.specs.Prelude.{◌≡◌, Err, IfOk, IfErr, IfSome, IsOk, OnOk, OnErr};
 ghost use Rattle.misp_outside.specs.Causes.{HasCause, StaysUnless};
+ghost use Rattle.misp_outside.specs.Reporting.{StaysHeld, WhereReported};
 ghost use Rattle.misp_store.specs.Loading.{NamesFault};
 ghost use Rattle.misp_store.specs.Renewing.{opened, renewed};
 ghost use Rattle.misp_store.specs.Sharing.{HoldsGroups};
@@ -15,13 +16,13 @@ use std::alloc::Global;
 #[tactic(auto, unfolding(misp_store::specs::Renewing::opened))]
 pub(crate) fn load_whole<K: Keeper>(keeper: &mut K, alloc: Global) -> Result<Groups, LoadFault>
     ensures ok { IfOk result (HoldsGroups (K.state keeper.new).held) }
-    ensures renewed { OnOk result
-        ((K.state keeper.new).held ≡ option_map renewed (K.state keeper.old).held) }
-    ensures read { OnOk result
-        (IfSome (K.state keeper.old).held (λ held. IsOk (opened held))) }
+    ensures renewed { OnOk result (WhereReported (K.state keeper.old).held
+        (K.state keeper.new).held (λ held new. new ≡ renewed held)) }
+    ensures read { OnOk result (WhereReported (K.state keeper.old).held
+        (K.state keeper.new).held (λ held _. IsOk (opened held))) }
     ensures bad { IfErr result (λ fault.
-        IfSome (K.state keeper.old).held (λ held. NamesFault (opened held) fault)) }
-    ensures err { OnErr result ((K.state keeper.new).held ≡ (K.state keeper.old).held) }
+        IfSome (K.state keeper.new).held (λ held. NamesFault (opened held) fault)) }
+    ensures err { OnErr result (StaysHeld (K.state keeper.old).held (K.state keeper.new).held) }
     ensures cause { HasCause (K.state keeper.old).faults (K.state keeper.new).faults
         (result ≡ Err LoadFault.KeeperFault) }
     ensures stays { StaysUnless (K.state keeper.old).faults (K.state keeper.new).faults

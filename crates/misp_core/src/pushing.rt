@@ -6,6 +6,7 @@ ghost use Rattle.misp_elem.specs.declared.row.RowFields.{RowFields};
 ghost use Rattle.misp_elem.specs.Parents.{event_of};
 ghost use Rattle.misp_ids.specs.Same.{same_event};
 ghost use Rattle.misp_outside.specs.Causes.{HasCause, StaysUnless};
+ghost use Rattle.misp_outside.specs.Reporting.{StaysHeld};
 ghost use Rattle.misp_model.specs.Package.{IsPackage};
 ghost use Rattle.misp_model.specs.Packing.{packages};
 ghost use Rattle.misp_model.specs.Passing.{route_to};
@@ -123,15 +124,15 @@ pub(crate) fn load_outgoing<K: Keeper>(
     alloc: Global,
     via: &Via<'_>,
 ) -> Result<Vec<Package>, LoadFault>
-    ensures packed { IfOk result (λ all. IfSome (K.state keeper.old).held (λ held.
+    ensures packed { IfOk result (λ all. IfSome (K.state keeper.new).held (λ held.
         (rows : List RowFields) → (seen_in held).rows reach.All ≡ Ok rows → all.items ≡ all_numbered
         (events_packed (arriving_rows rows via.now.groups.now (route_of via.now))))) }
     ensures read { OnOk result
-        (IfSome (K.state keeper.old).held (λ held. IsOk ((seen_in held).rows reach.All))) }
+        (IfSome (K.state keeper.new).held (λ held. IsOk ((seen_in held).rows reach.All))) }
     ensures each { IfOk result (λ all. AllByRecursion IsPackage all.items) }
-    ensures bad { IfErr result (λ fault. IfSome (K.state keeper.old).held
+    ensures bad { IfErr result (λ fault. IfSome (K.state keeper.new).held
         (λ held. NamesFault ((seen_in held).rows reach.All) fault)) }
-    ensures held { (K.state keeper.new).held ≡ (K.state keeper.old).held }
+    ensures held { StaysHeld (K.state keeper.old).held (K.state keeper.new).held }
     ensures cause { HasCause (K.state keeper.old).faults (K.state keeper.new).faults
         (result ≡ Err faults.KeeperFault) }
     ensures stays { StaysUnless (K.state keeper.old).faults (K.state keeper.new).faults

@@ -2,6 +2,7 @@
 
 ghost use Rattle.std.specs.Prelude.{◌≡◌, true, Ok, Err, Some, IfOk, IfErr, IfSome};
 ghost use Rattle.misp_outside.specs.Causes.{HasCause, StaysUnless};
+ghost use Rattle.misp_outside.specs.Reporting.{StaysHeld};
 ghost use Rattle.misp_model.specs.Permission.{is_permitted};
 ghost use Rattle.misp_model.specs.View.{IsTable};
 ghost use Rattle.misp_model.specs.Looking.{more_for_change, more_looks, over};
@@ -109,13 +110,13 @@ fn rows_for<K: Keeper>(
     site: &Site<'_>,
     ask: &Ask,
 ) -> Result<Vec<Row>, LoadFault>
-    ensures found { IfOk result (λ found. IfSome (K.state keeper.old).held (λ held.
+    ensures found { IfOk result (λ found. IfSome (K.state keeper.new).held (λ held.
         rows_read (scene_in site.now) ask.now (seen_in held).rows ≡ Ok found.items)) }
-    ensures table { IfOk result (λ found. IfSome (K.state keeper.old).held
+    ensures table { IfOk result (λ found. IfSome (K.state keeper.new).held
         (λ _. IsTable found.items)) }
-    ensures bad { IfErr result (λ fault. IfSome (K.state keeper.old).held (λ held.
+    ensures bad { IfErr result (λ fault. IfSome (K.state keeper.new).held (λ held.
         NamesFault (rows_read (scene_in site.now) ask.now (seen_in held).rows) fault)) }
-    ensures held { (K.state keeper.new).held ≡ (K.state keeper.old).held }
+    ensures held { StaysHeld (K.state keeper.old).held (K.state keeper.new).held }
     ensures cause { HasCause (K.state keeper.old).faults (K.state keeper.new).faults
         (result ≡ Err LoadFault.KeeperFault) }
     ensures stays { StaysUnless (K.state keeper.old).faults (K.state keeper.new).faults
@@ -152,10 +153,10 @@ pub(crate) fn plan_permitted<K: Keeper>(
     requires permitted { is_permitted site.now.caller.now ask ≡ true }
     requires beside { IsBeside (host_at site.now) (K.state keeper.old).held
         site.now.groups.now ahead.old landed.old }
-    ensures planned { IfSome (K.state keeper.old).held (λ held. IsPlanned result
+    ensures planned { IfSome (K.state keeper.new).held (λ held. IsPlanned result
         (requested (host_at site.now) site.now.moment (site.now.caller.now, ask) (seen_in held))) }
     ensures sound { syncs ask ≡ true → IfOk result (λ plan. IsSoundAnswer plan.answer) }
-    ensures held { (K.state keeper.new).held ≡ (K.state keeper.old).held }
+    ensures held { StaysHeld (K.state keeper.old).held (K.state keeper.new).held }
     ensures beside { IsBeside (host_at site.now) (K.state keeper.new).held
         site.now.groups.now ahead.new landed.new }
     ensures cause { HasCause (K.state keeper.old).faults (K.state keeper.new).faults

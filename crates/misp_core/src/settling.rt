@@ -1,8 +1,9 @@
 //! The one place where something is put.
 
-ghost use Rattle.std.specs.Prelude.{◌≡◌, ◌≤◌, Err, length, OnOk, OnErr, option_map};
+ghost use Rattle.std.specs.Prelude.{◌≡◌, ◌≤◌, Err, length, OnOk, OnErr};
 ghost use Rattle.misp_groups.specs.declared.group.GroupFields.{GroupFields};
 ghost use Rattle.misp_outside.specs.Causes.{HasCause, StaysUnless};
+ghost use Rattle.misp_outside.specs.Reporting.{StaysHeld, WhereReported};
 ghost use Rattle.misp_outside.specs.Held.{with_batch};
 ghost use Rattle.misp_groups.specs.Groups.{put_groups};
 ghost use Rattle.misp_store.specs.Sharing.{AreStorable};
@@ -32,11 +33,11 @@ pub(crate) fn settle<K: Keeper>(
     alloc: Global,
     put: Batch,
 ) -> Result<(), KeeperFault>
-    ensures put { OnOk result ((K.state keeper.new).held
-        ≡ option_map (with_batch (spelled (batch_of put))) (K.state keeper.old).held) }
+    ensures put { OnOk result (WhereReported (K.state keeper.old).held (K.state keeper.new).held
+        (λ held new. new ≡ with_batch (spelled (batch_of put)) held)) }
     ensures groups { OnOk result (groups.new ≡ put_groups groups.old put.groups) }
     ensures storable { OnOk result (AreStorable put.groups) }
-    ensures err { OnErr result ((K.state keeper.new).held ≡ (K.state keeper.old).held) }
+    ensures err { OnErr result (StaysHeld (K.state keeper.old).held (K.state keeper.new).held) }
     ensures same { OnErr result (groups.new ≡ groups.old) }
     ensures cause { HasCause (K.state keeper.old).faults (K.state keeper.new).faults
         (result ≡ Err KeeperFault.Failed) }

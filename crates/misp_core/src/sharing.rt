@@ -51,8 +51,8 @@ impl<K: Keeper> Instance<K> {
     }
 }
 
-/// A group that a caller adds or edits changes the history as the administration of the group by the
-/// caller's organisation does.
+/// A group that a caller adds or edits changes the history as the administration of the group by
+/// the caller's organisation does.
 pub fn groups_are_shared_by_the_history()
     ensures same { (net : Net) (n : ℕ) (w : World) (host : Host) (now : Moment)
         (caller : CallerFields) (add : Bool) (g : GroupFields) →

@@ -4,6 +4,7 @@ ghost use Rattle.std.specs.Prelude.{◌≡◌, true, Err, None, Option, IfErr, I
 ghost use Rattle.std.specs.List.{list_all};
 ghost use Rattle.misp_ids.specs.Same.{same_org};
 ghost use Rattle.misp_outside.specs.Causes.{HasCause, StaysUnless};
+ghost use Rattle.misp_outside.specs.Reporting.{StaysHeld};
 ghost use Rattle.misp_outside.specs.Held.{Held};
 ghost use Rattle.misp_store.specs.Loading.{NamesFault};
 ghost use Rattle.misp_store.specs.Seen.{seen_in};
@@ -90,10 +91,10 @@ fn load_own<K: Keeper>(
     here: &InstId,
 ) -> Result<Own, LoadFault>
     ensures own { IfOk result
-        (IsOwn here.now (K.state keeper.old).held owner.now event.now) }
-    ensures bad { IfErr result (λ fault. IfSome (K.state keeper.old).held
+        (IsOwn here.now (K.state keeper.new).held owner.now event.now) }
+    ensures bad { IfErr result (λ fault. IfSome (K.state keeper.new).held
         (λ held. NamesFault ((seen_in held).rows (reach.Own owner.now event.now)) fault)) }
-    ensures held { (K.state keeper.new).held ≡ (K.state keeper.old).held }
+    ensures held { StaysHeld (K.state keeper.old).held (K.state keeper.new).held }
     ensures cause { HasCause (K.state keeper.old).faults (K.state keeper.new).faults
         (result ≡ Err faults.KeeperFault) }
     ensures stays { StaysUnless (K.state keeper.old).faults (K.state keeper.new).faults
@@ -121,11 +122,11 @@ pub(crate) fn own_rows<K: Keeper>(
 ) -> Result<Own, LoadFault>
     requires { IfSome synced.old (IsSynced here.now (K.state keeper.old).held) }
     ensures own { IfOk result
-        (IsOwn here.now (K.state keeper.old).held owner.now event.now) }
+        (IsOwn here.now (K.state keeper.new).held owner.now event.now) }
     ensures left { synced.new ≡ None }
-    ensures bad { IfErr result (λ fault. IfSome (K.state keeper.old).held
+    ensures bad { IfErr result (λ fault. IfSome (K.state keeper.new).held
         (λ held. NamesFault ((seen_in held).rows (reach.Own owner.now event.now)) fault)) }
-    ensures held { (K.state keeper.new).held ≡ (K.state keeper.old).held }
+    ensures held { StaysHeld (K.state keeper.old).held (K.state keeper.new).held }
     ensures cause { HasCause (K.state keeper.old).faults (K.state keeper.new).faults
         (result ≡ Err faults.KeeperFault) }
     ensures stays { StaysUnless (K.state keeper.old).faults (K.state keeper.new).faults
@@ -167,11 +168,11 @@ pub(crate) fn own_landing<K: Keeper>(
 ) -> Result<Landing, LoadFault>
     requires { IfSome synced.old (IsSynced here.now (K.state keeper.old).held) }
     ensures landing { IfOk result
-        (IsOwnLanding here.now (K.state keeper.old).held owner.now event.now) }
+        (IsOwnLanding here.now (K.state keeper.new).held owner.now event.now) }
     ensures left { synced.new ≡ None }
-    ensures bad { IfErr result (λ fault. IfSome (K.state keeper.old).held
+    ensures bad { IfErr result (λ fault. IfSome (K.state keeper.new).held
         (λ held. NamesFault ((seen_in held).rows (reach.Own owner.now event.now)) fault)) }
-    ensures held { (K.state keeper.new).held ≡ (K.state keeper.old).held }
+    ensures held { StaysHeld (K.state keeper.old).held (K.state keeper.new).held }
     ensures cause { HasCause (K.state keeper.old).faults (K.state keeper.new).faults
         (result ≡ Err faults.KeeperFault) }
     ensures stays { StaysUnless (K.state keeper.old).faults (K.state keeper.new).faults

@@ -1,10 +1,11 @@
 //! What arrives by a synchronisation, and is taken.
 
-ghost use Rattle.std.specs.Prelude.{◌≡◌, Err, None, Ok, [], length, List, IfErr, IfOk, IfSome, OnErr, OnOk, option_map};
+ghost use Rattle.std.specs.Prelude.{◌≡◌, Err, Ok, [], length, List, IfErr, IfOk, IfSome, OnErr, OnOk};
 ghost use Rattle.misp_ids.specs.declared.uid.EventId.{EventId as Event};
 ghost use Rattle.misp_ids.specs.declared.uid.OrgId.{OrgId as Owner};
 ghost use Rattle.misp_elem.specs.declared.row.RowFields.{RowFields};
 ghost use Rattle.misp_outside.specs.Causes.{HasCause, StaysUnless};
+ghost use Rattle.misp_outside.specs.Reporting.{StaysHeld, WhereReported};
 ghost use Rattle.misp_effects.specs.Batches.{batch};
 ghost use Rattle.misp_ids.specs.Same.{Inst};
 ghost use Rattle.misp_package.specs.Landing.{IsLanding};
@@ -47,10 +48,10 @@ fn put_rows<K: Keeper>(
     alloc: Global,
     rows: Vec<Row>,
 ) -> Result<(), KeeperFault>
-    ensures put { OnOk result ((K.state keeper.new).held
-        ≡ option_map (with_rows rows.items) (K.state keeper.old).held) }
+    ensures put { OnOk result (WhereReported (K.state keeper.old).held (K.state keeper.new).held
+        (λ held new. new ≡ with_rows rows.items held)) }
     ensures none { rows.items ≡ [] → keeper.new ≡ keeper.old }
-    ensures err { OnErr result ((K.state keeper.new).held ≡ (K.state keeper.old).held) }
+    ensures err { OnErr result (StaysHeld (K.state keeper.old).held (K.state keeper.new).held) }
     ensures groups { groups.new ≡ groups.old }
     ensures beside { HoldsGroups (K.state keeper.old).held groups.old →
         HoldsGroups (K.state keeper.new).held groups.new }
@@ -65,8 +66,9 @@ fn put_rows<K: Keeper>(
     settle(keeper, groups, alloc, rows_alone(alloc, rows))
 }
 
-/// Takes what is new of the package to the owner of the landing: all memory first, then one batch of
-/// these rows, or none where there are none. What the owner has then is kept where memory suffices.
+/// Takes what is new of the package to the owner of the landing: all memory first, then one batch
+/// of these rows, or none where there are none. What the owner has then is kept where memory
+/// suffices.
 pub(crate) fn take_package<K: Keeper>(
     keeper: &mut K,
     groups: &mut Groups,
@@ -78,15 +80,15 @@ pub(crate) fn take_package<K: Keeper>(
     ensures count { IfOk result (λ count. (i : Inst) (w : Owner) (held : List RowFields) →
         IsLanding landing i w coming.now.event held →
         count ≡ length (package_taken i held groups.old w coming.now)) }
-    ensures put { OnOk result ((i : Inst) (w : Owner) (held : List RowFields) →
-        IsLanding landing i w coming.now.event held → (K.state keeper.new).held
-        ≡ option_map (with_rows (package_taken i held groups.old w coming.now))
-        (K.state keeper.old).held) }
+    ensures put { OnOk result ((i : Inst) (w : Owner) (rows : List RowFields) →
+        IsLanding landing i w coming.now.event rows →
+        WhereReported (K.state keeper.old).held (K.state keeper.new).held (λ held new.
+        new ≡ with_rows (package_taken i rows groups.old w coming.now) held)) }
     ensures synced { (i : Inst) (w : Owner) (e : Event) →
         IsOwnLanding i (K.state keeper.old).held w e landing →
         IfSome synced.new (IsSynced i (K.state keeper.new).held) }
-    ensures none { result ≡ Ok 0 → (K.state keeper.new).held ≡ (K.state keeper.old).held }
-    ensures err { OnErr result ((K.state keeper.new).held ≡ (K.state keeper.old).held) }
+    ensures none { result ≡ Ok 0 → StaysHeld (K.state keeper.old).held (K.state keeper.new).held }
+    ensures err { OnErr result (StaysHeld (K.state keeper.old).held (K.state keeper.new).held) }
     ensures groups { groups.new ≡ groups.old }
     ensures beside { HoldsGroups (K.state keeper.old).held groups.old →
         HoldsGroups (K.state keeper.new).held groups.new }
@@ -123,14 +125,14 @@ pub(crate) fn take_part<K: Keeper>(
 ) -> Result<u64, LoadFault>
     requires synced { IfSome synced.old (IsSynced here.now (K.state keeper.old).held) }
     requires groups { HoldsGroups (K.state keeper.old).held groups.old }
-    ensures taken { IfOk result (λ count. IfSome (K.state keeper.old).held
-        (TakesOf here.now owner.now coming.now count (K.state keeper.new).held)) }
-    ensures silent { (K.state keeper.old).held ≡ None → (K.state keeper.new).held ≡ None }
+    ensures taken { IfOk result (λ count.
+        WhereReported (K.state keeper.old).held (K.state keeper.new).held
+        (TakesOf here.now owner.now coming.now count)) }
     ensures synced { IfSome synced.new (IsSynced here.now (K.state keeper.new).held) }
-    ensures bad { IfErr result (λ fault. IfSome (K.state keeper.old).held (λ held.
+    ensures bad { IfErr result (λ fault. IfSome (K.state keeper.new).held (λ held.
         NamesFault ((seen_in held).rows (reach.Own owner.now coming.now.event)) fault)) }
-    ensures none { result ≡ Ok 0 → (K.state keeper.new).held ≡ (K.state keeper.old).held }
-    ensures err { OnErr result ((K.state keeper.new).held ≡ (K.state keeper.old).held) }
+    ensures none { result ≡ Ok 0 → StaysHeld (K.state keeper.old).held (K.state keeper.new).held }
+    ensures err { OnErr result (StaysHeld (K.state keeper.old).held (K.state keeper.new).held) }
     ensures beside { HoldsGroups (K.state keeper.new).held groups.new }
     ensures cause { HasCause (K.state keeper.old).faults (K.state keeper.new).faults
         (result ≡ Err faults.KeeperFault) }

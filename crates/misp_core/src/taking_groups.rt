@@ -7,6 +7,7 @@ ghost use Rattle.misp_groups.specs.Group.{IsGroup};
 ghost use Rattle.misp_groups.specs.Groups.{put_groups};
 ghost use Rattle.misp_groups.specs.declared.group.GroupFields.{GroupFields};
 ghost use Rattle.misp_outside.specs.Causes.{HasCause, StaysUnless};
+ghost use Rattle.misp_outside.specs.Reporting.{StaysHeld, WhereReported};
 ghost use Rattle.misp_effects.specs.Batches.{batch};
 ghost use Rattle.misp_store.specs.Sharing.{AreStorable, HoldsGroups};
 ghost use Rattle.misp_core.specs.Planning.{batch_of};
@@ -137,12 +138,12 @@ fn put_groups<K: Keeper>(
     alloc: Global,
     taken: Vec<Group>,
 ) -> Result<(), KeeperFault>
-    ensures put { OnOk result ((K.state keeper.new).held
-        ≡ option_map (with_groups taken.items) (K.state keeper.old).held) }
+    ensures put { OnOk result (WhereReported (K.state keeper.old).held (K.state keeper.new).held
+        (λ held new. new ≡ with_groups taken.items held)) }
     ensures groups { OnOk result (groups.new ≡ put_groups groups.old taken.items) }
     ensures storable { OnOk result (AreStorable taken.items) }
     ensures none { taken.items ≡ [] → (keeper.new ≡ keeper.old) × (groups.new ≡ groups.old) }
-    ensures err { OnErr result ((K.state keeper.new).held ≡ (K.state keeper.old).held) }
+    ensures err { OnErr result (StaysHeld (K.state keeper.old).held (K.state keeper.new).held) }
     ensures beside { HoldsGroups (K.state keeper.old).held groups.old →
         HoldsGroups (K.state keeper.new).held groups.new }
     ensures cause { HasCause (K.state keeper.old).faults (K.state keeper.new).faults
@@ -165,13 +166,12 @@ pub(crate) fn take_groups<K: Keeper>(
     coming: Vec<Group>,
 ) -> Result<u64, KeeperFault>
     ensures count { IfOk result (λ n. n ≡ length (groups_taken groups.old coming.items)) }
-    ensures put { OnOk result ((K.state keeper.new).held
-        ≡ option_map (with_groups (groups_taken groups.old coming.items))
-        (K.state keeper.old).held) }
+    ensures put { OnOk result (WhereReported (K.state keeper.old).held (K.state keeper.new).held
+        (λ held new. new ≡ with_groups (groups_taken groups.old coming.items) held)) }
     ensures groups { OnOk result (groups.new ≡ take_groups groups.old coming.items) }
     ensures fits { OnOk result (AllByRecursion IsGroup (groups_taken groups.old coming.items)) }
     ensures none { result ≡ Ok 0 → (keeper.new ≡ keeper.old) × (groups.new ≡ groups.old) }
-    ensures err { OnErr result ((K.state keeper.new).held ≡ (K.state keeper.old).held) }
+    ensures err { OnErr result (StaysHeld (K.state keeper.old).held (K.state keeper.new).held) }
     ensures beside { HoldsGroups (K.state keeper.old).held groups.old →
         HoldsGroups (K.state keeper.new).held groups.new }
     ensures cause { HasCause (K.state keeper.old).faults (K.state keeper.new).faults

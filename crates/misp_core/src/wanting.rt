@@ -2,6 +2,7 @@
 
 ghost use Rattle.std.specs.Prelude.{◌≡◌, Err, Option, IfErr, IfOk, IfSome};
 ghost use Rattle.misp_outside.specs.Causes.{HasCause, StaysUnless};
+ghost use Rattle.misp_outside.specs.Reporting.{StaysHeld};
 ghost use Rattle.misp_outside.specs.Held.{Held};
 ghost use Rattle.misp_store.specs.Loading.{NamesFault};
 ghost use Rattle.misp_store.specs.Seen.{seen_in};
@@ -38,8 +39,8 @@ fn wanted_by(
     }
 }
 
-/// The keys of a package of an event of which the owner wants the rows, in their order. Its own rows
-/// of the event are kept.
+/// The keys of a package of an event of which the owner wants the rows, in their order. Its own
+/// rows of the event are kept.
 pub(crate) fn wanted_keys<K: Keeper>(
     keeper: &mut K,
     synced: &mut Option<OwnRows>,
@@ -50,14 +51,14 @@ pub(crate) fn wanted_keys<K: Keeper>(
     keys: &[KeyStamp],
 ) -> Result<Vec<Key>, LoadFault>
     requires { IfSome synced.old (IsSynced here.now (K.state keeper.old).held) }
-    ensures found { IfOk result (λ wanted. IfSome (K.state keeper.old).held
+    ensures found { IfOk result (λ wanted. IfSome (K.state keeper.new).held
         (WantsOf here.now owner.now event.now keys.now wanted.items)) }
     ensures some { IfOk result (λ wanted.
         IsSomeWanted here.now owner.now event.now keys.now wanted.items) }
     ensures synced { IfSome synced.new (IsSynced here.now (K.state keeper.new).held) }
-    ensures bad { IfErr result (λ fault. IfSome (K.state keeper.old).held
+    ensures bad { IfErr result (λ fault. IfSome (K.state keeper.new).held
         (λ held. NamesFault ((seen_in held).rows (reach.Own owner.now event.now)) fault)) }
-    ensures held { (K.state keeper.new).held ≡ (K.state keeper.old).held }
+    ensures held { StaysHeld (K.state keeper.old).held (K.state keeper.new).held }
     ensures cause { HasCause (K.state keeper.old).faults (K.state keeper.new).faults
         (result ≡ Err faults.KeeperFault) }
     ensures stays { StaysUnless (K.state keeper.old).faults (K.state keeper.new).faults

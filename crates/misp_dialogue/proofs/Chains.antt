@@ -1,29 +1,11 @@
 -- What comes of a party that is asked several times.
 use Rattle.std.proofs.Common.{◌≡◌, ◌≤◌, ◌∙◌, ℕ, List, [], ◌∷◌, ◌++◌, Option, None, Some, Ok, Err, refl, sym, ap, subst, append_assoc, append-nil, arith}
-use Rattle.std.specs.Prelude.{IsSome}
 use Rattle.misp_outside.specs.Causes.{HasCause}
-use Rattle.misp_dialogue.specs.Parties.{Conduct, Exchanged, GrowsBy, IsTrail, PartyState, WhereTold}
+use Rattle.misp_outside.proofs.Reporting.{reported_same, reported_then}
+use Rattle.misp_dialogue.specs.Parties.{Conduct, Exchanged, GrowsBy, IsTrail, PartyState}
 use Rattle.misp_dialogue.specs.Shares.{Exchange, Failure, Goes, Keeps, Share}
 
 -- ---- one after another
-
-told_then : {A : Type 0} (old mid new : Option A) (P Q S : A → A → Type 0)
-    → ((a b c : A) → P a b → Q b c → S a c)
-    → WhereTold old mid P → WhereTold mid new Q → WhereTold old new S
-told_then None None None P Q S f p q = tt
-told_then None None (Some c) P Q S f p q = absurd q
-told_then None (Some b) new P Q S f p q = absurd p
-told_then (Some a) None None P Q S f p q = tt
-told_then (Some a) None (Some c) P Q S f p q = absurd q
-told_then (Some a) (Some b) None P Q S f p q = tt
-told_then (Some a) (Some b) (Some c) P Q S f p q = f a b c p q
-
-told_same : {A : Type 0} (old new : Option A) (P : A → A → Type 0) → new ≡ old
-    → ((a : A) → P a a) → WhereTold old new P
-told_same None None P is f = tt
-told_same None (Some b) P is f = absurd cc
-told_same (Some a) None P is f = tt
-told_same (Some a) (Some b) P is f = let same : a ≡ b = cc in subst (P a) same (f a)
 
 grows_then : {A : Type 0} (old mid new : Option (List A)) (P Q S : List A → Type 0)
     → ((x y : List A) → P x → Q y → S (x ++ y))
@@ -63,7 +45,7 @@ module _ {H Q R C : Type 0} (k : Conduct H Q R C) where
   share_none s = record {
     fits = tt;
     askable = tt;
-    held = told_same s.held s.held (Keeps k [] None) refl (λ a. refl);
+    held = reported_same s.held s.held (Keeps k [] None) refl (λ a. refl);
     trail = grows_none s.trail s.trail (Goes k [] None) refl refl;
     why = tt;
     cause = record { later = omega arith; rose = λ p. absurd p };
@@ -88,7 +70,7 @@ module _ {H Q R C : Type 0} (k : Conduct H Q R C) where
   share_then x xs last old mid new e s = record {
     fits = ((e.askable, e.sound), s.fits);
     askable = s.askable;
-    held = told_then old.held mid.held new.held _ _ _ (λ a b c is more. (b, is.0, is.1, more)) e.held s.held;
+    held = reported_then old.held mid.held new.held _ _ _ (λ a b c is more. (b, is.0, is.1, more)) e.held s.held;
     trail = grows_then old.trail mid.trail new.trail _ _ _ (goes_on x xs last) e.trail s.trail;
     why = s.why;
     cause = cause_then _ _ _ _ e.cause.later s.cause;
@@ -101,17 +83,3 @@ module _ {H Q R C : Type 0} (k : Conduct H Q R C) where
   shared [] last old mid new is l = share_last last old new (subst (λ w. Lasts last w new) is l)
   shared (x ∷ xs) last old mid new is l =
       share_then x xs last old is.0 new is.1 (shared xs last is.0 mid new is.2 l)
-
-  -- ---- who reported what it holds reports it still
-
-  abbrev pub StillTold : PartyState H → PartyState H → Type 0
-  StillTold old new = IsSome old.held → IsSome new.held
-
-  pub told_last : (last : Option (Failure Q C)) (old new : PartyState H) → Lasts last old new → StillTold old new
-  told_last None old new is h = subst (λ w. IsSome w.held) (sym is) h
-  told_last (Some f) old new x h = x.told h
-
-  pub told_on : (xs : List (Exchange Q R)) (last : Option (Failure Q C)) (old mid new : PartyState H)
-      → Chain xs old mid → Lasts last mid new → StillTold old new
-  told_on [] last old mid new is l h = told_last last old new (subst (λ w. Lasts last w new) is l) h
-  told_on (x ∷ xs) last old mid new is l h = told_on xs last is.0 mid new is.2 l (is.1.told h)

@@ -1,25 +1,15 @@
 -- What any dialogue that was held comes to.
 use Rattle.std.proofs.Common.{◌≡◌, ◌∙◌, suc, List, [], ◌∷◌, Option, None, Some, Result, Err, refl, sym, ap, subst, inl, inr}
-use Rattle.std.specs.Prelude.{IsSome}
 use Rattle.std.specs.List.{AllByRecursion}
 use Rattle.misp_dialogue.specs.Conversed.{Conversed, Ends, Replied, after, between}
 use Rattle.misp_dialogue.specs.Course.{ByStates, Course, EndsAt, Fits, IsAnswerBy, Hold, HoldAt, by_sink, by_source, gone}
 use Rattle.misp_dialogue.specs.Dialogue.{Dialogue, Over, Ask}
-use Rattle.misp_dialogue.specs.Parties.{Conduct, PartyState, WhereTold}
-use Rattle.misp_dialogue.specs.Shares.{ByReplies, EndsBy, Exchange, Failure, IfAsked, IsFit, Keeps, failure, share}
+use Rattle.misp_outside.proofs.Reporting.{reported_at}
+use Rattle.misp_dialogue.specs.Parties.{Conduct, PartyState}
+use Rattle.misp_dialogue.specs.Shares.{ByReplies, EndsBy, IfAsked, IsFit, Keeps, failure, share}
 use Rattle.misp_dialogue.specs.declared.ending.Ending.{Ending}
 use Rattle.misp_dialogue.specs.declared.side.Side.{Side}
-use Rattle.misp_dialogue.proofs.Chains.{Chain, Lasts, shared, told_on}
-
-keeps_told : {H Q R C : Type 0} (k : Conduct H Q R C) (xs : List (Exchange Q R)) (last : Option (Failure Q C))
-    (old new : Option H) (s s1 : H) → old ≡ Some s → new ≡ Some s1
-    → WhereTold old new (Keeps k xs last) → Keeps k xs last s s1
-keeps_told k xs last None new s s1 is now w = absurd cc
-keeps_told k xs last (Some a) None s s1 is now w = absurd cc
-keeps_told k xs last (Some a) (Some b) s s1 is now w =
-    let from : a ≡ s = cc in
-    let to : b ≡ s1 = cc in
-    subst (λ x. Keeps k xs last x s1) from (subst (Keeps k xs last a) to w)
+use Rattle.misp_dialogue.proofs.Chains.{Chain, Lasts, shared}
 
 holds : {HA HB : Type 0} (new : PartyState HA × PartyState HB) (s1 : HA) (t1 : HB) → new.0.held ≡ Some s1 → new.1.held ≡ Some t1
     → (s : HA) (t : HB) → s1 ≡ s → t1 ≡ t → Hold new s t
@@ -76,23 +66,6 @@ module _ {HA HB Q R N C : Type 0} (memory : C) (ka : Conduct HA Q R C) (kb : Con
         sink = shared kb _ _ old.1 held.mid.1 new.1 (sink_chain d old held.mid held.replies held.replied) l.sink;
         ends = l.ends;
       }
-
-  source_told : (d : Dialogue Q R N C) (old new : PartyState HA × PartyState HB) (ending : Ending N C)
-      → Conversed memory (between ka kb) d old new ending → IsSome old.0.held → IsSome new.0.held
-  source_told d old new ending held =
-      told_on ka _ _ old.0 held.mid.0 new.0 (source_chain d old held.mid held.replies held.replied)
-      (lasts (after d held.replies) held.mid new ending held.ends).source
-
-  sink_told : (d : Dialogue Q R N C) (old new : PartyState HA × PartyState HB) (ending : Ending N C)
-      → Conversed memory (between ka kb) d old new ending → IsSome old.1.held → IsSome new.1.held
-  sink_told d old new ending held =
-      told_on kb _ _ old.1 held.mid.1 new.1 (sink_chain d old held.mid held.replies held.replied)
-      (lasts (after d held.replies) held.mid new ending held.ends).sink
-
-  pub both_told : (d : Dialogue Q R N C) (old new : PartyState HA × PartyState HB) (ending : Ending N C)
-      → Conversed memory (between ka kb) d old new ending
-      → (IsSome old.0.held → IsSome new.0.held) × (IsSome old.1.held → IsSome new.1.held)
-  both_told d old new ending held = (source_told d old new ending held, sink_told d old new ending held)
 
   -- ---- by what both hold
 
@@ -192,6 +165,6 @@ module _ {HA HB Q R N C : Type 0} (memory : C) (ka : Conduct HA Q R C) (kb : Con
       → ByStates memory ka kb d s t new ending
   by_states d old new ending s s1 t t1 by a b a1 b1 =
       going new s1 t1 a1 b1 d by.replies by.last s t ending
-      (keeps_told ka _ _ old.0.held new.0.held s s1 a a1 by.source.held)
-      (keeps_told kb _ _ old.1.held new.1.held t t1 b b1 by.sink.held)
+      (reported_at old.0.held new.0.held _ s s1 a a1 by.source.held)
+      (reported_at old.1.held new.1.held _ t t1 b b1 by.sink.held)
       (record { source = by.source.fits; sink = by.sink.fits; source_last = by.source.askable; sink_last = by.sink.askable }) by.ends

@@ -1,6 +1,7 @@
 -- What is reported of a party of a dialogue, and what one request to it comes to.
-use Rattle.std.specs.Prelude.{◌≡◌, ◌⊎◌, ℕ, List, [], ◌∷◌, ◌++◌, Option, None, Some, Result, Ok, Err, IsSome}
+use Rattle.std.specs.Prelude.{◌≡◌, ◌⊎◌, ℕ, List, [], ◌∷◌, ◌++◌, Option, None, Some, Result, Ok, Err}
 use Rattle.misp_outside.specs.Causes.{HasCause, StaysUnless}
+use Rattle.misp_outside.specs.Reporting.{WhereReported}
 
 -- what a party holds, the bytes that went over it, and how often it failed itself, and that which
 -- it is a wire to
@@ -32,13 +33,6 @@ pub record Conduct (H Q R C : Type 0) : Type 1 where
   pub IsPeerFault : C → Type 0
 
 -- ---- what is reported before and after
-
--- Where both are reported, this holds. What was not reported before is not reported afterwards.
-abbrev pub WhereTold : {A : Type 0} → Option A → Option A → (A → A → Type 0) → Type 0
-WhereTold None None P = Unit {0}
-WhereTold None (Some new) P = ⊥
-WhereTold (Some old) None P = Unit {0}
-WhereTold (Some old) (Some new) P = P old new
 
 -- a list that is reported grows by a part, of which this holds
 abbrev pub GrowsBy : {A : Type 0} → Option (List A) → Option (List A) → (List A → Type 0)
@@ -85,8 +79,7 @@ pub record Exchanged {H Q R C : Type 0} (k : Conduct H Q R C) (old : PartyState 
     (result : Result R C) (new : PartyState H) : Type 0 where
   pub askable : k.IsAskable request
   pub sound : IsOkBy k.IsSound result
-  pub held : WhereTold old.held new.held (IsReply k request result)
-  pub told : IsSome old.held → IsSome new.held
+  pub held : WhereReported old.held new.held (IsReply k request result)
   pub trail : GrowsBy old.trail new.trail (IsTrail k request result)
   pub why : (cause : C) → result ≡ Err cause → k.IsCause cause
   pub cause : HasCause old.faults new.faults (IsErrBy k.IsFault result)

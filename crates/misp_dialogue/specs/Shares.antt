@@ -4,7 +4,8 @@ use Rattle.std.specs.List.{AllByRecursion}
 use Rattle.misp_outside.specs.Causes.{HasCause, StaysUnless}
 use Rattle.misp_dialogue.specs.Conversed.{after, ended}
 use Rattle.misp_dialogue.specs.Dialogue.{Dialogue, Over, Ask}
-use Rattle.misp_dialogue.specs.Parties.{Conduct, GrowsBy, IsReply, IsTrail, PartyState, WhereTold}
+use Rattle.misp_outside.specs.Reporting.{WhereReported}
+use Rattle.misp_dialogue.specs.Parties.{Conduct, GrowsBy, IsReply, IsTrail, PartyState}
 use Rattle.misp_dialogue.specs.declared.ending.Ending.{Ending}
 use Rattle.misp_dialogue.specs.declared.side.Side.{Side}
 
@@ -87,7 +88,7 @@ pub record Share {H Q R C : Type 0} (k : Conduct H Q R C) (xs : List (Exchange Q
     (last : Option (Failure Q C)) (old new : PartyState H) : Type 0 where
   pub fits : AllByRecursion (IsFit k) xs
   pub askable : IfAsked k.IsAskable last
-  pub held : WhereTold old.held new.held (Keeps k xs last)
+  pub held : WhereReported old.held new.held (Keeps k xs last)
   pub trail : GrowsBy old.trail new.trail (Goes k xs last)
   pub why : IfFailed k.IsCause last
   pub cause : HasCause old.faults new.faults (IsFailedBy k.IsFault last)

@@ -1,6 +1,6 @@
 //! Holds a dialogue.
 
-ghost use Rattle.std.specs.Prelude.{◌≡◌, ◌<◌, Ok, Err, IfErr, IsSome, MatchResult, OnOk, Some};
+ghost use Rattle.std.specs.Prelude.{◌≡◌, ◌<◌, Ok, Err, IfErr, MatchResult, OnOk, Some};
 ghost use Rattle.misp_dialogue.specs.Conversed.{Conversed, IsStep, between, ended};
 ghost use Rattle.misp_dialogue.specs.Course.{ByStates};
 ghost use Rattle.misp_dialogue.specs.Shares.{ByReplies};
@@ -108,10 +108,6 @@ pub fn converse<
         (A.state source.new).held ≡ Some s1 → (B.state sink.new).held ≡ Some t1 →
         ByStates L.memory (A.conduct (A.setting source.old)) (B.conduct (B.setting sink.old))
         (L.dialogue leader.old) s t (A.state source.new, B.state sink.new) result }
-
-    // Who reported what it holds reports it still.
-    ensures told { (IsSome (A.state source.old).held → IsSome (A.state source.new).held)
-        × (IsSome (B.state sink.old).held → IsSome (B.state sink.new).held) }
     ensures source { A.setting source.new ≡ A.setting source.old }
     ensures sink { B.setting sink.new ≡ B.setting sink.old }
 {

@@ -2,13 +2,14 @@
 use Rattle.std.proofs.Common.{◌≡◌, ℕ, ◌+◌, ◌≤◌, List, [], ◌∷◌, ◌++◌, length, map, refl, sym, ◌∙◌, ap, subst, arith, length-append, Option}
 use Rattle.std.proofs.lemmas.List.{map-append}
 use Rattle.std.proofs.lemmas.Slice.Zip.{AllZip-long}
-use Rattle.misp_effects.specs.Prelude.{Held, KeeperState, Meaning, RoseBy, Spelling, Stop, Tables, Tell}
+use Rattle.misp_effects.specs.Prelude.{Held, KeeperState, Meaning, RoseBy, Spelling, Stop, Tables}
 use Rattle.misp_effects.specs.Batches.{AreReadable}
 use Rattle.misp_effects.specs.Effect.{Outcome, stop_of}
 use Rattle.misp_effects.specs.KeeperStates.{IsKept, AreKept, count_at}
 use Rattle.misp_effects.specs.Run.{effect_in, output_of, tables_after, outputs_of, tables_left, AreFit, fault_at, faults_at}
-use Rattle.misp_effects.specs.Course.{IsAct, HasRun}
-use Rattle.misp_effects.proofs.KeeperStates.{kept_told, kept_count}
+use Rattle.misp_effects.specs.Course.{AreDone, IsAct, IsDone, HasRun}
+use Rattle.misp_effects.proofs.KeeperStates.{kept_count}
+use Rattle.misp_effects.proofs.Told.{kept_told, told_same, told_then}
 
 -- what is put out by the commands and one more
 outputs_push : {S A : Type 0} (seen_in : Held → S) (spelled : Spelling) (ms : List (Meaning S A)) (m : Meaning S A) (outcomes : List Outcome) (outcome : Outcome) (tables : Tables) → length outcomes ≡ length ms
@@ -53,7 +54,7 @@ no_lines S A seen_in spelled stop_in old = record {
   each = refl;
   places = refl;
   causes = λ place. omega arith;
-  done = λ tables tell. record { outcomes = []; each = refl; agree = refl; outputs_are = refl; tables_are = tell; fits = tt };
+  done = told_same old _ (λ tables. record { outcomes = []; each = refl; agree = refl; outputs_are = refl; tables_are = refl; fits = tt });
 }
 
 -- one command more
@@ -65,9 +66,9 @@ one_more S A seen_in spelled stop_in ms m old mid new outputs output run act = r
   causes = λ place.
       subst (λ n. RoseBy n (count_at place old) (count_at place new)) (sym (faults_push stop_in place ms m outputs output run.each))
       (rose_more _ _ _ _ _ (run.causes place) (act.causes place));
-  done = λ tables tell.
-      let so_far = run.done tables tell in
-      let step = act.done (tables_left seen_in spelled ms so_far.outcomes tables) so_far.tables_are in
+  done = told_then old mid new _ _ _ (λ before between after so_far done.
+      let step : IsDone S A seen_in spelled stop_in m output (tables_left seen_in spelled ms so_far.outcomes before) after =
+      subst (λ tables. IsDone S A seen_in spelled stop_in m output tables after) so_far.tables_are done in
       record {
         outcomes = so_far.outcomes ++ step.outcome ∷ [];
         each = omega (arith, so_far.each, length-append so_far.outcomes (step.outcome ∷ []), length-append ms (m ∷ []));
@@ -77,34 +78,25 @@ one_more S A seen_in spelled stop_in ms m old mid new outputs output run act = r
             ∙ ap (λ stop. map stop_in outputs ++ stop ∷ []) step.agree
             ∙ sym (map-append stop_in outputs (output ∷ []));
         outputs_are =
-            ap (λ before. before ++ output ∷ []) so_far.outputs_are
-            ∙ ap (λ last. outputs_of seen_in spelled ms so_far.outcomes tables ++ last ∷ []) step.output_is
-            ∙ sym (outputs_push seen_in spelled ms m so_far.outcomes step.outcome tables so_far.each);
-        tables_are =
-            subst (λ left. Tell new left) (sym (left_push seen_in spelled ms m so_far.outcomes step.outcome tables so_far.each)) step.tables_are;
-        fits = fit_push seen_in spelled ms m so_far.outcomes step.outcome tables so_far.each so_far.fits step.fits;
-      };
+            ap (λ front. front ++ output ∷ []) so_far.outputs_are
+            ∙ ap (λ last. outputs_of seen_in spelled ms so_far.outcomes before ++ last ∷ []) step.output_is
+            ∙ sym (outputs_push seen_in spelled ms m so_far.outcomes step.outcome before so_far.each);
+        tables_are = step.tables_are ∙ sym (left_push seen_in spelled ms m so_far.outcomes step.outcome before so_far.each);
+        fits = fit_push seen_in spelled ms m so_far.outcomes step.outcome before so_far.each so_far.fits step.fits;
+      }) run.done act.done;
 }
 
 -- a count that did not fall before and afterwards rose by as much
 rose_within : (n before old mid now : ℕ) → before ≤ old → RoseBy n old mid → mid ≤ now → RoseBy n before now
 rose_within n before old mid now first rose last = omega arith
 
--- where the keepers before and those afterwards tell the same, the commands have run over these too
+-- where what the keepers hold stays before and afterwards, the commands have run over these too
 pub run_kept : {S A : Type 0} {seen_in : Held → S} {spelled : Spelling} {stop_in : A → Option Stop} {ms : List (Meaning S A)} {before old mid new : List KeeperState} {outputs : List A}
     → AreKept before old → HasRun S A seen_in spelled stop_in ms old mid outputs → AreKept mid new → HasRun S A seen_in spelled stop_in ms before new outputs
-run_kept {before = before} {old = old} {mid = mid} {new = new} first run last = record {
+run_kept {S} {A} {seen_in} {spelled} {stop_in} {ms} {before} {old} {mid} {new} {outputs} first run last = record {
   each = run.each;
   places = AllZip-long IsKept mid new last ∙ run.places ∙ AllZip-long IsKept before old first;
   causes = λ place. rose_within _ _ _ _ _ (kept_count place before old first) (run.causes place) (kept_count place mid new last);
-  done = λ tables tell.
-      let did = run.done tables (kept_told before old first ∙ tell) in
-      record {
-        outcomes = did.outcomes;
-        each = did.each;
-        agree = did.agree;
-        outputs_are = did.outputs_are;
-        tables_are = kept_told mid new last ∙ did.tables_are;
-        fits = did.fits;
-      };
+  done = told_then before old new _ _ _ (λ was tables left same did. subst (λ from. AreDone S A seen_in spelled stop_in ms outputs from left) same did) (kept_told before old first)
+      (told_then old mid new _ _ _ (λ tables left now did same. subst (AreDone S A seen_in spelled stop_in ms outputs tables) (sym same) did) run.done (kept_told mid new last));
 }

@@ -4,7 +4,7 @@ use Rattle.misp_lists.specs.Order.{put}
 use Rattle.misp_outside.specs.declared.row.RawBatch.{RawBatch}
 use Rattle.misp_outside.specs.Held.{comes_before, same_raw, put_raw, put_rows}
 use Rattle.misp_outside.specs.KeeperState.{state}
-use Rattle.misp_effects.specs.Prelude.{Effect, Held, Here, KeeperState, Meaning, RawRow, RoseBy, Stop, Tables, Tell, There, nothing_of, put_admins, with_batch}
+use Rattle.misp_effects.specs.Prelude.{Effect, Held, Here, Meaning, RawRow, RoseBy, Stop, Tables, Tell, There, nothing_of, put_admins, with_batch}
 use Rattle.misp_effects.specs.declared.stop.Stop.TheVariants.{Keeper, Memory, Carry}
 use Rattle.misp_effects.specs.Batches.{Batch, batch, IsReadable}
 use Rattle.misp_effects.specs.Effect.{effect, Went, Stopped, first_of, under, left}
@@ -127,20 +127,23 @@ faults_of_the_second = refl
 both_are_readable : IsReadable (one 1)
 both_are_readable = record { rows = (is_tombstone 1 (omega arith), tt); groups = tt }
 
--- two keepers that tell that they hold nothing tell no other tables
-tell_empty : (tables : Tables) → Tell (state (Some (holds [])) 0 ∷ state (Some (holds [])) 0 ∷ []) tables → tables ≡ empty
-tell_empty [] tell = cc
-tell_empty (a ∷ []) tell = cc
-tell_empty (a ∷ b ∷ []) tell = cc
-tell_empty (a ∷ b ∷ c ∷ tables) tell = cc
+-- two keepers that hold the row
+abbrev full : Tables
+full = holds (raw 1 ∷ []) ∷ holds (raw 1 ∷ []) ∷ []
+
+-- two keepers report no other tables than those that they hold
+tell_two : (first second : Held) (tables : Tables) → Tell (state (Some first) 0 ∷ state (Some second) 0 ∷ []) tables → tables ≡ first ∷ second ∷ []
+tell_two first second [] tell = cc
+tell_two first second (a ∷ []) tell = cc
+tell_two first second (a ∷ b ∷ []) tell = cc
+tell_two first second (a ∷ b ∷ c ∷ tables) tell = cc
 
 -- so over keepers that held nothing both have run, and each of these holds the row
 both_have_run : HasRun ℕ Reply seen_in spelled stop_in (adds ∷ pulls ∷ []) (state (Some (holds [])) 0 ∷ state (Some (holds [])) 0 ∷ [])
     (state (Some (holds (raw 1 ∷ []))) 0 ∷ state (Some (holds (raw 1 ∷ []))) 0 ∷ []) (Done 0 ∷ Done 1 ∷ [])
 unfolding with_batch put_rows put_raw put_admins put comes_before same_raw
 both_have_run =
-    let new : List KeeperState = state (Some (holds (raw 1 ∷ []))) 0 ∷ state (Some (holds (raw 1 ∷ []))) 0 ∷ [] in
-    let there : AreDone ℕ Reply seen_in spelled stop_in (adds ∷ pulls ∷ []) empty (Done 0 ∷ Done 1 ∷ []) new = record {
+    let there : AreDone ℕ Reply seen_in spelled stop_in (adds ∷ pulls ∷ []) (Done 0 ∷ Done 1 ∷ []) empty full = record {
       outcomes = Went ∷ Went ∷ [];
       each = refl;
       agree = refl;
@@ -152,7 +155,7 @@ both_have_run =
       each = refl;
       places = refl;
       causes = λ place. omega arith;
-      done = λ tables tell. subst (λ tables. AreDone ℕ Reply seen_in spelled stop_in (adds ∷ pulls ∷ []) tables (Done 0 ∷ Done 1 ∷ []) new) (sym (tell_empty tables tell)) there;
+      done = λ after tell. (empty, refl, subst (AreDone ℕ Reply seen_in spelled stop_in (adds ∷ pulls ∷ []) (Done 0 ∷ Done 1 ∷ []) empty) (sym (tell_two (holds (raw 1 ∷ [])) (holds (raw 1 ∷ [])) after tell)) there);
     }
 
 -- a keeper whose count did not rise is not named: that it failed cannot be put out

@@ -1,25 +1,30 @@
--- Keepers of which each tells what it told, or one failed.
+-- Keepers of which what each holds stays, or one failed.
 use Rattle.std.proofs.Common.{◌≡◌, ℕ, zero, suc, ◌+◌, ◌-◌, ◌<◌, ◌≤◌, List, [], ◌∷◌, ◌++◌, false, true, length, map, take, drop, get_or, set, Option, refl, sym, ◌∙◌, ap, subst, inl, inr, arith, Bool, take-append-drop, take-take, drop-drop}
 use Rattle.std.proofs.Common.{drop_at}
 use Rattle.std.specs.List.{list_any}
 use Rattle.std.proofs.lemmas.Bool.{or_cases, or_left, or_right}
 use Rattle.std.proofs.lemmas.List.{drop-take}
+use Rattle.misp_outside.specs.Reporting.{StaysHeld}
+use Rattle.misp_outside.proofs.Reporting.{stays_same, stays_then}
 use Rattle.misp_effects.specs.Prelude.{Held, KeeperState}
-use Rattle.misp_effects.specs.KeeperStates.{told, count_at, AreKept, OneFailed}
+use Rattle.misp_effects.specs.KeeperStates.{told, count_at, state_at, AreKept, OneFailed}
 
--- ---- each tells what it told
+-- ---- what each holds stays
 
 -- where none is asked
 pub all_kept : (old : List KeeperState) → AreKept old old
 all_kept [] = tt
-all_kept (s ∷ old) = (record { told_same = refl; later = omega arith }, all_kept old)
+all_kept (s ∷ old) = (record { held = stays_same s.held s.held refl; later = omega arith }, all_kept old)
 
-pub kept_told : (old new : List KeeperState) → AreKept old new → told new ≡ told old
-kept_told [] [] kept = refl
-kept_told [] (t ∷ new) kept = absurd kept
-kept_told (s ∷ old) [] kept = absurd kept
-kept_told (s ∷ old) (t ∷ new) kept =
-    let first = kept.0.told_same in let rest = kept_told old new kept.1 in cc
+-- over two steps
+pub kept_then : (old mid new : List KeeperState) → AreKept old mid → AreKept mid new → AreKept old new
+kept_then [] [] [] first then = tt
+kept_then [] [] (u ∷ new) first then = absurd then
+kept_then [] (t ∷ mid) new first then = absurd first
+kept_then (s ∷ old) [] new first then = absurd first
+kept_then (s ∷ old) (t ∷ mid) [] first then = absurd then
+kept_then (s ∷ old) (t ∷ mid) (u ∷ new) first then =
+    (record { held = stays_then s.held t.held u.held first.0.held then.0.held; later = omega (arith, first.0.later, then.0.later) }, kept_then old mid new first.1 then.1)
 
 pub kept_count : (place : ℕ) (old new : List KeeperState) → AreKept old new → count_at place old ≤ count_at place new
 kept_count place [] [] kept = omega arith
@@ -28,12 +33,20 @@ kept_count place (s ∷ old) [] kept = absurd kept
 kept_count zero (s ∷ old) (t ∷ new) kept = kept.0.later
 kept_count (suc place) (s ∷ old) (t ∷ new) kept = kept_count place old new kept.1
 
+-- at a place
+pub kept_at : (place : ℕ) (old new : List KeeperState) → AreKept old new → StaysHeld (state_at place old).held (state_at place new).held
+kept_at place [] [] kept = tt
+kept_at place [] (t ∷ new) kept = absurd kept
+kept_at place (s ∷ old) [] kept = absurd kept
+kept_at zero (s ∷ old) (t ∷ new) kept = kept.0.held
+kept_at (suc place) (s ∷ old) (t ∷ new) kept = kept_at place old new kept.1
+
 -- of things that have a keeper each, where one is put in its place
 pub kept_set : {X : Type 0} (state : X → KeeperState) (old : List X) (place : ℕ) (new none : X) → place < length old
-    → (state new).held ≡ (state (get_or old place none)).held → (state (get_or old place none)).faults ≤ (state new).faults → AreKept (map state old) (map state (set old place new))
+    → StaysHeld (state (get_or old place none)).held (state new).held → (state (get_or old place none)).faults ≤ (state new).faults → AreKept (map state old) (map state (set old place new))
 kept_set state [] place new none lt same later = absurd (omega arith)
-kept_set state (x ∷ old) zero new none lt same later = (record { told_same = same; later = later }, all_kept (map state old))
-kept_set state (x ∷ old) (suc place) new none lt same later = (record { told_same = refl; later = omega arith }, kept_set state old place new none (omega arith) same later)
+kept_set state (x ∷ old) zero new none lt same later = (record { held = same; later = later }, all_kept (map state old))
+kept_set state (x ∷ old) (suc place) new none lt same later = ((all_kept (state x ∷ [])).0, kept_set state old place new none (omega arith) same later)
 
 -- of those in front and those after them
 kept_append : (old new more now : List KeeperState) → AreKept old new → AreKept more now → AreKept (old ++ more) (new ++ now)
@@ -90,7 +103,7 @@ one_failed (s ∷ old) [] [] (suc count) lt failed = absurd failed
 one_failed (s ∷ old) [] (t ∷ behind) (suc count) lt failed = elim failed [ inl rose ↦ inl rose | inr none ↦ absurd none ]
 one_failed (s ∷ old) (o ∷ front) behind (suc count) lt failed = inr (one_failed old front behind count (omega arith) failed)
 
--- what passes of what the next tells passes of what the first tell
+-- what passes of what the next reports passes of what the first report
 one_told : (p : Option Held → Bool) (old : List KeeperState) (done count : ℕ) → done < count → list_any p (told (take 1 (drop done old))) ≡ true → list_any p (told (take count old)) ≡ true
 one_told p old done zero lt is = absurd (omega arith)
 one_told p [] zero (suc count) lt is = absurd cc
@@ -114,8 +127,10 @@ module _ {old rest front behind new : List KeeperState} {done count : ℕ} (back
   pub back_failed : OneFailed (take 1 rest) (take 1 behind) → OneFailed (take count old) (take count new)
   back_failed failed = rw back.is (one_failed old front behind count (omega (arith, back.long, back.before)) (rw (back.left, ← back.long) at failed))
 
-  pub back_told : (p : Option Held → Bool) → list_any p (told (take 1 rest)) ≡ true → list_any p (told (take count old)) ≡ true
-  back_told p is = one_told p old done count back.before (rw back.left at is)
+  pub back_told : (p : Option Held → Bool) → list_any p (told (take 1 behind)) ≡ true → list_any p (told (take count new)) ≡ true
+  back_told p is =
+      let after : drop done new ≡ behind = ap (drop done) back.is ∙ drop_at front behind done back.long in
+      one_told p new done count back.before (subst (λ xs. list_any p (told (take 1 xs)) ≡ true) (sym after) is)
 
 -- one of the first is one of all
 pub one_of_all : (old new : List KeeperState) (count : ℕ) → OneFailed (take count old) (take count new) → OneFailed old new

@@ -6,3 +6,4 @@ pub mod Lines
 pub mod Places
 pub mod Readable
 pub mod Showing
+pub mod Told

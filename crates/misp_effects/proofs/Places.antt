@@ -1,4 +1,4 @@
--- What is told, held and counted at a place.
+-- What is reported, held and counted at a place.
 use Rattle.std.proofs.Common.{◌≡◌, ◌≢◌, ℕ, zero, suc, ◌<◌, ◌≤◌, List, [], ◌∷◌, ◌++◌, length, take, drop, get_or, set, Option, Some, refl, ◌∙◌, ap, arith, length-set, None}
 use Rattle.std.proofs.lemmas.Bool.Decides.{nat_tests}
 use Rattle.misp_outside.specs.Causes.{Rose}
@@ -6,7 +6,7 @@ use Rattle.misp_effects.specs.Prelude.{Held, Here, KeeperState, Meaning, RoseBy,
 use Rattle.misp_effects.specs.KeeperStates.{held_at, count_at, Lends}
 use Rattle.misp_effects.specs.Run.{fault_of}
 
--- a keeper of those that tell the tables holds that of its place
+-- a keeper of those that report the tables holds that of its place
 pub tell_at : (old : List KeeperState) (tables : Tables) (place : ℕ) (none : KeeperState) → place < length old → Tell old tables → (get_or old place none).held ≡ Some (held_at place tables)
 tell_at [] tables place none lt tell = absurd (omega arith)
 tell_at (s ∷ old) [] place none lt tell = cc
@@ -14,7 +14,7 @@ tell_at (s ∷ old) (t ∷ tables) zero none lt tell = cc
 tell_at (s ∷ old) (t ∷ tables) (suc place) none lt tell =
     let rest : Tell old tables = cc in tell_at old tables place none (omega arith) rest
 
--- with another keeper and another table at a place they still tell
+-- with another keeper and another table at a place they still report
 pub tell_set : (old : List KeeperState) (tables : Tables) (place : ℕ) (new : KeeperState) (held : Held) → Tell old tables → new.held ≡ Some held → Tell (set old place new) (set tables place held)
 tell_set [] [] place new held tell is = refl
 tell_set [] (t ∷ tables) place new held tell is = cc

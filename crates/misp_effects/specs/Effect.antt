@@ -65,9 +65,9 @@ under telling (Stopped stop n lost) e = telling stop n lost e
 -- readable. THE word for the contract of a call that changes one keeper.
 pub record Does (A : Type 0) (spelled : Spelling) (stop_in : A → Option Stop)
     (telling : Telling A) (e : Effect A)
-    (held : Held) (reply : A) (new : Option Held) : Type 0 where
+    (held : Held) (reply : A) (new : Held) : Type 0 where
   pub outcome : Outcome
   pub agree : stop_of outcome ≡ stop_in reply
   pub reply_is : reply ≡ (under telling outcome e).reply
-  pub held_is : new ≡ Some (left spelled (under telling outcome e) held)
+  pub held_is : new ≡ left spelled (under telling outcome e) held
   pub fits : AreReadable (under telling outcome e).batches

@@ -4,6 +4,7 @@ use Rattle.std.specs.List.{AllZip}
 use Rattle.misp_outside.specs.Causes.{Rose}
 use Rattle.misp_outside.specs.Held.{Held, nothing_held}
 use Rattle.misp_outside.specs.KeeperState.{KeeperState, state}
+use Rattle.misp_outside.specs.Reporting.{StaysHeld}
 
 -- what is held at each place
 abbrev pub Tables : Type 0
@@ -13,13 +14,22 @@ Tables = List Held
 abbrev pub held_at : ℕ → Tables → Held
 held_at place tables = slice_index_or tables place nothing_held
 
--- what each tells
+-- what each reports
 abbrev pub told : List KeeperState → List (Option Held)
 told old = map (λ (state : KeeperState). state.held) old
 
--- all of them tell, and this
+-- all of them report what they hold, and this
 abbrev pub Tell : List KeeperState → Tables → Type 0
 Tell old tables = told old ≡ map Some tables
+
+-- all of them report what they hold
+abbrev pub AllReport : List KeeperState → Type 0
+AllReport states = (tables : Tables) × Tell states tables
+
+-- Where all of them report what they hold afterwards, they did before, and this holds of the two.
+abbrev pub WhereTold : List KeeperState → List KeeperState → (Tables → Tables → Type 0) → Type 0
+WhereTold old new P =
+    (after : Tables) → Tell new after → (before : Tables) × Tell old before × P before after
 
 -- how often the keeper of a place has failed
 abbrev pub count_at : ℕ → List KeeperState → ℕ
@@ -29,9 +39,9 @@ count_at place old = slice_index (map (λ (state : KeeperState). state.faults) o
 abbrev pub state_at : ℕ → List KeeperState → KeeperState
 state_at place old = slice_index_or old place (state None 0)
 
--- it tells what it told, and its count of faults did not fall
+-- what it holds stays, and its count of faults did not fall
 pub record IsKept (old new : KeeperState) : Type 0 where
-  pub told_same : new.held ≡ old.held
+  pub held : StaysHeld old.held new.held
   pub later : old.faults ≤ new.faults
 
 -- that is so of each

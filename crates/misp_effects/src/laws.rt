@@ -30,7 +30,7 @@ pub fn what_is_done_is_shown<A, B>()
         ((a : A) → stop_shown (f a) ≡ stop_in a) →
         ((stop : Stop) (n : ℕ) (lost : Bool) (e : Effect A) →
         telling_shown stop n lost (shown f e) ≡ shown f (telling stop n lost e)) →
-        (e : Effect A) (held : Held) (reply : A) (new : Option Held) →
+        (e : Effect A) (held : Held) (reply : A) (new : Held) →
         Does A spelled stop_in telling e held reply new →
         Does B spelled stop_shown telling_shown (shown f e) held (f reply) new }
 {}
@@ -43,7 +43,7 @@ pub fn what_is_done_is_done_behind_a_batch<A>()
         ((stop : Stop) (n : ℕ) (lost : Bool) (e : Effect A) →
         whole stop (suc n) lost (behind b e) ≡ behind b (rest stop n lost e)) →
         IsReadable b →
-        (e : Effect A) (held : Held) (reply : A) (new : Option Held) →
+        (e : Effect A) (held : Held) (reply : A) (new : Held) →
         Does A spelled stop_in rest e (with_batch (spelled b) held) reply new →
         Does A spelled stop_in whole (behind b e) held reply new }
 {}

@@ -3,6 +3,7 @@ pub mod Again
 pub mod ArrivedRows
 pub mod Arriving
 pub mod AsNew
+pub mod Bringing
 pub mod ByPackages
 pub mod Changing
 pub mod Copies
@@ -11,6 +12,7 @@ pub mod Elsewhere
 pub mod FirstPackages
 pub mod GroupsAgain
 pub mod Growing
+pub mod Handed
 pub mod HandedIn
 pub mod ManifestsAnswered
 pub mod Merging

@@ -2,12 +2,13 @@
 use Rattle.std.proofs.Common.{◌≡◌, ℕ, ◌+◌, List, [], ◌∷◌, ◌++◌, length, refl, sym, ◌∙◌, ap, subst, arith, length-append, Option}
 use Rattle.std.proofs.lemmas.List.{map-append}
 use Rattle.misp_effects.specs.declared.stop.Stop.{Stop}
-use Rattle.misp_effects.specs.Prelude.{Held, KeeperState, Meaning, RoseBy, Spelling, Tables, Tell}
+use Rattle.misp_effects.specs.Prelude.{Held, KeeperState, Meaning, RoseBy, Spelling, Tables}
 use Rattle.misp_effects.specs.Effect.{Outcome, stop_of}
 use Rattle.misp_effects.specs.KeeperStates.{count_at}
 use Rattle.misp_effects.specs.Run.{output_of, tables_after, outputs_of, tables_left, AreFit, fault_at, faults_at}
-use Rattle.misp_effects.specs.Course.{IsAct, HasRun}
+use Rattle.misp_effects.specs.Course.{AreDone, IsAct, HasRun}
 use Rattle.misp_effects.proofs.Courses.{rose_more}
+use Rattle.misp_effects.proofs.Told.{told_so, told_then}
 
 module _ {S A : Type 0} (seen_in : Held → S) (spelled : Spelling) where
   -- what is put out by these commands and those
@@ -54,16 +55,14 @@ module _ (S A : Type 0) (seen_in : Held → S) (spelled : Spelling) (stop_in : A
     causes = λ place.
         let one : faults_at stop_in place (m ∷ []) (output ∷ []) ≡ fault_at stop_in place m output = omega arith in
         subst (λ n. RoseBy n (count_at place old) (count_at place new)) (sym one) (act.causes place);
-    done = λ tables tell.
-        let step = act.done tables tell in
-        record {
-          outcomes = step.outcome ∷ [];
-          each = refl;
-          agree = ap (λ stop. stop ∷ []) step.agree;
-          outputs_are = ap (λ o. o ∷ []) step.output_is;
-          tables_are = step.tables_are;
-          fits = (step.fits, tt);
-        };
+    done = told_so old new _ _ (λ before after step. record {
+      outcomes = step.outcome ∷ [];
+      each = refl;
+      agree = ap (λ stop. stop ∷ []) step.agree;
+      outputs_are = ap (λ o. o ∷ []) step.output_is;
+      tables_are = step.tables_are;
+      fits = (step.fits, tt);
+    }) act.done;
   }
 
   -- these commands and then those
@@ -75,20 +74,20 @@ module _ (S A : Type 0) (seen_in : Held → S) (spelled : Spelling) (stop_in : A
     causes = λ place.
         subst (λ n. RoseBy n (count_at place old) (count_at place new)) (sym (faults_append stop_in place ms ns first last run.each))
         (rose_more _ _ _ _ _ (run.causes place) (more.causes place));
-    done = λ tables tell.
-        let so_far = run.done tables tell in
-        let after = more.done (tables_left seen_in spelled ms so_far.outcomes tables) so_far.tables_are in
+    done = told_then old mid new _ _ _ (λ before between after so_far done.
+        let rest : AreDone S A seen_in spelled stop_in ns last (tables_left seen_in spelled ms so_far.outcomes before) after =
+        subst (λ tables. AreDone S A seen_in spelled stop_in ns last tables after) so_far.tables_are done in
         record {
-          outcomes = so_far.outcomes ++ after.outcomes;
-          each = omega (arith, so_far.each, after.each, length-append so_far.outcomes after.outcomes, length-append ms ns);
+          outcomes = so_far.outcomes ++ rest.outcomes;
+          each = omega (arith, so_far.each, rest.each, length-append so_far.outcomes rest.outcomes, length-append ms ns);
           agree =
-              map-append stop_of so_far.outcomes after.outcomes
-              ∙ (λ i. so_far.agree i ++ after.agree i)
+              map-append stop_of so_far.outcomes rest.outcomes
+              ∙ (λ i. so_far.agree i ++ rest.agree i)
               ∙ sym (map-append stop_in first last);
           outputs_are =
-              (λ i. so_far.outputs_are i ++ after.outputs_are i)
-              ∙ sym (outputs_append seen_in spelled ms ns so_far.outcomes after.outcomes tables so_far.each);
-          tables_are = subst (λ left. Tell new left) (sym (left_append seen_in spelled ms ns so_far.outcomes after.outcomes tables so_far.each)) after.tables_are;
-          fits = fit_append seen_in spelled ms ns so_far.outcomes after.outcomes tables so_far.each so_far.fits after.fits;
-        };
+              (λ i. so_far.outputs_are i ++ rest.outputs_are i)
+              ∙ sym (outputs_append seen_in spelled ms ns so_far.outcomes rest.outcomes before so_far.each);
+          tables_are = rest.tables_are ∙ sym (left_append seen_in spelled ms ns so_far.outcomes rest.outcomes before so_far.each);
+          fits = fit_append seen_in spelled ms ns so_far.outcomes rest.outcomes before so_far.each so_far.fits rest.fits;
+        }) run.done more.done;
   }

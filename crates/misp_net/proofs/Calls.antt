@@ -2,7 +2,8 @@
 use Rattle.std.proofs.Common.{◌≡◌, ◌<◌, ◌^◌, ℕ, Bool, true, false, List, ◌++◌, codes, length, refl, ◌∙◌, ap, subst, arith, inl, inr, Option, Some, Result, Ok, Err, IfOk, IfSome, OnErr, drop_at, length-append, if◌then◌else◌}
 use Rattle.std.specs.List.{list_all}
 use Rattle.std.specs.Prelude.{MatchResult, ◌⊎◌}
-use Rattle.std.proofs.lemmas.Option.{IfSome_then}
+use Rattle.misp_outside.specs.Reporting.{WhereReported}
+use Rattle.misp_outside.proofs.Reporting.{reported_so}
 use Rattle.misp_lists.proofs.Bytes.{IsBytes, IsBytes-drop}
 use Rattle.misp_http.specs.Texts.{authorization_line, connection_line, content_length_line, crlf, request_text}
 use Rattle.misp_http.specs.declared.fault.Fault.TheVariants.{BadHead}
@@ -51,7 +52,7 @@ closing key call false = refl
 module _ (key : List ℕ) (call : Call) (now word : ℕ) (old new : Standing)
     (comes : (seen : Seen) → replied (host_of old) now (read_form old.admin word (read_of_call key call)) seen ≡ called (host_of old) now key call seen)
     (asked : IsSync (read_form old.admin word (read_of_call key call))) (groups : IfSome old.held (λ held. has_groups_alone held ≡ true)) (owners : HasOwners (host_of old)) where
-  as_called : (held : Held) (reply : Reply) (left : Option Held) → IsReplied (host_of old) now (read_form old.admin word (read_of_call key call)) held reply left
+  as_called : (held : Held) (reply : Reply) (left : Held) → IsReplied (host_of old) now (read_form old.admin word (read_of_call key call)) held reply left
       → Did (called (host_of old) now key call (seen_in held)) held reply left
   as_called held reply left did = subst (λ (x : Effect Reply). Did x held reply left) (comes (seen_in held)) did
 
@@ -61,7 +62,7 @@ module _ (key : List ℕ) (call : Call) (now word : ℕ) (old new : Standing)
     now = now;
     reply = e.reply;
     bytes_are = e.bytes_are ∙ ap (http_text e.reply) (closing key call (is_short (body_of call)));
-    replied = IfSome_then old.held e.answered.replied (λ held did. as_called held e.reply new.held did);
+    replied = reported_so old.held new.held _ _ (λ held left. as_called held e.reply left) e.answered.replied;
     groups = groups;
     owners = owners;
     sound = e.sound asked;
@@ -70,13 +71,13 @@ module _ (key : List ℕ) (call : Call) (now word : ℕ) (old new : Standing)
   }
 
   -- or it may have done it
-  left_by : (held : Held) → IsLeftSo now (read_form old.admin word (read_of_call key call)) old held new.held
-      → (new.held ≡ Some held) ⊎ ((moment : ℕ) × (reply : Reply) × Did (called (host_of old) moment key call (seen_in held)) held reply new.held)
-  left_by held (inl same) = inl same
-  left_by held (inr (reply, did)) = inr (now, reply, as_called held reply new.held did)
+  left_by : (held left : Held) → IsLeftSo now (read_form old.admin word (read_of_call key call)) old held left
+      → (left ≡ held) ⊎ ((moment : ℕ) × (reply : Reply) × Did (called (host_of old) moment key call (seen_in held)) held reply left)
+  left_by held left (inl same) = inl same
+  left_by held left (inr (reply, did)) = inr (now, reply, as_called held reply left did)
 
   pub call_answered : {V E : Type 0} (items : V → List ℕ) (result : Result V E) → IfOk result (λ v. IsExchanged now word (read_of_call key call) old new (items v))
-      → OnErr result (IfSome old.held (λ held. IsLeftSo now (read_form old.admin word (read_of_call key call)) old held new.held))
+      → OnErr result (WhereReported old.held new.held (IsLeftSo now (read_form old.admin word (read_of_call key call)) old))
       → MatchResult result (λ v. IsAnswered key call old new (items v)) (λ _. MayBeDone key call old new)
   call_answered items (Ok v) exchanged left = answered (items v) exchanged
-  call_answered items (Err fault) exchanged left = IfSome_then old.held left left_by
+  call_answered items (Err fault) exchanged left = reported_so old.held new.held _ _ left_by left

@@ -4,6 +4,7 @@ use Rattle.std.proofs.lemmas.Bool.{cases_Bool}
 use Rattle.misp_ids.specs.declared.label.Direction.{Direction}
 use Rattle.misp_orgs.specs.Admin.{link_of}
 use Rattle.misp_orgs.specs.declared.link.Link.{Link}
+use Rattle.misp_outside.specs.Reporting.{StaysHeld}
 use Rattle.misp_effects.specs.Effect.{shown}
 use Rattle.misp_protocol.specs.Counts.{no_count, tally}
 use Rattle.misp_protocol.specs.declared.cause.Cause.{Cause}
@@ -28,14 +29,9 @@ pub taker_has : {A : Type 0} (P : A → Type 0) (direction : Direction) (here th
 taker_has P Direction.Pull here there of_here of_there = of_here
 taker_has P Direction.Push here there of_here of_there = of_there
 
--- what is held by an instance is what its keeper holds
-pub taker_held : (direction : Direction) (here there : Standing) → (taker direction (state_of here) (state_of there)).held ≡ taker direction here.held there.held
-taker_held Direction.Pull here there = refl
-taker_held Direction.Push here there = refl
-
--- what the one held that gives is what its keeper holds
+-- what the one holds that gives is what its keeper holds
 pub giver_stays : (direction : Direction) (own mine peer theirs : Standing) → Stays direction own mine (Some peer) (Some theirs)
-    → (giver direction (state_of mine) (state_of theirs)).held ≡ (giver direction (state_of own) (state_of peer)).held
+    → StaysHeld (giver direction (state_of own) (state_of peer)).held (giver direction (state_of mine) (state_of theirs)).held
 giver_stays Direction.Pull own mine peer theirs stays = stays
 giver_stays Direction.Push own mine peer theirs stays = stays
 

@@ -1,10 +1,13 @@
 -- Instances that are before the other keepers.
-use Rattle.std.proofs.Common.{◌≡◌, ℕ, List, ◌++◌, map, length, take, drop, Option, sym, ◌∙◌, ap, subst, take_at, drop_at}
+use Rattle.std.proofs.Common.{◌≡◌, ℕ, true, List, ◌++◌, map, length, take, drop, Option, sym, ◌∙◌, ap, subst, take_at, drop_at}
 use Rattle.std.proofs.lemmas.List.{length-map}
 use Rattle.misp_script.specs.declared.description.Entry.{Entry}
 use Rattle.misp_effects.proofs.KeeperStates.{all_kept}
 use Rattle.misp_effects.proofs.Courses.{run_kept}
-use Rattle.misp_net.specs.Prelude.{Act, AreAmong, AreKept, Done, HasRun, Host, IsCut, KeeperState, Line, Output, Ran, Standing, acts_of, described_host, host_of, hosts_of, outputs_of, state_of, states_of}
+use Rattle.misp_effects.proofs.Told.{told_then}
+use Rattle.misp_store.specs.Sharing.{WereSound, is_sound}
+use Rattle.misp_core.specs.Prelude.{list_all}
+use Rattle.misp_net.specs.Prelude.{Act, AreAmong, AreKept, Done, HasRun, Host, IsCut, KeeperState, Line, Output, Ran, Standing, Tables, acts_of, described_host, host_of, hosts_of, outputs_of, state_of, states_of}
 use Rattle.misp_net.specs.Carrying.{Carried}
 use Rattle.misp_net.specs.Meaning.{AreAsFormed}
 use Rattle.misp_net.specs.Opening.{opened_states}
@@ -42,6 +45,13 @@ module _ {hosts described : List Host} {front after rest olds news : List Keeper
       let end : take count news ≡ after = ap (take count) over.is ∙ take_at after rest count (over.still ∙ over.long) in
       subst (λ there. Passes there dones (opened_states (take count olds)) (take count news) first last) over.same
       (subst (λ now. Passes hosts dones (opened_states (take count olds)) now first last) (sym end) (passes_kept hosts (opened_states (take count olds)) front over.kept dones after first last passes))
+
+  -- what was held of which all is sound, where it is still reported
+  pub sound_in_front : {first last : Carried} {lines : List Line} {text : List ℕ} → WereSound (take count olds) front → HasRun hosts lines front after first last text → WereSound (take count olds) (take count news)
+  sound_in_front sound run =
+      let end : take count news ≡ after = ap (take count) over.is ∙ take_at after rest count (over.still ∙ over.long) in
+      let Sound : Tables → Tables → Type 0 = λ before left. list_all is_sound before ≡ true in
+      subst (WereSound (take count olds)) (sym end) (told_then (take count olds) front after Sound _ Sound (λ before between left were did. were) sound run.ran.done)
 
   pub run_in_front : {first last : Carried} {lines : List Line} {text : List ℕ} → HasRun hosts lines front after first last text → HasRun described lines (opened_states (take count olds)) (take count news) first last text
   run_in_front {first} {last} run = record {

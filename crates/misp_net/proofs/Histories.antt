@@ -1,8 +1,9 @@
 -- The acts over keepers that held nothing are those of the history.
-use Rattle.std.proofs.Common.{◌≡◌, ℕ, zero, suc, ◌+◌, List, [], ◌∷◌, length, refl, ◌∙◌, ap, subst, arith}
+use Rattle.std.proofs.Common.{◌≡◌, ℕ, zero, suc, ◌+◌, List, [], ◌∷◌, length, map, Some, refl, sym, ◌∙◌, ap, subst, arith}
 use Rattle.std.proofs.lemmas.List.{length-map}
 use Rattle.misp_lists.specs.Prelude.{IsStrictlySortedBy, in_order}
 use Rattle.misp_effects.specs.Course.{AreDone}
+use Rattle.misp_effects.specs.KeeperStates.{AllReport}
 use Rattle.misp_effects.specs.Run.{outputs_of, tables_left, AreFit}
 use Rattle.misp_history.specs.History.{tables, newest, newest_from}
 use Rattle.misp_store.specs.Sharing.{groups_in}
@@ -29,6 +30,16 @@ at_start hosts = record {
   earlier = refl;
 }
 
+-- tables that are told alike are the same
+one_told : (tables others : Tables) → map Some tables ≡ map Some others → tables ≡ others
+one_told [] [] same = refl
+one_told [] (other ∷ others) same = absurd cc
+one_told (held ∷ tables) [] same = absurd cc
+one_told (held ∷ tables) (other ∷ others) same =
+    let first : held ≡ other = cc in
+    let rest : map Some tables ≡ map Some others = cc in
+    ap (λ h. h ∷ tables) first ∙ ap (λ ts. other ∷ ts) (one_told tables others rest)
+
 module _ (back : AreReadBack) (law : AreSyncLaws) (hosts : List Host) (distinct : AreDistinct hosts) where
   -- what the lines put out and leave, the first being the n-th
   all_told : (n : ℕ) (w : World) (acts : List Act) (outcomes : List Outcome) (old : Tables) → length outcomes ≡ length acts
@@ -50,9 +61,11 @@ module _ (back : AreReadBack) (law : AreSyncLaws) (hosts : List Host) (distinct 
       )
 
   module _ (acts : List Act) (old new : List KeeperState) (outputs : List Output) (among : AreAmong (length hosts) acts) (ran : Ran hosts acts old new outputs)
-      (empty : Tell old (empty_tables hosts)) where
-    pub course : AreDone Seen Output seen_in spelled stop_in (meanings_of hosts acts) (empty_tables hosts) outputs new
-    course = ran.done (empty_tables hosts) empty
+      (empty : Tell old (empty_tables hosts)) (reports : AllReport new) where
+    pub course : AreDone Seen Output seen_in spelled stop_in (meanings_of hosts acts) outputs (empty_tables hosts) reports.0
+    course =
+        let was = ran.done reports.0 reports.1 in
+        subst (λ tables. AreDone Seen Output seen_in spelled stop_in (meanings_of hosts acts) outputs tables reports.0) (one_told was.0 (empty_tables hosts) (sym was.1 ∙ empty)) was.2
 
     pub each : length course.outcomes ≡ length acts
     each = course.each ∙ length-map acts (λ act. (meaning hosts act).means)
@@ -66,7 +79,8 @@ module _ (back : AreReadBack) (law : AreSyncLaws) (hosts : List Host) (distinct 
     replied = course.outputs_are ∙ history.0
 
     -- and what is held
-    pub newest_held : IsHistory hosts (length acts) (world_left 0 hosts start acts course.outcomes) (tables_left seen_in spelled (meanings_of hosts acts) course.outcomes (empty_tables hosts))
+    pub newest_held : IsHistory hosts (length acts) (world_left 0 hosts start acts course.outcomes) reports.0
     newest_held =
         let same : 0 + length acts ≡ length acts = omega arith in
-        subst (λ k. IsHistory hosts k (world_left 0 hosts start acts course.outcomes) (tables_left seen_in spelled (meanings_of hosts acts) course.outcomes (empty_tables hosts))) same history.1
+        subst (IsHistory hosts (length acts) (world_left 0 hosts start acts course.outcomes)) (sym course.tables_are)
+        (subst (λ k. IsHistory hosts k (world_left 0 hosts start acts course.outcomes) (tables_left seen_in spelled (meanings_of hosts acts) course.outcomes (empty_tables hosts))) same history.1)

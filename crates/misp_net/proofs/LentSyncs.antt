@@ -1,10 +1,11 @@
 -- What a synchronisation of two instances of a list is among the keepers of all.
-use Rattle.std.proofs.Common.{◌≡◌, ◌≢◌, ℕ, ◌<◌, true, false, eqb, nat_eq, List, [], length, get_or, set, Option, None, Some, option_map, sym, ◌∙◌, ap, subst, inl, inr, IfSome, length-set, get_or-set_other, get_or-set_same}
+use Rattle.std.proofs.Common.{◌≡◌, ◌≢◌, ℕ, ◌<◌, true, false, eqb, nat_eq, List, [], length, get_or, set, Option, None, Some, option_map, sym, ◌∙◌, ap, subst, inl, inr, length-set, get_or-set_other, get_or-set_same}
 use Rattle.std.proofs.lemmas.Bool.Decides.{eqb_tells}
 use Rattle.std.proofs.lemmas.List.{get_or-map, length-map, map-set}
 use Rattle.misp_orgs.specs.Admin.{link_of}
 use Rattle.misp_orgs.specs.declared.link.Link.{Link}
 use Rattle.misp_outside.specs.KeeperState.{state}
+use Rattle.misp_outside.specs.Reporting.{WhereReported}
 use Rattle.misp_effects.specs.Effect.{Does}
 use Rattle.misp_effects.specs.KeeperStates.{Lends, state_at}
 use Rattle.misp_core.specs.Prelude.{Held}
@@ -22,7 +23,7 @@ use Rattle.misp_net.specs.Prelude.{Host, KeeperState, Standing, SyncData, host_a
 use Rattle.misp_net.specs.Running.{IsSynced}
 use Rattle.misp_net.proofs.Growing.{grows_as}
 use Rattle.misp_net.proofs.Steps.{hosts_kept}
-use Rattle.misp_net.proofs.Directions.{giver_stays, taker_held}
+use Rattle.misp_net.proofs.Directions.{giver_stays}
 use Rattle.misp_sync.specs.Pulled as pulls
 
 -- two places that are apart
@@ -77,6 +78,16 @@ module _ (line : SyncData) (peer : ℕ) (before after : Carried) (old new : List
       ∙ get_or-set_other (set (states_of old) line.at (state_of is.mine)) peer line.at (state_of is.theirs) (state None 0) (λ same. places_apart peer line.at other (sym same))
       ∙ get_or-set_same (states_of old) line.at (state_of is.mine) (state None 0) (rw (length-map old state_of) lt)
 
+  -- and that of the other
+  peer_left : state_at peer (states_of new) ≡ state_of is.theirs
+  peer_left =
+      ap (state_at peer) states_are
+      ∙ get_or-set_same (set (states_of old) line.at (state_of is.mine)) peer (state_of is.theirs) (state None 0)
+      (rw (length-set (states_of old) line.at (state_of is.mine), length-map old state_of) peer_lt)
+
+  theirs_host : host_of is.theirs ≡ host_of from
+  theirs_host = let same = (is.went no_one).synchronised.peer.0 in λ i. record { name = same.name i; admin = same.admin i }
+
   -- names and administrations stay
   pub lent_hosts : hosts_of new ≡ hosts_of old
   lent_hosts =
@@ -92,12 +103,10 @@ module _ (line : SyncData) (peer : ℕ) (before after : Carried) (old new : List
       let went = (is.went no_one).synchronised in
       let there : Host = host_at (place_of_peer (hosts_of old) line.at line.link) (hosts_of old) in
       let there_host : there ≡ host_of from = ap (λ p. host_at p (hosts_of old)) (sym place) ∙ from_host in
-      let Did : Host → Host → Option Held → Type 0 = λ h f left. IfSome own.held (λ o. IfSome from.held (λ p.
-      Does SyncReply spelled pulls.stop_in (telling_on line.direction) (synced_on line.direction h line.link f (seen_in o) (seen_in p)) (taker line.direction o p) reply left)) in
-      let did : Did (host_at line.at (hosts_of old)) there (taker line.direction (state_of is.mine) (state_of is.theirs)).held =
-      subst (λ left. Did (host_at line.at (hosts_of old)) there left) (sym (taker_held line.direction is.mine is.theirs))
-      (subst (λ (h : Host). Did h there (taker line.direction is.mine.held is.theirs.held)) (sym own_host)
-      (subst (λ (f : Host). Did (host_of own) f (taker line.direction is.mine.held is.theirs.held)) (sym there_host) went.did)) in
+      let Did : Host → Host → Type 0 = λ h f. WhereReported own.held is.mine.held (λ o now. WhereReported from.held is.theirs.held (λ p left.
+      Does SyncReply spelled pulls.stop_in (telling_on line.direction) (synced_on line.direction h line.link f (seen_in o) (seen_in p)) (taker line.direction o p) reply (taker line.direction now left))) in
+      let did : Did (host_at line.at (hosts_of old)) there =
+      subst (λ (h : Host). Did h there) (sym own_host) (subst (λ (f : Host). Did (host_of own) f) (sym there_host) went.did) in
       let met : IsSynced (hosts_of old) line reply (state_of own) (state_of is.mine) (state_of from) (state_of is.theirs) =
       record { did = did; kept = giver_stays line.direction own is.mine from is.theirs went.kept; cause = went.cause; peer_cause = went.peer.1 } in
       record {
@@ -120,14 +129,20 @@ module _ (line : SyncData) (peer : ℕ) (before after : Carried) (old new : List
       let told_is : told_at (hosts_of old) (states_of old) peer ≡ told_of (Some from) =
       ap (λ (h : Host). option_map (λ held. (h, held)) (state_at peer (states_of old)).held) from_host
       ∙ ap (λ (s : KeeperState). option_map (λ held. (host_of from, held)) s.held) (there_state old peer peer_lt) in
-      let On : Option Link → Standing → Option Held → Option (Host × Held) → Trail → Type 0 = λ l o left told. IsTrailOver line.direction l o left told reply in
-      let left : Option Held = (state_at line.at (states_of new)).held in
-      grows_as before.passed after.passed (On there own is.mine.held (told_of (Some from))) (IsSyncPassed (hosts_of old) (states_of old) (states_of new) line reply)
+      let left_is : told_at (hosts_of old) (states_of new) peer ≡ told_of (Some is.theirs) =
+      ap (λ (h : Host). option_map (λ held. (h, held)) (state_at peer (states_of new)).held) (from_host ∙ sym theirs_host)
+      ∙ ap (λ (s : KeeperState). option_map (λ held. (host_of is.theirs, held)) s.held) peer_left in
+      let On : Option Link → Standing → Option Held → Option (Host × Held) → Option (Host × Held) → Trail → Type 0 = λ l o now told then. IsTrailOver line.direction l o now told then reply in
+      let now : Option Held = (state_at line.at (states_of new)).held in
+      let told : ℕ → Option (Host × Held) = told_at (hosts_of old) (states_of old) in
+      let then : ℕ → Option (Host × Held) = told_at (hosts_of old) (states_of new) in
+      grows_as before.passed after.passed (On there own is.mine.held (told_of (Some from)) (told_of (Some is.theirs))) (IsSyncPassed (hosts_of old) (states_of old) (states_of new) line reply)
       (λ more on.
-      subst (λ p. UnlessHere (eqb p line.at) (On (link_at (hosts_of old) line.at line.link) (stands_at (hosts_of old) (states_of old) line.at) left (told_at (hosts_of old) (states_of old) p)) more) place
-      (subst (λ here. UnlessHere here (On (link_at (hosts_of old) line.at line.link) (stands_at (hosts_of old) (states_of old) line.at) left (told_at (hosts_of old) (states_of old) peer)) more) (sym other)
-      (subst (λ (l : Option Link). On l (stands_at (hosts_of old) (states_of old) line.at) left (told_at (hosts_of old) (states_of old) peer) more) (sym link_is)
-      (subst (λ (o : Standing). On there o left (told_at (hosts_of old) (states_of old) peer) more) (sym stands)
-      (subst (λ (s : KeeperState). On there own s.held (told_at (hosts_of old) (states_of old) peer) more) (sym own_left)
-      (subst (λ told. On there own is.mine.held told more) (sym told_is) on))))))
+      subst (λ p. UnlessHere (eqb p line.at) (On (link_at (hosts_of old) line.at line.link) (stands_at (hosts_of old) (states_of old) line.at) now (told p) (then p)) more) place
+      (subst (λ here. UnlessHere here (On (link_at (hosts_of old) line.at line.link) (stands_at (hosts_of old) (states_of old) line.at) now (told peer) (then peer)) more) (sym other)
+      (subst (λ (l : Option Link). On l (stands_at (hosts_of old) (states_of old) line.at) now (told peer) (then peer) more) (sym link_is)
+      (subst (λ (o : Standing). On there o now (told peer) (then peer) more) (sym stands)
+      (subst (λ (s : KeeperState). On there own s.held (told peer) (then peer) more) (sym own_left)
+      (subst (λ was. On there own is.mine.held was (then peer) more) (sym told_is)
+      (subst (λ left. On there own is.mine.held (told_of (Some from)) left more) (sym left_is) on)))))))
       (is.went no_one).synchronised.course

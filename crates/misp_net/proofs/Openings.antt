@@ -1,39 +1,46 @@
 -- Keepers while instances are opened over them.
-use Rattle.std.proofs.Common.{◌≡◌, ℕ, zero, suc, ◌+◌, List, [], ◌∷◌, ◌++◌, true, false, not, ◌&&◌, ◌||◌, map, take, drop, refl, sym, ◌∙◌, ap, subst, inl, inr, arith, append_assoc, Option, Some, None, Result, Ok, Err, IfErr, IfSome, IsOk, is_ok, take-append-drop}
-use Rattle.std.specs.Prelude.{IsErrAnd}
+use Rattle.std.proofs.Common.{◌≡◌, ℕ, zero, suc, ◌+◌, ◌≤◌, List, [], ◌∷◌, ◌++◌, true, false, not, ◌&&◌, ◌||◌, map, take, drop, refl, sym, ◌∙◌, ap, subst, inl, inr, arith, append_assoc, Option, Some, None, Result, Ok, Err, IfErr, IfSome, IsOk, is_ok, option_map, take-append-drop, take-take}
+use Rattle.std.specs.Prelude.{IsErrAnd, ◌⊎◌}
 use Rattle.std.specs.List.{drop-map, take-map}
-use Rattle.std.proofs.lemmas.List.{map_push}
+use Rattle.std.proofs.lemmas.List.{drop-take, map_push}
+use Rattle.misp_outside.specs.Reporting.{StaysHeld, WhereReported}
+use Rattle.misp_outside.proofs.Reporting.{reported_before, reported_so}
 use Rattle.misp_effects.specs.KeeperStates.{OneFailed}
 use Rattle.misp_effects.proofs.KeeperStates.{AreBack, all_kept, first_kept, next_kept}
-use Rattle.misp_history.proofs.Prelude.{and_from, and_parts}
+use Rattle.misp_effects.proofs.Told.{told_append}
+use Rattle.misp_history.proofs.Prelude.{all_both, and_from}
 use Rattle.misp_store.specs.Loading.{NamesFault}
 use Rattle.misp_store.specs.Raw.{rows_in}
-use Rattle.misp_store.specs.Renewing.{after_groups, after_rows, opened}
+use Rattle.misp_store.specs.Renewing.{after_groups, after_rows, opened, renewed}
 use Rattle.misp_store.specs.declared.fault.LoadFault.{LoadFault}
-use Rattle.misp_store.specs.Sharing.{is_sound, may_be_sound, may_be_unsound}
-use Rattle.misp_core.specs.Prelude.{Group, Held, KeeperState, Row, Standing, groups_in, option_map_or}
+use Rattle.misp_store.specs.Sharing.{WereSound, is_sound, may_be_unsound}
+use Rattle.misp_core.specs.Prelude.{Group, Held, KeeperState, Row, Standing, Tell, groups_in, list_all, option_map_or}
 use Rattle.misp_net.specs.Opening.{AreKeptOrOpened, IsCutShort, IsStoppedBy, opened_state, opened_states}
 use Rattle.misp_net.specs.Passing.{Trail}
-use Rattle.misp_net.specs.Prelude.{AreKept, Host, Line, nothing_held, state_of, states_of}
+use Rattle.misp_net.specs.Prelude.{AreKept, Host, Line, Tables, nothing_held, state_of, states_of}
 use Rattle.misp_net.specs.Running.{fault_of}
 use Rattle.misp_net.specs.declared.places.NetFault.{NetFault}
 
--- ---- what the keepers tell
+-- ---- what the keepers held
 
-none_taken : (count : ℕ) → may_be_sound (take count []) ≡ true
-none_taken zero = refl
-none_taken (suc count) = refl
+none_sound : WereSound [] []
+none_sound after tell = ([], refl, refl)
+
+-- the first keepers and the next
+take_next : (count : ℕ) (old : List KeeperState) → take count old ++ take 1 (drop count old) ≡ take (count + 1) old
+take_next count old =
+    ap (λ front. front ++ take 1 (drop count old)) (sym (take-take count (count + 1) old (omega arith)))
+    ∙ ap (λ behind. take count (take (count + 1) old) ++ behind) (sym (drop-take count 1 old))
+    ∙ take-append-drop count (take (count + 1) old)
 
 -- one more of which every row decodes
-pub sound_next : (count : ℕ) (old rest : List KeeperState) → rest ≡ drop count old → may_be_sound (take count old) ≡ true → may_be_sound (take 1 rest) ≡ true → may_be_sound (take (count + 1) old) ≡ true
-sound_next count old rest is first next = more count old first (subst (λ r. may_be_sound (take 1 r) ≡ true) is next)
-  where
-    more : (count : ℕ) (old : List KeeperState) → may_be_sound (take count old) ≡ true → may_be_sound (take 1 (drop count old)) ≡ true → may_be_sound (take (count + 1) old) ≡ true
-    more zero old first next = next
-    more (suc n) [] first next = none_taken (suc n + 1)
-    more (suc n) (s ∷ old) first next =
-        let on : suc n + 1 ≡ suc (n + 1) = omega arith in
-        subst (λ k. may_be_sound (take k (s ∷ old)) ≡ true) (sym on) (and_from _ _ (and_parts _ _ first).0 (more n old (and_parts _ _ first).1 next))
+pub sound_next : (count : ℕ) (old front rest : List KeeperState) (next : KeeperState) → rest ≡ drop count old → WereSound (take count old) front → WereSound (take 1 rest) (next ∷ [])
+    → WereSound (take (count + 1) old) (front ++ next ∷ [])
+sound_next count old front rest next is first then =
+    let Sound : Tables → Tables → Type 0 = λ before after. list_all is_sound before ≡ true in
+    subst (λ before. WereSound before (front ++ next ∷ [])) (take_next count old)
+    (told_append (take count old) front (take 1 (drop count old)) (next ∷ []) Sound Sound Sound (λ before after later last sound more. all_both is_sound before later sound more)
+    first (subst (λ r. WereSound (take 1 r) (next ∷ [])) is then))
 
 -- where all that is held decodes, it is sound
 rows_sound : (held : Held) (rows : Result (List Row) (List ℕ)) → IsOk (after_rows held rows) → is_ok rows ≡ true
@@ -44,13 +51,21 @@ groups_sound : (held : Held) (groups : Result (List Group) (List ℕ)) → IsOk 
 groups_sound held (Ok groups) ok = rows_sound held (rows_in held.rows) ok
 groups_sound held (Err name) ok = ok
 
-pub sound_one : (s : KeeperState) → IfSome s.held (λ held. IsOk (opened held)) → may_be_sound (s ∷ []) ≡ true
+opened_sound : (held : Held) → IsOk (opened held) → is_sound held ≡ true
 unfolding opened
-sound_one s ok = by_held s.held ok
-  where
-    by_held : (o : Option Held) → IfSome o (λ held. IsOk (after_groups held (groups_in held.admin))) → (option_map_or is_sound o true && true) ≡ true
-    by_held None ok = refl
-    by_held (Some held) ok = and_from _ _ (groups_sound held (groups_in held.admin) ok) refl
+opened_sound held ok = groups_sound held (groups_in held.admin) ok
+
+first_tells : (s : KeeperState) (held : Held) (tables : Tables) → Tell (s ∷ []) (held ∷ tables) → s.held ≡ Some held
+first_tells s held tables tell = cc
+
+one_tells : (s : KeeperState) (held : Held) → s.held ≡ Some held → Tell (s ∷ []) (held ∷ [])
+one_tells s held is = ap (λ h. h ∷ []) is
+
+pub sound_one : (s i : KeeperState) → WhereReported s.held i.held (λ held now. IsOk (opened held)) → WereSound (s ∷ []) (i ∷ [])
+sound_one s i ok [] tell = absurd cc
+sound_one s i ok (now ∷ after) tell =
+    let was = reported_before s.held i.held _ now ok (first_tells i now after tell) in
+    (was.0 ∷ [], one_tells s was.0 was.1, and_from _ _ (opened_sound was.0 was.2) refl)
 
 -- and where a row does not, it is not
 rows_unsound : (held : Held) (rows : Result (List Row) (List ℕ)) (name : List ℕ) → after_rows held rows ≡ Err name → is_ok rows ≡ false
@@ -80,7 +95,18 @@ pub nothing_is_sound : is_sound nothing_held ≡ true
 unfolding nothing_held groups_in rows_in
 nothing_is_sound = refl
 
--- ---- what they tell once instances are open
+-- ---- what they hold once instances are open
+
+-- what is renewed is what is reported of what was held, renewed
+stays_renewed : (old new : Option Held) → WhereReported old new (λ held now. now ≡ renewed held) → StaysHeld (option_map renewed old) new
+stays_renewed None None is = tt
+stays_renewed None (Some now) is = absurd is
+stays_renewed (Some held) None is = tt
+stays_renewed (Some held) (Some now) is = is
+
+-- so an instance that is open is over a keeper as it opens
+pub opened_one : (s i : KeeperState) → WhereReported s.held i.held (λ held now. now ≡ renewed held) → s.faults ≤ i.faults → AreKept (opened_states (s ∷ [])) (i ∷ [])
+opened_one s i is later = (record { held = stays_renewed s.held i.held is; later = later }, tt)
 
 -- one more is opened
 pub next_opened : (count : ℕ) (old front rest : List KeeperState) (next : KeeperState) → rest ≡ drop count old
@@ -95,13 +121,19 @@ pub kept_or_opened : (old new : List KeeperState) → AreKept old new → AreKep
 kept_or_opened [] [] kept = tt
 kept_or_opened [] (t ∷ new) kept = absurd kept
 kept_or_opened (s ∷ old) [] kept = absurd kept
-kept_or_opened (s ∷ old) (t ∷ new) kept = (record { told_so = inl kept.0.told_same; later = kept.0.later }, kept_or_opened old new kept.1)
+kept_or_opened (s ∷ old) (t ∷ new) kept = (record { held = reported_so s.held t.held _ _ (λ held now same. inl same) kept.0.held; later = kept.0.later }, kept_or_opened old new kept.1)
+
+was_opened : (old new : Option Held) → StaysHeld (option_map renewed old) new → WhereReported old new (λ held now. (now ≡ held) ⊎ (now ≡ renewed held))
+was_opened None None same = tt
+was_opened None (Some now) same = absurd same
+was_opened (Some held) None same = tt
+was_opened (Some held) (Some now) same = inr same
 
 pub opened_of_them : (old new : List KeeperState) → AreKept (opened_states old) new → AreKeptOrOpened old new
 opened_of_them [] [] kept = tt
 opened_of_them [] (t ∷ new) kept = absurd kept
 opened_of_them (s ∷ old) [] kept = absurd kept
-opened_of_them (s ∷ old) (t ∷ new) kept = (record { told_so = inr kept.0.told_same; later = kept.0.later }, opened_of_them old new kept.1)
+opened_of_them (s ∷ old) (t ∷ new) kept = (record { held = was_opened s.held t.held kept.0.held; later = kept.0.later }, opened_of_them old new kept.1)
 
 both_parts : (old new more now : List KeeperState) → AreKeptOrOpened old new → AreKeptOrOpened more now → AreKeptOrOpened (old ++ more) (new ++ now)
 both_parts [] [] more now first rest = rest
@@ -163,14 +195,14 @@ module _ (hosts : List Host) (lines : List Line) (old new : List KeeperState) (b
   memory_stopped (Err fault) is = subst (IsStoppedBy hosts lines old new before after) (sym is) cut
 
   by_fault : {B : Type 0} (opened : Result B NetFault) (fault : NetFault) → opened ≡ Err fault → (opened ≡ Err NetFault.KeeperFault → OneFailed old new)
-      → (opened ≡ Err NetFault.BadRow → may_be_unsound old ≡ true) → IsStoppedBy hosts lines old new before after fault
+      → (opened ≡ Err NetFault.BadRow → may_be_unsound new ≡ true) → IsStoppedBy hosts lines old new before after fault
   by_fault opened NetFault.KeeperFault is keeper bad = keeper is
   by_fault opened NetFault.BadRow is keeper bad = bad is
   by_fault opened NetFault.NoMemory is keeper bad = cut
 
   -- or by the fault for which the instances did not open
   pub opening_stopped : {A B : Type 0} (result : Result A NetFault) (opened : Result B NetFault) (fault : NetFault) → opened ≡ Err fault → IsErrAnd result (λ f. f ≡ fault)
-      → (opened ≡ Err NetFault.KeeperFault → OneFailed old new) → (opened ≡ Err NetFault.BadRow → may_be_unsound old ≡ true)
+      → (opened ≡ Err NetFault.KeeperFault → OneFailed old new) → (opened ≡ Err NetFault.BadRow → may_be_unsound new ≡ true)
       → IfErr result (IsStoppedBy hosts lines old new before after)
   opening_stopped (Ok x) opened fault is same keeper bad = tt
   opening_stopped (Err f) opened fault is same keeper bad =

@@ -1,15 +1,17 @@
 -- What passed for lines, one after another.
-use Rattle.std.proofs.Common.{◌≡◌, ℕ, zero, suc, List, [], ◌∷◌, ◌++◌, Bool, true, false, eqb, Option, Some, None, Ok, Err, inl, inr, refl, sym, ◌∙◌, ap, subst, arith}
+use Rattle.std.proofs.Common.{◌≡◌, ℕ, List, [], ◌∷◌, ◌++◌, Bool, true, false, eqb, Option, Some, None, Ok, Err, inl, inr, refl, sym, ◌∙◌, ap, subst}
 use Rattle.std.proofs.lemmas.Bool.{cases_Bool}
 use Rattle.misp_ids.specs.declared.label.Direction.{Direction}
 use Rattle.misp_orgs.specs.declared.link.Link.{Link}
 use Rattle.misp_script.specs.Directory.{Roster, place_of, roster_names}
+use Rattle.misp_outside.specs.Reporting.{StaysHeld, WhereReported}
+use Rattle.misp_outside.proofs.Reporting.{reported_later}
 use Rattle.misp_effects.specs.KeeperStates.{state_at}
 use Rattle.misp_effects.proofs.Courses.{run_kept}
-use Rattle.misp_effects.proofs.KeeperStates.{all_kept}
+use Rattle.misp_effects.proofs.KeeperStates.{all_kept, kept_at, kept_then}
 use Rattle.misp_core.specs.Prelude.{Held, Standing, host_of}
 use Rattle.misp_dialogue.specs.Conversed.{after}
-use Rattle.misp_dialogue.specs.Parties.{GrowsBy, WhereTold}
+use Rattle.misp_dialogue.specs.Parties.{GrowsBy}
 use Rattle.misp_dialogue.specs.Shares.{Keeps, failure, share}
 use Rattle.misp_protocol.specs.Counts.{no_tally}
 use Rattle.misp_protocol.specs.Text.{synchronising}
@@ -17,10 +19,12 @@ use Rattle.misp_protocol.specs.declared.cause.Cause.{Cause}
 use Rattle.misp_sync.specs.Causes.{bar_of}
 use Rattle.misp_sync.specs.Directions.{own_side}
 use Rattle.misp_sync.specs.OwnAnswers.{own_conduct}
-use Rattle.misp_sync.specs.Synchronised.{IfOn, IsCourse, IsTrailOver}
+use Rattle.misp_sync.specs.Synchronised.{IfOn, IsCourse, IsTrailOver, host_in}
 use Rattle.misp_sync.specs.declared.reply.SyncReply.{SyncReply}
+use Rattle.misp_sync.proofs.Conversing.{goes_to, reported_as}
 use Rattle.misp_net.specs.Acts.{Administers, Asks, Deed, Idle, One, Session, Syncs}
 use Rattle.misp_net.specs.Asking.{asked_at, asked_over, names_of}
+use Rattle.misp_net.specs.Hosts.{host_at}
 use Rattle.misp_net.specs.Links.{link_at, peer_place, place_named, place_of_peer}
 use Rattle.misp_net.specs.Passing.{IsPassed, IsPassedFor, IsSyncPassed, Passes, Trail, UnlessHere, stands_at, told_at}
 use Rattle.misp_net.specs.Prelude.{AreKept, Bad, Done, Host, IsDone, KeeperState, Nothing, Output, SyncData, Replied, Synced, Unanswered}
@@ -38,12 +42,12 @@ unless_as true P Q follows trail is = is
 unless_as false P Q follows trail is = follows trail is
 
 -- a link that is not there, or is off, has no trail
-none_over : (direction : Direction) (link : Option Link) (why : Cause) (here : Standing) (new : Option Held) (peer : Option (Host × Held)) (reply : SyncReply) → bar_of link ≡ Some why
-    → IsTrailOver direction link here new peer reply []
-none_over direction None why here new peer reply bar = refl
-none_over direction (Some link) why here new peer reply bar = elim (cases_Bool link.on) [
+none_over : (direction : Direction) (link : Option Link) (why : Cause) (here : Standing) (new : Option Held) (peer left : Option (Host × Held)) (reply : SyncReply) → bar_of link ≡ Some why
+    → IsTrailOver direction link here new peer left reply []
+none_over direction None why here new peer left reply bar = refl
+none_over direction (Some link) why here new peer left reply bar = elim (cases_Bool link.on) [
   | inl on ↦ absurd (let no_ : None ≡ Some why = rw on at bar in cc)
-  | inr off ↦ subst (λ on. IfOn on (IsCourse direction link here new peer reply) []) (sym off) refl
+  | inr off ↦ subst (λ on. IfOn on (IsCourse direction link here new peer left reply) []) (sym off) refl
 ]
 
 module _ (hosts : List Host) (old new : List KeeperState) (line : SyncData) (reply : SyncReply) where
@@ -51,7 +55,8 @@ module _ (hosts : List Host) (old new : List KeeperState) (line : SyncData) (rep
   barred_passed : (why : Cause) → bar_of (link_at hosts line.at line.link) ≡ Some why → IsSyncPassed hosts old new line reply []
   barred_passed why bar =
       unless_none (eqb (place_of_peer hosts line.at line.link) line.at) _
-      (none_over line.direction (link_at hosts line.at line.link) why (stands_at hosts old line.at) (state_at line.at new).held (told_at hosts old (place_of_peer hosts line.at line.link)) reply bar)
+      (none_over line.direction (link_at hosts line.at line.link) why (stands_at hosts old line.at) (state_at line.at new).held
+      (told_at hosts old (place_of_peer hosts line.at line.link)) (told_at hosts new (place_of_peer hosts line.at line.link)) reply bar)
 
   -- and nothing where its peer is no other instance
   alone_passed : eqb (place_of_peer hosts line.at line.link) line.at ≡ true → IsSyncPassed hosts old new line reply []
@@ -69,63 +74,54 @@ refused_passed rosters hosts old new line reply why same (Some link) is asked =
       | inr off ↦ barred_passed hosts old new line reply Cause.LinkOff (rw (is, off.0) refl)
     ]
 
--- ---- over keepers that tell the same
+-- ---- over keepers of which what they hold stays
 
-kept_then : (old mid new : List KeeperState) → AreKept old mid → AreKept mid new → AreKept old new
-kept_then [] [] [] first then = tt
-kept_then [] [] (t ∷ new) first then = absurd then
-kept_then [] (m ∷ mid) new first then = absurd first
-kept_then (s ∷ old) [] new first then = absurd first
-kept_then (s ∷ old) (m ∷ mid) [] first then = absurd then
-kept_then (s ∷ old) (m ∷ mid) (t ∷ new) first then =
-    (record { told_same = then.0.told_same ∙ first.0.told_same; later = omega (arith, first.0.later, then.0.later) }, kept_then old mid new first.1 then.1)
-
-state_kept : (place : ℕ) (old new : List KeeperState) → AreKept old new → (state_at place new).held ≡ (state_at place old).held
-state_kept place [] [] kept = refl
-state_kept place [] (t ∷ new) kept = absurd kept
-state_kept place (s ∷ old) [] kept = absurd kept
-state_kept zero (s ∷ old) (t ∷ new) kept = kept.0.told_same
-state_kept (suc place) (s ∷ old) (t ∷ new) kept = state_kept place old new kept.1
-
--- of the one here a course says only by what it held, and by its name and its administration
-module _ (direction : Direction) (link : Link) (one two : Standing) (held : two.held ≡ one.held) (host : host_of two ≡ host_of one) (new : Option Held) (peer : Option (Host × Held)) (reply : SyncReply) where
-  course_held : (trail : Trail) → IsCourse direction link one new peer reply trail → IsCourse direction link two new peer reply trail
+-- of the two parties a course says only by what they held, and by the name and the administration of the one here
+module _ (direction : Direction) (link : Link) (one two : Standing) (stays : StaysHeld two.held one.held) (host : host_of two ≡ host_of one) (new : Option Held)
+    (peer before left : Option (Host × Held)) (same : StaysHeld before peer) (reply : SyncReply) where
+  course_held : (trail : Trail) → IsCourse direction link one new peer left reply trail → IsCourse direction link two new before left reply trail
   course_held trail is =
-      let Kept : Host → Option Held → Type 0 = λ h old. WhereTold old new (Keeps (own_conduct (h, link)) (share (own_side direction) (synchronising direction no_tally) is.answers)
-      (failure (own_side direction) (after (synchronising direction no_tally) is.answers) is.last)) in
+      let Kept : Host → Held → Held → Type 0 = λ h. Keeps (own_conduct (h, link)) (share (own_side direction) (synchronising direction no_tally) is.answers)
+      (failure (own_side direction) (after (synchronising direction no_tally) is.answers) is.last) in
       record {
         answers = is.answers;
         last = is.last;
         ending = is.ending;
-        own = subst (λ (h : Host). Kept h two.held) (sym host) (subst (λ old. Kept (host_of one) old) (sym held) is.own);
-        there = is.there;
-        went = is.went;
+        own = subst (λ (h : Host). WhereReported two.held new (Kept h)) (sym host) (reported_later two.held one.held new (Kept (host_of one)) stays is.own);
+        there = reported_later before peer left _ same is.there;
+        went = goes_to (host_in peer) (host_in before) link.key _ _ trail is.went;
         ends = is.ends;
         reply_is = is.reply_is;
       }
 
-  if_on : (on : Bool) (trail : Trail) → IfOn on (IsCourse direction link one new peer reply) trail → IfOn on (IsCourse direction link two new peer reply) trail
+  if_on : (on : Bool) (trail : Trail) → IfOn on (IsCourse direction link one new peer left reply) trail → IfOn on (IsCourse direction link two new before left reply) trail
   if_on true trail is = course_held trail is
   if_on false trail is = is
 
-trail_held : (direction : Direction) (link : Option Link) (one two : Standing) → two.held ≡ one.held → host_of two ≡ host_of one → (new : Option Held) (peer : Option (Host × Held)) (reply : SyncReply) (trail : Trail)
-    → IsTrailOver direction link one new peer reply trail → IsTrailOver direction link two new peer reply trail
-trail_held direction None one two held host new peer reply trail is = is
-trail_held direction (Some link) one two held host new peer reply trail is = if_on direction link one two held host new peer reply link.on trail is
+trail_held : (direction : Direction) (link : Option Link) (one two : Standing) → StaysHeld two.held one.held → host_of two ≡ host_of one → (new : Option Held)
+    (peer before left : Option (Host × Held)) → StaysHeld before peer → (reply : SyncReply) (trail : Trail)
+    → IsTrailOver direction link one new peer left reply trail → IsTrailOver direction link two new before left reply trail
+trail_held direction None one two stays host new peer before left same reply trail is = is
+trail_held direction (Some link) one two stays host new peer before left same reply trail is =
+    if_on direction link one two stays host new peer before left same reply link.on trail is
 
 module _ (hosts : List Host) (old mid : List KeeperState) (kept : AreKept old mid) (new : List KeeperState) where
-  told_kept : (place : ℕ) → told_at hosts mid place ≡ told_at hosts old place
-  told_kept place = rw (state_kept place old mid kept) refl
+  -- who is told of stays, with what is held
+  told_stays : (place : ℕ) → StaysHeld (told_at hosts old place) (told_at hosts mid place)
+  told_stays place =
+      let with_host : Held → Host × Held = λ held. (host_at place hosts, held) in
+      reported_as with_host with_host (state_at place old).held (state_at place mid).held (λ a b. b ≡ a) (λ a b. b ≡ a) (λ a b same. ap with_host same) (kept_at place old mid kept)
 
   sync_kept : (line : SyncData) (reply : SyncReply) (trail : Trail) → IsSyncPassed hosts mid new line reply trail → IsSyncPassed hosts old new line reply trail
   sync_kept line reply trail is =
       let peer : ℕ = place_of_peer hosts line.at line.link in
-      let left : Option Held = (state_at line.at new).held in
-      unless_as (eqb peer line.at) (IsTrailOver line.direction (link_at hosts line.at line.link) (stands_at hosts mid line.at) left (told_at hosts mid peer) reply)
-      (IsTrailOver line.direction (link_at hosts line.at line.link) (stands_at hosts old line.at) left (told_at hosts old peer) reply)
-      (λ more on.
-      trail_held line.direction (link_at hosts line.at line.link) (stands_at hosts mid line.at) (stands_at hosts old line.at) (sym (state_kept line.at old mid kept)) refl left (told_at hosts old peer) reply more
-      (subst (λ told. IsTrailOver line.direction (link_at hosts line.at line.link) (stands_at hosts mid line.at) left told reply more) (told_kept peer) on))
+      let link : Option Link = link_at hosts line.at line.link in
+      let here : Option Held = (state_at line.at new).held in
+      let left : Option (Host × Held) = told_at hosts new peer in
+      unless_as (eqb peer line.at) (IsTrailOver line.direction link (stands_at hosts mid line.at) here (told_at hosts mid peer) left reply)
+      (IsTrailOver line.direction link (stands_at hosts old line.at) here (told_at hosts old peer) left reply)
+      (trail_held line.direction link (stands_at hosts mid line.at) (stands_at hosts old line.at) (kept_at line.at old mid kept) refl here
+      (told_at hosts mid peer) (told_at hosts old peer) left (told_stays peer) reply)
       trail is
 
   deed_kept : (deed : Deed) (output : Output) (trail : Trail) → IsPassed hosts mid new deed output trail → IsPassed hosts old new deed output trail

@@ -4,6 +4,7 @@ use Rattle.std.specs.List.{AllByRecursion}
 use Rattle.std.proofs.lemmas.Bool.{cases_Bool}
 use Rattle.misp_ids.specs.Same.{Inst}
 use Rattle.misp_effects.specs.Effect.{stop_of}
+use Rattle.misp_effects.specs.KeeperStates.{AllReport}
 use Rattle.misp_model.specs.Closed.{cut_rows}
 use Rattle.misp_model.specs.Prelude.{IsClosed, Key}
 use Rattle.misp_history.specs.Acts.{Net}
@@ -161,19 +162,19 @@ module _ (back : AreReadBack) (law : AreSyncLaws) (hosts : List Host) (lines : L
   abbrev outputs : List Output
   outputs = outputs_of run.dones
 
-  module _ (distinct : AreDistinct hosts) (empty : Tell old (empty_tables hosts)) where
+  module _ (distinct : AreDistinct hosts) (empty : Tell old (empty_tables hosts)) (reports : AllReport new) where
     abbrev outcomes : List Outcome
-    outcomes = (course back law hosts distinct acts old new outputs run.among run.ran empty).outcomes
+    outcomes = (course back law hosts distinct acts old new outputs run.among run.ran empty reports).outcomes
 
     all_replied : outputs ≡ told_outputs 0 hosts start acts outcomes
-    all_replied = replied back law hosts distinct acts old new outputs run.among run.ran empty
+    all_replied = replied back law hosts distinct acts old new outputs run.among run.ran empty reports
 
     -- what was put out is what the history says of all acts
     told_whole : ShowNoStop run.dones → outputs ≡ outputs_over 0 hosts start acts (acts_in hosts acts)
     told_whole none =
         all_replied
-        ∙ told_unstopped 0 hosts start acts outcomes outputs (each back law hosts distinct acts old new outputs run.among run.ran empty)
-        (course back law hosts distinct acts old new outputs run.among run.ran empty).agree none.0
+        ∙ told_unstopped 0 hosts start acts outcomes outputs (each back law hosts distinct acts old new outputs run.among run.ran empty reports)
+        (course back law hosts distinct acts old new outputs run.among run.ran empty reports).agree none.0
 
     is_private : ShowNoStop run.dones → (o : OrgId) → IsPrivateFor o hosts acts outputs
     is_private none o = record {
@@ -186,12 +187,12 @@ module _ (back : AreReadBack) (law : AreSyncLaws) (hosts : List Host) (lines : L
     is_history : IsHistoryOf hosts run.dones new
     is_history = record {
       outcomes = outcomes;
-      each = each back law hosts distinct acts old new outputs run.among run.ran empty;
-      agree = (course back law hosts distinct acts old new outputs run.among run.ran empty).agree;
+      each = each back law hosts distinct acts old new outputs run.among run.ran empty reports;
+      agree = (course back law hosts distinct acts old new outputs run.among run.ran empty reports).agree;
       replied = all_replied;
-      tables = _;
-      tables_are = (course back law hosts distinct acts old new outputs run.among run.ran empty).tables_are;
-      newest = newest_held back law hosts distinct acts old new outputs run.among run.ran empty;
+      tables = reports.0;
+      tables_are = reports.1;
+      newest = newest_held back law hosts distinct acts old new outputs run.among run.ran empty reports;
       private = is_private;
     }
 

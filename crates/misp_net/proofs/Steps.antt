@@ -1,12 +1,14 @@
 -- What one instance does is an act among all of them.
-use Rattle.std.proofs.Common.{◌≡◌, ℕ, zero, suc, ◌<◌, Bool, true, false, eqb, List, [], ◌∷◌, ◌++◌, length, get_or, set, Some, None, Result, Ok, Err, inl, inr, refl, sym, ◌∙◌, ap, subst, arith, IfSome, IfOk, OnOk, if◌then◌else◌}
+use Rattle.std.proofs.Common.{◌≡◌, ℕ, zero, suc, ◌<◌, Bool, true, false, eqb, List, [], ◌∷◌, ◌++◌, length, get_or, set, Some, None, Result, Ok, Err, inl, inr, refl, sym, ◌∙◌, ap, subst, arith, IfOk, OnOk, if◌then◌else◌}
 use Rattle.std.proofs.lemmas.List.{length-map, get_or-map, set-get_or}
 use Rattle.misp_ids.specs.Refusal.{rule_number}
 use Rattle.misp_outside.specs.Causes.{HasCause}
+use Rattle.misp_outside.specs.Reporting.{WhereReported}
 use Rattle.misp_http.specs.declared.request.Read.{Read}
 use Rattle.misp_effects.specs.declared.stop.Side.TheVariants.{Here, There}
 use Rattle.misp_effects.specs.Course.{IsAct}
 use Rattle.misp_effects.proofs.Acting.{shown_act}
+use Rattle.misp_effects.proofs.Told.{told_same}
 use Rattle.misp_core.specs.Effects.{refused_by, by_keeper, rule_told, Did}
 use Rattle.misp_api.specs.Answering.{replied, IsReplied}
 use Rattle.misp_api.specs.Administering.{IsDone}
@@ -14,7 +16,7 @@ use Rattle.misp_api.specs.Refusing.{TurnsAway}
 use Rattle.misp_api.specs.Request.{Reading}
 use Rattle.misp_api.specs.Sending.{IsAnswered, read_form}
 use Rattle.misp_net.specs.Acts.{act, Administers, Asks}
-use Rattle.misp_net.specs.Prelude.{Effect, GroupData, Host, KeeperState, Output, Replied, Reply, Seen, Standing, Stop, Tell, group_form, grouped, host_at, host_of, hosts_of, meaning, nothing_held, seen_in, spelled, state_of, states_of}
+use Rattle.misp_net.specs.Prelude.{Effect, GroupData, Host, KeeperState, Output, Replied, Reply, Seen, Standing, Stop, group_form, grouped, host_at, host_of, hosts_of, meaning, nothing_held, seen_in, spelled, state_of, states_of}
 use Rattle.misp_net.specs.Prelude.{stop_in}
 use Rattle.misp_net.specs.Hosts.{nobody}
 use Rattle.misp_net.specs.Meaning.{asks, silent, turned_away, IsAsFormed}
@@ -39,7 +41,7 @@ never_there (Reply.Refused refusal) is = none_there (eqb (rule_number refusal.na
 
 -- what is replied at one instance is an act among all
 pub instance_act : (at : ℕ) (comes : Seen → Effect Reply) (old : List Standing) (new none : Standing) (reply : Reply) → at < length old
-    → IfSome (get_or old at none).held (λ held. Did (comes (seen_in held)) held reply new.held)
+    → WhereReported (get_or old at none).held new.held (λ held left. Did (comes (seen_in held)) held reply left)
     → HasCause (get_or old at none).faults new.faults (core.stop_in reply ≡ by_keeper)
     → IsAct Seen Output seen_in spelled stop_in (asks at comes) (states_of old) (states_of (set old at new)) (Replied reply)
 instance_act at comes old new none reply lt did cause =
@@ -52,12 +54,12 @@ pub one_read : (time word at : ℕ) (read : Read) (old : List Standing) (new non
 one_read time word at read old new none reply lt answered =
     let host : host_at at (hosts_of old) ≡ host_of (get_or old at none) = get_or-map host_of old at none nobody lt in
     instance_act at (replied (host_at at (hosts_of old)) time (read_form (host_at at (hosts_of old)).admin word read)) old new none reply lt
-    (subst (λ (h : Host). IfSome (get_or old at none).held (λ held. IsReplied h time (read_form h.admin word read) held reply new.held)) (sym host) answered.replied)
+    (subst (λ (h : Host). WhereReported (get_or old at none).held new.held (λ held left. IsReplied h time (read_form h.admin word read) held reply left)) (sym host) answered.replied)
     answered.cause
 
 -- a line of a group
 pub one_group : (time word : ℕ) (line : GroupData) (old : List Standing) (new none : Standing) (reply : Reply) → line.at < length old
-    → IfSome (get_or old line.at none).held (λ held. IsDone time line.org line.add (group_form line.body) held reply new.held)
+    → WhereReported (get_or old line.at none).held new.held (λ held left. IsDone time line.org line.add (group_form line.body) held reply left)
     → HasCause (get_or old line.at none).faults new.faults (core.stop_in reply ≡ by_keeper)
     → lines.IsAct (hosts_of old) (act time word (Administers line)) (states_of old) (states_of (set old line.at new)) (Replied reply)
 one_group time word line old new none reply lt did cause =
@@ -89,13 +91,13 @@ pub silent_act : (output : Output) (old : List KeeperState) → stop_in output �
 silent_act output old none = record {
   places = refl;
   causes = λ place. rw none (omega arith);
-  done = λ tables tell. record {
+  done = told_same old _ (λ tables. record {
     outcome = effects.Went;
     agree = sym none;
     output_is = refl;
-    tables_are = subst (Tell old) (sym (set-get_or tables 0 nothing_held)) tell;
+    tables_are = sym (set-get_or tables 0 nothing_held);
     fits = tt;
-  };
+  });
 }
 
 -- what holds of what was put out

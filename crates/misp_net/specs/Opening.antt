@@ -1,8 +1,9 @@
--- What opening instances over keepers leaves of these, and what keeps the instances of a description
--- from opening, or stops the run of a script.
+-- What opening instances over keepers leaves of these, and what keeps the instances of a
+-- description from opening, or stops the run of a script.
 use Rattle.std.specs.Prelude.{◌≡◌, ◌≤◌, ◌⊎◌, List, true, map, Option, option_map}
 use Rattle.std.specs.List.{AllZip}
 use Rattle.misp_outside.specs.KeeperState.{state}
+use Rattle.misp_outside.specs.Reporting.{WhereReported}
 use Rattle.misp_effects.specs.KeeperStates.{OneFailed}
 use Rattle.misp_store.specs.Renewing.{renewed}
 use Rattle.misp_store.specs.Sharing.{may_be_unsound}
@@ -14,7 +15,7 @@ use Rattle.misp_net.specs.declared.places.NetFault.{NetFault}
 
 -- ---- what is held once instances are open
 
--- the keeper of an instance as it opens: what it tells is renewed, which says the same
+-- the keeper of an instance as it opens: what it reports is renewed, which says the same
 abbrev pub opened_state : KeeperState → KeeperState
 opened_state s = state (option_map renewed s.held) s.faults
 
@@ -22,9 +23,9 @@ opened_state s = state (option_map renewed s.held) s.faults
 abbrev pub opened_states : List KeeperState → List KeeperState
 opened_states old = map opened_state old
 
--- a keeper tells what it told, or that renewed, and its count of faults did not fall
+-- what a keeper holds stays, or is that renewed, and its count of faults did not fall
 pub record IsKeptOrOpened (old new : KeeperState) : Type 0 where
-  pub told_so : (new.held ≡ old.held) ⊎ (new.held ≡ (opened_state old).held)
+  pub held : WhereReported old.held new.held (λ held now. (now ≡ held) ⊎ (now ≡ renewed held))
   pub later : old.faults ≤ new.faults
 
 -- that is so of each
@@ -46,10 +47,11 @@ IsCutShort hosts lines old new before after =
     (AreKeptOrOpened old new × (after ≡ before))
     ⊎ IsCut hosts lines (opened_states old) new before after
 
--- the count of a keeper rose; or one holds a row that is none, as far as it tells; or memory ran out
+-- the count of a keeper rose; or one holds a row that is none, as far as it tells; or memory ran
+-- out
 abbrev pub IsStoppedBy : List Host → List Line → List KeeperState → List KeeperState
     → Option Trail → Option Trail → NetFault → Type 0
 IsStoppedBy hosts lines old new before after NetFault.KeeperFault = OneFailed old new
-IsStoppedBy hosts lines old new before after NetFault.BadRow = may_be_unsound old ≡ true
+IsStoppedBy hosts lines old new before after NetFault.BadRow = may_be_unsound new ≡ true
 IsStoppedBy hosts lines old new before after NetFault.NoMemory =
     IsCutShort hosts lines old new before after

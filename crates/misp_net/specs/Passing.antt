@@ -18,7 +18,7 @@ use Rattle.misp_net.specs.declared.line.Output.TheVariants.{Synced}
 abbrev pub Trail : Type 0
 Trail = List (List ℕ)
 
--- who the instance of a place is, and what its keeper holds, where it tells that
+-- who the instance of a place is, and what its keeper holds, where it reports that
 abbrev pub told_at : List Host → List KeeperState → ℕ → Option (Host × Held)
 told_at hosts states place =
     option_map (λ held. (host_at place hosts, held)) (state_at place states).held
@@ -42,7 +42,8 @@ abbrev pub IsSyncPassed : List Host → List KeeperState → List KeeperState �
 IsSyncPassed hosts old new line reply trail =
     UnlessHere (place_of_peer hosts line.at line.link == line.at)
     (IsTrailOver line.direction (link_at hosts line.at line.link) (stands_at hosts old line.at)
-    (state_at line.at new).held (told_at hosts old (place_of_peer hosts line.at line.link)) reply)
+    (state_at line.at new).held (told_at hosts old (place_of_peer hosts line.at line.link))
+    (told_at hosts new (place_of_peer hosts line.at line.link)) reply)
     trail
 
 -- for any other deed nothing passed

@@ -4,7 +4,7 @@ use Rattle.misp_ids.specs.Same.{Inst}
 use Rattle.misp_outside.specs.Causes.{RoseBy}
 use Rattle.misp_model.specs.Closed.{cut_rows}
 use Rattle.misp_effects.specs.Effect.{stop_of}
-use Rattle.misp_effects.specs.KeeperStates.{Tables}
+use Rattle.misp_effects.specs.KeeperStates.{AllReport, Tables}
 use Rattle.misp_erasure.specs.Kept.{start, erased}
 use Rattle.misp_core.specs.Prelude.{AllByRecursion, Host, IsRefused, KeeperState, OrgId, Outcome, Tell, Went, World, step}
 use Rattle.misp_protocol.specs.declared.cause.Cause.{Cause}
@@ -140,8 +140,8 @@ pub record IsNetRun (hosts : List Host) (lines : List Line) (old new : List Keep
   pub refused : (outcome : Outcome) (act : Act) (tables : Tables)
       → IsIdle (output_of outcome hosts act tables)
       → tables_after outcome hosts act tables ≡ tables
-  -- and over keepers that held nothing all is that of the history
-  pub history : AreDistinct hosts → Tell old (empty_tables hosts)
+  -- and over keepers that held nothing, and still report what they hold, all is that of the history
+  pub history : AreDistinct hosts → Tell old (empty_tables hosts) → AllReport new
       → IsHistoryOf hosts run.dones new
 
 -- The run was cut short: some first lines did this, and the keepers and what passed are as they

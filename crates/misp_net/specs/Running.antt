@@ -1,8 +1,9 @@
 -- The instances of a run, as its code has them, and one act or line that runs over them.
-use Rattle.std.specs.Prelude.{◌≡◌, ◌≢◌, ◌⊎◌, ℕ, ◌∷◌, ◌++◌, false, List, [], map, Option, Some, Result, Ok, Err, IfSome}
+use Rattle.std.specs.Prelude.{◌≡◌, ◌≢◌, ◌⊎◌, ℕ, ◌∷◌, ◌++◌, false, List, [], map, Option, Some, Result, Ok, Err}
 use Rattle.hex.specs.Hex.{encode_lower}
 use Rattle.misp_outside.specs.KeeperState.{state}
 use Rattle.misp_outside.specs.Causes.{HasCause, RoseBy}
+use Rattle.misp_outside.specs.Reporting.{StaysHeld, WhereReported}
 use Rattle.misp_script.specs.Step.{GroupData, SyncData, RawData, RequestData}
 use Rattle.misp_http.specs.Reading.{IsConclusive, IsRead}
 use Rattle.misp_http.specs.Texts.{request_text}
@@ -75,8 +76,8 @@ IsRequested now word r old new output =
 abbrev pub IsAdministered : ℕ → GroupData → Standing → Standing → Output → Type 0
 IsAdministered now line old new output =
     (reply : Reply) × (output ≡ Replied reply)
-    × IfSome old.held
-    (λ held. groups.IsDone now line.org line.add (group_form line.body) held reply new.held)
+    × WhereReported old.held new.held
+    (λ held left. groups.IsDone now line.org line.add (group_form line.body) held reply left)
     × TurnsAway (group_form line.body) old new reply
     × HasCause old.faults new.faults (replies.stop_in reply ≡ by_keeper)
 
@@ -98,12 +99,13 @@ HasSession now word r old new Wrote =
 -- keeper failed.
 pub record IsSynced (hosts : List Host) (line : SyncData) (reply : SyncReply)
     (own here peer there : KeeperState) : Type 0 where
-  pub did : IfSome own.held (λ o. IfSome peer.held
-      (λ p. DoesCall SyncReply spelled pulls.stop_in (telling_on line.direction)
+  pub did : WhereReported own.held here.held (λ o now. WhereReported peer.held there.held
+      (λ p left. DoesCall SyncReply spelled pulls.stop_in (telling_on line.direction)
       (synced_on line.direction (host_at line.at hosts) line.link
       (host_at (place_of_peer hosts line.at line.link) hosts) (seen_in o) (seen_in p))
-      (taker line.direction o p) reply (taker line.direction here there).held))
-  pub kept : (giver line.direction here there).held ≡ (giver line.direction own peer).held
+      (taker line.direction o p) reply (taker line.direction now left)))
+  pub kept :
+      StaysHeld (giver line.direction own peer).held (giver line.direction here there).held
   pub cause : HasCause own.faults here.faults (pulls.stop_in reply ≡ Some (stops.Keeper Here))
   pub peer_cause : HasCause peer.faults there.faults
       (pulls.stop_in reply ≡ Some (stops.Keeper There))

@@ -113,8 +113,8 @@ fn sync_with<K: Keeper, C: Carry>(
     sync_pair(alloc, routes, own, peer, carry, direction, link, now, word)
 }
 
-/// The instance at one place synchronises with the one at another, in a direction and over a link of
-/// its own.
+/// The instance at one place synchronises with the one at another, in a direction and over a link
+/// of its own.
 pub fn sync_between<K: Keeper, C: Carry>(
     alloc: Global,
     routes: &Routes,

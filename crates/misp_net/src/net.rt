@@ -2,6 +2,7 @@
 
 ghost use Rattle.std.specs.Prelude.{◌≡◌, ◌<◌, ◌≤◌, ◌++◌, true, Ok, IfOk, IfErr, OnOk, OnErr, length, map, take, drop, vec_len, vec_capacity};
 ghost use Rattle.misp_outside.specs.Causes.{RoseBy};
+ghost use Rattle.misp_outside.specs.Reporting.{StaysHeld};
 ghost use Rattle.misp_script.specs.Directory.{directory_of, roster_names};
 ghost use Rattle.misp_script.specs.Step.{IsPlaced, command_data, step_data, step_of};
 ghost use Rattle.misp_script.specs.Step as commands;
@@ -12,7 +13,7 @@ ghost use Rattle.misp_net.specs.Carrying.{carried, carry_faults};
 ghost use Rattle.misp_net.specs.Passing.{IsPassedFor};
 ghost use Rattle.misp_net.specs.Running.{hosts_of, states_of, CutLine, IsAdministered, RanLine};
 ghost use Rattle.misp_net.specs.Lines.{lines_of};
-ghost use Rattle.misp_store.specs.Sharing.{may_be_sound};
+ghost use Rattle.misp_store.specs.Sharing.{WereSound};
 ghost use Rattle.misp_dialogue.specs.Parties.{GrowsBy};
 ghost use Rattle.misp_net.specs.Opening.{AreKeptOrOpened, IsStoppedBy, IsUnopened, opened_states};
 ghost use Rattle.misp_net.specs.Run.{IsDone};
@@ -59,7 +60,7 @@ fn put_group<K: Keeper>(
     ensures room { OnOk result (vec_len lines.new < vec_capacity lines.new) }
     ensures administered { IfOk result
         (IsAdministered now (commands.group_data line.now) instance.old instance.new) }
-    ensures kept { OnErr result (instance.new.held ≡ instance.old.held) }
+    ensures kept { OnErr result (StaysHeld instance.old.held instance.new.held) }
     ensures later { instance.old.faults ≤ instance.new.faults }
     ensures name { instance.new.name ≡ instance.old.name }
     ensures admin { instance.new.admin ≡ instance.old.admin }
@@ -242,9 +243,10 @@ pub fn run_net<K: Keeper, C: Carry>(
         (carried (C.faults carry.old) (C.passed carry.old))
         (carried (C.faults carry.new) (C.passed carry.new)) lines.items) }
 
-    // Lines are run only where every row that is told decodes.
-    ensures sound { OnOk result (may_be_sound
-        (take (length net.instances) (map K.state keepers.old.items)) ≡ true) }
+    // Lines are run only where every row that was held decodes.
+    ensures sound { OnOk result (WereSound
+        (take (length net.instances) (map K.state keepers.old.items))
+        (take (length net.instances) (map K.state keepers.new.items))) }
 
     // Else a keeper failed or holds a row that is none, or memory ran out: then some first lines
     // were run, and no other did anything. Where the instances do not open, each keeper holds what

@@ -1,7 +1,8 @@
 //! A wire to an instance of this process.
 
-ghost use Rattle.std.specs.Prelude.{◌≡◌, ◌≤◌, None, Some, [], ◌∷◌, Err, IfOk, IfSome, MatchResult, OnErr, Ok};
+ghost use Rattle.std.specs.Prelude.{◌≡◌, ◌≤◌, None, Some, [], ◌∷◌, Err, IfOk, MatchResult, OnErr, Ok};
 ghost use Rattle.misp_outside.specs.Causes.{HasCause, StaysUnless};
+ghost use Rattle.misp_outside.specs.Reporting.{WhereReported};
 ghost use Rattle.misp_http.specs.Reading.{IsRead};
 ghost use Rattle.misp_http.specs.declared.request.Read.{Read as WasRead};
 ghost use Rattle.misp_api.specs.Exchange.{IsExchanged, IsLeftSo};
@@ -59,9 +60,9 @@ impl<'a, K: Keeper, C: Carry> OverCarry<'a, K, C> {
 
         // Where no reply comes, what is held is as it was, or what some reply leaves.
         ensures left { (read : WasRead) → IsRead bytes.now (Ok read) (Some []) →
-            OnErr result (IfSome self.old.peer.now.held (λ held. IsLeftSo self.old.now
-            (read_form self.old.peer.now.admin self.old.word read)
-            self.old.peer.now held self.new.peer.now.held)) }
+            OnErr result (WhereReported self.old.peer.now.held self.new.peer.now.held
+            (IsLeftSo self.old.now (read_form self.old.peer.now.admin self.old.word read)
+            self.old.peer.now)) }
 
         ensures same { IsSameHost self.old.peer.now self.new.peer.now }
         ensures silent { self.old.peer.now.held ≡ None → self.new.peer.now.held ≡ None }

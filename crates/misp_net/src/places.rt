@@ -6,7 +6,7 @@ ghost use Rattle.misp_core.specs.Standing.{host_of};
 ghost use Rattle.misp_net.specs.Hosts.{described_host};
 ghost use Rattle.misp_net.specs.Opening.{AreKeptOrOpened, opened_states};
 ghost use Rattle.misp_net.specs.Running.{hosts_of, state_of, states_of, fault_of};
-ghost use Rattle.misp_store.specs.Sharing.{may_be_sound, may_be_unsound};
+ghost use Rattle.misp_store.specs.Sharing.{WereSound, may_be_unsound};
 
 use misp_core::{Instance, LoadFault};
 use misp_ids::NoMemory;
@@ -65,8 +65,8 @@ pub fn open_first<K: Keeper>(
     ensures host { IfOk result (λ instance. host_of instance ≡ described_host entry) }
     ensures opened { IfOk result (λ instance. AreKept
         (opened_states (take 1 (map K.state keepers.old.items))) (state_of instance ∷ [])) }
-    ensures sound { OnOk result
-        (may_be_sound (take 1 (map K.state keepers.old.items)) ≡ true) }
+    ensures sound { IfOk result (λ instance.
+        WereSound (take 1 (map K.state keepers.old.items)) (state_of instance ∷ [])) }
     ensures rest { OnOk result (map K.state keepers.new.items
         ≡ drop 1 (map K.state keepers.old.items)) }
     ensures fewer { OnOk result (1 + vec_len keepers.new ≡ vec_len keepers.old) }
@@ -76,7 +76,7 @@ pub fn open_first<K: Keeper>(
         ≡ drop 1 (map K.state keepers.old.items)) }
     ensures places { OnErr result (vec_len keepers.new ≡ vec_len keepers.old) }
     ensures bad_row { result ≡ Err NetFault.BadRow →
-        may_be_unsound (take 1 (map K.state keepers.old.items)) ≡ true }
+        may_be_unsound (take 1 (map K.state keepers.new.items)) ≡ true }
     ensures keeper { result ≡ Err NetFault.KeeperFault →
         OneFailed (take 1 (map K.state keepers.old.items))
         (take 1 (map K.state keepers.new.items)) }
@@ -106,8 +106,8 @@ pub(crate) fn open_all<K: Keeper>(
         (states_of instances.items)) }
     ensures rest { OnOk result (map K.state keepers.new.items
         ≡ drop (vec_len entries) (map K.state keepers.old.items)) }
-    ensures sound { OnOk result (may_be_sound
-        (take (vec_len entries) (map K.state keepers.old.items)) ≡ true) }
+    ensures sound { IfOk result (λ instances. WereSound
+        (take (vec_len entries) (map K.state keepers.old.items)) (states_of instances.items)) }
     ensures fewer { IfOk result (λ instances.
         vec_len instances + vec_len keepers.new ≡ vec_len keepers.old) }
     ensures room { OnOk result (vec_len keepers.old ≤ vec_capacity keepers.new) }
@@ -118,7 +118,7 @@ pub(crate) fn open_all<K: Keeper>(
         (drop (vec_len entries) (map K.state keepers.new.items)
         ≡ drop (vec_len entries) (map K.state keepers.old.items)) }
     ensures bad_row { result ≡ Err NetFault.BadRow →
-        may_be_unsound (take (vec_len entries) (map K.state keepers.old.items)) ≡ true }
+        may_be_unsound (take (vec_len entries) (map K.state keepers.new.items)) ≡ true }
     ensures keeper { result ≡ Err NetFault.KeeperFault →
         OneFailed (take (vec_len entries) (map K.state keepers.old.items))
         (take (vec_len entries) (map K.state keepers.new.items)) }

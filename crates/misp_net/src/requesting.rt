@@ -1,6 +1,7 @@
 //! The requests of lines.
 
 ghost use Rattle.std.specs.Prelude.{◌≡◌, ◌≢◌, ◌≤◌, ◌<◌, ◌++◌, false, List, ℕ, Option, option_map, Err, IfOk, OnOk, OnErr, vec_len, vec_capacity};
+ghost use Rattle.misp_outside.specs.Reporting.{StaysHeld};
 ghost use Rattle.misp_script.specs.Step as commands;
 ghost use Rattle.misp_http.specs.Reading.{IsRead};
 ghost use Rattle.misp_http.specs.Texts.{request_text};
@@ -46,7 +47,7 @@ pub(crate) fn put_request<K: Keeper>(
     ensures room { OnOk result (vec_len lines.new < vec_capacity lines.new) }
     ensures requested { IfOk result (IsRequested now word (commands.request_data line.now)
         instance.old instance.new) }
-    ensures kept { OnErr result (instance.new.held ≡ instance.old.held) }
+    ensures kept { OnErr result (StaysHeld instance.old.held instance.new.held) }
     ensures later { instance.old.faults ≤ instance.new.faults }
     ensures name { instance.new.name ≡ instance.old.name }
     ensures admin { instance.new.admin ≡ instance.old.admin }

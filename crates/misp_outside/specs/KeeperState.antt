@@ -1,8 +1,8 @@
--- What is told of a keeper.
+-- What a keeper reports.
 use Rattle.std.specs.Prelude.{ℕ, Option}
 use Rattle.misp_outside.specs.Held.{Held}
 
--- what it holds, where it tells it, and how often it has failed
+-- what it holds, where it reports that, and how often it has failed
 pub record KeeperState : Type 0 where
   pub held : Option Held
   pub faults : ℕ

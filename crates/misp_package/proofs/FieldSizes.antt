@@ -1,19 +1,37 @@
 -- How many bytes spell the fields of a row.
-use Rattle.std.proofs.Common.{◌≡◌, ℕ, suc, ◌+◌, ◌*◌, ◌-◌, ◌≤◌, min, Bool, true, false}
-use Rattle.std.proofs.Common.{List, [], ◌∷◌, ◌++◌, length, Option, Some, None, refl, arith, flat_map, length-append, leb-true}
+use Rattle.std.proofs.Common.{◌≡◌, ℕ, suc, ◌+◌, ◌≤◌, Bool, true, false}
+use Rattle.std.proofs.Common.{List, [], ◌∷◌, ◌++◌, length, Option, Some, None, refl, ap, ◌∙◌, arith, length-append, leb-true}
 use Rattle.misp_lists.proofs.Prelude.{and_parts, false≢true}
-use Rattle.misp_elem.specs.Prelude.{AreTags, AreTagsAfter, IsKey, IsText, Uid, inst_name, is_after, is_text, proposal_name}
+use Rattle.misp_elem.specs.Prelude.{IsKey, Uid, inst_name, proposal_name}
 use Rattle.misp_elem.specs.Key.{IsInstName, IsProposalName}
 use Rattle.misp_elem.specs.declared.content.AttributeBody.{AttributeBody}
-use Rattle.misp_elem.specs.Spelling.{flag, flags, key, label, optional_moment, optional_uid, place, stamp, tag, tags, text, uid}
-use Rattle.misp_elem.proofs.Sizes.{least_of, most_of}
-use Rattle.misp_model.specs.Prelude.{Attribute, Element, Event, Key, Label, Object, ObjectAttribute, Place, Proposal, ProposalName, Reference, Sighting, Tag, Verdict}
+use Rattle.misp_elem.specs.Spelling.{flag, flags, key, label, optional_moment, optional_uid, place, stamp, text, uid}
+use Rattle.misp_model.specs.Prelude.{Attribute, Element, Event, Key, Label, Object, ObjectAttribute, Place, Proposal, ProposalName, Reference, Sighting, Verdict}
+use Rattle.misp_package.specs.Spelling.{number}
+
+-- ---- pieces, one after another
+
+abbrev pub in_turn : List ℕ → List (List ℕ) → List ℕ
+in_turn x [] = x
+in_turn x (y ∷ ys) = x ++ in_turn y ys
+
+abbrev pub all_sizes : List ℕ → List (List ℕ) → ℕ
+all_sizes x [] = length x
+all_sizes x (y ∷ ys) = length x + all_sizes y ys
+
+pub pieces_size : (x : List ℕ) (ys : List (List ℕ)) → length (in_turn x ys) ≡ all_sizes x ys
+pieces_size x [] = refl
+pieces_size x (y ∷ ys) = length-append x (in_turn y ys) ∙ ap (λ n. length x + n) (pieces_size y ys)
 
 -- ---- fields
 
 pub uid_size : (u : Uid) → length (uid u) ≡ 16
 unfolding uid
 uid_size u = refl
+
+pub number_size : (n : ℕ) → length (number n) ≡ 4
+unfolding number
+number_size n = refl
 
 pub stamp_size : (s : ℕ) → length (stamp s) ≡ 8
 unfolding stamp
@@ -127,28 +145,3 @@ key_size (Sighting e t at by u) h =
       uid_size by.0,
       uid_size u.0,
     )
-
--- ---- tags
-
--- a tag's name has a byte at least, so that eight bytes beside it are at most eight for each of its own
-each_tag_size : (room : ℕ) (before : List ℕ) (ts : List Tag) → AreTagsAfter room before ts → length (flat_map tag ts) ≤ 9 * room
-each_tag_size room before [] h = omega arith
-each_tag_size room before (t ∷ ts) h =
-    let name : IsText 1 (min 255 room) t.name = (and_parts (is_text 1 (min 255 room) t.name) (is_after before t.name) h.0.0).0 in
-    let colour : length t.colour ≡ 3 = h.0.1.0.0 in
-    omega (
-      arith,
-      each_tag_size (room - length t.name) t.name ts h.1,
-      length-append (tag t) (flat_map tag ts),
-      length-append (text t.name) (t.colour ++ flag t.exportable),
-      length-append t.colour (flag t.exportable),
-      text_size t.name,
-      colour,
-      flag_size t.exportable,
-      least_of 1 (min 255 room) t.name name,
-      most_of 1 (min 255 room) t.name name,
-    )
-
-pub tags_size : (room : ℕ) (ts : List Tag) → AreTags room ts → length (tags ts) ≤ 4 + 9 * room
-unfolding tags
-tags_size room ts h = omega (arith, each_tag_size room [] ts h.1)

@@ -14,27 +14,27 @@ use Rattle.misp_elem.proofs.Exact.{bind_ok, guard_ok, keep_ok, no_error, ok_is, 
 use Rattle.misp_elem.proofs.Numbers.{number_field}
 use Rattle.misp_elem.proofs.Wire.{row_of_wire_takes, row_of_wire_again}
 use Rattle.misp_model.specs.Prelude.{EventId, Key, Row}
-use Rattle.misp_package.specs.Spelling.{form, framed_row, number}
+use Rattle.misp_package.specs.Spelling.{framed_row, number}
 use Rattle.misp_package.specs.PackageReading.{before_others, count_at, form_at, framed_row_at, parts_at, row_of_length}
 use Rattle.misp_package.proofs.RowSizes.{row_short}
 
--- ---- what a package begins with
+-- ---- what it begins with
 
-form_takes : (bytes : List ℕ) (a : Unit {0}) (rest : List ℕ) → IsBytes bytes → form_at bytes ≡ Ok (a, rest) → Unit {0} × Takes bytes form rest
+form_takes : (form bytes : List ℕ) (a : Unit {0}) (rest : List ℕ) → IsBytes bytes → form_at form bytes ≡ Ok (a, rest) → Unit {0} × Takes bytes form rest
 unfolding form_at
-form_takes bytes a rest fits e =
-    let k = keep_ok (starts_with eqb bytes form) (length bytes) (tt, drop 4 bytes) (a, rest) e in
-    let parts : bytes ≡ form ++ drop 4 bytes = (starts_is Decides-eqb bytes form (starts_with eqb bytes form) refl).0 k.0 in
-    (tt, subst (λ (x : Unit {0} × List ℕ). Takes bytes form x.1) k.1 (record { parts = parts; rest_fits = IsBytes-drop 4 bytes fits }))
+form_takes form bytes a rest fits e =
+    let k = keep_ok (starts_with eqb bytes form) (length bytes) (tt, drop (length form) bytes) (a, rest) e in
+    let parts : bytes ≡ form ++ drop (length form) bytes = (starts_is Decides-eqb bytes form (starts_with eqb bytes form) refl).0 k.0 in
+    (tt, subst (λ (x : Unit {0} × List ℕ). Takes bytes form x.1) k.1 (record { parts = parts; rest_fits = IsBytes-drop (length form) bytes fits }))
 
-form_again : (a : Unit {0}) (rest : List ℕ) → Unit {0} → form_at (form ++ rest) ≡ Ok (a, rest)
+form_again : (form : List ℕ) (a : Unit {0}) (rest : List ℕ) → Unit {0} → form_at form (form ++ rest) ≡ Ok (a, rest)
 unfolding form_at
-form_again a rest h =
+form_again form a rest h =
     let begins : starts_with eqb (form ++ rest) form ≡ true = (starts_is Decides-eqb (form ++ rest) form (starts_with eqb (form ++ rest) form) refl).1 rest refl in
-    ap (λ b. cond b (Ok (tt, rest)) (Err (length (form ++ rest)))) begins
+    ap (λ b. cond b (Ok (tt, drop (length form) (form ++ rest))) (Err (length (form ++ rest)))) begins ∙ ap (λ (r : List ℕ). Ok (tt, r)) (drop_at form rest (length form) refl)
 
-pub form_field : IsField {A = Unit {0}} (λ _. Unit {0}) (λ _. form) form_at
-form_field = record { takes = form_takes; again = form_again }
+pub form_field : (form : List ℕ) → IsField {A = Unit {0}} (λ _. Unit {0}) (λ _. form) (form_at form)
+form_field form = record { takes = form_takes form; again = form_again form }
 
 -- ---- numbers
 
@@ -48,9 +48,9 @@ parts_field part =
     under (λ parts. (parts < 2 ^ 32) × (part < parts)) (λ n h. (h.0, ltb-true part n h.1)) (λ n h. (h.0, lt-ltb part n h.1))
     (tested (λ n. ltb part n) (number_field w32 (2 ^ 32) wide32))
 
-pub count_field : IsField (λ n. (n < 2 ^ 32) × IsBetween 1 65 n) number count_at
+pub count_field : (least most : ℕ) → IsField (λ n. (n < 2 ^ 32) × IsBetween least most n) number (count_at least most)
 unfolding number count_at
-count_field = tested (λ n. leb 1 n && leb n 65) (number_field w32 (2 ^ 32) wide32)
+count_field least most = tested (λ n. leb least n && leb n most) number_field_32
 
 -- ---- rows
 

@@ -56,7 +56,7 @@ framed_rows_made : (e : EventId)
     → IsMade (λ (p : ℕ × List Row). ((p.0 < 2 ^ 32) × IsBetween 1 65 p.0) × ((length p.1 ≡ p.0) × AreOnWire e None p.1))
     (λ p. p.1) (λ p. number p.0 ++ flat_map framed_row p.1) (framed_rows_at e)
 unfolding framed_rows_at
-framed_rows_made e = first count_field (λ n. counted_made e n)
+framed_rows_made e = first (count_field 1 65) (λ n. counted_made e n)
 
 -- so few can be counted in four bytes
 few : (n : ℕ) → IsBetween 1 65 n → n < 2 ^ 32
@@ -78,7 +78,7 @@ package_made : IsMade
     package_at
 unfolding package_at
 package_made =
-    first form_field (λ begun. first event_field (λ e. first number_field_32 (λ part. first (parts_field part) (λ parts.
+    first (form_field form) (λ begun. first event_field (λ e. first number_field_32 (λ part. first (parts_field part) (λ parts.
     last (λ rows. record { event = e; part = part; parts = parts; rows = rows }) (framed_rows_field e)))))
 
 packed : (p : PackageFields) → IsPackage p → ArePacked p.event p.rows

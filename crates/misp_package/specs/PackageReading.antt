@@ -30,23 +30,23 @@ GivesAll (Err stop) read = Fails stop read
 
 -- ---- fields
 
--- what a package begins with
-unfoldable pub form_at : List ℕ → Reading (Unit {0})
-form_at bytes =
-    if starts_with nat_eq bytes form then Ok (tt, drop (length form) bytes)
+-- what bytes of a form begin with
+unfoldable pub form_at : List ℕ → List ℕ → Reading (Unit {0})
+form_at front bytes =
+    if starts_with nat_eq bytes front then Ok (tt, drop (length front) bytes)
     else Err (length bytes)
+
+-- a number of four bytes between these
+unfoldable pub count_at : ℕ → ℕ → List ℕ → Reading ℕ
+count_at least most bytes = do
+  count ← number_at w32 bytes
+  if nat_le least count.0 && nat_le count.0 most then Ok count else Err (length bytes)
 
 -- a number of parts, more than this part
 unfoldable pub parts_at : ℕ → List ℕ → Reading ℕ
 parts_at part bytes = do
   parts ← number_at w32 bytes
   if nat_lt part parts.0 then Ok parts else Err (length bytes)
-
--- a number of rows
-unfoldable pub count_at : List ℕ → Reading ℕ
-count_at bytes = do
-  count ← number_at w32 bytes
-  if nat_le 1 count.0 && nat_le count.0 65 then Ok count else Err (length bytes)
 
 -- ---- rows
 
@@ -78,7 +78,7 @@ rows_after event before (suc n) bytes = do
 -- the rows after their number
 unfoldable pub framed_rows_at : EventId → List ℕ → Reading (List Row)
 framed_rows_at event bytes = do
-  count ← count_at bytes
+  count ← count_at 1 65 bytes
   rows_after event None count.0 count.1
 
 -- ---- packages
@@ -86,8 +86,8 @@ framed_rows_at event bytes = do
 -- a package, before other bytes
 unfoldable pub package_at : List ℕ → Reading PackageFields
 package_at bytes = do
-  form ← form_at bytes
-  event ← event_at form.1
+  front ← form_at form bytes
+  event ← event_at front.1
   part ← number_at w32 event.1
   parts ← parts_at part.0 part.1
   rows ← framed_rows_at event.0 parts.1

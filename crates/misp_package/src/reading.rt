@@ -20,7 +20,7 @@ const MOST_ROWS: u32 = 65;
 
 /// Why reading stopped.
 #[derive(Clone, Copy, PartialEq, Eq)]
-pub(crate) enum Stop {
+pub enum Stop {
     NoMemory,
     /// So many bytes were left where the first field stands that is not of its form.
     Bad(usize),
@@ -50,8 +50,8 @@ impl<T: Drop> From<AllocFailed<T>> for Stop {
 
 /// Bytes that are read from the left. A contract sees those that are left.
 #[derive(Drop)]
-struct Reader<'a> {
-    rest: &'a [u8],
+pub struct Reader<'a> {
+    pub rest: &'a [u8],
 }
 
 impl<'a> Model for Reader<'a> {
@@ -63,27 +63,27 @@ impl<'a> Model for Reader<'a> {
 }
 
 impl Reader<'_> {
-    // The fault of a field that begins here.
-    fn bad(&self) -> Stop
+    /// The fault of a field that begins here.
+    pub fn bad(&self) -> Stop
         ensures { result ≡ Stop.Bad (length self.now) }
     {
         Stop::Bad(self.rest.len())
     }
 
-    // What a package begins with.
+    /// What bytes of a form begin with.
     #[tactic(auto, unfolding(crate::specs::PackageReading::form_at))]
-    fn form(&mut self) -> Result<(), Stop>
-        ensures { Gives result self.new (form_at self.old) }
+    pub fn form(&mut self, form: &[u8]) -> Result<(), Stop>
+        ensures { Gives result self.new (form_at form.now self.old) }
     {
-        if !self.rest.starts_with(FORM) {
+        if !self.rest.starts_with(form) {
             return Err(self.bad());
         }
-        self.rest = &self.rest[FORM.len()..];
+        self.rest = &self.rest[form.len()..];
         Ok(())
     }
 
-    // Sixteen bytes.
-    fn event(&mut self) -> Result<EventId, Stop>
+    /// Sixteen bytes.
+    pub fn event(&mut self) -> Result<EventId, Stop>
         ensures { Gives result self.new (event_at self.old) }
     {
         if self.rest.len() < 16 {
@@ -96,8 +96,8 @@ impl Reader<'_> {
         Ok(EventId(Uid(u128::from_be_bytes(number))))
     }
 
-    // Four bytes.
-    fn u32(&mut self) -> Result<u32, Stop>
+    /// Four bytes.
+    pub fn u32(&mut self) -> Result<u32, Stop>
         ensures { Gives result self.new (number_at w32 self.old) }
     {
         if self.rest.len() < 4 {
@@ -108,6 +108,20 @@ impl Reader<'_> {
         Ok(u32::from_be_bytes([front[0], front[1], front[2], front[3]]))
     }
 
+    /// A number of four bytes between these.
+    #[tactic(auto, unfolding(crate::specs::PackageReading::count_at))]
+    pub fn count(&mut self, least: u32, most: u32) -> Result<u32, Stop>
+        ensures { Gives result self.new (count_at least most self.old) }
+    {
+        let bad = self.bad();
+        let count = self.u32()?;
+        if least <= count && count <= most {
+            Ok(count)
+        } else {
+            Err(bad)
+        }
+    }
+
     // A number of parts, more than this part.
     #[tactic(auto, unfolding(crate::specs::PackageReading::parts_at))]
     fn parts(&mut self, part: u32) -> Result<u32, Stop>
@@ -116,20 +130,6 @@ impl Reader<'_> {
         let bad = self.bad();
         let parts = self.u32()?;
         if part < parts { Ok(parts) } else { Err(bad) }
-    }
-
-    // A number of rows.
-    #[tactic(auto, unfolding(crate::specs::PackageReading::count_at))]
-    fn count(&mut self) -> Result<u32, Stop>
-        ensures { Gives result self.new (count_at self.old) }
-    {
-        let bad = self.bad();
-        let count = self.u32()?;
-        if 1 <= count && count <= MOST_ROWS {
-            Ok(count)
-        } else {
-            Err(bad)
-        }
     }
 
     // A row of the event after its length: the event's own where no key is before it, else one with
@@ -172,7 +172,7 @@ impl Reader<'_> {
     fn framed_rows(&mut self, alloc: Global, event: EventId) -> Result<Items<Row>, Stop>
         ensures { Gives result self.new (framed_rows_at event self.old) }
     {
-        let count = self.count()?;
+        let count = self.count(1, MOST_ROWS)?;
         self.rows(alloc, event, count)
     }
 
@@ -181,7 +181,7 @@ impl Reader<'_> {
     fn fields(&mut self, alloc: Global) -> Result<PackageFields, Stop>
         ensures { Gives result self.new (package_at self.old) }
     {
-        self.form()?;
+        self.form(FORM)?;
         let event = self.event()?;
         let part = self.u32()?;
         let parts = self.parts(part)?;

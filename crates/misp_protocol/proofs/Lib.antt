@@ -2,6 +2,7 @@ pub mod Asking
 pub mod Counted
 pub mod EachAsked
 pub mod Led
+pub mod ListedParts
 pub mod PartsInTurn
 pub mod PullText
 pub mod PushText

@@ -1,20 +1,19 @@
 -- A pull takes what comes of the parts of a manifest, one after another.
 use Rattle.std.proofs.Common.{List, [], ◌∷◌, ◌++◌, Option, None, Some, sym, subst, inl, inr}
-use Rattle.misp_ids.specs.declared.label.Direction.{Direction}
 use Rattle.misp_dialogue.specs.Dialogue.{Over, Ask}
 use Rattle.misp_dialogue.specs.Parties.{Conduct}
 use Rattle.misp_dialogue.specs.Taking.{Batching, Takes}
 use Rattle.misp_dialogue.specs.declared.side.Side.TheVariants.{Sink}
-use Rattle.misp_dialogue.proofs.Taking.{asked, looked, over, sink_refused, took}
+use Rattle.misp_dialogue.proofs.Taking.{asked, looked, over, sink_refused}
 use Rattle.misp_protocol.specs.Counts.{IsTally}
-use Rattle.misp_protocol.specs.TextTakes.{PartsCome, PullComes}
-use Rattle.misp_protocol.specs.Text.{Text, lacking, listed, packed, synchronising, through}
+use Rattle.misp_protocol.specs.TextTakes.{PartsCome}
+use Rattle.misp_protocol.specs.Text.{Text, lacking, packed, through}
 use Rattle.misp_protocol.specs.declared.cause.Cause.{Cause}
 use Rattle.misp_protocol.specs.declared.request.Answer.{Answer}
 use Rattle.misp_protocol.specs.declared.request.Request.{Request}
 use Rattle.misp_protocol.specs.declared.part_keys.PartKeysFields.{PartKeysFields as PartKeys}
 use Rattle.misp_protocol.specs.declared.count.Tally.{Tally}
-use Rattle.misp_protocol.proofs.PushText.{grouped_takes, part_taken}
+use Rattle.misp_protocol.proofs.PushText.{part_taken}
 
 module _ {HA HB B : Type 0} (ka : Conduct HA Request Answer Cause) (kb : Conduct HB Request Answer Cause)
     (b : Batching HB Tally B) where
@@ -38,13 +37,3 @@ module _ {HA HB B : Type 0} (ka : Conduct HA Request Answer Cause) (kb : Conduct
       (λ ask held sound. asked ka kb b n (Request.Rows w) (packed n (through ks)) (Answer.Part p) s t (first ++ later) why has
       (λ ask held sound. part_taken ka kb b n p (through ks) s t next count first later why fine is
       (λ ask m fits. through_takes ks m s next later why fits (rest ask)))))
-
-  -- and before them the groups, in one batch
-  pub pull_takes : (n : Tally) (s : HA) (t : HB) (groups : B) (done : List B) (why : Option Cause) → PullComes ka kb b s t n groups done why
-      → Takes ka kb b (synchronising Direction.Pull n) s t n (groups ∷ done) why
-  pull_takes n s t groups done why is =
-      let m = b.tally n groups in
-      let u = b.put groups t in
-      grouped_takes ka kb b Direction.Pull n s t is.gs groups done why is.first
-      (λ fits there asked_groups. asked ka kb b m Request.Manifest (listed Direction.Pull m) (Answer.Manifest is.ks) s u done why is.listed
-      (λ ask held sound. through_takes is.ks m s u done why fits (is.come there asked_groups)))

@@ -60,7 +60,7 @@ PartsCome {B = B} ka kb b s t (k ∷ ks) done why =
     × IsTaken kb b t p count first next × (done ≡ first ++ later)
     × (kb.IsAskable (Request.TakePart p) → PartsCome ka kb b s next ks later why))
 
--- ---- the two
+-- ---- groups, and what comes after them
 
 -- the source has these groups, and the sink takes so many of them in one batch
 pub record GroupsCome {HA HB B : Type 0} (ka : Conduct HA Request Answer Cause)
@@ -73,17 +73,6 @@ pub record GroupsCome {HA HB B : Type 0} (ka : Conduct HA Request Answer Cause)
   pub few : count ≤ length gs
   pub fits : kb.IsAskable (Request.TakeGroups gs) → b.IsBatch groups
   pub counts : with_groups n count ≡ b.tally n groups
-
--- after these groups, the parts that the source lists come so
-pub record PullComes {HA HB B : Type 0} (ka : Conduct HA Request Answer Cause)
-    (kb : Conduct HB Request Answer Cause) (b : Batching HB Tally B) (s : HA) (t : HB) (n : Tally)
-    (groups : B) (done : List B) (why : Option Cause) : Type 0 where
-  pub gs : List Group
-  pub ks : List PartKeys
-  pub first : GroupsCome ka kb b s t n gs groups
-  pub listed : ka.answer s Request.Manifest ≡ Ok (Answer.Manifest ks, s)
-  pub come : kb.IsHeld t → kb.IsAskable (Request.TakeGroups gs)
-      → PartsCome ka kb b s (b.put groups t) ks done why
 
 -- after these groups, the packages that the source lists come so
 pub record PushComes {HA HB B : Type 0} (ka : Conduct HA Request Answer Cause)

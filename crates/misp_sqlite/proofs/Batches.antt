@@ -1,5 +1,5 @@
 -- A batch in one transaction.
-use Rattle.std.proofs.Common.{◌≡◌, ◌∙◌, true, false, refl, sym, ap, subst, inl, inr, IsTrue, Result, Ok, Err, OnErr}
+use Rattle.std.proofs.Common.{◌≡◌, ◌∙◌, ◌&&◌, ap₂, true, false, refl, sym, ap, subst, inl, inr, IsTrue, Result, Ok, Err, OnErr}
 use Rattle.sqlite_trees.specs.declared.store.Store.{Ghosts}
 use Rattle.sqlite_trees.specs.Tree.{Trees}
 use Rattle.sqlite.specs.Effect.{Database}
@@ -9,9 +9,10 @@ use Rattle.sqlite.specs.Steps.{FailsToCommit}
 use Rattle.sqlite.specs.declared.error.Error.{Error}
 use Rattle.sqlite.proofs.Callers.{survives_begin}
 use Rattle.sqlite.proofs.StateLemmas.{survives_then}
-use Rattle.misp_outside.specs.Held.{with_batch}
+use Rattle.misp_lists.specs.Order.{ascend}
+use Rattle.misp_outside.specs.Held.{Held as Rows, comes_before, with_batch}
 use Rattle.misp_outside.specs.declared.row.RawBatch.{RawBatch}
-use Rattle.misp_sqlite.specs.Standing.{HasBatch, IsInside, IsReady, LeavesWhole, ShowsSame, kept_of}
+use Rattle.misp_sqlite.specs.Standing.{HasBatch, HoldsInside, IsInside, IsReady, LeavesWhole, ShowsSame, is_reporting, kept_of}
 use Rattle.misp_sqlite.specs.Stored.{held_in}
 
 pub on_err : {T E : Type 0} {P : Type 0} (r : Result T E) → P → OnErr r P
@@ -31,9 +32,8 @@ module _ {S : Type 0} (g : Ghosts S) (h : Held S) where
 
   -- what was put since the transaction began
   pub batch_put : (now : Held S) (last : State) (batch : RawBatch) → now ≡ record h { in_transaction = true } → IsReady (state g h)
-      → (IsInside (state g now) → IsInside last × (kept_of last ≡ with_batch batch (kept_of (state g now)))) → IsInside last × (kept_of last ≡ with_batch batch (kept_of (state g h)))
-  batch_put now last batch same ready put =
-      (subst (λ n. IsInside (state g n) → IsInside last × (kept_of last ≡ with_batch batch (kept_of (state g n)))) same put) (inside_begun ready)
+      → (IsInside (state g now) → HoldsInside (with_batch batch) (state g now) last) → HoldsInside (with_batch batch) begun last
+  batch_put now last batch same ready put = (subst (λ n. IsInside (state g n) → HoldsInside (with_batch batch) (state g n) last) same put) (inside_begun ready)
 
   pub begun_keeps : (now : Held S) (last : State) → now ≡ record h { in_transaction = true } → IsReady (state g h) → (IsInside (state g now) → KeepsCommit (state g now) last) → KeepsCommit begun last
   begun_keeps now last same ready kept = (subst (λ n. IsInside (state g n) → KeepsCommit (state g n) last) same kept) (inside_begun ready)
@@ -52,6 +52,11 @@ module _ {S : Type 0} (g : Ghosts S) (h : Held S) where
       → Survives begun last (λ _. ⊥) → Survives last new Q → Survives (state g h) new P
   survives_batch last new Q P f one two =
       survives_begin g h new P (survives_then begun last new (λ _. ⊥) Q P (λ _ _ none. absurd none) f one two)
+
+-- once the batch is committed, rows are reported exactly where they were before
+pub batch_reported : (first last new : State) (put : Rows → Rows) → HoldsInside put first last → KeepsCommit first last → Shows last new last.now last.now false → is_reporting new ≡ is_reporting first
+batch_reported first last new put inside kept shown =
+    ap₂ (λ a b. a && b) (shown.is_open ∙ sym (kept.was_open shown.was_open)) (ap (λ (d : Database). ascend comes_before (held_in (d.trees 0)).rows) shown.now_is ∙ inside.apart)
 
 pub batch_committed : (old last new : State) (batch : RawBatch) → IsInside last → kept_of last ≡ with_batch batch (kept_of old) → Shows last new last.now last.now false → IsSettled new → HasBatch batch old new
 batch_committed old last new batch inside held shown settled = record {

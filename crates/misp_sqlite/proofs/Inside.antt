@@ -14,10 +14,10 @@ use Rattle.misp_outside.specs.declared.row.RawBatch.{RawBatch}
 use Rattle.misp_outside.specs.declared.row.RawRow.{RawRow}
 use Rattle.misp_outside.specs.declared.row.AdminRow.{AdminRow}
 use Rattle.misp_sqlite.specs.Putting.{HasPut, admin_of, raw_of, with_row, with_rows, with_admin_row, with_admin_rows}
-use Rattle.misp_sqlite.specs.Standing.{IsInside, Steps, kept_of}
+use Rattle.misp_sqlite.specs.Standing.{HoldsInside, IsInside, Steps, kept_of}
 use Rattle.misp_sqlite.specs.Stored.{event_bytes}
 use Rattle.misp_sqlite.specs.Texts.{put_text}
-use Rattle.misp_sqlite.proofs.Told.{admin_put, raw_put}
+use Rattle.misp_sqlite.proofs.Told.{admin_alike, admin_put, raw_alike, raw_put}
 use Rattle.misp_sqlite.proofs.Puttings.{has_put}
 use Rattle.misp_sqlite.proofs.Upserts.{params_of}
 
@@ -78,16 +78,18 @@ kind_written k low = to_z-of_z w64 (pos k) (omega arith)
 
 module _ {T E : Type 0} where
   pub raw_done : (r : Result T E) (old new : State) (n : ℕ) (event name body : List ℕ) → n < 2 ^ 128 → event ≡ to_be_bytes w128 n
-      → OnOk r (IsInside new × HasPut event (pos 0) name body (old.now.trees 0) (new.now.trees 0)) → OnOk r (IsInside new × (kept_of new ≡ with_row (raw_of n name body) (kept_of old)))
+      → OnOk r (IsInside new × HasPut event (pos 0) name body (old.now.trees 0) (new.now.trees 0)) → OnOk r (HoldsInside (with_row (raw_of n name body)) old new)
   unfolding event_bytes
   raw_done (Ok t) old new n event name body fits written h =
-      (h.0, raw_put n fits name body (old.now.trees 0) (new.now.trees 0) (subst (λ e. HasPut e (pos 0) name body (old.now.trees 0) (new.now.trees 0)) written h.1))
+      let put = subst (λ e. HasPut e (pos 0) name body (old.now.trees 0) (new.now.trees 0)) written h.1 in
+      record { inside = h.0; held = raw_put n fits name body (old.now.trees 0) (new.now.trees 0) put; apart = raw_alike n fits name body (old.now.trees 0) (new.now.trees 0) put }
   raw_done (Err e) old new n event name body fits written h = tt
 
   pub admin_done : (r : Result T E) (old new : State) (k : ℕ) (event name body : List ℕ) → k < 256 → event ≡ []
-      → OnOk r (IsInside new × HasPut event (pos k) name body (old.now.trees 0) (new.now.trees 0)) → OnOk r (IsInside new × (kept_of new ≡ with_admin_row (admin_of k name body) (kept_of old)))
+      → OnOk r (IsInside new × HasPut event (pos k) name body (old.now.trees 0) (new.now.trees 0)) → OnOk r (HoldsInside (with_admin_row (admin_of k name body)) old new)
   admin_done (Ok t) old new k event name body low none h =
-      (h.0, admin_put k low name body (old.now.trees 0) (new.now.trees 0) (subst (λ e. HasPut e (pos k) name body (old.now.trees 0) (new.now.trees 0)) none h.1))
+      let put = subst (λ e. HasPut e (pos k) name body (old.now.trees 0) (new.now.trees 0)) none h.1 in
+      record { inside = h.0; held = admin_put k low name body (old.now.trees 0) (new.now.trees 0) put; apart = admin_alike k low name body (old.now.trees 0) (new.now.trees 0) put }
   admin_done (Err e) old new k event name body low none h = tt
 
 dropped : {X : Type 0} (xs : List X) (i : ℕ) (x : X) → i < length xs → x ≡ get_or xs i x → drop i xs ≡ x ∷ drop (i + 1) xs
@@ -113,9 +115,12 @@ pub admins_done : (rows : List AdminRow) (i : ℕ) (first now : Held) → length
 admins_done rows i first now past so_far = sym (ap (λ all. with_admin_rows all now) (drop_all i rows past) ∙ admins_none now) ∙ so_far
 
 -- rows of events, and then those of the administration
-pub batch_done : {T E : Type 0} (r : Result T E) (new : State) (batch : RawBatch) (rows : List RawRow) (admin : List AdminRow) (first mid : Held) → rows ≡ batch.rows → admin ≡ batch.admin
-    → mid ≡ with_rows rows first → OnOk r (IsInside new × (kept_of new ≡ with_admin_rows admin mid)) → OnOk r (IsInside new × (kept_of new ≡ with_batch batch first))
+pub batch_done : {T E : Type 0} (r : Result T E) (old mid new : State) (batch : RawBatch) (rows : List RawRow) (admin : List AdminRow) → rows ≡ batch.rows → admin ≡ batch.admin
+    → HoldsInside (with_rows rows) old mid → OnOk r (HoldsInside (with_admin_rows admin) mid new) → OnOk r (HoldsInside (with_batch batch) old new)
 unfolding with_batch
-batch_done (Ok t) new batch rows admin first mid same_rows same_admin one two =
-    (two.0, two.1 ∙ ap (with_admin_rows admin) one ∙ ap₂ (λ a b. with_admin_rows a (with_rows b first)) same_admin same_rows)
-batch_done (Err e) new batch rows admin first mid same_rows same_admin one two = tt
+batch_done (Ok t) old mid new batch rows admin same_rows same_admin one two = record {
+  inside = two.inside;
+  held = two.held ∙ ap (with_admin_rows admin) one.held ∙ ap₂ (λ a b. with_admin_rows a (with_rows b (kept_of old))) same_admin same_rows;
+  apart = two.apart ∙ one.apart;
+}
+batch_done (Err e) old mid new batch rows admin same_rows same_admin one two = tt

@@ -1,5 +1,5 @@
 -- After the upsert the row is among those that were there.
-use Rattle.std.proofs.Common.{◌≡◌, ℤ, ℕ, suc, ◌&&◌, ◌||◌, Bool, true, false, not, cond, List, [], ◌∷◌, length, map, drop, filter, refl, sym, ap, subst, ◌∙◌, inl, inr, Some, None, IsPermutation}
+use Rattle.std.proofs.Common.{◌≡◌, ◌≤◌, ℤ, ℕ, suc, ◌&&◌, ◌||◌, Bool, true, false, not, cond, List, [], ◌∷◌, length, map, drop, filter, refl, sym, ap, subst, ◌∙◌, inl, inr, Some, None, IsPermutation, arith}
 use Rattle.std.specs.List.{AllByRecursion}
 use Rattle.std.specs.Float.{Float}
 use Rattle.std.proofs.lemmas.Bool.{cases_Bool}
@@ -61,6 +61,21 @@ all_kept : (rows : List Row) → filter (λ r. true) rows ≡ rows
 all_kept [] = refl
 all_kept (r ∷ rows) = ap (λ rs. r ∷ rs) (all_kept rows)
 
+none_kept : (rows : List Row) → filter (λ r. false) rows ≡ []
+none_kept [] = refl
+none_kept (r ∷ rows) = none_kept rows
+
+-- of the rows that pass one test, no more pass than of those that pass another that it implies
+fewer : (p q : Row → Bool) → ((r : Row) → p r ≡ true → q r ≡ true) → (rows : List Row) → length (filter p rows) ≤ length (filter q rows)
+fewer p q implies [] = omega arith
+fewer p q implies (r ∷ rows) = elim (cases_Bool (p r)) [
+  | inl hit ↦ rw (hit, implies r hit) (omega (arith, fewer p q implies rows))
+  | inr miss ↦ rw miss (elim (cases_Bool (q r)) [
+    | inl also ↦ rw also (omega (arith, fewer p q implies rows))
+    | inr neither ↦ rw neither (fewer p q implies rows)
+  ])
+]
+
 none_gone : (Q : Row → Type 0) (rows : List Row) → AllByRecursion (λ r. true ≡ false → Q r) rows
 none_gone Q [] = tt
 none_gone Q (r ∷ rows) = ((λ h. absurd cc), none_gone Q rows)
@@ -117,14 +132,16 @@ module _ (event : List ℕ) (kind : ℤ) (name body : List ℕ) where
   -- the row that is put in
   landed : (db next : Trees) (gone : List ℤ) (id : ℤ) (keep : Row → Bool) → without_all (db 0) gone ≡ filter keep (db 0)
       → Applies kept_schema Enforced db (record { table = kept; gone = gone; news = stored_row id event kind name body ∷ [] }) next
-      → (AllByRecursion (λ r. IsNamed event kind name r → is_null (rowid r) ≡ true) (filter keep (db 0)) → AllByRecursion (λ r. keep r ≡ false → IsNamed event kind name r) (db 0))
+      → (AllByRecursion (λ r. IsNamed event kind name r → is_null (rowid r) ≡ true) (filter keep (db 0))
+      → AllByRecursion (λ r. keep r ≡ false → IsNamed event kind name r) (db 0) × (length (filter (λ r. not (keep r)) (db 0)) ≤ 1))
       → HasPut event kind name body (db 0) (next 0)
   landed db next gone id keep rest it named =
       let new = stored_row id event kind name body in
       let rows : next 0 ≡ put_row new (filter keep (db 0)) = it.rows ∙ ap (put_row new) rest in
       let free : is_taken (filter keep (db 0)) new ≡ false = subst (λ left. is_taken left new ≡ false) rest (not_taken _ it.fresh) in
       let apart = unique event kind name body id next (filter keep (db 0)) rows free it.fits in
-      record { id = id; keep = keep; rows = rows; free = free; gone = named apart; apart = apart }
+      let left = named apart in
+      record { id = id; keep = keep; rows = rows; free = free; gone = left.0; once = left.1; apart = apart }
     where
       not_taken : (b : Bool) → (not b && true) ≡ true → b ≡ false
       not_taken true h = absurd cc
@@ -134,7 +151,7 @@ module _ (event : List ℕ) (kind : ℤ) (name body : List ℕ) where
   pub landed_new : (db next : Trees) (id : ℤ) → Applies kept_schema Enforced db (edit_of db kept [] Given 0 (stored_row id event kind name body ∷ [])) next → HasPut event kind name body (db 0) (next 0)
   landed_new db next id it =
       landed db next [] id (λ r. true) (sym (all_kept (db 0))) (subst (λ r. Applies kept_schema Enforced db (record { table = kept; gone = []; news = r ∷ [] }) next) (cast_stored id) it)
-      (λ apart. none_gone (IsNamed event kind name) (db 0))
+      (λ apart. (none_gone (IsNamed event kind name) (db 0), omega (arith, ap length (none_kept (db 0)))))
 
   -- ---- in place of one
 
@@ -164,6 +181,10 @@ module _ (event : List ℕ) (kind : ℤ) (name body : List ℕ) where
       without_false true h = refl
       without_false false h = h
 
+  not_twice : (b : Bool) → not (not b) ≡ true → b ≡ true
+  not_twice true h = refl
+  not_twice false h = h
+
   tied_apart : (b : Bool) → not b ≡ false → b ≡ true
   tied_apart true h = refl
   tied_apart false h = absurd cc
@@ -174,10 +195,10 @@ module _ (event : List ℕ) (kind : ℤ) (name body : List ℕ) where
 
   -- in place of the row that has the name, and whose rowid no other has
   over_one : (db next : Trees) (there : Row) → Has (db 0) there → is_null (rowid there) ≡ false → IsNamed event kind name there
-      → AllByRecursion (λ r. equal Binary (rowid r) (rowid there) ≡ true → r ≡ there) (db 0)
+      → AllByRecursion (λ r. equal Binary (rowid r) (rowid there) ≡ true → r ≡ there) (db 0) → length (filter (λ r. equal Binary (rowid r) (rowid there)) (db 0)) ≤ 1
       → Applies kept_schema Enforced db (record { table = kept; gone = id_in (rowid there) ∷ []; news = cast_row kept (rowid there ∷ column there 1 ∷ column there 2 ∷ column there 3 ∷ Blob body ∷ []) ∷ [] }) next
       → HasPut event kind name body (db 0) (next 0)
-  over_one db next there within some named once it =
+  over_one db next there within some named once few it =
       let at = id_in (rowid there) in
       let keep = λ (r : Row). not (has_rowid at r) in
       let id = id_in (cast Integer (rowid there)) in
@@ -191,19 +212,23 @@ module _ (event : List ℕ) (kind : ℤ) (name body : List ℕ) where
             absurd (let bad = sym some ∙ null in cc)
       ] in
       let tie = tied (value_cmp (rowid there) (Int at)) taken in
-      all_more (λ r same gone.
-      let also = tied (value_cmp (rowid r) (Int at)) (tied_apart _ gone) in
-      subst (IsNamed event kind name) (sym (same (equal_through (rowid r) (rowid there) (Int at) (tied_some (rowid r) at also) some also tie))) named) (db 0) once)
+      let equals = λ (r : Row) (hit : has_rowid at r ≡ true).
+      let also = tied (value_cmp (rowid r) (Int at)) hit in
+      equal_through (rowid r) (rowid there) (Int at) (tied_some (rowid r) at also) some also tie in (
+        all_more (λ r same gone. subst (IsNamed event kind name) (sym (same (equals r (tied_apart _ gone)))) named) (db 0) once,
+        omega (arith, few, fewer (λ r. not (keep r)) (λ r. equal Binary (rowid r) (rowid there)) (λ r gone. equals r (not_twice _ gone)) (db 0)),
+      ))
 
   found_one : (db : Trees) (params : Row) (rows : List Row) → IsAnswer update_query (overlay db []) params rows → length rows ≡ 1
       → (r : Row) × (rows ≡ shown_of update_query params r ∷ []) × (is_wanted update_query params r ≡ true) × AllByRecursion (λ s. is_wanted update_query params s ≡ true → s ≡ r) (db 0)
+      × (length (filter (is_wanted update_query params) (db 0)) ≡ 1)
   found_one db params rows answer single =
       let wanted = is_wanted update_query params in
       let show = shown_of update_query params in
       let selected = update_selects db params rows answer in
       let got = alone show (filter wanted (db 0)) (sym (length_permutation _ rows selected) ∙ single) in
       let once = only_one wanted got.0 (db 0) got.1 in
-      (got.0, one_permutation (show got.0) rows (subst (λ all. IsPermutation (map show all) rows) got.1 selected), once.0, once.1)
+      (got.0, one_permutation (show got.0) rows (subst (λ all. IsPermutation (map show all) rows) got.1 selected), once.0, once.1, ap length got.1)
 
   -- in place of the row that has the name
   pub landed_over : (db : Database) (next : Trees) (id : ℤ) (there : Row) (rows : List Row) → db.schema ≡ kept_schema → IsDatabase db
@@ -214,14 +239,15 @@ module _ (event : List ℕ) (kind : ℤ) (name body : List ℕ) where
       let obeys = ((subst (λ s. IsSound s db.trees) has sound).obeys.rules Datatype).0 in
       let named = there_named id met.0 (all_has (λ r. passes Datatype kept_schema db.trees kept r ≡ true) (db.trees 0) met.0 obeys met.1) met.2 in
       let found = found_one db.trees (given_row (params_of event kind name body) (stored_row id event kind name body) there) rows answer single in
-      go met.0 found.0 met.1 named (ap rowid met.3) found.1 found.2 found.3
+      go met.0 found.0 met.1 named (ap rowid met.3) found.1 found.2 found.3 found.4
     where
       params : Row
       params = given_row (params_of event kind name body) (stored_row id event kind name body) there
 
       go : (r s : Row) → Has (db.trees 0) r → IsNamed event kind name r → rowid there ≡ rowid r → rows ≡ shown_of update_query params s ∷ [] → is_wanted update_query params s ≡ true
-          → AllByRecursion (λ t. is_wanted update_query params t ≡ true → t ≡ s) (db.trees 0) → HasPut event kind name body (db.trees 0) (next 0)
-      go r s within named at rows_are wanted once =
+          → AllByRecursion (λ t. is_wanted update_query params t ≡ true → t ≡ s) (db.trees 0)
+          → length (filter (is_wanted update_query params) (db.trees 0)) ≡ 1 → HasPut event kind name body (db.trees 0) (next 0)
+      go r s within named at rows_are wanted once single_row =
           let first : equal Binary (rowid s) (rowid r) ≡ true = subst (λ v. equal Binary (rowid s) v ≡ true) at (and_parts (equal Binary (rowid s) (rowid there)) true wanted).0 in
           let some = (equal_parts (rowid s) (rowid r) first).1 in
           let wants : (t : Row) → equal Binary (rowid t) (rowid r) ≡ true → is_wanted update_query params t ≡ true =
@@ -229,4 +255,5 @@ module _ (event : List ℕ) (kind : ℤ) (name body : List ℕ) where
           let same : r ≡ s = all_has (λ t. is_wanted update_query params t ≡ true → t ≡ s) (db.trees 0) r once within (wants r (equal_itself (rowid r) some)) in
           let rows_r : rows ≡ shown_of update_query params r ∷ [] = rows_are ∙ ap (λ t. shown_of update_query params t ∷ []) (sym same) in
           over_one db.trees next r within some named (all_more (λ t is e. is (wants t e) ∙ sym same) (db.trees 0) once)
+          (omega (arith, single_row, fewer (λ t. equal Binary (rowid t) (rowid r)) (is_wanted update_query params) wants (db.trees 0)))
           (subst (λ all. Applies kept_schema Enforced db.trees (edit_of db.trees kept (ids_of all) Given 1 all) next) rows_r it)

@@ -1,4 +1,5 @@
 pub mod Answers
+pub mod Apart
 pub mod Ascending
 pub mod Batches
 pub mod Fronts
@@ -11,6 +12,7 @@ pub mod Openings
 pub mod Puts
 pub mod Puttings
 pub mod Ranges
+pub mod Reports
 pub mod StandardFacts
 pub mod Standing
 pub mod Stored

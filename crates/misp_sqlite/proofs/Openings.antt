@@ -1,5 +1,5 @@
 -- What the opening of a table finds.
-use Rattle.std.proofs.Common.{◌≡◌, ◌∙◌, ℕ, false, [], refl, sym, ap, subst, subst₂, inl, inr, Option, None, Ok}
+use Rattle.std.proofs.Common.{◌≡◌, ◌∙◌, ℕ, false, [], refl, sym, ap, subst, subst₂, inl, inr, IsTrue, Option, None, Ok}
 use Rattle.sqlite_trees.specs.Tree.{Trees}
 use Rattle.sqlite_schema.specs.declared.schema.Schema.{Schema}
 use Rattle.sqlite_schema.specs.declared.command.Command.TheVariants.{CreateTable}
@@ -14,10 +14,11 @@ use Rattle.sqlite.proofs.Callers.{IsPlain, command_of, runs_as, statement_of}
 use Rattle.misp_outside.specs.Held.{nothing_held}
 use Rattle.misp_lists.specs.Order.{in_order}
 use Rattle.misp_sqlite.specs.Kept.{kept, kept_schema, no_schema}
-use Rattle.misp_sqlite.specs.Standing.{Finds, IsMade}
+use Rattle.misp_sqlite.specs.Standing.{Begins, Finds, IsMade}
 use Rattle.misp_sqlite.specs.Stored.{held_in}
 use Rattle.misp_sqlite.specs.Texts.{create_text}
 use Rattle.misp_sqlite.proofs.Meanings.{create_is, create_plain, create_whole}
+use Rattle.misp_sqlite.proofs.Reports.{reports_none}
 use Rattle.misp_sqlite.proofs.Upserts.{went, same_value}
 
 -- what is made of an empty schema
@@ -72,4 +73,13 @@ finds_none old new empty is = record {
   was = inr empty;
   kept = λ has. absurd (apart old.now.schema has empty);
   none = λ _. ap held_in is.1 ∙ none_of_empty;
+}
+
+pub begins_table : (s : State) → s.now.schema ≡ kept_schema → Begins s s
+begins_table s has = record { kept = λ _. refl; none = λ empty is_open. absurd (apart s.now.schema has empty) }
+
+pub begins_none : (old new : State) → old.now.schema ≡ no_schema → (IsTrue new.is_open → IsMade old new) → Begins old new
+begins_none old new empty is = record {
+  kept = λ has. absurd (apart old.now.schema has empty);
+  none = λ _ is_open. reports_none new is_open (ap held_in (is is_open).1 ∙ none_of_empty);
 }

@@ -86,7 +86,7 @@ module _ {V : Type 0} (order : V → V → Ordering) (total : IsTotalOrder order
   told_kept p keep rows same =
       in_order_cut before on past p (map view (filter is rows)) ∙ ap (in_order before) (filter-map view p (filter is rows) ∙ ap (map view) (twice p keep rows same))
 
-  apart_kept : (new : Row) (keep : Row → Bool) (rows : List Row) → AllByRecursion (λ r. is r ≡ true → is_eq (order (view r) (view new)) ≡ not (keep r)) rows
+  pub apart_kept : (new : Row) (keep : Row → Bool) (rows : List Row) → AllByRecursion (λ r. is r ≡ true → is_eq (order (view r) (view new)) ≡ not (keep r)) rows
       → AllByRecursion (λ r. is r ≡ true → is_eq (order (view r) (view new)) ≡ false) (filter keep rows)
   apart_kept new keep [] same = tt
   apart_kept new keep (r ∷ rows) same = elim (cases_Bool (keep r)) [

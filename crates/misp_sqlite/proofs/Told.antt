@@ -8,13 +8,16 @@ use Rattle.sqlite_value.specs.declared.value.Value.TheVariants.{Null, Int, Real,
 use Rattle.sqlite_value.specs.Order.{Row, bytes, column}
 use Rattle.sqlite_sql.specs.Ops.{is_null}
 use Rattle.sqlite_trees.specs.Tree.{rowid}
+use Rattle.misp_lists.specs.Order.{ascend}
+use Rattle.misp_lists.proofs.Lists.{alike}
 use Rattle.misp_lists.proofs.Prelude.{and_parts, ordering_reverse}
 use Rattle.misp_outside.specs.declared.row.RawRow.{RawRow}
 use Rattle.misp_outside.specs.declared.row.AdminRow.{AdminRow}
-use Rattle.misp_outside.specs.Held.{raw_name, admin_name, comes_before, admin_before, name_order, put_raw, put_admin, same_raw, same_admin}
+use Rattle.misp_outside.specs.Held.{Held, raw_name, admin_name, comes_before, admin_before, name_order, put_raw, put_admin, same_raw, same_admin}
 use Rattle.misp_outside.proofs.Names.{names_exact, names_total, order, put_by_order, total}
 use Rattle.misp_sqlite.specs.Putting.{stored_row, IsNamed, HasPut, with_row, with_admin_row}
 use Rattle.misp_sqlite.specs.Stored.{event_bytes, event_in, is_blob, kind_in, is_event, is_no_event, has_texts, as_raw, is_raw, as_admin, is_admin, held_in}
+use Rattle.misp_sqlite.proofs.Apart.{ascend_after, before_put}
 use Rattle.misp_sqlite.proofs.Puts.{told_in_place, told_as_before}
 use Rattle.misp_sqlite.proofs.Stored.{parts_of, from_parts, read_back, same_bytes}
 use Rattle.misp_sqlite.proofs.Values.{tied}
@@ -56,6 +59,10 @@ each_row N Q keep (r ∷ rows) gone apart f = elim (cases_Bool (keep r)) [
   | inl hit ↦ let both = rw hit at apart in (f r gone.0 (λ k. both.0), each_row N Q keep rows gone.1 both.1 f)
   | inr miss ↦ let rest = rw miss at apart in (f r gone.0 (λ k. absurd (let bad = sym miss ∙ k in cc)), each_row N Q keep rows gone.1 rest f)
 ]
+
+raw_ascend : (row : RawRow) (rows : List RawRow) → ascend comes_before rows ≡ true → ascend comes_before (put_raw row rows) ≡ true
+unfolding put_raw comes_before same_raw
+raw_ascend row rows up = subst (λ l. ascend comes_before l ≡ true) (put_by_order raw_name row rows) (ascend_after (order raw_name) (total raw_name) row rows up)
 
 -- ---- a row of an event
 
@@ -102,20 +109,36 @@ module _ (n : ℕ) (fits : n < 2 ^ 128) (name body : List ℕ) where
   unfolding is_admin is_no_event
   is_no_admin r is = rw (is, (no_bytes n).0) refl
 
+  -- a row of an event has the name exactly where it was not kept
+  raw_rows : (old new : List Row) → (h : HasPut (event_bytes n) (pos 0) name body old new)
+      → AllByRecursion (λ r. is_raw r ≡ true → is_eq (order raw_name (as_raw r) (as_raw (stored_row h.id (event_bytes n) (pos 0) name body))) ≡ not (h.keep r)) old
+  raw_rows old new h = each_row Named (λ r. is_raw r ≡ true → is_eq (order raw_name (as_raw r) (as_raw (stored_row h.id (event_bytes n) (pos 0) name body))) ≡ not (h.keep r)) h.keep old h.gone h.apart
+      (λ r gone apart. subst (λ v. is_raw r ≡ true → is_eq (order raw_name (as_raw r) v) ≡ not (h.keep r)) (sym (stands h.id).1) (raw_row h.keep r gone apart))
+
   pub raw_put : (old new : List Row) → HasPut (event_bytes n) (pos 0) name body old new → held_in new ≡ with_row raw (held_in old)
   unfolding held_in put_raw comes_before same_raw admin_before
   raw_put old new h =
       let row = stored_row h.id (event_bytes n) (pos 0) name body in
       let mine = stands h.id in
-      let each = each_row Named (λ r. is_raw r ≡ true → is_eq (order raw_name (as_raw r) (as_raw row)) ≡ not (h.keep r)) h.keep old h.gone h.apart
-      (λ r gone apart. subst (λ v. is_raw r ≡ true → is_eq (order raw_name (as_raw r) v) ≡ not (h.keep r)) (sym mine.1) (raw_row h.keep r gone apart)) in
       let others = each_row Named (λ r. is_admin r ≡ true → h.keep r ≡ true) h.keep old h.gone h.apart (λ r gone apart admin. elim (cases_Bool (h.keep r)) [
         | inl hit ↦ hit
         | inr miss ↦ absurd (let bad = sym admin ∙ is_no_admin r (gone miss).event_is in cc)
       ]) in
-      let rows = told_in_place (order raw_name) (total raw_name) as_raw is_raw row h.keep old mine.0 h.free each in
+      let rows = told_in_place (order raw_name) (total raw_name) as_raw is_raw row h.keep old mine.0 h.free (raw_rows old new h) in
       let admins = told_as_before (order admin_name) (total admin_name) as_admin is_admin row h.keep old (is_no_admin row refl) h.free others in
       ap held_in h.rows ∙ ap₂ (λ a b. record { rows = a; admin = b }) (rows ∙ put_by_order raw_name (as_raw row) (held_in old).rows ∙ ap (λ r. put_raw r (held_in old).rows) mine.1) admins
+
+  -- where no two rows of events have one name once it is put, no two had before
+  raw_apart : (old new : List Row) → HasPut (event_bytes n) (pos 0) name body old new → ascend comes_before (held_in new).rows ≡ true → ascend comes_before (held_in old).rows ≡ true
+  unfolding held_in comes_before
+  raw_apart old new h up =
+      before_put (order raw_name) (total raw_name) as_raw is_raw (stored_row h.id (event_bytes n) (pos 0) name body) h.keep old (stands h.id).0 h.free (raw_rows old new h) h.once
+      (subst (λ rows. ascend comes_before (held_in rows).rows ≡ true) h.rows up)
+
+  -- no two rows of events have one name once it is put exactly where no two had before
+  pub raw_alike : (old new : List Row) → HasPut (event_bytes n) (pos 0) name body old new → ascend comes_before (held_in new).rows ≡ ascend comes_before (held_in old).rows
+  raw_alike old new h = alike (ascend comes_before (held_in new).rows) (ascend comes_before (held_in old).rows) (raw_apart old new h)
+      (λ up. subst (λ held. ascend comes_before held.rows ≡ true) (sym (raw_put old new h)) (raw_ascend raw (held_in old).rows up))
 
 -- ---- a row of the administration
 
@@ -188,3 +211,7 @@ module _ (k : ℕ) (low : k < 256) (name body : List ℕ) where
       let admins = told_in_place (order admin_name) (total admin_name) as_admin is_admin row h.keep old (admin_stands h.id) h.free each in
       let rows = told_as_before (order raw_name) (total raw_name) as_raw is_raw row h.keep old (is_no_raw row refl) h.free others in
       ap held_in h.rows ∙ ap₂ (λ a b. record { rows = a; admin = b }) rows (admins ∙ put_by_order admin_name (as_admin row) (held_in old).admin ∙ ap (λ r. put_admin r (held_in old).admin) mine)
+
+  -- the rows of events are as before
+  pub admin_alike : (old new : List Row) → HasPut [] (pos k) name body old new → ascend comes_before (held_in new).rows ≡ ascend comes_before (held_in old).rows
+  admin_alike old new h = ap (λ (held : Held). ascend comes_before held.rows) (admin_put old new h)

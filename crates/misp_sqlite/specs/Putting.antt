@@ -1,5 +1,5 @@
 -- What it means that a row was put into the table.
-use Rattle.std.specs.Prelude.{◌≡◌, ℕ, ℤ, Bool, true, false, List, [], ◌∷◌, filter}
+use Rattle.std.specs.Prelude.{◌≡◌, ◌≤◌, ℕ, ℤ, Bool, true, false, not, List, [], ◌∷◌, filter, length}
 use Rattle.std.specs.List.{AllByRecursion}
 use Rattle.sqlite_value.specs.declared.value.Value.TheVariants.{Int, Blob}
 use Rattle.sqlite_value.specs.Order.{Row, column}
@@ -20,13 +20,15 @@ pub record IsNamed (event : List ℕ) (kind : ℤ) (name : List ℕ) (r : Row) :
   pub kind_is : column r 2 ≡ Int kind
   pub name_is : column r 3 ≡ Blob name
 
--- The row is among those that were kept. Each that was not kept has its name, and of those that were none that has a rowid.
+-- The row is among those that were kept. At most one was not kept, which has its name, and of those
+-- that were none that has a rowid.
 pub record HasPut (event : List ℕ) (kind : ℤ) (name body : List ℕ) (old new : List Row) : Type 0 where
   pub id : ℤ
   pub keep : Row → Bool
   pub rows : new ≡ put_row (stored_row id event kind name body) (filter keep old)
   pub free : is_taken (filter keep old) (stored_row id event kind name body) ≡ false
   pub gone : AllByRecursion (λ r. keep r ≡ false → IsNamed event kind name r) old
+  pub once : length (filter (λ r. not (keep r)) old) ≤ 1
   pub apart : AllByRecursion (λ r. IsNamed event kind name r → is_null (rowid r) ≡ true) (filter keep old)
 
 -- what is held once the row is put in its place

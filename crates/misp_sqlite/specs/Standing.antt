@@ -1,10 +1,11 @@
 -- What a connection with the table stands as.
-use Rattle.std.specs.Prelude.{◌≡◌, ◌⊎◌, false, [], IsTrue, OnOk, Result}
+use Rattle.std.specs.Prelude.{◌≡◌, ◌⊎◌, ◌&&◌, Bool, false, if◌then◌else◌, [], IsTrue, OnOk, Option, None, Some, Result}
 use Rattle.sqlite.specs.Effect.{IsDatabase}
 use Rattle.sqlite.specs.State.{State, HasCleanDisk, KeepsCommit, Survives}
 use Rattle.sqlite_trees.specs.Tree.{Trees}
+use Rattle.misp_lists.specs.Order.{ascend}
 use Rattle.misp_outside.specs.declared.row.RawBatch.{RawBatch}
-use Rattle.misp_outside.specs.Held.{Held, nothing_held, with_batch}
+use Rattle.misp_outside.specs.Held.{Held, comes_before, nothing_held, with_batch}
 use Rattle.misp_sqlite.specs.Kept.{kept_schema, no_schema}
 use Rattle.misp_sqlite.specs.Stored.{held_in}
 
@@ -30,10 +31,29 @@ pub record Steps (old new : State) : Type 0 where
 abbrev pub kept_of : State → Held
 kept_of s = held_in (s.now.trees 0)
 
+-- no two of the rows of events that its table holds have one name: they ascend strictly
+abbrev pub is_apart : State → Bool
+is_apart s = ascend comes_before (kept_of s).rows
+
+-- it is open, and no two of these rows have one name
+abbrev pub is_reporting : State → Bool
+is_reporting s = s.is_open && is_apart s
+
+-- what a keeper over it reports to hold
+abbrev pub held_of : State → Option Held
+held_of s = if is_reporting s then Some (kept_of s) else None
+
+-- It still is in a transaction, and this is what its table holds now. No two of these rows have one
+-- name exactly where no two had.
+pub record HoldsInside (put : Held → Held) (old new : State) : Type 0 where
+  pub inside : IsInside new
+  pub held : kept_of new ≡ put (kept_of old)
+  pub apart : is_apart new ≡ is_apart old
+
 -- where the store is clean and it was in a transaction, Ok says that it still is, and what its table holds now
 abbrev pub PutsInside : {T E : Type 0} → State → State → (Held → Held) → Result T E → Type 0
 PutsInside old new put result =
-    HasCleanDisk new → IsInside old → OnOk result (IsInside new × (kept_of new ≡ put (kept_of old)))
+    HasCleanDisk new → IsInside old → OnOk result (HoldsInside put old new)
 
 -- where it is still open, it shows what it showed
 abbrev pub ShowsSame : State → State → Type 0
@@ -62,3 +82,9 @@ pub record Finds (old new : State) : Type 0 where
   pub was : (old.now.schema ≡ kept_schema) ⊎ (old.now.schema ≡ no_schema)
   pub kept : old.now.schema ≡ kept_schema → new.now ≡ old.now
   pub none : old.now.schema ≡ no_schema → kept_of new ≡ nothing_held
+
+-- Where it had the table, the same is reported as before. Where it had nothing, it is reported to
+-- hold nothing, while it is open.
+pub record Begins (old new : State) : Type 0 where
+  pub kept : old.now.schema ≡ kept_schema → held_of new ≡ held_of old
+  pub none : old.now.schema ≡ no_schema → IsTrue new.is_open → held_of new ≡ Some nothing_held

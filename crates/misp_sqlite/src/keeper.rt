@@ -1,12 +1,12 @@
 //! The keeper.
 
-ghost use Rattle.std.specs.Prelude.{◌≡◌, Err, None, IfOk, IsTrue, OnErr, OnOk};
+ghost use Rattle.std.specs.Prelude.{◌≡◌, Err, IfOk, IsTrue, OnErr, OnOk};
 ghost use Rattle.sqlite.specs.Held.{state as shown_by};
 ghost use Rattle.sqlite.specs.State.{HasCleanDisk, Survives};
 ghost use Rattle.misp_lists.specs.Order.{ascend};
 ghost use Rattle.misp_outside.specs.Causes.{HasCause, StaysUnless};
 ghost use Rattle.misp_outside.specs.Held.{admin_before, comes_before, next_row, nothing_held, rows_named, rows_of, with_batch};
-ghost use Rattle.misp_sqlite.specs.Standing.{Finds, HasBatch, LeavesWhole, ShowsSame, kept_of};
+ghost use Rattle.misp_sqlite.specs.Standing.{Begins, Finds, HasBatch, LeavesWhole, ShowsSame, held_of, is_reporting, kept_of};
 ghost use Rattle.misp_sqlite.specs.Stored.{held_in};
 
 use crate::loading::{admin_rows, all_rows, event_rows};
@@ -19,8 +19,9 @@ use misp_outside::{AdminRow, Keeper, KeeperFault, RawBatch, RawRow};
 use sqlite::{Alter, Connection};
 use std::alloc::Global;
 
-/// A keeper whose rows are in the table `kept_row` of a database. By the trait it reports no rows.
-/// The clauses of its calls promise what they load and put while the store is clean.
+/// A keeper whose rows are in the table `kept_row` of a database. By the trait it reports what the
+/// table holds, while the connection is open and no two of these rows have one name. From a fault
+/// on that has shut the connection it reports nothing.
 #[derive(Drop)]
 pub struct SqliteKeeper<A: Alter> {
     connection: Connection<A>,
@@ -53,6 +54,8 @@ impl<A: Alter + Drop> SqliteKeeper<A> {
         ensures crash { IfOk result (λ keeper. Survives (shown_by A.Store connection)
             (shown_by A.Store (connection_of keeper))
             (λ trees. held_in (trees 0) ≡ nothing_held)) }
+        ensures held { IfOk result (λ keeper. Begins (shown_by A.Store connection)
+            (shown_by A.Store (connection_of keeper))) }
     {
         match make_table(&mut connection) {
             Ok(()) => Ok(SqliteKeeper {
@@ -79,7 +82,8 @@ impl<A: Alter + Drop> Keeper for SqliteKeeper<A> {
     ghost use Rattle.misp_outside.specs.KeeperState.{state};
     ghost use Rattle.misp_sqlite.specs.Connected.{connection_of, faults_of};
 
-    ghost state = { λ keeper. state None (faults_of keeper) };
+    ghost state = { λ keeper.
+        state (held_of (shown_by A.Store (connection_of keeper))) (faults_of keeper) };
 
     fn load_event(&mut self, alloc: Global, event: &EventId) -> Result<Vec<RawRow>, KeeperFault>
         ensures found { HasCleanDisk (shown_by A.Store (connection_of self.new)) →
@@ -90,6 +94,8 @@ impl<A: Alter + Drop> Keeper for SqliteKeeper<A> {
             (shown_by A.Store (connection_of self.new)) }
         ensures survives { Survives (shown_by A.Store (connection_of self.old))
             (shown_by A.Store (connection_of self.new)) (λ _. ⊥) }
+        ensures clean { IsTrue (shown_by A.Store (connection_of self.new)).is_open →
+            HasCleanDisk (shown_by A.Store (connection_of self.new)) }
         ensures cause { HasCause (faults_of self.old) (faults_of self.new)
             (result ≡ Err KeeperFault.Failed) }
         ensures stays { StaysUnless (faults_of self.old) (faults_of self.new)
@@ -116,6 +122,8 @@ impl<A: Alter + Drop> Keeper for SqliteKeeper<A> {
             (shown_by A.Store (connection_of self.new)) }
         ensures survives { Survives (shown_by A.Store (connection_of self.old))
             (shown_by A.Store (connection_of self.new)) (λ _. ⊥) }
+        ensures clean { IsTrue (shown_by A.Store (connection_of self.new)).is_open →
+            HasCleanDisk (shown_by A.Store (connection_of self.new)) }
         ensures cause { HasCause (faults_of self.old) (faults_of self.new)
             (result ≡ Err KeeperFault.Failed) }
         ensures stays { StaysUnless (faults_of self.old) (faults_of self.new)
@@ -140,6 +148,8 @@ impl<A: Alter + Drop> Keeper for SqliteKeeper<A> {
             (shown_by A.Store (connection_of self.new)) }
         ensures survives { Survives (shown_by A.Store (connection_of self.old))
             (shown_by A.Store (connection_of self.new)) (λ _. ⊥) }
+        ensures clean { IsTrue (shown_by A.Store (connection_of self.new)).is_open →
+            HasCleanDisk (shown_by A.Store (connection_of self.new)) }
         ensures cause { HasCause (faults_of self.old) (faults_of self.new)
             (result ≡ Err KeeperFault.Failed) }
         ensures stays { StaysUnless (faults_of self.old) (faults_of self.new)
@@ -159,6 +169,8 @@ impl<A: Alter + Drop> Keeper for SqliteKeeper<A> {
             (shown_by A.Store (connection_of self.new)) }
         ensures survives { Survives (shown_by A.Store (connection_of self.old))
             (shown_by A.Store (connection_of self.new)) (λ _. ⊥) }
+        ensures clean { IsTrue (shown_by A.Store (connection_of self.new)).is_open →
+            HasCleanDisk (shown_by A.Store (connection_of self.new)) }
         ensures cause { HasCause (faults_of self.old) (faults_of self.new)
             (result ≡ Err KeeperFault.Failed) }
         ensures stays { StaysUnless (faults_of self.old) (faults_of self.new)
@@ -178,6 +190,8 @@ impl<A: Alter + Drop> Keeper for SqliteKeeper<A> {
             (shown_by A.Store (connection_of self.new)) }
         ensures survives { Survives (shown_by A.Store (connection_of self.old))
             (shown_by A.Store (connection_of self.new)) (λ _. ⊥) }
+        ensures clean { IsTrue (shown_by A.Store (connection_of self.new)).is_open →
+            HasCleanDisk (shown_by A.Store (connection_of self.new)) }
         ensures cause { HasCause (faults_of self.old) (faults_of self.new)
             (result ≡ Err KeeperFault.Failed) }
         ensures stays { StaysUnless (faults_of self.old) (faults_of self.new)
@@ -202,6 +216,12 @@ impl<A: Alter + Drop> Keeper for SqliteKeeper<A> {
             IsTrue (shown_by A.Store (connection_of self.old)).is_open →
             LeavesWhole batch (shown_by A.Store (connection_of self.old))
             (shown_by A.Store (connection_of self.new)) }
+        ensures reported { OnOk result
+            (IsTrue (shown_by A.Store (connection_of self.new)).is_open →
+            is_reporting (shown_by A.Store (connection_of self.new))
+            ≡ is_reporting (shown_by A.Store (connection_of self.old))) }
+        ensures clean { IsTrue (shown_by A.Store (connection_of self.new)).is_open →
+            HasCleanDisk (shown_by A.Store (connection_of self.new)) }
         ensures cause { HasCause (faults_of self.old) (faults_of self.new)
             (result ≡ Err KeeperFault.Failed) }
         ensures stays { StaysUnless (faults_of self.old) (faults_of self.new)

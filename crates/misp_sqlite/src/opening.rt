@@ -5,7 +5,7 @@ ghost use Rattle.sqlite.specs.Held.{state};
 ghost use Rattle.sqlite.specs.State.{HasCleanDisk, Survives};
 ghost use Rattle.misp_outside.specs.Held.{nothing_held};
 ghost use Rattle.misp_sqlite.specs.Kept.{no_schema};
-ghost use Rattle.misp_sqlite.specs.Standing.{Finds};
+ghost use Rattle.misp_sqlite.specs.Standing.{Begins, Finds};
 ghost use Rattle.misp_sqlite.specs.Stored.{held_in};
 
 use crate::fault::fault_of;
@@ -28,6 +28,8 @@ pub(crate) fn make_table<A: Alter>(connection: &mut Connection<A>) -> Result<(),
         (Finds (state A.Store connection.old) (state A.Store connection.new)) }
     ensures crash { Survives (state A.Store connection.old) (state A.Store connection.new)
         (λ trees. held_in (trees 0) ≡ nothing_held) }
+    ensures held { OnOk result
+        (Begins (state A.Store connection.old) (state A.Store connection.new)) }
 {
     if is_ready(connection) {
         return Ok(());

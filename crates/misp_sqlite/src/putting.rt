@@ -1,10 +1,10 @@
 //! Rows as the upsert takes them.
 
-ghost use Rattle.std.specs.Prelude.{◌≡◌, pos, [], OnErr, OnOk};
+ghost use Rattle.std.specs.Prelude.{◌≡◌, pos, [], IsTrue, OnErr, OnOk};
 ghost use Rattle.sqlite.specs.Held.{state};
 ghost use Rattle.sqlite.specs.State.{HasCleanDisk, Survives};
 ghost use Rattle.misp_sqlite.specs.Putting.{HasPut, admin_of, raw_of, with_admin_row, with_admin_rows, with_row, with_rows};
-ghost use Rattle.misp_sqlite.specs.Standing.{HasBatch, IsInside, PutsInside, ShowsSame, Steps, kept_of};
+ghost use Rattle.misp_sqlite.specs.Standing.{HasBatch, IsInside, PutsInside, ShowsSame, Steps, is_reporting, kept_of};
 ghost use Rattle.misp_sqlite.specs.Stored.{held_in};
 ghost use Rattle.misp_outside.specs.Held.{with_batch};
 
@@ -150,6 +150,9 @@ pub(crate) fn put_batch<A: Alter>(
     ensures crash { Survives (state A.Store connection.old) (state A.Store connection.new)
         (λ trees. held_in (trees 0)
         ≡ with_batch batch.now (kept_of (state A.Store connection.old))) }
+    ensures reported { OnOk result (IsTrue (state A.Store connection.new).is_open →
+        is_reporting (state A.Store connection.new)
+        ≡ is_reporting (state A.Store connection.old)) }
 {
     if !is_ready(connection) {
         return Err(KeeperFault::Failed);

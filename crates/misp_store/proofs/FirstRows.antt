@@ -7,6 +7,8 @@ use Rattle.misp_lists.proofs.Lists.{filter_never, find_passes}
 use Rattle.misp_lists.proofs.Orders.{front_cmp, in_bytes, itself, less_is, less_past}
 use Rattle.misp_lists.proofs.Prelude.{and_from, and_parts, false_from_ne_true, false≢true, is_eq-slice_cmp, ordering_then}
 use Rattle.misp_outside.specs.Held.{Held, comes_before, is_from, next_row, raw_name}
+use Rattle.misp_outside.specs.Reporting.{StaysHeld}
+use Rattle.misp_outside.proofs.Reporting.{known_still}
 use Rattle.misp_elem.specs.Prelude.{IsUid}
 use Rattle.misp_elem.specs.Spelling.{key, name, uid}
 use Rattle.misp_effects.specs.Prelude.{RawRow}
@@ -69,6 +71,10 @@ module _ (e : EventId) (least m : ℕ) (fits : least < 2 ^ 128) (below : m < 2 ^
   first_held (Some told) next f found up some = first_from told.rows f up (sym found ∙ some)
 
 module _ (e : EventId) (o : OrgId) where
+  -- it is the first still of what stays
+  pub first_still : (held after : Option Held) (first : RawRow) → StaysHeld held after → IsFirstHeld e o first held → IsFirstHeld e o first after
+  first_still held after first same is = known_still held after (λ told. IsFirst e o first told.rows) same is
+
   -- it is the row of a key that it is not before, where it has its name
   first_added : (held : Option Held) (k : Key) (first : RawRow) (bytes : List ℕ) (start now : List RawRow) → IsFirstHeld e o first held → bytes ≡ name o k → is_ge (in_bytes first.name bytes) ≡ true
       → now ≡ start ++ filter (λ raw. bytes_eq raw.name bytes) (first ∷ []) → IfSome held (λ told. now ≡ start ++ rows_at e (name o k) told.rows)
@@ -97,12 +103,12 @@ module _ (e : EventId) (o : OrgId) where
   after_first keys = take (length keys - 1) (drop 1 keys)
 
   -- the row of the first key, and then those of the others
-  pub keys_joined : (held before : Option Held) (k : Key) (keys : List Key) (start mid now : List RawRow) → 1 ≤ length keys → k ≡ get_or keys 0 k → before ≡ held
-      → IfSome held (λ told. mid ≡ start ++ rows_at e (name o k) told.rows) → IfSome before (λ told. now ≡ mid ++ rows_of_keys e o (after_first keys) told.rows)
-      → IfSome held (λ told. now ≡ start ++ rows_of_keys e o keys told.rows)
-  keys_joined None before k keys start mid now some here kept first next = tt
-  keys_joined (Some told) before k keys start mid now some here kept first next =
-      joined (Some told) before (rows_at e (name o k)) (rows_of_keys e o (after_first keys)) start mid now kept first next
+  pub keys_joined : (held after : Option Held) (k : Key) (keys : List Key) (start mid now : List RawRow) → 1 ≤ length keys → k ≡ get_or keys 0 k → StaysHeld held after
+      → IfSome held (λ told. mid ≡ start ++ rows_at e (name o k) told.rows) → IfSome after (λ told. now ≡ mid ++ rows_of_keys e o (after_first keys) told.rows)
+      → IfSome after (λ told. now ≡ start ++ rows_of_keys e o keys told.rows)
+  keys_joined held None k keys start mid now some here kept first next = tt
+  keys_joined held (Some told) k keys start mid now some here kept first next =
+      joined held (Some told) (rows_at e (name o k)) (rows_of_keys e o (after_first keys)) start mid now kept first next
       ∙ ap (λ t. start ++ t) (sym (first_key e o k (after_first keys) told.rows) ∙ ap (λ ks. rows_of_keys e o ks told.rows) (sym (all keys some here)))
     where
       all : (keys : List Key) → 1 ≤ length keys → k ≡ get_or keys 0 k → keys ≡ k ∷ after_first keys

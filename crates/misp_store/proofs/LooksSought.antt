@@ -1,9 +1,11 @@
--- What is sought of one owner, each kind of look in its way, in what a keeper tells.
+-- What is sought of one owner, each kind of look in its way, in what a keeper reports.
 use Rattle.std.proofs.Common.{◌≡◌, ℕ, ◌^◌, ◌<◌, List, ◌++◌, Bool, map, sym, ap, ◌∙◌, append_assoc, Option, Some, None, IfSome, IsTrue, OnOk, Result, Ok, Err, nat_cmp, subst}
 use Rattle.std.specs.List.Sorted.{IsStrictlySortedBy}
 use Rattle.misp_lists.specs.Order.{ascend}
 use Rattle.misp_lists.specs.Prelude.{AllByRecursion, list_any}
 use Rattle.misp_outside.specs.Held.{Held, comes_before, rows_named}
+use Rattle.misp_outside.specs.Reporting.{StaysHeld}
+use Rattle.misp_outside.proofs.Reporting.{known_still}
 use Rattle.misp_elem.specs.Parents.{event_key}
 use Rattle.misp_elem.specs.Spelling.{name, uid}
 use Rattle.misp_effects.specs.Prelude.{RawRow}
@@ -43,14 +45,13 @@ module _ (e : EventId) (o : OrgId) where
     keys_in_look (Some told) keys start now is sorted found = found ∙ ap (λ t. start ++ t) (sym (rows_by_keys e o keys told.rows sorted is.up))
 
     -- the event's own row, and then those of statements
-    pub statements_in_look : (held before : Option Held) (start mid now : List RawRow) → before ≡ held → IsFirstHeld e o first held
+    pub statements_in_look : (held after : Option Held) (start mid now : List RawRow) → StaysHeld held after → IsFirstHeld e o first after
         → IfSome held (λ told. mid ≡ start ++ rows_at e (name o (event_key e)) told.rows)
-        → IfSome before (λ told. IsTrue (ascend comes_before told.rows) → now ≡ mid ++ rows_of_statements e o told.rows) → LookFound held Look.Statements start now
-    statements_in_look None before start mid now kept is found next = tt
-    statements_in_look (Some told) before start mid now kept is found next =
-        let more : IsTrue (ascend comes_before told.rows) → now ≡ mid ++ rows_of_statements e o told.rows =
-        subst (λ (held : Option Held). IfSome held (λ told. IsTrue (ascend comes_before told.rows) → now ≡ mid ++ rows_of_statements e o told.rows)) kept next in
-        more is.up ∙ ap (λ t. t ++ rows_of_statements e o told.rows) found ∙ append_assoc start (rows_at e (name o (event_key e)) told.rows) (rows_of_statements e o told.rows)
+        → IfSome after (λ told. IsTrue (ascend comes_before told.rows) → now ≡ mid ++ rows_of_statements e o told.rows) → LookFound after Look.Statements start now
+    statements_in_look held None start mid now kept is found next = tt
+    statements_in_look held (Some told) start mid now kept is found next =
+        let its_own : mid ≡ start ++ rows_at e (name o (event_key e)) told.rows = known_still held (Some told) (λ told. mid ≡ start ++ rows_at e (name o (event_key e)) told.rows) kept found in
+        next is.up ∙ ap (λ t. t ++ rows_of_statements e o told.rows) its_own ∙ append_assoc start (rows_at e (name o (event_key e)) told.rows) (rows_of_statements e o told.rows)
         ∙ ap (λ t. start ++ t) (statements_found e o told.rows is.up)
 
     module _ (us : List ElemId) (keys : List Key) (ns : List ℕ) (same : (p : ℕ → Bool) → list_any p ns ≡ list_any (λ u. p u.0.0) us)
@@ -60,9 +61,9 @@ module _ (e : EventId) (o : OrgId) where
       both_in_look None start now is found = tt
       both_in_look (Some told) start now is found = found ∙ ap (λ t. start ++ t) (uuids_found e o us keys ns same sorted.1 sorted.0 told.rows is.up)
 
-      pub uuids_in_look : (held before : Option Held) (start mid now : List RawRow) → before ≡ held → IsFirstHeld e o first held
-          → IfSome held (λ told. mid ≡ start ++ rows_of_uuids e o ns told.rows) → IfSome before (λ told. now ≡ mid ++ rows_of_keys e o keys told.rows) → LookFound held (Look.Uuids us keys) start now
-      uuids_in_look held before start mid now kept is first next = both_in_look held start now is (joined held before (rows_of_uuids e o ns) (rows_of_keys e o keys) start mid now kept first next)
+      pub uuids_in_look : (held after : Option Held) (start mid now : List RawRow) → StaysHeld held after → IsFirstHeld e o first after
+          → IfSome held (λ told. mid ≡ start ++ rows_of_uuids e o ns told.rows) → IfSome after (λ told. now ≡ mid ++ rows_of_keys e o keys told.rows) → LookFound after (Look.Uuids us keys) start now
+      uuids_in_look held after start mid now kept is first next = both_in_look after start now is (joined held after (rows_of_uuids e o ns) (rows_of_keys e o keys) start mid now kept first next)
 
     -- what is of the uuids, one part after the other
     pub parts_sought : (ns : List ℕ) → AllByRecursion (λ n. n < 2 ^ 128) ns → IsStrictlySortedBy nat_cmp ns → (held : Option Held) (start now : List RawRow) → IsFirstHeld e o first held

@@ -2,7 +2,7 @@
 use Rattle.std.proofs.Common.{◌≡◌, Bool, true, false, cond, List, [], ◌∷◌, ◌++◌, refl, sym, ap, subst, ◌∙◌, inl, inr, arith, map, filter, ◌&&◌, Some}
 use Rattle.std.proofs.lemmas.List.Folds.{list_all-append}
 use Rattle.misp_lists.proofs.Lists.{some_same}
-use Rattle.misp_elem.specs.Spelling.{key, name}
+use Rattle.misp_elem.specs.Spelling.{name}
 use Rattle.misp_elem.specs.declared.key.Place.{Place}
 use Rattle.misp_model.proofs.Prelude.{AreRows, EventId, Inst, IsRow, Key, OrgId, Row, and_from, and_parts, event_key, event_of, false≢true, list_all, list_any, name_bytes, or_cases, same_event, same_event-refl, same_key, same_key-sound, same_org}
 use Rattle.misp_elem.specs.Prelude.{Submission}

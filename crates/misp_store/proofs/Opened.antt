@@ -1,6 +1,8 @@
 -- What is held once its rows are put anew, and an instance is opened over it.
-use Rattle.std.proofs.Common.{◌≡◌, ℕ, List, [], ◌∷◌, ◌<◌, length, filter, map, refl, sym, ap, subst, ◌∙◌, option_map, Option, Some, None, Result, Ok, Err, IfSome, IsOk, arith}
+use Rattle.std.proofs.Common.{◌≡◌, ℕ, List, [], ◌∷◌, ◌<◌, length, filter, map, refl, sym, ap, subst, ◌∙◌, Option, Some, None, Result, Ok, Err, IfSome, IsOk, arith}
 use Rattle.misp_outside.specs.Held.{Held}
+use Rattle.misp_outside.specs.Reporting.{StaysHeld, WhereReported}
+use Rattle.misp_outside.proofs.Reporting.{known_of, reported_then}
 use Rattle.misp_effects.specs.Prelude.{Group, RawRow, Row}
 use Rattle.misp_store.specs.Loading.{NamesFault}
 use Rattle.misp_store.specs.Raw.{rows_in}
@@ -14,7 +16,11 @@ pub none_of : {A : Type 0} (xs : List A) → (0 < length xs → ⊥) → xs ≡ 
 none_of [] none = refl
 none_of (x ∷ xs) none = absurd (none (omega arith))
 
--- ---- where a keeper tells what was loaded
+-- what is known of what stayed, whatever is reported after the next call
+pub known_before : (old mid new : Option Held) (P : Held → Type 0) (Q : Held → Held → Type 0) → StaysHeld old mid → IfSome mid P → WhereReported mid new Q → WhereReported old new (λ a b. P a)
+known_before old mid new P Q same p q = reported_then old mid new (λ a b. P a) Q (λ a b. P a) (λ a b c known next. known) (known_of old mid P same p) q
+
+-- ---- where a keeper reports what was loaded
 
 -- as many are put anew as are old
 pub old_counted : (held : Option Held) (raws anew : List RawRow) (n : ℕ) → IfSome held (λ told. raws ≡ told.rows) → anew ≡ put_anew raws → n ≡ length anew
@@ -36,20 +42,24 @@ all_same (Some told) raws found same = subst (λ rows. rows_in (map renewed_row 
 -- ---- opening
 
 -- the groups stay
-pub groups_renewed : (held : Option Held) (groups : List Group) → HoldsGroups held groups → HoldsGroups (option_map renewed held) groups
+pub groups_renewed : (held new : Option Held) (groups : List Group) → WhereReported held new (λ old new. new ≡ renewed old) → HoldsGroups held groups → HoldsGroups new groups
 unfolding renewed
-groups_renewed None groups holds = tt
-groups_renewed (Some held) groups holds = holds
+groups_renewed None None groups put holds = tt
+groups_renewed None (Some now) groups put holds = absurd put
+groups_renewed (Some told) None groups put holds = tt
+groups_renewed (Some told) (Some now) groups put holds = ap (λ (h : Held). groups_in h.admin) put ∙ holds
 
 rows_after : (held : Held) (read : Result (List Row) (List ℕ)) → IsOk read → IsOk (after_rows held read)
 rows_after held (Ok rows) ok = refl
 rows_after held (Err name) ok = absurd cc
 
 -- groups and rows are read
-pub both_read : (held : Option Held) (groups : List Group) → HoldsGroups held groups → IfSome held (λ h. IsOk (rows_in h.rows)) → IfSome held (λ h. IsOk (opened h))
+pub both_read : (held new : Option Held) (groups : List Group) → HoldsGroups held groups → WhereReported held new (λ old _. IsOk (rows_in old.rows)) → WhereReported held new (λ old _. IsOk (opened old))
 unfolding opened
-both_read None groups holds rows = tt
-both_read (Some held) groups holds rows = subst (λ read. IsOk (after_groups held read)) (sym holds) (rows_after held (rows_in held.rows) rows)
+both_read None None groups holds rows = tt
+both_read None (Some now) groups holds rows = absurd rows
+both_read (Some told) None groups holds rows = tt
+both_read (Some told) (Some now) groups holds rows = subst (λ read. IsOk (after_groups told read)) (sym holds) (rows_after told (rows_in told.rows) rows)
 
 -- a row of the administration is no group
 pub group_bad : (held : Option Held) (fault : LoadFault) → IfSome held (λ h. NamesFault (groups_in h.admin) fault) → IfSome held (λ h. NamesFault (opened h) fault)

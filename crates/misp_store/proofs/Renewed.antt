@@ -1,10 +1,11 @@
 -- Rows that are put anew: they stay in their places, and say what they said.
-use Rattle.std.proofs.Common.{◌≡◌, ℕ, List, [], ◌∷◌, ◌++◌, true, false, refl, sym, ap, subst, ◌∙◌, map, filter, length, Option, Some, None, option_map, is_some, Result, Ok, Err, IfSome, IsOk, IsTrue, inl, inr, is_lt}
+use Rattle.std.proofs.Common.{◌≡◌, ℕ, List, [], ◌∷◌, ◌++◌, true, false, refl, sym, ap, subst, ◌∙◌, map, filter, length, Option, Some, None, is_some, Result, Ok, Err, IfSome, IsOk, IsTrue, inl, inr, is_lt}
 use Rattle.std.specs.Option.{option_map_or}
 use Rattle.std.proofs.lemmas.Bool.{cases_Bool}
 use Rattle.std.proofs.lemmas.Cmp.{tied_itself}
 use Rattle.std.proofs.lemmas.List.{length-map}
 use Rattle.misp_lists.proofs.Prelude.{ascend, less_of}
+use Rattle.misp_outside.specs.Reporting.{WhereReported}
 use Rattle.misp_outside.specs.Held.{Held, comes_before, name_order, put_admins, put_raw, put_rows, raw_name, same_raw, with_batch}
 use Rattle.misp_outside.proofs.Names.{names_total, order, put_by_order, total}
 use Rattle.misp_outside.proofs.Places.{put_above, put_over}
@@ -168,17 +169,19 @@ read_anew raw r is read = record {
 }
 
 -- nothing is put of nothing
-pub nothing_put : (held : Option Held) → held ≡ option_map (with_batch (rows_alone [])) held
+pub nothing_put : (held : Option Held) → WhereReported held held (λ old new. new ≡ with_batch (rows_alone []) old)
 unfolding with_batch put_rows put_admins
-nothing_put None = refl
+nothing_put None = tt
 nothing_put (Some held) = refl
 
 -- what was loaded is put anew in its places
-pub renewed_held : (held : Option Held) (raws anew : List RawRow) → IfSome held (λ told. raws ≡ told.rows) → IfSome held (λ told. IsTrue (ascend comes_before raws)) → anew ≡ put_anew raws
-    → option_map (with_batch (rows_alone anew)) held ≡ option_map renewed held
+pub renewed_held : (held new : Option Held) (raws anew : List RawRow) → IfSome held (λ told. raws ≡ told.rows) → IfSome held (λ told. IsTrue (ascend comes_before raws)) → anew ≡ put_anew raws
+    → WhereReported held new (λ old new. new ≡ with_batch (rows_alone anew) old) → WhereReported held new (λ old new. new ≡ renewed old)
 unfolding with_batch put_admins renewed
-renewed_held None raws anew found up is = refl
-renewed_held (Some told) raws anew found up is =
+renewed_held None None raws anew found up is put = tt
+renewed_held None (Some now) raws anew found up is put = absurd put
+renewed_held (Some told) None raws anew found up is put = tt
+renewed_held (Some told) (Some now) raws anew found up is put =
     let there : put_rows anew told.rows ≡ map renewed_row told.rows =
     ap (λ rows. put_rows rows told.rows) (is ∙ ap put_anew found) ∙ put_there told.rows (subst (λ rows. ascend comes_before rows ≡ true) found up) in
-    λ i. Some (record { rows = there i; admin = told.admin })
+    put ∙ (λ i. record { rows = there i; admin = told.admin })

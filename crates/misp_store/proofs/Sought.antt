@@ -1,5 +1,5 @@
--- What is sought in what a keeper tells, where it tells it: what is found so far, and what is left.
-use Rattle.std.proofs.Common.{◌≡◌, ℕ, ◌+◌, ◌-◌, ◌^◌, ◌<◌, ◌≤◌, max, List, [], ◌∷◌, ◌++◌, inl, inr, refl, sym, ap, subst, ◌∙◌, ◌⊎◌, arith, filter, drop, length, get_or, Option, Some, None, IfSome, IsTrue, SomeIff, bytes_eq, append-nil, append_assoc}
+-- What is sought in what a keeper reports, where it reports it: what is found so far, and what is left.
+use Rattle.std.proofs.Common.{◌≡◌, ℕ, ◌+◌, ◌-◌, ◌^◌, ◌<◌, ◌≤◌, max, List, [], ◌∷◌, ◌++◌, inl, inr, refl, sym, ap, ◌∙◌, ◌⊎◌, arith, filter, drop, length, get_or, Option, Some, None, IfSome, IsTrue, SomeIff, bytes_eq, append-nil, append_assoc}
 use Rattle.std.specs.Int.{w128, to_be_bytes}
 use Rattle.std.proofs.lemmas.Bool.{cases_lt}
 use Rattle.std.proofs.lemmas.List.{drop_all, drop_more}
@@ -8,6 +8,8 @@ use Rattle.misp_lists.proofs.Bytes.{IsBytes}
 use Rattle.misp_lists.proofs.Lists.{none_not_some}
 use Rattle.misp_lists.proofs.Ordering.{ascend_kept}
 use Rattle.misp_outside.specs.Held.{Held, comes_before, next_row, rows_named}
+use Rattle.misp_outside.specs.Reporting.{StaysHeld}
+use Rattle.misp_outside.proofs.Reporting.{known_still}
 use Rattle.misp_elem.specs.Spelling.{name, uid}
 use Rattle.misp_effects.specs.Prelude.{RawRow}
 use Rattle.misp_model.proofs.Prelude.{EventId, Key, OrgId}
@@ -21,6 +23,10 @@ use Rattle.misp_store.proofs.OwnerSteps.{first_owner, from_first, last_owner, no
 -- where it is known, what is held ascends
 abbrev pub Ascends : Option Held → Type 0
 Ascends held = IfSome held (λ told. IsTrue (ascend comes_before told.rows))
+
+-- so does what stays
+pub ascends_still : (held after : Option Held) → StaysHeld held after → Ascends held → Ascends after
+ascends_still held after same up = known_still held after (λ told. IsTrue (ascend comes_before told.rows)) same up
 
 -- ---- one name
 
@@ -52,15 +58,14 @@ unfolding rows_of_keys
 no_key e o raws = refl
 
 module _ (e : EventId) (o : OrgId) (start : List RawRow) (keys : List Key) (i : ℕ) where
-  pub keys_next : (held before : Option Held) (k : Key) (bytes : List ℕ) (found now : List RawRow) → i < length keys → k ≡ get_or keys i k → bytes ≡ name o k → before ≡ held
-      → KeysFound held e o start keys found (drop i keys) → IfSome before (λ told. now ≡ found ++ rows_at e bytes told.rows) → KeysFound held e o start keys now (drop (i + 1) keys)
-  keys_next None before k bytes found now inside here is same so_far added = tt
-  keys_next (Some told) before k bytes found now inside here is same so_far added =
-      let more : now ≡ found ++ rows_at e bytes told.rows = subst (λ (held : Option Held). IfSome held (λ told. now ≡ found ++ rows_at e bytes told.rows)) same added in
-      ap (λ t. t ++ rows_of_keys e o (drop (i + 1) keys) told.rows) (more ∙ ap (λ b. found ++ rows_at e b told.rows) is)
+  pub keys_next : (held after : Option Held) (k : Key) (bytes : List ℕ) (found now : List RawRow) → i < length keys → k ≡ get_or keys i k → bytes ≡ name o k → StaysHeld held after
+      → KeysFound held e o start keys found (drop i keys) → IfSome after (λ told. now ≡ found ++ rows_at e bytes told.rows) → KeysFound after e o start keys now (drop (i + 1) keys)
+  keys_next held None k bytes found now inside here is same so_far added = tt
+  keys_next held (Some told) k bytes found now inside here is same so_far added =
+      ap (λ t. t ++ rows_of_keys e o (drop (i + 1) keys) told.rows) (added ∙ ap (λ b. found ++ rows_at e b told.rows) is)
       ∙ append_assoc found (rows_at e (name o k) told.rows) (rows_of_keys e o (drop (i + 1) keys) told.rows)
       ∙ ap (λ t. found ++ t) (sym (first_key e o k (drop (i + 1) keys) told.rows) ∙ ap (λ ks. rows_of_keys e o ks told.rows) (sym first))
-      ∙ so_far
+      ∙ known_still held (Some told) (λ told. found ++ rows_of_keys e o (drop i keys) told.rows ≡ start ++ rows_of_keys e o keys told.rows) same so_far
     where
       first : drop i keys ≡ k ∷ drop (i + 1) keys
       first = drop_more keys i k inside ∙ ap (λ x. x ∷ drop (i + 1) keys) (sym here)
@@ -72,12 +77,11 @@ module _ (e : EventId) (o : OrgId) (start : List RawRow) (keys : List Key) (i : 
 -- ---- one part after the other
 
 -- what is found in one part, and then in the next
-pub joined : (held before : Option Held) (f g : List RawRow → List RawRow) (start mid now : List RawRow) → before ≡ held
-    → IfSome held (λ told. mid ≡ start ++ f told.rows) → IfSome before (λ told. now ≡ mid ++ g told.rows) → IfSome held (λ told. now ≡ start ++ (f told.rows ++ g told.rows))
-joined None before f g start mid now same first next = tt
-joined (Some told) before f g start mid now same first next =
-    let more : now ≡ mid ++ g told.rows = subst (λ (held : Option Held). IfSome held (λ told. now ≡ mid ++ g told.rows)) same next in
-    more ∙ ap (λ t. t ++ g told.rows) first ∙ append_assoc start (f told.rows) (g told.rows)
+pub joined : (held after : Option Held) (f g : List RawRow → List RawRow) (start mid now : List RawRow) → StaysHeld held after
+    → IfSome held (λ told. mid ≡ start ++ f told.rows) → IfSome after (λ told. now ≡ mid ++ g told.rows) → IfSome after (λ told. now ≡ start ++ (f told.rows ++ g told.rows))
+joined held None f g start mid now same first next = tt
+joined held (Some told) f g start mid now same first next =
+    next ∙ ap (λ t. t ++ g told.rows) (known_still held (Some told) (λ told. mid ≡ start ++ f told.rows) same first) ∙ append_assoc start (f told.rows) (g told.rows)
 
 -- what begins so and ends with one of the numbers
 pub ending_added : (held : Option Held) (e : EventId) (front : List ℕ) (ns : List ℕ) (rows kept start now : List RawRow)
@@ -122,22 +126,23 @@ module _ (l : Looks) where
     | inr ge ↦ ap (λ n. rows_from l (Some n) raws) (omega arith) ∙ e
   ]
 
-  pub owner_added : (held : Option Held) (least number m : ℕ) (next : Option ℕ) (start now : List RawRow) → m ≡ max number least → m < 2 ^ 128 → IsAfter m next → Ascends held
+  pub owner_added : (held later : Option Held) (least number m : ℕ) (next : Option ℕ) (start now : List RawRow) → m ≡ max number least → m < 2 ^ 128 → IsAfter m next → StaysHeld held later → Ascends held
       → IfSome held (λ told. rows_from l (Some number) told.rows ≡ rows_from l (Some least) told.rows)
-      → IfSome held (λ told. now ≡ start ++ rows_sought l (org m) told.rows)
-      → IfSome held (λ told. now ++ rows_from l next told.rows ≡ start ++ rows_from l (Some least) told.rows)
-  owner_added None least number m next start now greatest fits after up same added = tt
-  owner_added (Some told) least number m next start now greatest fits after up same added =
+      → IfSome later (λ told. now ≡ start ++ rows_sought l (org m) told.rows)
+      → IfSome later (λ told. now ++ rows_from l next told.rows ≡ start ++ rows_from l (Some least) told.rows)
+  owner_added held None least number m next start now greatest fits after kept up same added = tt
+  owner_added held (Some told) least number m next start now greatest fits after kept up same added =
       ap (λ t. t ++ rows_from l next told.rows) added
       ∙ append_assoc start (rows_sought l (org m) told.rows) (rows_from l next told.rows)
-      ∙ ap (λ t. start ++ t) (whole after ∙ ap (λ n. rows_from l (Some n) told.rows) greatest ∙ from_greater told.rows number least same)
+      ∙ ap (λ t. start ++ t) (whole after ∙ ap (λ n. rows_from l (Some n) told.rows) greatest
+      ∙ from_greater told.rows number least (known_still held (Some told) (λ told. rows_from l (Some number) told.rows ≡ rows_from l (Some least) told.rows) kept same))
     where
       whole : IsAfter m next → rows_sought l (org m) told.rows ++ rows_from l next told.rows ≡ rows_from l (Some m) told.rows
-      whole (inl some) = ap (λ n. rows_sought l (org m) told.rows ++ rows_from l n told.rows) some ∙ owner_and_more l m fits told.rows up
+      whole (inl some) = ap (λ n. rows_sought l (org m) told.rows ++ rows_from l n told.rows) some ∙ owner_and_more l m fits told.rows (ascends_still held (Some told) kept up)
       whole (inr last) =
           ap (λ n. rows_sought l (org m) told.rows ++ rows_from l n told.rows) last.0
           ∙ ap (λ t. rows_sought l (org m) told.rows ++ t) (from_none told.rows)
-          ∙ append-nil (rows_sought l (org m) told.rows) ∙ last_owner l m fits told.rows up last.1
+          ∙ append-nil (rows_sought l (org m) told.rows) ∙ last_owner l m fits told.rows (ascends_still held (Some told) kept up) last.1
 
   -- ---- all owners
 
@@ -148,6 +153,12 @@ module _ (l : Looks) where
   pub owners_first : (held : Option Held) (found : List RawRow) → found ≡ [] → OwnersFound held found (Some 0)
   owners_first None found none = tt
   owners_first (Some told) found none = ap (λ t. t ++ rows_from l (Some 0) told.rows) none ∙ from_first l told.rows
+
+  pub owners_next : (held after : Option Held) (found now : List RawRow) (left next : Option ℕ) → StaysHeld held after → OwnersFound held found left
+      → IfSome after (λ told. now ++ rows_from l next told.rows ≡ found ++ rows_from l left told.rows) → OwnersFound after now next
+  owners_next held None found now left next same so_far added = tt
+  owners_next held (Some told) found now left next same so_far added =
+      added ∙ known_still held (Some told) (λ told. found ++ rows_from l left told.rows ≡ rows_looked l told.rows) same so_far
 
   pub owners_done : (held : Option Held) (found : List RawRow) → OwnersFound held found None → IfSome held (λ told. found ≡ rows_looked l told.rows)
   owners_done None found so_far = tt

@@ -6,7 +6,7 @@ use Rattle.misp_outside.specs.Held.{same_admin}
 use Rattle.misp_format.specs.Prelude.{AllByRecursion, GroupId, IsGroup, group_in_text}
 use Rattle.misp_effects.specs.Prelude.{AdminRow, Group, Held, KeeperState, uid}
 use Rattle.misp_format.specs.WholeGroup.{group_text}
-use Rattle.misp_effects.specs.KeeperStates.{told}
+use Rattle.misp_effects.specs.KeeperStates.{WhereTold, told}
 use Rattle.misp_store.specs.Raw.{onto, rows_in}
 
 -- ---- writing
@@ -86,12 +86,12 @@ groups_of held = or_none (groups_in held.admin)
 
 -- ---- keeping
 
--- where the keeper tells what it holds, it holds these groups
+-- where the keeper reports what it holds, it holds these groups
 abbrev pub HoldsGroups : Option Held → List Group → Type 0
 HoldsGroups None groups = Unit {0}
 HoldsGroups (Some held) groups = groups_in held.admin ≡ Ok groups
 
--- ---- what keepers tell
+-- ---- what keepers report
 
 -- every row of the administration is a group
 abbrev pub has_groups_alone : Held → Bool
@@ -101,10 +101,10 @@ has_groups_alone held = is_ok (groups_in held.admin)
 abbrev pub is_sound : Held → Bool
 is_sound held = has_groups_alone held && is_ok (rows_in held.rows)
 
--- as far as the keepers tell, every row of the administration is a group, and every row is read
-abbrev pub may_be_sound : List KeeperState → Bool
-may_be_sound old = list_all (λ held. option_map_or is_sound held true) (told old)
+-- the same of all keepers, where they report what they hold in the end
+abbrev pub WereSound : List KeeperState → List KeeperState → Type 0
+WereSound old new = WhereTold old new (λ before after. list_all is_sound before ≡ true)
 
--- as far as the keepers tell, a row of the administration is no group, or a row is not read
+-- as far as the keepers report, a row of the administration is no group, or a row is not read
 abbrev pub may_be_unsound : List KeeperState → Bool
 may_be_unsound old = list_any (λ held. option_map_or (λ h. not (is_sound h)) held true) (told old)

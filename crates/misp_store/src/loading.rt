@@ -3,6 +3,7 @@
 ghost use Rattle.std.specs.Prelude.{◌≡◌, Ok, Err, IfOk, IfErr, IfSome, IsTrue};
 ghost use Rattle.misp_model.specs.View.{IsTable};
 ghost use Rattle.misp_outside.specs.Causes.{HasCause, StaysUnless};
+ghost use Rattle.misp_outside.specs.Reporting.{StaysHeld};
 ghost use Rattle.misp_lists.specs.Order.{ascend};
 ghost use Rattle.misp_outside.specs.Held.{comes_before};
 ghost use Rattle.misp_store.specs.Loading.{NamesFault};
@@ -28,11 +29,11 @@ fn held_within<K: Keeper>(
     reach: &Reach,
 ) -> Result<Vec<RawRow>, KeeperFault>
     requires { IsInOrder reach.now }
-    ensures found { IfOk result (λ found. IfSome (K.state keeper.old).held
+    ensures found { IfOk result (λ found. IfSome (K.state keeper.new).held
         (λ held. found.items ≡ rows_within reach.now held.rows)) }
-    ensures order { IfOk result (λ found. IfSome (K.state keeper.old).held
+    ensures order { IfOk result (λ found. IfSome (K.state keeper.new).held
         (λ _. IsTrue (ascend comes_before found.items))) }
-    ensures held { (K.state keeper.new).held ≡ (K.state keeper.old).held }
+    ensures held { StaysHeld (K.state keeper.old).held (K.state keeper.new).held }
     ensures cause { HasCause (K.state keeper.old).faults (K.state keeper.new).faults
         (result ≡ Err KeeperFault.Failed) }
     ensures stays { StaysUnless (K.state keeper.old).faults (K.state keeper.new).faults
@@ -51,13 +52,13 @@ fn held_within<K: Keeper>(
 /// The rows that the keeper holds within a reach.
 pub fn load<K: Keeper>(keeper: &mut K, alloc: Global, reach: &Reach) -> Result<Vec<Row>, LoadFault>
     requires { IsInOrder reach.now }
-    ensures found { IfOk result (λ found. IfSome (K.state keeper.old).held
+    ensures found { IfOk result (λ found. IfSome (K.state keeper.new).held
         (λ held. (seen_in held).rows reach.now ≡ Ok found.items)) }
-    ensures table { IfOk result (λ found. IfSome (K.state keeper.old).held
+    ensures table { IfOk result (λ found. IfSome (K.state keeper.new).held
         (λ _. IsTable found.items)) }
-    ensures bad { IfErr result (λ fault. IfSome (K.state keeper.old).held
+    ensures bad { IfErr result (λ fault. IfSome (K.state keeper.new).held
         (λ held. NamesFault ((seen_in held).rows reach.now) fault)) }
-    ensures held { (K.state keeper.new).held ≡ (K.state keeper.old).held }
+    ensures held { StaysHeld (K.state keeper.old).held (K.state keeper.new).held }
     ensures cause { HasCause (K.state keeper.old).faults (K.state keeper.new).faults
         (result ≡ Err LoadFault.KeeperFault) }
     ensures stays { StaysUnless (K.state keeper.old).faults (K.state keeper.new).faults
@@ -72,10 +73,10 @@ pub fn load<K: Keeper>(keeper: &mut K, alloc: Global, reach: &Reach) -> Result<V
 
 /// The groups that the keeper holds.
 pub fn load_groups<K: Keeper>(keeper: &mut K, alloc: Global) -> Result<Groups, LoadFault>
-    ensures ok { IfOk result (HoldsGroups (K.state keeper.old).held) }
+    ensures ok { IfOk result (HoldsGroups (K.state keeper.new).held) }
     ensures bad { IfErr result (λ fault.
-        IfSome (K.state keeper.old).held (λ held. NamesFault (groups_in held.admin) fault)) }
-    ensures held { (K.state keeper.new).held ≡ (K.state keeper.old).held }
+        IfSome (K.state keeper.new).held (λ held. NamesFault (groups_in held.admin) fault)) }
+    ensures held { StaysHeld (K.state keeper.old).held (K.state keeper.new).held }
     ensures cause { HasCause (K.state keeper.old).faults (K.state keeper.new).faults
         (result ≡ Err LoadFault.KeeperFault) }
     ensures stays { StaysUnless (K.state keeper.old).faults (K.state keeper.new).faults

@@ -2,6 +2,7 @@
 
 ghost use Rattle.std.specs.Prelude.{◌≡◌, ◌++◌, ◌∷◌, [], Err, filter, bytes_eq, slice_index, IfOk, IfSome, OnOk};
 ghost use Rattle.misp_outside.specs.Causes.{HasCause, StaysUnless};
+ghost use Rattle.misp_outside.specs.Reporting.{StaysHeld};
 ghost use Rattle.misp_outside.specs.Held.{rows_named};
 ghost use Rattle.misp_elem.specs.Fields.{IsBytes};
 ghost use Rattle.misp_elem.specs.Parents.{event_key};
@@ -64,9 +65,9 @@ pub(crate) fn add_row<K: Keeper>(
     name: &[u8],
     found: &mut Vec<RawRow>,
 ) -> Result<(), KeeperFault>
-    ensures found { OnOk result (IfSome (K.state keeper.old).held (λ held.
+    ensures found { OnOk result (IfSome (K.state keeper.new).held (λ held.
         found.new.items ≡ found.old.items ++ rows_at event.now name.now held.rows)) }
-    ensures held { (K.state keeper.new).held ≡ (K.state keeper.old).held }
+    ensures held { StaysHeld (K.state keeper.old).held (K.state keeper.new).held }
     ensures cause { HasCause (K.state keeper.old).faults (K.state keeper.new).faults
         (result ≡ Err KeeperFault.Failed) }
     ensures stays { StaysUnless (K.state keeper.old).faults (K.state keeper.new).faults
@@ -87,9 +88,9 @@ pub(crate) fn add_keys<K: Keeper>(
     keys: &[Key],
     found: &mut Vec<RawRow>,
 ) -> Result<(), KeeperFault>
-    ensures found { OnOk result (IfSome (K.state keeper.old).held (λ held. found.new.items
+    ensures found { OnOk result (IfSome (K.state keeper.new).held (λ held. found.new.items
         ≡ found.old.items ++ rows_of_keys event.now owner.now keys.now held.rows)) }
-    ensures held { (K.state keeper.new).held ≡ (K.state keeper.old).held }
+    ensures held { StaysHeld (K.state keeper.old).held (K.state keeper.new).held }
     ensures cause { HasCause (K.state keeper.old).faults (K.state keeper.new).faults
         (result ≡ Err KeeperFault.Failed) }
     ensures stays { StaysUnless (K.state keeper.old).faults (K.state keeper.new).faults
@@ -114,9 +115,9 @@ fn add_key<K: Keeper>(
     found: &mut Vec<RawRow>,
 ) -> Result<(), KeeperFault>
     requires { IsFirstHeld event.now owner.now first (K.state keeper.old).held }
-    ensures found { OnOk result (IfSome (K.state keeper.old).held (λ held. found.new.items
+    ensures found { OnOk result (IfSome (K.state keeper.new).held (λ held. found.new.items
         ≡ found.old.items ++ rows_at event.now (name owner.now key.now) held.rows)) }
-    ensures held { (K.state keeper.new).held ≡ (K.state keeper.old).held }
+    ensures held { StaysHeld (K.state keeper.old).held (K.state keeper.new).held }
     ensures cause { HasCause (K.state keeper.old).faults (K.state keeper.new).faults
         (result ≡ Err KeeperFault.Failed) }
     ensures stays { StaysUnless (K.state keeper.old).faults (K.state keeper.new).faults
@@ -147,9 +148,9 @@ pub(crate) fn add_event<K: Keeper>(
     found: &mut Vec<RawRow>,
 ) -> Result<(), KeeperFault>
     requires { IsFirstHeld event.now owner.now first (K.state keeper.old).held }
-    ensures found { OnOk result (IfSome (K.state keeper.old).held (λ held. found.new.items
+    ensures found { OnOk result (IfSome (K.state keeper.new).held (λ held. found.new.items
         ≡ found.old.items ++ rows_at event.now (name owner.now (event_key event.now)) held.rows)) }
-    ensures held { (K.state keeper.new).held ≡ (K.state keeper.old).held }
+    ensures held { StaysHeld (K.state keeper.old).held (K.state keeper.new).held }
     ensures cause { HasCause (K.state keeper.old).faults (K.state keeper.new).faults
         (result ≡ Err KeeperFault.Failed) }
     ensures stays { StaysUnless (K.state keeper.old).faults (K.state keeper.new).faults
@@ -170,9 +171,9 @@ pub(crate) fn add_keys_from<K: Keeper>(
     found: &mut Vec<RawRow>,
 ) -> Result<(), KeeperFault>
     requires { IsFirstHeld event.now owner.now first (K.state keeper.old).held }
-    ensures found { OnOk result (IfSome (K.state keeper.old).held (λ held. found.new.items
+    ensures found { OnOk result (IfSome (K.state keeper.new).held (λ held. found.new.items
         ≡ found.old.items ++ rows_of_keys event.now owner.now keys.now held.rows)) }
-    ensures held { (K.state keeper.new).held ≡ (K.state keeper.old).held }
+    ensures held { StaysHeld (K.state keeper.old).held (K.state keeper.new).held }
     ensures cause { HasCause (K.state keeper.old).faults (K.state keeper.new).faults
         (result ≡ Err KeeperFault.Failed) }
     ensures stays { StaysUnless (K.state keeper.old).faults (K.state keeper.new).faults
@@ -237,9 +238,9 @@ pub(crate) fn add_front<K: Keeper>(
     front: &[u8],
     found: &mut Vec<RawRow>,
 ) -> Result<(), KeeperFault>
-    ensures found { OnOk result (IfSome (K.state keeper.old).held (λ held. found.new.items
+    ensures found { OnOk result (IfSome (K.state keeper.new).held (λ held. found.new.items
         ≡ found.old.items ++ rows_named event.now front.now held.rows)) }
-    ensures held { (K.state keeper.new).held ≡ (K.state keeper.old).held }
+    ensures held { StaysHeld (K.state keeper.old).held (K.state keeper.new).held }
     ensures cause { HasCause (K.state keeper.old).faults (K.state keeper.new).faults
         (result ≡ Err KeeperFault.Failed) }
     ensures stays { StaysUnless (K.state keeper.old).faults (K.state keeper.new).faults

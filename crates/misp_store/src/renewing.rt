@@ -1,7 +1,8 @@
 //! Rows of the first form, put anew.
 
-ghost use Rattle.std.specs.Prelude.{◌≡◌, Ok, Err, Some, None, [], ◌∷◌, ◌++◌, length, cond, filter, map, option_map, IfOk, IfErr, IfSome, IsOk, OnOk, OnErr};
+ghost use Rattle.std.specs.Prelude.{◌≡◌, Ok, Err, Some, None, [], ◌∷◌, ◌++◌, length, cond, filter, map, IfOk, IfErr, IfSome, IsOk, OnOk, OnErr};
 ghost use Rattle.misp_outside.specs.Causes.{HasCause, StaysUnless};
+ghost use Rattle.misp_outside.specs.Reporting.{StaysHeld, WhereReported};
 ghost use Rattle.misp_outside.specs.Held.{with_batch};
 ghost use Rattle.misp_store.specs.Decoding.{IsNoRow, NamesBadRow};
 ghost use Rattle.misp_store.specs.Loading.{NamesFault};
@@ -80,9 +81,9 @@ fn all_rewritten(alloc: Global, raws: &[RawRow]) -> Result<Vec<RawRow>, RowFault
 // Puts rows in one batch, where there are any, and tells how many they are.
 fn put_rows<K: Keeper>(keeper: &mut K, alloc: Global, rows: Vec<RawRow>) -> Result<u64, KeeperFault>
     ensures count { IfOk result (λ count. count ≡ length rows.items) }
-    ensures put { OnOk result ((K.state keeper.new).held
-        ≡ option_map (with_batch (rows_alone rows.items)) (K.state keeper.old).held) }
-    ensures err { OnErr result ((K.state keeper.new).held ≡ (K.state keeper.old).held) }
+    ensures put { OnOk result (WhereReported (K.state keeper.old).held (K.state keeper.new).held
+        (λ held new. new ≡ with_batch (rows_alone rows.items) held)) }
+    ensures err { OnErr result (StaysHeld (K.state keeper.old).held (K.state keeper.new).held) }
     ensures cause { HasCause (K.state keeper.old).faults (K.state keeper.new).faults
         (result ≡ Err KeeperFault.Failed) }
     ensures stays { StaysUnless (K.state keeper.old).faults (K.state keeper.new).faults
@@ -101,19 +102,20 @@ fn put_rows<K: Keeper>(keeper: &mut K, alloc: Global, rows: Vec<RawRow>) -> Resu
 /// Puts all rows of the first form anew, in the form that is written and in one batch, and tells
 /// how many they are. Where there are none, nothing is put.
 pub fn renew<K: Keeper>(keeper: &mut K, alloc: Global) -> Result<u64, LoadFault>
-    ensures put { OnOk result ((K.state keeper.new).held
-        ≡ option_map renewed (K.state keeper.old).held) }
-    ensures count { IfOk result (λ count. IfSome (K.state keeper.old).held
-        (λ held. count ≡ length (filter is_old held.rows))) }
+    ensures put { OnOk result (WhereReported (K.state keeper.old).held (K.state keeper.new).held
+        (λ held new. new ≡ renewed held)) }
+    ensures count { IfOk result (λ count.
+        WhereReported (K.state keeper.old).held (K.state keeper.new).held
+        (λ held _. count ≡ length (filter is_old held.rows))) }
 
     // Every row that is held decodes, and says the same when it is put anew.
-    ensures read { OnOk result
-        (IfSome (K.state keeper.old).held (λ held. IsOk (rows_in held.rows))) }
-    ensures same { OnOk result (IfSome (K.state keeper.old).held
-        (λ held. rows_in (renewed held).rows ≡ rows_in held.rows)) }
-    ensures bad { IfErr result (λ fault. IfSome (K.state keeper.old).held
+    ensures read { OnOk result (WhereReported (K.state keeper.old).held (K.state keeper.new).held
+        (λ held _. IsOk (rows_in held.rows))) }
+    ensures same { OnOk result (WhereReported (K.state keeper.old).held (K.state keeper.new).held
+        (λ held _. rows_in (renewed held).rows ≡ rows_in held.rows)) }
+    ensures bad { IfErr result (λ fault. IfSome (K.state keeper.new).held
         (λ held. NamesFault (rows_in held.rows) fault)) }
-    ensures err { OnErr result ((K.state keeper.new).held ≡ (K.state keeper.old).held) }
+    ensures err { OnErr result (StaysHeld (K.state keeper.old).held (K.state keeper.new).held) }
     ensures cause { HasCause (K.state keeper.old).faults (K.state keeper.new).faults
         (result ≡ Err LoadFault.KeeperFault) }
     ensures stays { StaysUnless (K.state keeper.old).faults (K.state keeper.new).faults

@@ -4,6 +4,7 @@
 ghost use Rattle.std.specs.Prelude.{◌≡◌, ◌==◌, ◌<◌, ◌++◌, [], false, Err, Some, IfOk, IfSome, IsTrue, OnOk};
 ghost use Rattle.misp_lists.specs.Order.{ascend};
 ghost use Rattle.misp_outside.specs.Causes.{HasCause, StaysUnless};
+ghost use Rattle.misp_outside.specs.Reporting.{StaysHeld};
 ghost use Rattle.misp_outside.specs.Held.{comes_before, rows_named};
 ghost use Rattle.misp_ids.specs.Uid.{IsUid};
 ghost use Rattle.misp_elem.specs.Fields.{IsBytes};
@@ -31,9 +32,9 @@ fn add_all<K: Keeper>(
     owner: &OrgId,
     found: &mut Vec<RawRow>,
 ) -> Result<(), KeeperFault>
-    ensures found { OnOk result (IfSome (K.state keeper.old).held (λ held. found.new.items
+    ensures found { OnOk result (IfSome (K.state keeper.new).held (λ held. found.new.items
         ≡ found.old.items ++ rows_named event.now (uid owner.now.0) held.rows)) }
-    ensures held { (K.state keeper.new).held ≡ (K.state keeper.old).held }
+    ensures held { StaysHeld (K.state keeper.old).held (K.state keeper.new).held }
     ensures cause { HasCause (K.state keeper.old).faults (K.state keeper.new).faults
         (result ≡ Err KeeperFault.Failed) }
     ensures stays { StaysUnless (K.state keeper.old).faults (K.state keeper.new).faults
@@ -52,10 +53,10 @@ fn add_kind<K: Keeper>(
     kind: u8,
     found: &mut Vec<RawRow>,
 ) -> Result<(), KeeperFault>
-    ensures found { OnOk result (IfSome (K.state keeper.old).held (λ held. found.new.items
+    ensures found { OnOk result (IfSome (K.state keeper.new).held (λ held. found.new.items
         ≡ found.old.items
         ++ rows_named event.now (kind_front owner.now event.now kind) held.rows)) }
-    ensures held { (K.state keeper.new).held ≡ (K.state keeper.old).held }
+    ensures held { StaysHeld (K.state keeper.old).held (K.state keeper.new).held }
     ensures cause { HasCause (K.state keeper.old).faults (K.state keeper.new).faults
         (result ≡ Err KeeperFault.Failed) }
     ensures stays { StaysUnless (K.state keeper.old).faults (K.state keeper.new).faults
@@ -82,9 +83,9 @@ fn may_have_statements<K: Keeper>(
     event: &EventId,
     owner: &OrgId,
 ) -> Result<bool, KeeperFault>
-    ensures none { IfOk result (λ may. IfSome (K.state keeper.old).held (λ held.
+    ensures none { IfOk result (λ may. IfSome (K.state keeper.new).held (λ held.
         may ≡ false → rows_of_statements event.now owner.now held.rows ≡ [])) }
-    ensures held { (K.state keeper.new).held ≡ (K.state keeper.old).held }
+    ensures held { StaysHeld (K.state keeper.old).held (K.state keeper.new).held }
     ensures cause { HasCause (K.state keeper.old).faults (K.state keeper.new).faults
         (result ≡ Err KeeperFault.Failed) }
     ensures stays { StaysUnless (K.state keeper.old).faults (K.state keeper.new).faults
@@ -109,10 +110,10 @@ fn add_kinds<K: Keeper>(
     owner: &OrgId,
     found: &mut Vec<RawRow>,
 ) -> Result<(), KeeperFault>
-    ensures found { OnOk result (IfSome (K.state keeper.old).held (λ held.
+    ensures found { OnOk result (IfSome (K.state keeper.new).held (λ held.
         IsTrue (ascend comes_before held.rows) → found.new.items
         ≡ found.old.items ++ rows_of_statements event.now owner.now held.rows)) }
-    ensures held { (K.state keeper.new).held ≡ (K.state keeper.old).held }
+    ensures held { StaysHeld (K.state keeper.old).held (K.state keeper.new).held }
     ensures cause { HasCause (K.state keeper.old).faults (K.state keeper.new).faults
         (result ≡ Err KeeperFault.Failed) }
     ensures stays { StaysUnless (K.state keeper.old).faults (K.state keeper.new).faults
@@ -131,10 +132,10 @@ fn add_statements<K: Keeper>(
     owner: &OrgId,
     found: &mut Vec<RawRow>,
 ) -> Result<(), KeeperFault>
-    ensures found { OnOk result (IfSome (K.state keeper.old).held (λ held.
+    ensures found { OnOk result (IfSome (K.state keeper.new).held (λ held.
         IsTrue (ascend comes_before held.rows) → found.new.items
         ≡ found.old.items ++ rows_of_statements event.now owner.now held.rows)) }
-    ensures held { (K.state keeper.new).held ≡ (K.state keeper.old).held }
+    ensures held { StaysHeld (K.state keeper.old).held (K.state keeper.new).held }
     ensures cause { HasCause (K.state keeper.old).faults (K.state keeper.new).faults
         (result ≡ Err KeeperFault.Failed) }
     ensures stays { StaysUnless (K.state keeper.old).faults (K.state keeper.new).faults
@@ -159,9 +160,9 @@ fn add_look<K: Keeper>(
 ) -> Result<(), KeeperFault>
     requires order { IsLookInOrder look.now }
     requires first { IsFirstHeld event.now owner.now first (K.state keeper.old).held }
-    ensures found { OnOk result (IfSome (K.state keeper.old).held (λ held. found.new.items
+    ensures found { OnOk result (IfSome (K.state keeper.new).held (λ held. found.new.items
         ≡ found.old.items ++ rows_in_look look.now event.now owner.now held.rows)) }
-    ensures held { (K.state keeper.new).held ≡ (K.state keeper.old).held }
+    ensures held { StaysHeld (K.state keeper.old).held (K.state keeper.new).held }
     ensures cause { HasCause (K.state keeper.old).faults (K.state keeper.new).faults
         (result ≡ Err KeeperFault.Failed) }
     ensures stays { StaysUnless (K.state keeper.old).faults (K.state keeper.new).faults
@@ -221,13 +222,13 @@ fn add_next<K: Keeper>(
     found: &mut Vec<RawRow>,
 ) -> Result<Option<u128>, KeeperFault>
     requires { HasKeysInOrder looks.now }
-    ensures found { IfOk result (λ next. IfSome (K.state keeper.old).held (λ held.
+    ensures found { IfOk result (λ next. IfSome (K.state keeper.new).held (λ held.
         found.new.items ++ rows_from looks.now next held.rows
         ≡ found.old.items ++ rows_from looks.now (Some least) held.rows)) }
-    ensures order { IfOk result (λ _. IfSome (K.state keeper.old).held
+    ensures order { IfOk result (λ _. IfSome (K.state keeper.new).held
         (λ held. IsTrue (ascend comes_before held.rows))) }
     ensures more { IfOk result (λ next. IfSome next (λ next. least < next)) }
-    ensures held { (K.state keeper.new).held ≡ (K.state keeper.old).held }
+    ensures held { StaysHeld (K.state keeper.old).held (K.state keeper.new).held }
     ensures cause { HasCause (K.state keeper.old).faults (K.state keeper.new).faults
         (result ≡ Err KeeperFault.Failed) }
     ensures stays { StaysUnless (K.state keeper.old).faults (K.state keeper.new).faults
@@ -264,11 +265,11 @@ fn seek_own<K: Keeper>(
 ) -> Result<Vec<RawRow>, KeeperFault>
     requires order { HasKeysInOrder looks.now }
     requires alone { IsTrue (is_own_alone looks.now) }
-    ensures found { IfOk result (λ found. IfSome (K.state keeper.old).held
+    ensures found { IfOk result (λ found. IfSome (K.state keeper.new).held
         (λ held. found.items ≡ rows_looked looks.now held.rows)) }
-    ensures order { IfOk result (λ found. IfSome (K.state keeper.old).held
+    ensures order { IfOk result (λ found. IfSome (K.state keeper.new).held
         (λ _. IsTrue (ascend comes_before found.items))) }
-    ensures held { (K.state keeper.new).held ≡ (K.state keeper.old).held }
+    ensures held { StaysHeld (K.state keeper.old).held (K.state keeper.new).held }
     ensures cause { HasCause (K.state keeper.old).faults (K.state keeper.new).faults
         (result ≡ Err KeeperFault.Failed) }
     ensures stays { StaysUnless (K.state keeper.old).faults (K.state keeper.new).faults
@@ -286,11 +287,11 @@ fn seek_all<K: Keeper>(
     looks: &Looks,
 ) -> Result<Vec<RawRow>, KeeperFault>
     requires { HasKeysInOrder looks.now }
-    ensures found { IfOk result (λ found. IfSome (K.state keeper.old).held
+    ensures found { IfOk result (λ found. IfSome (K.state keeper.new).held
         (λ held. found.items ≡ rows_looked looks.now held.rows)) }
-    ensures order { IfOk result (λ found. IfSome (K.state keeper.old).held
+    ensures order { IfOk result (λ found. IfSome (K.state keeper.new).held
         (λ _. IsTrue (ascend comes_before found.items))) }
-    ensures held { (K.state keeper.new).held ≡ (K.state keeper.old).held }
+    ensures held { StaysHeld (K.state keeper.old).held (K.state keeper.new).held }
     ensures cause { HasCause (K.state keeper.old).faults (K.state keeper.new).faults
         (result ≡ Err KeeperFault.Failed) }
     ensures stays { StaysUnless (K.state keeper.old).faults (K.state keeper.new).faults
@@ -311,11 +312,11 @@ pub(crate) fn seek<K: Keeper>(
     looks: &Looks,
 ) -> Result<Vec<RawRow>, KeeperFault>
     requires { HasKeysInOrder looks.now }
-    ensures found { IfOk result (λ found. IfSome (K.state keeper.old).held
+    ensures found { IfOk result (λ found. IfSome (K.state keeper.new).held
         (λ held. found.items ≡ rows_looked looks.now held.rows)) }
-    ensures order { IfOk result (λ found. IfSome (K.state keeper.old).held
+    ensures order { IfOk result (λ found. IfSome (K.state keeper.new).held
         (λ _. IsTrue (ascend comes_before found.items))) }
-    ensures held { (K.state keeper.new).held ≡ (K.state keeper.old).held }
+    ensures held { StaysHeld (K.state keeper.old).held (K.state keeper.new).held }
     ensures cause { HasCause (K.state keeper.old).faults (K.state keeper.new).faults
         (result ≡ Err KeeperFault.Failed) }
     ensures stays { StaysUnless (K.state keeper.old).faults (K.state keeper.new).faults

@@ -5,6 +5,7 @@ ghost use Rattle.std.specs.List.{AllByRecursion, list_any};
 ghost use Rattle.std.specs.Ordering.{nat_cmp};
 ghost use Rattle.std.specs.List.Sorted.{IsStrictlySortedBy};
 ghost use Rattle.misp_outside.specs.Causes.{HasCause, StaysUnless};
+ghost use Rattle.misp_outside.specs.Reporting.{StaysHeld};
 ghost use Rattle.misp_store.specs.Seeking.{IsFirstHeld, elem_of, ends_among, rows_ending, rows_of_uuids};
 ghost use Rattle.misp_store.specs.Seen.{attributes_of, end_number};
 
@@ -70,9 +71,9 @@ fn add_ending<K: Keeper>(
     found: &mut Vec<RawRow>,
 ) -> Result<(), KeeperFault>
     requires { IsStrictlySortedBy nat_cmp numbers.now }
-    ensures found { OnOk result (IfSome (K.state keeper.old).held (λ held. found.new.items
+    ensures found { OnOk result (IfSome (K.state keeper.new).held (λ held. found.new.items
         ≡ found.old.items ++ rows_ending event.now front.now numbers.now held.rows)) }
-    ensures held { (K.state keeper.new).held ≡ (K.state keeper.old).held }
+    ensures held { StaysHeld (K.state keeper.old).held (K.state keeper.new).held }
     ensures cause { HasCause (K.state keeper.old).faults (K.state keeper.new).faults
         (result ≡ Err KeeperFault.Failed) }
     ensures stays { StaysUnless (K.state keeper.old).faults (K.state keeper.new).faults
@@ -112,9 +113,9 @@ pub(crate) fn add_uuids<K: Keeper>(
     requires first { IsFirstHeld event.now owner.now first (K.state keeper.old).held }
     requires sorted { IsStrictlySortedBy nat_cmp numbers.now }
     requires fit { AllByRecursion (λ n. n < 2 ^ 128) numbers.now }
-    ensures found { OnOk result (IfSome (K.state keeper.old).held (λ held. found.new.items
+    ensures found { OnOk result (IfSome (K.state keeper.new).held (λ held. found.new.items
         ≡ found.old.items ++ rows_of_uuids event.now owner.now numbers.now held.rows)) }
-    ensures held { (K.state keeper.new).held ≡ (K.state keeper.old).held }
+    ensures held { StaysHeld (K.state keeper.old).held (K.state keeper.new).held }
     ensures cause { HasCause (K.state keeper.old).faults (K.state keeper.new).faults
         (result ≡ Err KeeperFault.Failed) }
     ensures stays { StaysUnless (K.state keeper.old).faults (K.state keeper.new).faults

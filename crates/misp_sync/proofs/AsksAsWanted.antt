@@ -8,7 +8,7 @@ use Rattle.misp_store.specs.declared.reach.Reach.{Reach}
 use Rattle.misp_core.specs.Prelude.{Group, Held, Host, Row, Standing, host_of, seen_in}
 use Rattle.misp_dialogue.specs.Conversed.{after}
 use Rattle.misp_dialogue.specs.Dialogue.{Ask, Over}
-use Rattle.misp_dialogue.specs.Parties.{WhereTold}
+use Rattle.misp_outside.specs.Reporting.{WhereReported}
 use Rattle.misp_dialogue.specs.Shares.{EndsBy, Keeps, failure, share}
 use Rattle.misp_dialogue.specs.declared.ending.Ending.{Ending}
 use Rattle.misp_dialogue.specs.declared.side.Side.{Side}
@@ -30,24 +30,15 @@ use Rattle.misp_sync.specs.declared.reply.SyncReply.{SyncReply}
 -- ---- what is read
 
 groups_are : (a : Answer) (groups : List Group) → groups_in a ≡ Some groups → a ≡ Answer.Groups groups
-groups_are (Answer.Groups gs) groups is = (λ i. Answer.Groups (some_is i))
-  where
-    some_is : gs ≡ groups
-    some_is = cc
+groups_are (Answer.Groups gs) groups is = let same : gs ≡ groups = cc in λ i. Answer.Groups (same i)
 groups_are a groups is = absurd cc
 
 parts_are : (a : Answer) (ks : List PartKeys) → manifest_in a ≡ Some ks → a ≡ Answer.Manifest ks
-parts_are (Answer.Manifest parts) ks is = (λ i. Answer.Manifest (some_is i))
-  where
-    some_is : parts ≡ ks
-    some_is = cc
+parts_are (Answer.Manifest parts) ks is = let same : parts ≡ ks = cc in λ i. Answer.Manifest (same i)
 parts_are a ks is = absurd cc
 
 package_is : (a : Answer) (p : Package) → part_in a ≡ Some p → a ≡ Answer.Part p
-package_is (Answer.Part q) p is = (λ i. Answer.Part (some_is i))
-  where
-    some_is : q ≡ p
-    some_is = cc
+package_is (Answer.Part q) p is = let same : q ≡ p = cc in λ i. Answer.Part (same i)
 package_is a p is = absurd cc
 
 -- ---- texts that are over
@@ -214,12 +205,12 @@ done_by : (m : SyncCount) (e : Ending Tally Cause) → SyncReply.Done m ≡ repl
 done_by m (Ending.Done n) is = (n, refl)
 done_by m (Ending.Stopped n cause) is = absurd cc
 
-pub course_asks : (link : Link) (here : Standing) (own new : Held) (peer : Option (Host × Held)) (count : SyncCount) (trail : List (List ℕ)) (c : IsCourse Direction.Pull link here (Some new) peer (SyncReply.Done count) trail)
+pub course_asks : (link : Link) (here : Standing) (own new : Held) (peer left : Option (Host × Held)) (count : SyncCount) (trail : List (List ℕ)) (c : IsCourse Direction.Pull link here (Some new) peer left (SyncReply.Done count) trail)
     → here.held ≡ Some own → AsksAsWanted (host_of here) link own new (share Side.Source (synchronising Direction.Pull no_tally) c.answers)
-course_asks link here own new peer count trail c told =
+course_asks link here own new peer left count trail c told =
     let done = done_by count c.ending c.reply_is in
     let text : Text = synchronising Direction.Pull no_tally in
     pull_asks (host_of here) link c.last new no_tally c.answers own (record {
-      keeps = subst (λ held. WhereTold held (Some new) (Keeps (own_conduct (host_of here, link)) (share Side.Sink text c.answers) (failure Side.Sink (after text c.answers) c.last))) told c.own;
+      keeps = subst (λ held. WhereReported held (Some new) (Keeps (own_conduct (host_of here, link)) (share Side.Sink text c.answers) (failure Side.Sink (after text c.answers) c.last))) told c.own;
       ends = (done.0, subst (EndsBy Cause.NoMemory (after text c.answers) c.last) done.1 c.ends);
     })

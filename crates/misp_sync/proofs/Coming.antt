@@ -27,10 +27,10 @@ use Rattle.misp_core.specs.Taking.{groups_taken}
 use Rattle.misp_core.proofs.Pulled.{pulled_nobodys, pulled_none}
 use Rattle.misp_sync.specs.History.{pull_route, route_for}
 use Rattle.misp_sync.specs.Pulled.{all_pulled, events_sent, events_taken, groups_sent, with_packages}
-use Rattle.misp_sync.proofs.Bringing.{owned, parts, table}
+use Rattle.misp_history.proofs.Bringing.{owned, parts, table}
 use Rattle.misp_sync.proofs.Events.{Tells, events_are}
 use Rattle.misp_sync.proofs.GroupsTaken.{taken_uncarried}
-use Rattle.misp_sync.proofs.Handed.{arriving_handed}
+use Rattle.misp_history.proofs.Handed.{arriving_handed}
 use Rattle.misp_sync.proofs.Listed.{events_listed, sent_handed}
 use Rattle.misp_sync.proofs.Parts.{as_batches}
 

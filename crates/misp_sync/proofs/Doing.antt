@@ -1,6 +1,7 @@
 -- What took the first of the batches of a synchronisation did what that comes to, as far as nothing stopped it.
-use Rattle.std.proofs.Common.{◌≡◌, ◌⊎◌, ◌∙◌, ℕ, suc, Bool, true, false, List, [], ◌∷◌, ◌++◌, length, map, take, take_at, append-nil, append_assoc, Option, None, Some, refl, sym, ap, subst, inl, inr, IfSome}
+use Rattle.std.proofs.Common.{◌≡◌, ◌⊎◌, ◌∙◌, ℕ, suc, Bool, true, false, List, [], ◌∷◌, ◌++◌, length, map, take, take_at, append-nil, length-append, arith, append_assoc, Option, None, Some, refl, sym, ap, subst, inl, inr, IfSome}
 use Rattle.misp_ids.specs.declared.label.Direction.{Direction}
+use Rattle.misp_lists.proofs.Lists.{some_same}
 use Rattle.misp_outside.specs.Held.{Held, with_batch}
 use Rattle.misp_effects.specs.Batches.{AreReadable, Batch, IsReadable, put_batches}
 use Rattle.misp_effects.specs.Effect.{Does, Effect, Stopped, Went, effect}
@@ -43,10 +44,6 @@ put_more (y ∷ xs) x held = put_more xs x (with_batch (spelled y) held)
 fits_more : (xs : List Batch) (x : Batch) → AreReadable xs → IsReadable x → AreReadable (xs ++ x ∷ [])
 fits_more [] x fits one = (one, tt)
 fits_more (y ∷ xs) x fits one = (fits.0, fits_more xs x fits.1 one)
-
-longer : (xs : List Batch) (x : Batch) → length (xs ++ x ∷ []) ≡ suc (length xs)
-longer [] x = refl
-longer (y ∷ xs) x = ap suc (longer xs x)
 
 -- ---- stops
 
@@ -95,22 +92,22 @@ none_in n (Some cause) none = sym none
 
 -- ---- an effect of which the first batches were put
 
-module _ (direction : Direction) (e : Effect (Option Cause)) (old : Held) (new : Option Held) where
+module _ (direction : Direction) (e : Effect (Option Cause)) (old new : Held) where
   abbrev pub Done : SyncReply → Type 0
   Done reply = Does SyncReply spelled stop_in (telling_on direction) (synced e) old reply new
 
-  went : (first : List Batch) → e.batches ≡ first → TellsNone e.reply → AreReadable first → new ≡ Some (put_batches (map spelled first) old)
+  went : (first : List Batch) → e.batches ≡ first → TellsNone e.reply → AreReadable first → new ≡ put_batches (map spelled first) old
       → Done (reply_of_ending (ended (tally no_tally first) e.reply))
   went first is none fits held = record {
     outcome = Went;
     agree = none_in (tally no_tally first) e.reply none;
     reply_is = reply_ended (tally no_tally first) e.reply ∙ ap (λ bs. reply_of (count_of bs) e.reply) (sym is);
-    held_is = held ∙ ap (λ bs. Some (put_batches (map spelled bs) old)) (sym is);
+    held_is = held ∙ ap (λ bs. put_batches (map spelled bs) old) (sym is);
     fits = subst AreReadable (sym is) fits;
   }
 
   stopped : (stop : Stop) (lost : Bool) (n : ℕ) (first told : List Batch) → take n e.batches ≡ first → take (counted_on direction stop lost n) e.batches ≡ told → AreReadable first
-      → new ≡ Some (put_batches (map spelled first) old) → Done (SyncReply.Stopped (count_of told) (stop_cause stop))
+      → new ≡ put_batches (map spelled first) old → Done (SyncReply.Stopped (count_of told) (stop_cause stop))
   stopped stop lost n first told first_is told_is fits held =
       let under : telling_on direction stop n lost (synced e) ≡ effect (SyncReply.Stopped (count_of (take (counted_on direction stop lost n) e.batches)) (stop_cause stop)) (take n e.batches) =
       telling_is direction stop n lost (synced e) in
@@ -119,7 +116,7 @@ module _ (direction : Direction) (e : Effect (Option Cause)) (old : Held) (new :
         outcome = Stopped stop n lost;
         agree = sym (stop_again stop);
         reply_is = ap (λ bs. SyncReply.Stopped (count_of bs) (stop_cause stop)) (sym told_is) ∙ sym (ap (λ (x : Effect SyncReply). x.reply) under);
-        held_is = held ∙ ap (λ bs. Some (put_batches (map spelled bs) old)) (sym same);
+        held_is = held ∙ ap (λ bs. put_batches (map spelled bs) old) (sym same);
         fits = subst AreReadable (sym same) fits;
       }
 
@@ -137,34 +134,34 @@ module _ (direction : Direction) (e : Effect (Option Cause)) (old : Held) (new :
         ap reply_of_ending is ∙ ap (λ (n : Tally). SyncReply.Stopped n.count cause) (tally_as no_tally first)
         ∙ ap (SyncReply.Stopped (count_of first)) told
 
-    by_stop : (stop : Stop) → new ≡ Some (put_batches (map spelled first) old) → Done (SyncReply.Stopped (count_of first) (stop_cause stop))
+    by_stop : (stop : Stop) → new ≡ put_batches (map spelled first) old → Done (SyncReply.Stopped (count_of first) (stop_cause stop))
     by_stop stop held =
         let n = length first in
         stopped stop false n first first firsts (ap (λ m. take m e.batches) (all_counted direction stop n) ∙ firsts) fits held
 
-    by_loss : (stop : Stop) → ((n : ℕ) → counted_on direction stop true (suc n) ≡ n) → (held : Held) → OneMore batching (put_all batching first old) later held → new ≡ Some held
+    by_loss : (stop : Stop) → ((n : ℕ) → counted_on direction stop true (suc n) ≡ n) → OneMore batching (put_all batching first old) later new
         → Done (SyncReply.Stopped (count_of first) (stop_cause stop))
-    by_loss stop less held more is =
+    by_loss stop less more =
         let n = length first in
         let one : List Batch = more.one ∷ [] in
-        let longer_is : length (first ++ one) ≡ suc n = longer first more.one in
+        let longer_is : length (first ++ one) ≡ suc n = omega (arith, length-append first one) in
         let grown : e.batches ≡ (first ++ one) ++ more.rest = all ∙ ap (λ bs. first ++ bs) more.later_is ∙ sym (append_assoc first one more.rest) in
         let put : take (suc n) e.batches ≡ first ++ one = ap (take (suc n)) grown ∙ take_at (first ++ one) more.rest (suc n) longer_is in
         let counts : take (counted_on direction stop true (suc n)) e.batches ≡ first = ap (λ m. take m e.batches) (less n) ∙ firsts in
-        let held_is : held ≡ put_batches (map spelled (first ++ one)) old = more.new_is ∙ ap (λ h. with_batch (spelled more.one) h) (put_as first old) ∙ sym (put_more first more.one old) in
-        stopped stop true (suc n) (first ++ one) first put counts (fits_more first more.one fits more.fits) (is ∙ ap (λ h. Some h) held_is)
+        let held_is : new ≡ put_batches (map spelled (first ++ one)) old = more.new_is ∙ ap (λ h. with_batch (spelled more.one) h) (put_as first old) ∙ sym (put_more first more.one old) in
+        stopped stop true (suc n) (first ++ one) first put counts (fits_more first more.one fits more.fits) held_is
 
-    pub does : (ending : Ending Tally Cause) → EndsAfter Cause.NoMemory ka kb batching old no_tally first later e.reply new ending → Done (reply_of_ending ending)
+    pub does : (ending : Ending Tally Cause) → EndsAfter Cause.NoMemory ka kb batching old no_tally first later e.reply (Some new) ending → Done (reply_of_ending ending)
     does ending (inl over) =
         let whole : e.batches ≡ first = all ∙ ap (λ bs. first ++ bs) over.0 ∙ append-nil first in
         let told : ending ≡ ended (tally no_tally first) e.reply = over.1 ∙ ap (λ n. ended n e.reply) (tally_as no_tally first) in
-        subst (λ x. Done (reply_of_ending x)) (sym told) (went first whole none fits (over.2 ∙ ap (λ h. Some h) (put_as first old)))
+        subst (λ x. Done (reply_of_ending x)) (sym told) (went first whole none fits (some_same new (put_all batching first old) over.2 ∙ put_as first old))
     does ending (inr (cause, is, inl stop)) =
         let s = stops cause stop.0 in
-        subst Done (sym (so_told cause s.stop ending s.told is)) (by_stop s.stop (stop.1 ∙ ap (λ h. Some h) (put_as first old)))
+        subst Done (sym (so_told cause s.stop ending s.told is)) (by_stop s.stop (some_same new (put_all batching first old) stop.1 ∙ put_as first old))
     does ending (inr (cause, is, inr (loss, (held, at, inl same)))) =
         let s = loses cause loss in
-        subst Done (sym (so_told cause s.stop ending s.told is)) (by_stop s.stop (at ∙ ap (λ h. Some h) (same ∙ put_as first old)))
+        subst Done (sym (so_told cause s.stop ending s.told is)) (by_stop s.stop (some_same new held at ∙ same ∙ put_as first old))
     does ending (inr (cause, is, inr (loss, (held, at, inr more)))) =
         let s = loses cause loss in
-        subst Done (sym (so_told cause s.stop ending s.told is)) (by_loss s.stop s.less held more at)
+        subst Done (sym (so_told cause s.stop ending s.told is)) (by_loss s.stop s.less (subst (OneMore batching (put_all batching first old) later) (sym (some_same new held at)) more))

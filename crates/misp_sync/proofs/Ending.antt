@@ -1,8 +1,9 @@
 -- What a synchronisation is told of faults, where it ended by the cause of one party.
 use Rattle.std.proofs.Common.{◌≡◌, ℕ, ◌==◌, ◌&&◌, Bool, true, false, eqb-true, List, Option, None, Some, refl, sym, ap, subst, inl, inr, ◌∙◌, ◌⊎◌, if◌then◌else◌}
-use Rattle.std.specs.Prelude.{IsSome}
 use Rattle.misp_ids.specs.declared.label.Direction.{Direction}
 use Rattle.misp_orgs.specs.declared.link.Link.{Link}
+use Rattle.misp_lists.proofs.Lists.{some_same}
+use Rattle.misp_lists.proofs.Prelude.{and_parts}
 use Rattle.misp_outside.specs.Causes.{HasCause}
 use Rattle.misp_effects.specs.declared.stop.Side.TheVariants.{Here, There}
 use Rattle.misp_effects.specs.declared.stop.Stop.{Stop}
@@ -19,13 +20,14 @@ use Rattle.misp_protocol.specs.Text.{Text, synchronising}
 use Rattle.misp_protocol.specs.declared.cause.Body.{Body}
 use Rattle.misp_protocol.specs.declared.cause.Cause.{Cause}
 use Rattle.misp_protocol.specs.declared.count.Tally.{Tally}
-use Rattle.misp_sync.specs.Causes.{peer_stop, stop_by}
+use Rattle.misp_sync.specs.Causes.{peer_stop, stop_by, stop_cause}
 use Rattle.misp_sync.specs.Directions.{own_side, peer_side}
 use Rattle.misp_sync.specs.OwnAnswers.{IsOwnStop, own_conduct, own_state}
 use Rattle.misp_sync.specs.Pulled.{stop_in}
 use Rattle.misp_sync.specs.Synchronised.{HasConversed, reply_of_ending}
-use Rattle.misp_sync.specs.Wire.{IsSameHost, Meet, WireState, held_of, peer_of}
+use Rattle.misp_sync.specs.Wire.{IsSameHost, Meet, WireState, peer_of}
 use Rattle.misp_sync.specs.WireAnswers.{IsWireCause, faults_of, party_state, wire_conduct}
+use Rattle.misp_sync.proofs.Peers.{by_peers}
 
 -- ---- the dialogue, by its source and its sink
 
@@ -45,8 +47,8 @@ module _ (d : Direction) (link : Link) (own mine : Standing) (before left : Wire
     (same : host_of mine ≡ host_of own) (same_peer : peer_of left.peer ≡ peer_of before.peer) where
   pub by_pull : d ≡ Direction.Pull
       → ByReplies Cause.NoMemory (wire_conduct (peer_of before.peer) link.key) (own_conduct (host_of own, link)) text (party_state before, own_state own) (party_state left, own_state mine) ending
-      → (IsSome (held_of before.peer) → IsSome (held_of left.peer)) × (IsSome own.held → IsSome mine.held) → HasConversed d link own mine before left ending
-  by_pull is by reports =
+      → HasConversed d link own mine before left ending
+  by_pull is by =
       let text_so : text ≡ synchronising Direction.Pull no_tally = text_is ∙ ap (λ d. synchronising d no_tally) is in
       let h = subst
       (λ t. ByReplies Cause.NoMemory (wire_conduct (peer_of before.peer) link.key) (own_conduct (host_of own, link)) t (party_state before, own_state own) (party_state left, own_state mine) ending) text_so by in
@@ -56,16 +58,14 @@ module _ (d : Direction) (link : Link) (own mine : Standing) (before left : Wire
         own_share = h.sink;
         peer_share = h.source;
         ends = h.ends;
-        own_reports = reports.1;
-        peer_reports = reports.0;
         same = same;
         same_peer = same_peer;
       })
 
   pub by_push : d ≡ Direction.Push
       → ByReplies Cause.NoMemory (own_conduct (host_of own, link)) (wire_conduct (peer_of before.peer) link.key) text (own_state own, party_state before) (own_state mine, party_state left) ending
-      → (IsSome own.held → IsSome mine.held) × (IsSome (held_of before.peer) → IsSome (held_of left.peer)) → HasConversed d link own mine before left ending
-  by_push is by reports =
+      → HasConversed d link own mine before left ending
+  by_push is by =
       let text_so : text ≡ synchronising Direction.Push no_tally = text_is ∙ ap (λ d. synchronising d no_tally) is in
       let h = subst
       (λ t. ByReplies Cause.NoMemory (own_conduct (host_of own, link)) (wire_conduct (peer_of before.peer) link.key) t (own_state own, party_state before) (own_state mine, party_state left) ending) text_so by in
@@ -75,71 +75,39 @@ module _ (d : Direction) (link : Link) (own mine : Standing) (before left : Wire
         own_share = h.source;
         peer_share = h.sink;
         ends = h.ends;
-        own_reports = reports.0;
-        peer_reports = reports.1;
         same = same;
         same_peer = same_peer;
       })
 
 -- ---- which cause tells a stop
 
-refused_here : (a b : Bool) (stop : Option Stop) → (if a then Some (Stop.Keeper There) else if b then Some (Stop.Memory There) else None) ≡ stop → (stop ≡ Some (Stop.Keeper Here)) ⊎ (stop ≡ Some Stop.Carry) → ⊥
-refused_here true b stop is (inl at) = absurd cc
-refused_here true b stop is (inr at) = absurd cc
-refused_here false true stop is (inl at) = absurd cc
-refused_here false true stop is (inr at) = absurd cc
-refused_here false false stop is (inl at) = absurd cc
-refused_here false false stop is (inr at) = absurd cc
+refused_so : (status rule n m : ℕ) → (status == n && rule == m) ≡ true → Cause.Refused status rule ≡ Cause.Refused n m
+refused_so status rule n m both =
+    let h = and_parts (status == n) (rule == m) both in
+    λ i. Cause.Refused (eqb-true status n h.0 i) (eqb-true rule m h.1 i)
 
-keeper_is : (cause : Cause) → stop_by cause ≡ Some (Stop.Keeper Here) → cause ≡ Cause.Keeper
-keeper_is Cause.NoLink is = absurd cc
-keeper_is Cause.LinkOff is = absurd cc
-keeper_is (Cause.Refused status rule) is = absurd (refused_here (status == 503 && rule == 26) (status == 507 && rule == 27) (Some (Stop.Keeper Here)) is (inl refl))
-keeper_is (Cause.Garbled kind) is = absurd cc
-keeper_is Cause.Link is = absurd cc
-keeper_is Cause.Keeper is = refl
-keeper_is Cause.NoMemory is = absurd cc
-keeper_is (Cause.BadRow name) is = absurd cc
+refused_is : (status rule : ℕ) (stop : Stop) → peer_stop status rule ≡ Some stop → Cause.Refused status rule ≡ stop_cause stop
+refused_is status rule stop = one (status == 503 && rule == 26) (status == 507 && rule == 27) refl refl
+  where
+    one : (a b : Bool) → (status == 503 && rule == 26) ≡ a → (status == 507 && rule == 27) ≡ b
+        → (if a then Some (Stop.Keeper There) else if b then Some (Stop.Memory There) else None) ≡ Some stop → Cause.Refused status rule ≡ stop_cause stop
+    one true b keeper memory is = refused_so status rule 503 26 keeper ∙ ap stop_cause (some_same (Stop.Keeper There) stop is)
+    one false true keeper memory is = refused_so status rule 507 27 memory ∙ ap stop_cause (some_same (Stop.Memory There) stop is)
+    one false false keeper memory is = absurd cc
 
-carry_is : (cause : Cause) → stop_by cause ≡ Some Stop.Carry → cause ≡ Cause.Link
-carry_is Cause.NoLink is = absurd cc
-carry_is Cause.LinkOff is = absurd cc
-carry_is (Cause.Refused status rule) is = absurd (refused_here (status == 503 && rule == 26) (status == 507 && rule == 27) (Some Stop.Carry) is (inr refl))
-carry_is (Cause.Garbled kind) is = absurd cc
-carry_is Cause.Link is = refl
-carry_is Cause.Keeper is = absurd cc
-carry_is Cause.NoMemory is = absurd cc
-carry_is (Cause.BadRow name) is = absurd cc
+cause_of : (cause : Cause) (stop : Stop) → stop_by cause ≡ Some stop → cause ≡ stop_cause stop
+cause_of Cause.NoLink stop is = absurd cc
+cause_of Cause.LinkOff stop is = absurd cc
+cause_of (Cause.Refused status rule) stop is = refused_is status rule stop is
+cause_of (Cause.Garbled kind) stop is = absurd cc
+cause_of Cause.Link stop is = ap stop_cause (some_same Stop.Carry stop is)
+cause_of Cause.Keeper stop is = ap stop_cause (some_same (Stop.Keeper Here) stop is)
+cause_of Cause.NoMemory stop is = ap stop_cause (some_same (Stop.Memory Here) stop is)
+cause_of (Cause.BadRow name) stop is = absurd cc
 
-both_true : (a b : Bool) → (a && b) ≡ true → (a ≡ true) × (b ≡ true)
-both_true true true is = (refl, refl)
-both_true true false is = absurd cc
-both_true false b is = absurd cc
-
-refused_there : (a b : Bool) → (if a then Some (Stop.Keeper There) else if b then Some (Stop.Memory There) else None) ≡ Some (Stop.Keeper There) → a ≡ true
-refused_there true b is = refl
-refused_there false true is = absurd cc
-refused_there false false is = absurd cc
-
-refused_is : (status rule : ℕ) → peer_stop status rule ≡ Some (Stop.Keeper There) → Cause.Refused status rule ≡ Cause.Refused 503 26
-refused_is status rule is =
-    let both = both_true (status == 503) (rule == 26) (refused_there (status == 503 && rule == 26) (status == 507 && rule == 27) is) in
-    ap (λ s. Cause.Refused s rule) (eqb-true status 503 both.0) ∙ ap (λ r. Cause.Refused 503 r) (eqb-true rule 26 both.1)
-
-there_is : (cause : Cause) → stop_by cause ≡ Some (Stop.Keeper There) → cause ≡ Cause.Refused 503 26
-there_is Cause.NoLink is = absurd cc
-there_is Cause.LinkOff is = absurd cc
-there_is (Cause.Refused status rule) is = refused_is status rule is
-there_is (Cause.Garbled kind) is = absurd cc
-there_is Cause.Link is = absurd cc
-there_is Cause.Keeper is = absurd cc
-there_is Cause.NoMemory is = absurd cc
-there_is (Cause.BadRow name) is = absurd cc
-
-told_by : (stop : Stop) (cause : Cause) → ((c : Cause) → stop_by c ≡ Some stop → c ≡ cause) → (ending : Ending Tally Cause) → stop_in (reply_of_ending ending) ≡ Some stop
-    → IsStoppedBy (λ c. c ≡ cause) ending
-told_by stop cause which (Ending.Done n) is = absurd cc
-told_by stop cause which (Ending.Stopped n c) is = which c is
+told_by : (stop : Stop) (ending : Ending Tally Cause) → stop_in (reply_of_ending ending) ≡ Some stop → IsStoppedBy (λ c. c ≡ stop_cause stop) ending
+told_by stop (Ending.Done n) is = absurd cc
+told_by stop (Ending.Stopped n c) is = cause_of c stop is
 
 -- ---- whose cause it is
 
@@ -206,12 +174,9 @@ same_host old new is = record { name = ap (λ (h : Host). h.name) is; admin = ap
 -- of a peer that is the same, where it is of this process
 met : (old new : Option Standing) (told : Type 0) (Fails : Option Host → Type 0) → ((host : Host) → told → Fails (Some host)) → peer_of new ≡ peer_of old
     → HasCause (faults_of old) (faults_of new) (Fails (peer_of old)) → Meet old new (λ a b. IsSameHost a b × HasCause a.faults b.faults told)
-met None None told Fails f same c = tt
-met None (Some b) told Fails f same c = absurd cc
-met (Some a) None told Fails f same c = absurd cc
-met (Some a) (Some b) told Fails f same c =
-    let is : host_of b ≡ host_of a = cc in
-    (same_host a b is, has_cause a.faults b.faults (Fails (Some (host_of a))) told (f (host_of a)) c)
+met old new told Fails f same =
+    by_peers (λ old new. HasCause (faults_of old) (faults_of new) (Fails (peer_of old)) → Meet old new (λ a b. IsSameHost a b × HasCause a.faults b.faults told)) old new same (λ c. tt)
+    (λ a b host c. (same_host a b host, has_cause a.faults b.faults (Fails (Some (host_of a))) told (f (host_of a)) c))
 
 module _ (d : Direction) (link : Link) (own mine : Standing) (before left : WireState) (ending : Ending Tally Cause) (h : HasConversed d link own mine before left ending) where
   abbrev Told : Stop → Type 0
@@ -220,12 +185,12 @@ module _ (d : Direction) (link : Link) (own mine : Standing) (before left : Wire
   pub cause_told : HasCause own.faults mine.faults (Told (Stop.Keeper Here))
   cause_told =
       has_cause own.faults mine.faults _ (Told (Stop.Keeper Here))
-      (λ told. own_failed Cause.Keeper own_keeper link own mine before left ending (λ is. is) d h (told_by (Stop.Keeper Here) Cause.Keeper keeper_is ending told)) h.own_share.cause
+      (λ told. own_failed Cause.Keeper own_keeper link own mine before left ending (λ is. is) d h (told_by (Stop.Keeper Here) ending told)) h.own_share.cause
 
   pub link_told : HasCause before.faults left.faults (Told Stop.Carry)
   link_told =
       has_cause before.faults left.faults _ (Told Stop.Carry)
-      (λ told. peer_failed Cause.Link of_link link own mine before left ending no_link d h (told_by Stop.Carry Cause.Link carry_is ending told)) h.peer_share.cause
+      (λ told. peer_failed Cause.Link of_link link own mine before left ending no_link d h (told_by Stop.Carry ending told)) h.peer_share.cause
     where
       no_link : IsOwnStop Cause.Link ⊎ (Cause.Link ≡ Cause.Garbled Body.Body) ⊎ ((name : List ℕ) × (Cause.Link ≡ Cause.BadRow name)) → ⊥
       no_link (inl (inl is)) = absurd cc
@@ -237,7 +202,7 @@ module _ (d : Direction) (link : Link) (own mine : Standing) (before left : Wire
   peer_told =
       met before.peer left.peer (Told (Stop.Keeper There))
       (λ host. IsFailedBy (wire_conduct host link.key).IsPeerFault (failure (peer_side d) (after (synchronising d no_tally) h.answers) h.last))
-      (λ host told. peer_failed (Cause.Refused 503 26) of_peer link own mine before left ending no_peer d h (told_by (Stop.Keeper There) (Cause.Refused 503 26) there_is ending told))
+      (λ host told. peer_failed (Cause.Refused 503 26) of_peer link own mine before left ending no_peer d h (told_by (Stop.Keeper There) ending told))
       h.same_peer h.peer_share.peer
     where
       no_peer : IsOwnStop (Cause.Refused 503 26) ⊎ (Cause.Refused 503 26 ≡ Cause.Garbled Body.Body) ⊎ ((name : List ℕ) × (Cause.Refused 503 26 ≡ Cause.BadRow name)) → ⊥

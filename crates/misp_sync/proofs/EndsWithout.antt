@@ -1,5 +1,5 @@
 -- What a pull or a push comes to ends by no stop: a refusal that the peer states is none.
-use Rattle.std.proofs.Common.{ℕ, Bool, true, false, List, [], ◌∷◌, map, Option, None, Some, Result, Ok, Err, refl, if◌then◌else◌}
+use Rattle.std.proofs.Common.{◌≡◌, ℕ, Bool, true, false, List, [], ◌∷◌, map, Option, None, Some, Result, Ok, Err, refl, if◌then◌else◌}
 use Rattle.misp_orgs.specs.Admin.{who_of}
 use Rattle.misp_orgs.specs.Roles.{permits}
 use Rattle.misp_orgs.specs.declared.link.Link.{Link}
@@ -16,9 +16,15 @@ use Rattle.misp_core.specs.Taking.{handed_rows}
 use Rattle.misp_client.specs.Calling.{is_short, too_large}
 use Rattle.misp_client.specs.Telling.{refused_as}
 use Rattle.misp_protocol.specs.declared.cause.Cause.{Cause}
+use Rattle.misp_sync.specs.Causes.{stop_by}
 use Rattle.misp_sync.specs.Pulled.{all_pulled, ends, event_taken, events_sent, events_taken, groups_sent, pulled_by, rows_pulled}
 use Rattle.misp_sync.specs.Pushed.{RowsOf, all_pushed, groups_carried, if_short, over_rows, packages_of, packages_sent, parts_pushed, parts_taken, pushed_by, pushed_through, rows_seen, with_event}
 use Rattle.misp_sync.proofs.Doing.{TellsNone}
+
+-- an effect, or an end by a cause that is no stop
+either_tells : (b : Bool) (e : Effect (Option Cause)) (cause : Cause) → TellsNone e.reply → stop_by cause ≡ None → TellsNone (if b then e else ends (Some cause)).reply
+either_tells true e cause none bare = none
+either_tells false e cause none bare = bare
 
 -- ---- a pull
 
@@ -38,21 +44,15 @@ rows_tell here w groups own peer caller known (Err name) = refl
 
 pub pulled_tells : (here : Inst) (w : OrgId) (peer : Host) (found : Option Caller) (own there : Seen) → TellsNone (pulled_by here w peer found own there).reply
 pulled_tells here w peer None own there = refl
-pulled_tells here w peer (Some caller) own there = one (is_permitted caller Ask.SyncGroups)
-  where
-    one : (b : Bool) → TellsNone (if b then all_pulled here w own (groups_sent peer caller there.groups) (events_sent peer caller there.groups (there.rows Reach.All))
-        else ends (Some (refused_as (forbidden Ask.SyncGroups)))).reply
-    one true = rows_tell here w (take_groups own.groups (groups_sent peer caller there.groups)) own peer caller there.groups (there.rows Reach.All)
-    one false = refl
+pulled_tells here w peer (Some caller) own there =
+    either_tells (is_permitted caller Ask.SyncGroups) (all_pulled here w own (groups_sent peer caller there.groups) (events_sent peer caller there.groups (there.rows Reach.All)))
+    (refused_as (forbidden Ask.SyncGroups))
+    (rows_tell here w (take_groups own.groups (groups_sent peer caller there.groups)) own peer caller there.groups (there.rows Reach.All)) refl
 
 -- ---- a push
 
 short_tells : (text : List ℕ) (e : Effect (Option Cause)) → TellsNone e.reply → TellsNone (if_short text e).reply
-short_tells text e none = one (is_short text)
-  where
-    one : (b : Bool) → TellsNone (if b then e else ends (Some (refused_as too_large))).reply
-    one true = none
-    one false = refl
+short_tells text e none = either_tells (is_short text) e (refused_as too_large) none refl
 
 read_tells : (read : Result (List Row) (List ℕ)) (more : List Row → Effect (Option Cause)) → ((rows : List Row) → TellsNone (more rows).reply) → TellsNone (over_rows read more).reply
 read_tells (Ok rows) more none = none rows
@@ -71,12 +71,9 @@ sent_tells here w known of name link groups (Err bad) = refl
 
 by_tells : (peer : Host) (found : Option Caller) (there own : Seen) (here : Inst) (link : Link) → TellsNone (pushed_by peer found there (groups_carried link own) (packages_sent here link own)).reply
 by_tells peer None there own here link = refl
-by_tells peer (Some caller) there own here link = one (permits caller.role Perm.Sync)
-  where
-    one : (b : Bool) → TellsNone (if b then all_pushed peer.name caller.org there (map uncarried (groups_carried link own)) (packages_sent here link own)
-        else ends (Some (refused_as (no_permission Perm.Sync)))).reply
-    one true = sent_tells peer.name caller.org (take_groups there.groups (map uncarried (groups_carried link own))) (rows_seen there) here link own.groups (own.rows Reach.All)
-    one false = refl
+by_tells peer (Some caller) there own here link =
+    either_tells (permits caller.role Perm.Sync) (all_pushed peer.name caller.org there (map uncarried (groups_carried link own)) (packages_sent here link own)) (refused_as (no_permission Perm.Sync))
+    (sent_tells peer.name caller.org (take_groups there.groups (map uncarried (groups_carried link own))) (rows_seen there) here link own.groups (own.rows Reach.All)) refl
 
 pub pushed_tells : (here : Inst) (link : Link) (peer : Host) (own there : Seen) → TellsNone (pushed_through here link peer own there).reply
 pushed_tells here link peer own there =

@@ -14,8 +14,9 @@ use Rattle.misp_history.specs.Merging.{arrives, counts_row, has_event_row, is_ne
 use Rattle.misp_history.proofs.Packing.{event_of_own}
 use Rattle.misp_history.proofs.Putting.{before_on}
 use Rattle.misp_history.proofs.Sorted.{IsSorted, put_row_sorted}
-use Rattle.misp_sync.proofs.OwnRows.{all_ours, named_so, taken_here}
-use Rattle.misp_sync.proofs.Parts.{filter_alike}
+use Rattle.misp_sync.proofs.Events.{all_ours}
+use Rattle.misp_sync.proofs.OwnRows.{named_so, taken_here}
+use Rattle.misp_package.proofs.Going.{filter_alike}
 
 before_past : (w x y : Row) → stands_before w y ≡ true → stands_before x y ≡ false → stands_before w x ≡ true
 unfolding stands_before

@@ -20,7 +20,7 @@ use Rattle.misp_store.specs.declared.reach.Reach.{Reach}
 use Rattle.misp_core.specs.Prelude.{Effect, Seen}
 use Rattle.misp_protocol.specs.declared.cause.Cause.{Cause}
 use Rattle.misp_sync.specs.Pulled.{behind_all, event_taken, events_taken, package_batches}
-use Rattle.misp_sync.proofs.Bringing.{parts}
+use Rattle.misp_history.proofs.Bringing.{parts}
 use Rattle.misp_sync.proofs.Parts.{as_batches, batches_are, brought_from, parts_alike, parts_append, parts_apart}
 
 -- nothing refuses the rest after these batches
@@ -80,7 +80,7 @@ module _ (i : Inst) (w : OrgId) (groups : List Group) (rows coming : List Row) (
   abbrev owns : List Row
   owns = filter is_own (in_order stands_before coming)
 
-  all_ours : list_all (λ row. same_org row.owner w) coming ≡ true
+  pub all_ours : list_all (λ row. same_org row.owner w) coming ≡ true
   unfolding arrives
   all_ours = all_implies (arrives w) (λ row. same_org row.owner w) (λ row h. (and_parts _ _ h).0) coming owned
 

@@ -34,7 +34,7 @@ packed_from rows table e p x m n =
     let is = all_of (IsPackageOf (event_rows e rows)) (packages (event_rows e rows)) p (packages_are (event_rows e rows) (part_is_table of_e rows table)) m in
     (of_part of_e rows x (is.come x n)).1
 
-flat_from : {X Y : Type 0} (f : X → List Y) (xs : List X) (y : Y) → Contains (flat_map f xs) y → (x : X) × (Contains xs x × Contains (f x) y)
+pub flat_from : {X Y : Type 0} (f : X → List Y) (xs : List X) (y : Y) → Contains (flat_map f xs) y → (x : X) × (Contains xs x × Contains (f x) y)
 flat_from f [] y m = let lt = m.1 in absurd (omega arith)
 flat_from f (x ∷ xs) y m = elim (Contains-append_cases (f x) (flat_map f xs) y m) [
   | inl n ↦ (x, (here x xs, n))
@@ -49,7 +49,7 @@ numbered_among n e count (rows ∷ more) p m = elim (first_or (record { event = 
   | inr k ↦ there rows more p.rows (numbered_among (suc n) e count more p k)
 ]
 
-got_among : (all : List (List Row)) (n : ℕ) (rows : List Row) → slice_get all n ≡ Some rows → Contains all rows
+pub got_among : (all : List (List Row)) (n : ℕ) (rows : List Row) → slice_get all n ≡ Some rows → Contains all rows
 got_among [] n rows is = absurd cc
 got_among (x ∷ all) zero rows is = subst (Contains (x ∷ all)) (some_same x rows is) (here x all)
 got_among (x ∷ all) (suc n) rows is = there x all rows (got_among all n rows is)

@@ -6,6 +6,7 @@ use Rattle.misp_dialogue.specs.Parties.{GrowsBy}
 use Rattle.misp_sync.specs.Kept.{kept_trail, wire_ask, wire_ask_trail}
 use Rattle.misp_sync.specs.Wire.{IsSamePeer, IsUnanswered, Meet}
 use Rattle.misp_sync.specs.declared.keeping_wire.WireAsk.{WireAsk}
+use Rattle.misp_sync.proofs.Peers.{meets_itself}
 
 -- one more is kept
 one_more : (old : List WireAsk) (ask : WireAsk) → kept_trail (old ++ ask ∷ []) ≡ kept_trail old ++ wire_ask_trail ask
@@ -17,9 +18,4 @@ kept_none old new request e = (request ∷ [], ap kept_trail e ∙ one_more old 
 
 -- a peer that was not asked is the same
 pub same_itself : (peer : Option Standing) → Meet peer peer IsSamePeer
-same_itself None = tt
-same_itself (Some peer) = record {
-  host = record { name = refl; admin = refl };
-  later = omega arith;
-  silent = λ none. none;
-}
+same_itself peer = meets_itself peer IsSamePeer (λ s. record { host = record { name = refl; admin = refl }; later = omega arith; silent = λ none. none })

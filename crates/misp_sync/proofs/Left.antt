@@ -20,12 +20,14 @@ use Rattle.misp_store.proofs.GroupRows.{AreReadBack}
 use Rattle.misp_core.specs.Prelude.{AllByRecursion, Host, Keeps, seen_in}
 use Rattle.misp_core.specs.Taking.{groups_taken}
 use Rattle.misp_sync.specs.History.{applied, pull_act, route_of, sync_act}
+use Rattle.misp_sync.specs.Laws.{Holds}
 use Rattle.misp_sync.specs.Pulled.{pulled, pulled_over, telling}
-use Rattle.misp_sync.proofs.Bringing.{done_put, joined, joined_all, joined_first, partly_put, parts}
+use Rattle.misp_history.proofs.Bringing.{done_put, joined, joined_all, joined_first, partly_put, parts}
 use Rattle.misp_sync.proofs.Coming.{batches_by, carried_by, groups_after}
-use Rattle.misp_sync.proofs.GroupsTaken.{taken_put, taken_uncarried}
+use Rattle.misp_core.proofs.TakenGroups.{groups_after as taken_put}
+use Rattle.misp_sync.proofs.GroupsTaken.{taken_uncarried}
 use Rattle.misp_sync.proofs.Parts.{as_batches}
-use Rattle.misp_sync.proofs.Stands.{Stands, batch_stands, keeps_there, parts_stand, stands_there}
+use Rattle.misp_sync.proofs.Stands.{batch_stands, keeps_there, parts_stand, stands_there}
 use Rattle.misp_sync.proofs.Keeping.{held_sees}
 use Rattle.misp_sync.proofs.Routes.{Comes, IsBetween, between_over, comes_over, put_under, under_is, world_by, world_is, world_none}
 
@@ -63,10 +65,10 @@ module _ (back : AreReadBack) (w : World) (r : Route) (are : AreRows (tables w.l
   abbrev first : Batch
   first = batch [] (groups_taken (w.groups r.into) (map uncarried (carried_by w r)))
 
-  first_stands : IsReadable first → Stands rows groups (with_batch (spelled first) held)
+  first_stands : IsReadable first → Holds rows groups (with_batch (spelled first) held)
   unfolding put_all
   first_stands fits =
-      subst (λ gs. Stands rows gs (with_batch (spelled first) held))
+      subst (λ gs. Holds rows gs (with_batch (spelled first) held))
       (taken_put (w.groups r.into) (map uncarried (carried_by w r)) ∙ taken_uncarried (w.groups r.into) (carried_by w r) ∙ sym (groups_after w r))
       (batch_stands back first rows (w.groups r.into) held fits (stands_there r.into w held keeps))
 

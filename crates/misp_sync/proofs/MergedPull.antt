@@ -31,16 +31,16 @@ use Rattle.misp_protocol.specs.declared.cause.Cause.{Cause}
 use Rattle.misp_client.specs.Telling.{refused_as}
 use Rattle.misp_sync.specs.Laws.{Holds, IsPullable, rows_passed, untouched}
 use Rattle.misp_sync.specs.Pulled.{all_pulled, ends, events_sent, events_taken, groups_sent, pulled_by}
-use Rattle.misp_sync.proofs.Beside.{kept_out, put_out}
-use Rattle.misp_sync.proofs.Bringing.{joined, joined_all, parts}
+use Rattle.misp_core.proofs.OtherEvents.{kept_out, put_out}
+use Rattle.misp_history.proofs.Bringing.{joined, joined_all, parts}
 use Rattle.misp_sync.proofs.EventRows.{merged_cut}
 use Rattle.misp_sync.proofs.Events.{Tells, events_are}
-use Rattle.misp_sync.proofs.GroupsTaken.{taken_put}
-use Rattle.misp_sync.proofs.Handed.{arriving_handed}
+use Rattle.misp_core.proofs.TakenGroups.{groups_after as taken_put}
+use Rattle.misp_history.proofs.Handed.{arriving_handed}
 use Rattle.misp_sync.proofs.Listed.{events_listed, sent_handed}
 use Rattle.misp_sync.proofs.OwnRows.{own_read, rows_tell}
 use Rattle.misp_sync.proofs.Parts.{as_batches}
-use Rattle.misp_sync.proofs.Stands.{Stands, batch_stands, parts_stand}
+use Rattle.misp_sync.proofs.Stands.{batch_stands, parts_stand}
 
 -- ---- rows that nothing comes of
 
@@ -161,12 +161,8 @@ module _ (here : Inst) (w : OrgId) (peer : Host) (caller : Caller) (own : Held) 
     put_then : AreReadable (first ∷ as_batches brings) → Holds (merged here mine later coming) later (put_batches (map spelled (first ∷ as_batches brings)) own)
     unfolding put_all
     put_then fits =
-        let before : Stands mine groups own =
-        record { rows_held = can.holds.rows_are; are_rows = can.holds.are_rows; groups_held = can.holds.groups_are; are_groups = can.holds.are_groups; ascend = can.holds.ascend } in
-        let groups_put : Stands mine later (with_batch (spelled first) own) = subst (λ gs. Stands mine gs (with_batch (spelled first) own)) (taken_put groups sent) (batch_stands back first mine groups own fits.0 before) in
-        let all_put : Stands (merged here mine later coming) later (put_batches (map spelled (first ∷ as_batches brings)) own) =
-        subst (λ rs. Stands rs later (put_batches (map spelled (first ∷ as_batches brings)) own)) brings_merged (parts_stand back brings mine later (with_batch (spelled first) own) fits.1 groups_put) in
-        record { rows_are = all_put.rows_held; are_rows = all_put.are_rows; groups_are = all_put.groups_held; are_groups = all_put.are_groups; ascend = all_put.ascend }
+        let groups_put : Holds mine later (with_batch (spelled first) own) = subst (λ gs. Holds mine gs (with_batch (spelled first) own)) (taken_put groups sent) (batch_stands back first mine groups own fits.0 can.holds) in
+        subst (λ rs. Holds rs later (put_batches (map spelled (first ∷ as_batches brings)) own)) brings_merged (parts_stand back brings mine later (with_batch (spelled first) own) fits.1 groups_put)
 
     pub pull_leaves : AreReadable (pulled_by here w peer (Some caller) (seen_in own) there).batches
         → Holds (merged here mine later coming) later (left spelled (pulled_by here w peer (Some caller) (seen_in own) there) own)

@@ -1,25 +1,23 @@
 -- What is taken of packages of one event is what these bring of all that comes.
-use Rattle.std.proofs.Common.{◌≡◌, ◌&&◌, ◌||◌, not, Bool, true, false, List, [], ◌∷◌, ◌++◌, Contains, append-nil, append_assoc, arith, cond, refl, sym, ap, ◌∙◌, filter, inl, inr, map}
+use Rattle.std.proofs.Common.{◌≡◌, ◌&&◌, ◌||◌, not, Bool, true, false, List, [], ◌∷◌, ◌++◌, Contains, append-nil, append_assoc, arith, refl, sym, ap, ◌∙◌, inl, inr, map}
 use Rattle.std.proofs.lemmas.List.Elements.{Contains-append_cases}
 use Rattle.std.proofs.lemmas.List.Folds.{list_any-append}
 use Rattle.misp_effects.specs.Batches.{Batch, batch}
+use Rattle.misp_lists.proofs.All.{all_last}
 use Rattle.misp_lists.proofs.Elements.{here, of_part, there}
 use Rattle.misp_model.proofs.Prelude.{AllByRecursion, Group, Inst, IsTable, OrgId, Row, is_row_of, list_all, list_any}
 use Rattle.misp_history.specs.Merging.{IsPackageOf, arrives, brought, fresh, is_taken, merged, merged_by}
 use Rattle.misp_history.proofs.ByPackages.{next_taken}
+use Rattle.misp_package.proofs.Going.{filter_alike}
 use Rattle.misp_core.specs.Effects.{row_batches}
 use Rattle.misp_sync.specs.Pulled.{package_batches}
-use Rattle.misp_sync.proofs.Bringing.{parts, with_some}
+use Rattle.misp_history.proofs.Bringing.{parts, with_some}
 
 -- each part is a batch
 abbrev pub as_batches : List (List Row) → List Batch
 as_batches ps = map (λ rows. batch rows []) ps
 
 -- ---- lists
-
-pub filter_alike : {X : Type 0} (p q : X → Bool) (xs : List X) → ((x : X) → Contains xs x → p x ≡ q x) → filter p xs ≡ filter q xs
-filter_alike p q [] h = refl
-filter_alike p q (x ∷ xs) h = λ i. cond (h x (here x xs) i) (x ∷ filter_alike p q xs (λ y m. h y (there x xs y m)) i) (filter_alike p q xs (λ y m. h y (there x xs y m)) i)
 
 with_append : (f : List Row) (ps qs : List (List Row)) → with_some f ps ++ qs ≡ with_some f (ps ++ qs)
 with_append [] ps qs = refl
@@ -92,10 +90,6 @@ module _ (i : Inst) (groups : List Group) (coming : List Row) (table : IsTable c
   abbrev taken : Row → Bool
   taken = is_taken i rows groups coming
 
-  all_more : (ps : List (List Row)) (p : List Row) → AllByRecursion (IsPackageOf coming) ps → IsPackageOf coming p → AllByRecursion (IsPackageOf coming) (ps ++ p ∷ [])
-  all_more [] p are is = (is, tt)
-  all_more (q ∷ ps) p are is = (are.0, all_more ps p are.1 is)
-
   batches_so : (done ps : List (List Row)) → AllByRecursion (IsPackageOf coming) done → AllByRecursion (IsPackageOf coming) ps
       → package_batches i groups (merged_by i rows groups done) ps ≡ as_batches (parts taken (brought taken [] done) ps)
   unfolding package_batches parts
@@ -104,7 +98,7 @@ module _ (i : Inst) (groups : List Group) (coming : List Row) (table : IsTable c
       let f : List Row = fresh taken (brought taken [] done) p in
       ap (λ rs. row_batches rs ++ package_batches i groups (merged i (merged_by i rows groups done) groups p) ps) (next_taken i rows groups coming table w owned done before p are.0)
       ∙ ap (λ rs. row_batches f ++ package_batches i groups rs ps) (merged_last i groups rows done p)
-      ∙ ap (λ bs. row_batches f ++ bs) (batches_so (done ++ p ∷ []) ps (all_more done p before are.0) are.1)
+      ∙ ap (λ bs. row_batches f ++ bs) (batches_so (done ++ p ∷ []) ps (all_last (IsPackageOf coming) done p before are.0) are.1)
       ∙ ap (λ rs. row_batches f ++ as_batches (parts taken rs ps)) (brought_last taken [] done p)
       ∙ batches_with f (parts taken (brought taken [] done ++ f) ps)
 

@@ -38,8 +38,8 @@ use Rattle.misp_protocol.specs.declared.request.Answer.{Answer}
 use Rattle.misp_protocol.specs.declared.request.Request.{Request}
 use Rattle.misp_sync.specs.Pulled.{groups_sent}
 use Rattle.misp_sync.specs.WireAnswers.{call_answer, wire_answer, with_held}
-use Rattle.misp_sync.proofs.Beside.{kept_out}
-use Rattle.misp_sync.proofs.WantedSizes.{wanted_short}
+use Rattle.misp_core.proofs.OtherEvents.{kept_out}
+use Rattle.misp_client.proofs.ShortBodies.{wanted_short}
 use Rattle.misp_core.specs.declared.reply.Answer.{Answer as Replied}
 use Rattle.misp_model.specs.Answers as model
 

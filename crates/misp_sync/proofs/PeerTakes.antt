@@ -1,6 +1,5 @@
 -- What a peer answers where groups, or a package, are handed in.
 use Rattle.std.proofs.Common.{◌≡◌, ◌≤◌, ◌∙◌, ℕ, Bool, true, false, List, length, map, Option, None, Some, Result, Ok, Err, ap, arith, if◌then◌else◌}
-use Rattle.std.proofs.lemmas.Bool.Decides.{nat_tests}
 use Rattle.misp_effects.specs.Batches.{Batch, put_batches}
 use Rattle.misp_format.specs.WholeGroup.{groups_text, uncarried}
 use Rattle.misp_model.proofs.Prelude.{length-map}
@@ -22,18 +21,11 @@ use Rattle.misp_client.specs.Calling.{called_as, called_by, is_short, too_large}
 use Rattle.misp_client.specs.Calls.{body_of}
 use Rattle.misp_client.specs.Telling.{refused_as}
 use Rattle.misp_client.specs.declared.call.Call.{Call}
+use Rattle.misp_client.proofs.RefusedCalls.{told_at_most}
 use Rattle.misp_client.proofs.Suiting.{few_groups, few_rows}
-use Rattle.misp_protocol.specs.declared.cause.Body.{Body}
 use Rattle.misp_protocol.specs.declared.cause.Cause.{Cause}
 use Rattle.misp_protocol.specs.declared.request.Answer.{Answer}
-use Rattle.misp_client.specs.Answers.{or_garbled}
-use Rattle.misp_client.specs.Bodies.{at_most}
-use Rattle.std.specs.Option.{option_map}
 use Rattle.misp_sync.specs.WireAnswers.{call_answer, told_with, with_held}
-
--- a number that is not greater than another is told
-told_at_most : (most count : ℕ) → count ≤ most → or_garbled Body.Taken (option_map Answer.Taken (at_most most count)) ≡ Ok (Answer.Taken count)
-told_at_most most count few = grind (arith, nat_tests, few)
 
 module _ (peer : Host) (key : List ℕ) (held : Held) where
   abbrev answer_to : Call → Result (Answer × Held) Cause

@@ -1,17 +1,19 @@
 -- What a pull takes of the parts of events, one after another.
-use Rattle.std.proofs.Common.{◌≡◌, ◌<◌, ◌+◌, ◌^◌, ◌∙◌, ℕ, suc, false, true, List, [], ◌∷◌, ◌++◌, append_assoc, length, map, filter, flat_map, Option, Some, Result, Ok, Err, refl, sym, ap, subst, inl, inr, arith}
-use Rattle.std.specs.List.{AllByRecursion, list_all, slice_get}
+use Rattle.std.proofs.Common.{◌≡◌, ◌<◌, ◌+◌, ◌^◌, ◌∙◌, ℕ, suc, false, true, List, [], ◌∷◌, ◌++◌, append_assoc, length, map, filter, flat_map, nat_eq, Option, Some, Result, Ok, Err, refl, sym, ap, subst, inl, inr, arith}
+use Rattle.std.specs.List.{AllByRecursion, list_all, slice_get, starts_with}
 use Rattle.misp_ids.specs.Uid.{IsUid}
 use Rattle.misp_effects.specs.Batches.{Batch}
 use Rattle.misp_dialogue.specs.Parties.{Conduct}
 use Rattle.misp_orgs.specs.declared.link.Link.{Link}
-use Rattle.misp_outside.specs.Held.{with_batch}
-use Rattle.misp_elem.specs.Prelude.{IsKey}
+use Rattle.misp_outside.specs.Held.{is_named, raw_name, rows_named, with_batch}
+use Rattle.misp_elem.specs.Prelude.{IsKey, key}
 use Rattle.misp_elem.specs.declared.key.KeyForm.{KeyForm as Key}
 use Rattle.misp_manifest.specs.Manifest.{IsKeysOfPart, key_stamp, said_of}
 use Rattle.misp_manifest.specs.Wanted.{IsWanted}
 use Rattle.misp_manifest.specs.declared.wanted.WantedFields.{WantedFields as Wanted}
-use Rattle.misp_model.proofs.Prelude.{EventId, Group, Row, event_key, event_of, put_all, false≢true, same_event, same_event-refl}
+use Rattle.misp_model.proofs.Prelude.{EventId, Group, OrgId, Row, and_from, event_key, event_of, name_bytes, put_all, false≢true, same_event, same_event-refl, uid}
+use Rattle.misp_model.proofs.Spelled.{begins_with_itself}
+use Rattle.misp_store.specs.Raw.{raw_row}
 use Rattle.misp_model.specs.Manifests.{is_asked_for, only_of}
 use Rattle.misp_model.specs.Package.{IsPackage}
 use Rattle.misp_model.specs.declared.package.PackageFields.{PackageFields as Package}
@@ -31,12 +33,12 @@ use Rattle.misp_protocol.specs.declared.request.Answer.{Answer}
 use Rattle.misp_protocol.specs.declared.request.Request.{Request}
 use Rattle.misp_sync.specs.OwnAnswers.{batching, over_rows, own_conduct, wanted_list}
 use Rattle.misp_sync.specs.Pulled.{event_taken, events_taken, package_batches}
-use Rattle.misp_sync.proofs.AlikeTaken.{IsAt, part_at, taken_same}
-use Rattle.misp_sync.proofs.Beside.{IsBeside, batch_put_so, beside_none, beside_put, beside_then}
-use Rattle.misp_sync.proofs.OwnRead.{AlikeFor, rows_read_alike}
-use Rattle.misp_sync.proofs.OwnTakes.{of_event, ours, own_taken}
+use Rattle.misp_core.proofs.AlikeTaken.{IsAt, part_at, taken_same}
+use Rattle.misp_core.proofs.OtherEvents.{OthersStay, batch_put_so, stay_none, stay_put, stay_then}
+use Rattle.misp_sync.proofs.OwnTakes.{own_taken}
+use Rattle.misp_core.proofs.RowsAlike.{AlikeFor, IsOurs, rows_read_alike}
+use Rattle.misp_sync.proofs.TakenRows.{are_of_event, taken_ours}
 use Rattle.misp_sync.proofs.WantedFits.{wanted_fits}
-use Rattle.misp_core.proofs.HandedAsks.{taken_are_rows}
 
 -- an event with its packages
 abbrev pub Sent : Type 0
@@ -50,6 +52,11 @@ listed_of x = parts_of (said_of x.0 x.1)
 abbrev pub Apart : List Sent → Type 0
 Apart [] = Unit {0}
 Apart (x ∷ xs) = AllByRecursion (λ y. same_event x.0 y.0 ≡ false) xs × Apart xs
+
+-- a row of an owner and an event is held under a name of theirs
+ours_named : (w : OrgId) (e : EventId) (r : Row) → IsOurs w e r → is_named e (uid w.0) (raw_name (raw_row r)) ≡ true
+unfolding raw_row name_bytes same_event
+ours_named w e r is = and_from _ _ is.2 (ap (λ (o : OrgId). starts_with nat_eq (uid o.0 ++ key r.key) (uid w.0)) is.1 ∙ begins_with_itself (uid w.0) (key r.key))
 
 module _ {HA : Type 0} (here : Host) (link : Link) (owner : IsUid link.holder.0) (ka : Conduct HA Request Answer Cause) (s : HA) where
   abbrev taker : Conduct Held Request Answer Cause
@@ -163,29 +170,28 @@ module _ {HA : Type 0} (here : Host) (link : Link) (owner : IsUid link.holder.0)
           abbrev taken : List Row
           taken = package_taken here.name has.seen (groups_of t) link.holder some
 
-          taken_event : list_all (λ row. same_event (event_of row.key) e) taken ≡ true
-          taken_event = subst (λ f. list_all (λ row. same_event (event_of row.key) f) taken ≡ true) some_of (of_event here link owner t some has.seen read_some packs)
+          ours : AllByRecursion (IsOurs link.holder e) taken
+          ours = subst (λ f. AllByRecursion (IsOurs link.holder f) taken) some_of (taken_ours link.holder owner some packs here.name (groups_of t) has.seen)
 
           has_next : HasRows next (put_all all_taken rows)
-          unfolding with_batch
+          unfolding with_batch rows_named
           has_next =
-              let more = rows_read_alike link.holder e taken (taken_are_rows here.name has.seen (groups_of t) link.holder some owner packs)
-              (ours here link owner t some has.seen read_some) taken_event t.rows has.seen rows has.read has.alike in
+              let more = rows_read_alike link.holder e (λ raw. is_named e (uid link.holder.0) (raw_name raw)) (ours_named link.holder e) taken ours t.rows has.seen rows has.read has.alike in
               record { seen = more.0; read = more.1; alike = subst (λ ts. AlikeFor link.holder more.0 (put_all ts rows)) some_taken more.2 }
 
-          beside_next : IsBeside link.holder e t next
-          beside_next = subst (IsBeside link.holder e t) (sym (batch_put_so taken t)) (beside_put link.holder e taken t taken_event)
+          beside_next : OthersStay link.holder e t next
+          beside_next = subst (OthersStay link.holder e t) (sym (batch_put_so taken t)) (stay_put link.holder e taken t (are_of_event link.holder e taken ours))
 
     -- ---- all of its packages
 
     -- its packages from a number on come, where what is listed after them comes
     pub event_comes : (n : ℕ) (ps : List (List Row)) → AreServed n ps → (t : Held) (rows : List Row) (groups : List Group)
         → groups_of t ≡ groups → HasRows t rows → (rest : List PartKeys) (later : List Batch) (why : Option Cause)
-        → ((u : Held) → IsBeside link.holder e t u → PartsCome ka taker batching s u rest later why)
+        → ((u : Held) → OthersStay link.holder e t u → PartsCome ka taker batching s u rest later why)
         → PartsCome ka taker batching s t (parts_from e n (map (map key_stamp) ps) ++ rest)
         (package_batches here.name groups rows (map (map (handed link.holder)) ps) ++ later) why
     unfolding package_batches merged put_all
-    event_comes n [] served t rows groups same has rest later why comes = comes t (beside_none link.holder e t)
+    event_comes n [] served t rows groups same has rest later why comes = comes t (stay_none link.holder e t)
     event_comes n (p ∷ ps) served t rows groups same has rest later why comes =
         by_wanted (λ u rs still found. event_comes (suc n) ps served.1 u rs groups still found rest later why) (wanted n p served.0 t rows has) refl
       where
@@ -194,7 +200,7 @@ module _ {HA : Type 0} (here : Host) (link : Link) (owner : IsUid link.holder.0)
 
         -- the packages after it come from whatever is held then
         Again : Type 0
-        Again = (u : Held) (rs : List Row) → groups_of u ≡ groups → HasRows u rs → ((v : Held) → IsBeside link.holder e u v → PartsCome ka taker batching s v rest later why)
+        Again = (u : Held) (rs : List Row) → groups_of u ≡ groups → HasRows u rs → ((v : Held) → OthersStay link.holder e u v → PartsCome ka taker batching s v rest later why)
             → PartsCome ka taker batching s u (parts_from e (suc n) (map (map key_stamp) ps) ++ rest)
             (package_batches here.name groups rs (map (map (handed link.holder)) ps) ++ later) why
 
@@ -230,7 +236,7 @@ module _ {HA : Type 0} (here : Host) (link : Link) (owner : IsUid link.holder.0)
                   let beside = beside_next n p served.0 t rows has (k ∷ ks) are packs in
                   again after (merged here.name rows groups (map (handed link.holder) p)) (beside.groups ∙ same)
                   (subst (λ ts. HasRows after (put_all ts rows)) all_is (has_next n p served.0 t rows has (k ∷ ks) are packs))
-                  (λ u further. comes u (beside_then link.holder e t after u beside further)),
+                  (λ u further. comes u (stay_then link.holder e t after u beside further)),
             ))
 
   -- ---- events

@@ -1,5 +1,5 @@
 -- A pull takes what it comes to.
-use Rattle.std.proofs.Common.{◌≡◌, ◌<◌, ◌+◌, ◌-◌, ◌^◌, ◌∙◌, ℕ, zero, suc, nat_cmp, eqb, Less, leb, leb-true, Bool, true, false, List, [], ◌∷◌, flat_map, length, map, filter, Contains, is_ok, Option, None, Some, Result, Ok, Err, refl, sym, ap, subst, arith, if◌then◌else◌}
+use Rattle.std.proofs.Common.{◌≡◌, ◌<◌, ◌+◌, ◌-◌, ◌^◌, ◌∙◌, ℕ, nat_cmp, eqb, Less, leb, leb-true, Bool, true, false, List, [], ◌∷◌, flat_map, length, map, filter, Contains, Option, None, Some, Result, Ok, Err, refl, sym, ap, subst, arith, if◌then◌else◌}
 use Rattle.std.proofs.lemmas.List.Folds.{flat_map-map}
 use Rattle.std.proofs.lemmas.Option.{slice_get_within}
 use Rattle.std.specs.List.{AllByRecursion, slice_get}
@@ -13,15 +13,13 @@ use Rattle.misp_dialogue.specs.Parties.{Conduct}
 use Rattle.misp_dialogue.specs.Taking.{Takes}
 use Rattle.misp_dialogue.proofs.Taking.{asked, source_refused}
 use Rattle.misp_lists.specs.Order.{in_order}
-use Rattle.misp_lists.proofs.All.{all_among, all_both, all_map}
+use Rattle.misp_lists.proofs.All.{all_among, all_both, all_map, all_of}
 use Rattle.misp_lists.proofs.Elements.{kept_has, of_part}
-use Rattle.misp_lists.proofs.Lists.{some_same}
 use Rattle.misp_lists.proofs.Ordering.{from_in_order}
 use Rattle.misp_lists.proofs.Prelude.{and_parts}
 use Rattle.misp_effects.specs.Batches.{Batch, batch}
 use Rattle.misp_effects.specs.Effect.{Effect}
 use Rattle.misp_groups.specs.Changes.{take_groups}
-use Rattle.misp_format.proofs.GroupTexts.{text_back}
 use Rattle.misp_outside.specs.Held.{put_rows, with_batch}
 use Rattle.misp_elem.specs.Fields.{IsBetween}
 use Rattle.misp_manifest.specs.Manifest.{IsKeysOfPart, IsManifestEvent, key_stamp, said_of}
@@ -31,11 +29,11 @@ use Rattle.misp_model.proofs.Prelude.{EventId, Group, Row, Scene, event_of, even
 use Rattle.misp_model.specs.Manifests.{only_of, pulled_manifest}
 use Rattle.misp_model.specs.Packing.{is_own}
 use Rattle.misp_model.specs.Pulling.{pulled_events, pulled_packages, pulled_rows}
-use Rattle.misp_store.specs.Sharing.{has_groups_alone, or_none}
+use Rattle.misp_store.specs.Sharing.{has_groups_alone}
 use Rattle.misp_store.specs.declared.reach.Reach.{Reach}
 use Rattle.misp_core.proofs.PulledEvents.{some_package}
 use Rattle.misp_core.specs.Answers.{bad_row}
-use Rattle.misp_core.specs.Prelude.{Ask, Caller, Held, Host, IsGroup, bare, forbidden, groups_in, groups_of, is_permitted, scene_at, seeing, seen_in}
+use Rattle.misp_core.specs.Prelude.{Ask, Caller, Held, Host, IsGroup, bare, forbidden, groups_of, is_permitted, scene_at, seeing, seen_in}
 use Rattle.misp_core.specs.Taking.{groups_taken, with_groups_taken}
 use Rattle.misp_client.specs.Telling.{refused_as}
 use Rattle.misp_protocol.specs.Counts.{IsTally, no_tally}
@@ -51,12 +49,12 @@ use Rattle.misp_protocol.proofs.PushText.{grouped_takes}
 use Rattle.misp_sync.specs.OwnAnswers.{batching, own_conduct}
 use Rattle.misp_sync.specs.Pulled.{all_pulled, ends, events_sent, events_taken, groups_sent, pulled_by, rows_pulled, with_packages}
 use Rattle.misp_sync.specs.WireAnswers.{wire_conduct}
-use Rattle.misp_sync.proofs.GroupsTaken.{taken_put}
-use Rattle.misp_sync.proofs.ListedParts.{HasParts, are_events}
+use Rattle.misp_sync.proofs.Granted.{got_among}
+use Rattle.misp_protocol.proofs.ListedParts.{HasParts, are_events}
 use Rattle.misp_sync.proofs.PeerAnswers.{barred_answered, groups_answered, manifest_answered, nobody_answered, rows_answered}
 use Rattle.misp_sync.proofs.PullParts.{Apart, IsSent, IsServed, IsUntouched, Sent, all_served, events_come, listed_of}
-use Rattle.misp_sync.proofs.RowsTaken.{groups_few, groups_fit}
-use Rattle.misp_sync.proofs.Stands.{groups_put}
+use Rattle.misp_sync.proofs.TakenGroups.{groups_then, taken_are}
+use Rattle.misp_client.proofs.Suiting.{few_groups}
 
 -- ---- what is sent of events
 
@@ -112,17 +110,8 @@ all_unmap : {X Y : Type 0} (f : X → Y) (P : Y → Type 0) (xs : List X) → Al
 all_unmap f P [] all = tt
 all_unmap f P (x ∷ xs) all = (all.0, all_unmap f P xs all.1)
 
-at_slice : {X : Type 0} (P : X → Type 0) (xs : List X) (n : ℕ) (x : X) → AllByRecursion P xs → slice_get xs n ≡ Some x → P x
-at_slice P [] n x all at = absurd cc
-at_slice P (y ∷ xs) zero x all at = subst P (some_same y x at) all.0
-at_slice P (y ∷ xs) (suc n) x all at = at_slice P xs n x all.1 at
-
 few : (n m : ℕ) → n < m → IsBetween 1 (2 ^ 32 - 1) m → n < 2 ^ 32
 few n m lt h = omega (arith, lt, leb-true m (2 ^ 32 - 1) (and_parts (leb 1 m) (leb m (2 ^ 32 - 1)) h).1)
-
-groups_read : (r : Result (List Group) (List ℕ)) → is_ok r ≡ true → r ≡ Ok (or_none r)
-groups_read (Ok groups) h = refl
-groups_read (Err name) h = absurd cc
 
 -- ---- the pull
 
@@ -157,16 +146,13 @@ module _ (here peer : Host) (link : Link) (own there : Held) (owner : IsUid link
       count = length (groups_taken (groups_of own) gs);
       passes = groups_answered peer link.key there caller who may;
       taken = refl;
-      few = groups_few (groups_of own) gs;
-      fits = λ are. record { rows = tt; groups = groups_fit (groups_of own) gs are };
+      few = few_groups (groups_of own) gs;
+      fits = λ are. record { rows = tt; groups = taken_are (groups_of own) gs are };
       counts = refl;
     }
 
     known_after : has_groups_alone own ≡ true → AllByRecursion IsGroup gs → groups_of after ≡ known
-    unfolding with_batch
-    known_after alone are =
-        ap or_none (groups_put text_back (groups_taken (groups_of own) gs) (groups_fit (groups_of own) gs are) own.admin (groups_of own) (groups_read (groups_in own.admin) alone))
-        ∙ taken_put (groups_of own) gs
+    known_after alone are = groups_then own gs alone (taken_are (groups_of own) gs are)
 
     untouched : (x : Sent) → IsUntouched here link owner source there (seen_in own) after x
     unfolding with_batch put_rows
@@ -187,8 +173,8 @@ module _ (here peer : Host) (link : Link) (own there : Held) (owner : IsUid link
         event = is.event;
         number = few n (length (pulled_packages scene e)) (slice_get_within (pulled_packages scene e) n p at)
             (subst (λ m. IsBetween 1 (2 ^ 32 - 1) m) (length-map (pulled_packages scene e) (map key_stamp)) is.count);
-        keys = at_slice (λ p. IsKeysOfPart e (map key_stamp p)) (pulled_packages scene e) n p
-            (all_unmap (map key_stamp) (IsKeysOfPart e) (pulled_packages scene e) is.parts) at;
+        keys = all_of (λ p. IsKeysOfPart e (map key_stamp p)) (pulled_packages scene e) p
+            (all_unmap (map key_stamp) (IsKeysOfPart e) (pulled_packages scene e) is.parts) (got_among (pulled_packages scene e) n p at);
         answer = λ w w_is event part.
             rows_answered peer link.key there caller who may rows read w w_is p ((λ i. slice_get (pulled_packages scene (event i)) (part i)) ∙ at)
             ∙ (λ i. Ok (

@@ -1,17 +1,17 @@
 -- What a push comes to, where what is seen is what the history shows.
-use Rattle.std.proofs.Common.{◌≡◌, ◌≤◌, true, List, [], ◌∷◌, ◌++◌, Contains, Some, None, Ok, refl, sym, ap, subst, ◌∙◌, arith, filter, flat_map, inl, inr, length, map}
+use Rattle.std.proofs.Common.{◌≡◌, ◌≤◌, true, List, [], ◌∷◌, Contains, Some, None, Ok, sym, ap, subst, ◌∙◌, arith, filter, flat_map, inl, inr, length, map}
 use Rattle.misp_ids.specs.Uid.{IsUid}
 use Rattle.misp_lists.specs.Order.{in_order}
-use Rattle.misp_lists.proofs.All.{all_both, all_implied, all_map}
+use Rattle.misp_lists.proofs.All.{all_among, all_both, all_implied, all_map, all_of}
 use Rattle.misp_lists.proofs.Distinct.{distinct_map}
 use Rattle.misp_lists.proofs.Elements.{first_or, here, there}
-use Rattle.misp_lists.proofs.Lists.{all-filter, all-map, map_twice}
+use Rattle.misp_lists.proofs.Lists.{all-map}
 use Rattle.misp_orgs.specs.declared.link.Link.{Link}
 use Rattle.misp_groups.specs.Changes.{take_groups}
 use Rattle.misp_effects.specs.Batches.{batch}
 use Rattle.misp_effects.specs.Effect.{behind, effect}
 use Rattle.misp_format.specs.WholeGroup.{uncarried}
-use Rattle.misp_model.proofs.Prelude.{AllByRecursion, AreRows, Element, EventId, Group, Inst, IsDistinct, IsRow, IsTable, Key, OrgId, Proposal, Reference, Row, Sighting, Verdict, event_of, event_rows, known, list_all, part_is_table}
+use Rattle.misp_model.proofs.Prelude.{AllByRecursion, AreRows, EventId, Group, Inst, IsDistinct, IsRow, IsTable, OrgId, Row, event_of, event_rows, list_all, part_is_table}
 use Rattle.misp_model.proofs.Prelude.{same_event, same_org, same_org-refl, stands_before}
 use Rattle.misp_model.specs.Package.{nobody}
 use Rattle.misp_model.specs.Packing.{arrived, cut, is_own, others_with, packages}
@@ -20,7 +20,7 @@ use Rattle.misp_history.specs.History.{tables}
 use Rattle.misp_history.specs.Merging.{IsPackageOf, arrives, arriving_rows, handed, passing_rows}
 use Rattle.misp_history.specs.Outcomes.{arriving, takes}
 use Rattle.misp_model.specs.Passing.{route_to}
-use Rattle.misp_history.specs.Passing.{Route, element_passes, lets_out, passes, passes_at, passes_by, sent_copy}
+use Rattle.misp_history.specs.Passing.{Route}
 use Rattle.misp_history.proofs.ArrivedRows.{arriving_are_rows}
 use Rattle.misp_history.proofs.AsNew.{tables_are_tables}
 use Rattle.misp_history.proofs.Packing.{packages_are}
@@ -35,29 +35,20 @@ use Rattle.misp_sync.specs.History.{push_route_to}
 use Rattle.misp_sync.specs.Pushed.{all_pushed, groups_carried, packages_of, packages_sent, parts_taken, rows_seen}
 use Rattle.misp_sync.specs.Ways.{push_way}
 use Rattle.misp_core.specs.Sending.{all_numbered, events_packed, rows_pushed}
-use Rattle.misp_sync.proofs.Bringing.{owned, parts, table}
+use Rattle.misp_history.proofs.Bringing.{owned, parts, table}
 use Rattle.misp_sync.proofs.Coming.{batches_by, carried_by, groups_after}
 use Rattle.misp_sync.proofs.Events.{Tells, events_are, own_apart}
+use Rattle.misp_sync.proofs.Granted.{flat_from}
 use Rattle.misp_sync.proofs.GroupsTaken.{taken_uncarried}
-use Rattle.misp_sync.proofs.Handed.{event_handed, own_handed, packages_handed, sorted_handed}
+use Rattle.misp_history.proofs.Handed.{arriving_so}
+use Rattle.misp_sync.proofs.Listed.{owns_listed, packages_listed}
 use Rattle.misp_sync.proofs.Parts.{as_batches}
 use Rattle.misp_sync.proofs.PushedByEvent.{Fits, Reads, as_owned, by_event}
 
 -- ---- packages of rows fit
 
-module _ {X Y : Type 0} (f : X → Y) (P : Y → Type 0) where
-  all_mapped : ((x : X) → P (f x)) → (xs : List X) → AllByRecursion P (map f xs)
-  all_mapped h [] = tt
-  all_mapped h (x ∷ xs) = (h x, all_mapped h xs)
-
-module _ {X Y : Type 0} (f : X → List Y) (P : Y → Type 0) where
-  all_joined : (ys zs : List Y) → AllByRecursion P ys → AllByRecursion P zs → AllByRecursion P (ys ++ zs)
-  all_joined [] zs a b = b
-  all_joined (y ∷ ys) zs a b = (a.0, all_joined ys zs a.1 b)
-
-  all_flat : ((x : X) → AllByRecursion P (f x)) → (xs : List X) → AllByRecursion P (flat_map f xs)
-  all_flat h [] = tt
-  all_flat h (x ∷ xs) = all_joined (f x) (flat_map f xs) (h x) (all_flat h xs)
+all_flat : {X Y : Type 0} (f : X → List Y) (P : Y → Type 0) → ((x : X) → AllByRecursion P (f x)) → (xs : List X) → AllByRecursion P (flat_map f xs)
+all_flat f P h xs = all_among P (flat_map f xs) (λ y m. let g = flat_from f xs y m in all_of P (f g.0) y (h g.0) g.1.1)
 
 row_among : (rows : List Row) (x : Row) → AreRows rows → Contains rows x → IsRow x
 row_among [] x are m = let lt = m.1 in absurd (omega arith)
@@ -88,19 +79,8 @@ module _ (rows : List Row) (groups : List Group) (here : Inst) (link : Link) (pe
   abbrev brings : Route
   brings = push_route_to here link peer holder
 
-  pass_alike : (seen : List Row) (row : Row) (k : Key) → passes_by seen groups sends row k ≡ passes_by seen groups brings row k
-  unfolding passes_by element_passes passes_at lets_out sent_copy
-  pass_alike seen row (Element e p) = refl
-  pass_alike seen row (Reference e x t u) = refl
-  pass_alike seen row (Proposal e n) = refl
-  pass_alike seen row (Verdict e n i v) = refl
-  pass_alike seen row (Sighting e t i v u) = refl
-
   sent_arrives : map (handed holder) (arriving_rows rows groups sends) ≡ arriving_rows rows groups brings
-  unfolding arriving_rows passing_rows passes arrived handed
-  sent_arrives =
-      map_twice (arrived sends) (handed holder) (arrived brings) (λ row. refl) (passing_rows rows groups sends)
-      ∙ (λ i. map (arrived brings) (filter (λ row. pass_alike (known rows groups here link.push_org) row row.key i) (known rows groups here link.push_org)))
+  sent_arrives = arriving_so rows groups brings link.peer
 
 -- ---- what is seen
 
@@ -141,16 +121,11 @@ module _ (w : World) (here : Inst) (peer : Host) (link : Link) (holder : OrgId) 
       (passing_rows (tables w.log here) (w.groups here) (route_to (push_way link.internal) here link.push_org link.peer))
 
   sent_handed : (e : EventId) → map (map (handed holder)) (sent e) ≡ packages (event_rows e (arriving w route))
-  sent_handed e =
-      packages_handed nobody holder (event_rows e comes) (all-filter (λ row. same_org row.owner nobody) (λ row. same_event (event_of row.key) e) comes comes_nobodys)
-      ∙ ap packages (event_handed holder e comes ∙ ap (event_rows e) comes_handed)
+  sent_handed = packages_listed comes holder (arriving w route) comes_nobodys comes_handed
 
   events_listed : events_packed comes ≡ map with_sent owns
-  unfolding events_packed handed
-  events_listed =
-      sym (map_twice (handed holder) with_sent with_sent (λ x. refl) (filter is_own (in_order stands_before comes)))
-      ∙ ap (map with_sent)
-      (own_handed nobody holder (in_order stands_before comes) ∙ ap (filter is_own) (sorted_handed nobody holder comes comes_nobodys ∙ ap (in_order stands_before) comes_handed))
+  unfolding events_packed
+  events_listed = owns_listed comes holder (arriving w route) comes_nobodys comes_handed sent
 
   module _ (are : AreRows (tables w.log here)) where
     comes_apart : IsTable comes
@@ -188,8 +163,8 @@ module _ (w : World) (here : Inst) (peer : Host) (link : Link) (holder : OrgId) 
       parts_come =
           ap (λ events. parts_taken peer.name holder groups (rows_seen there) (all_numbered events)) events_listed
           ∙ by_event peer.name holder groups (as_owned (rows_seen there)) (map with_sent owns) (rows_seen there) apart
-          (all_mapped with_sent (λ x. Reads holder (as_owned (rows_seen there)) (rows_seen there) x.0) (λ row. reads (event_of row.key)) owns)
-          (all_mapped with_sent (λ x. AllByRecursion Fits x.1) (λ row. sent_fit (event_of row.key)) owns)
+          (all_among (λ x. Reads holder (as_owned (rows_seen there)) (rows_seen there) x.0) (map with_sent owns) (λ x m. reads x.0))
+          (all_map with_sent (λ row. AllByRecursion Fits (sent (event_of row.key))) (λ x. AllByRecursion Fits x.1) (λ row fit. fit) owns (all_among (λ row. AllByRecursion Fits (sent (event_of row.key))) owns (λ row m. sent_fit (event_of row.key))))
           ∙ events_are peer.name holder groups (tables w.log peer.name) (arriving w route) (table w route are) (owned w route are) sent sent_handed (as_owned (rows_seen there)) tells
 
       -- the batches of the route

@@ -43,7 +43,7 @@ use Rattle.misp_sync.specs.WireAnswers.{IsPeerHeld, wire_conduct}
 use Rattle.misp_sync.proofs.PeerTakes.{few_new, groups_answered, groups_barred, long_refused, part_answered, part_unread, unknown_refused}
 use Rattle.misp_sync.proofs.SameRows.{AreSame, SameRows, groups_kept, same_put, same_seen}
 use Rattle.misp_sync.proofs.TakenGroups.{groups_put_so, groups_then, rows_stay, taken_are, uncarried_are}
-use Rattle.misp_sync.proofs.TakenRows.{are_of_event, are_rows, rows_are_taken, taken_ours, taken_same, with_put}
+use Rattle.misp_sync.proofs.TakenRows.{rows_are_taken, taken_ours, taken_same, with_put}
 use Rattle.misp_protocol.proofs.PushText as text
 use Rattle.misp_sync.specs.OwnAnswers as answers
 
@@ -61,8 +61,8 @@ module _ (peer : Host) (key : List ℕ) (caller : Caller) (who : who_of peer.adm
   abbrev Comes : Held → List Package → Effect (Option Cause) → Type 0
   Comes held ps e = AllTaken kb batching held ps e.batches e.reply
 
-  module _ (p : Package) (packs : IsPackage p) (ps : List Package) (held : Held) (of : RowsOf) (known : groups_of held ≡ groups) (same : AreSame held of)
-      (rest : (next : Held) (of : RowsOf) → groups_of next ≡ groups → AreSame next of → Comes next ps (parts_taken peer.name w groups of ps)) where
+  module _ (p : Package) (packs : IsPackage p) (ps : List Package) (held : Held) (of : RowsOf) (known : groups_of held ≡ groups) (same : AreSame w held of)
+      (rest : (next : Held) (of : RowsOf) → groups_of next ≡ groups → AreSame w next of → Comes next ps (parts_taken peer.name w groups of ps)) where
     abbrev over : List Row → Effect (Option Cause)
     over rows =
         behind_all (row_batches (package_taken peer.name rows groups w p))
@@ -71,13 +71,13 @@ module _ (peer : Host) (key : List ℕ) (caller : Caller) (who : who_of peer.adm
     refused_so : (cause : Cause) → kb.answer held (Request.TakePart p) ≡ Err cause → Comes held (p ∷ ps) (ends (Some cause))
     refused_so cause is = inl (cause, is, refl, refl)
 
-    taken_so : is_short (spell_package p) ≡ true → (xs ys : List Row) → rows_seen (seen_in held) p.event ≡ Ok xs → SameRows p.event (Ok xs) (Ok ys) → Comes held (p ∷ ps) (over ys)
+    taken_so : is_short (spell_package p) ≡ true → (xs ys : List Row) → rows_seen (seen_in held) p.event ≡ Ok xs → SameRows w (Ok xs) (Ok ys) → Comes held (p ∷ ps) (over ys)
     unfolding merged
-    taken_so short xs ys read agree =
+    taken_so short xs ys read alike =
         let taken : List Row = package_taken peer.name ys groups w p in
         let ours = taken_ours w owner p packs peer.name groups ys in
         let as_many : package_taken peer.name xs (groups_of held) w p ≡ taken =
-        ap (λ gs. package_taken peer.name xs gs w p) known ∙ taken_same w owner p packs peer.name groups xs ys agree in
+        ap (λ gs. package_taken peer.name xs gs w p) known ∙ taken_same w owner p packs peer.name groups xs ys alike in
         let answers : kb.answer held (Request.TakePart p) ≡ Ok (Answer.Taken (length taken), with_put taken held) =
         part_answered peer key held caller who p short may packs xs read ∙ ap (λ rows. Ok (Answer.Taken (length rows), with_put rows held)) as_many in
         inr (
@@ -88,16 +88,16 @@ module _ (peer : Host) (key : List ℕ) (caller : Caller) (who : who_of peer.adm
           rows_are_taken kb held p w taken answers (few_rows peer.name ys groups p w) (λ ask. ours),
           refl,
           λ ask. rest (with_put taken held) _ (groups_kept taken held ∙ known)
-              (same_put p.event held of same xs ys read agree taken (are_rows w p.event taken ours) (are_of_event w p.event taken ours)),
+              (same_put w p.event held of same xs ys read alike taken ours),
         )
 
-    by_rows : is_short (spell_package p) ≡ true → (read told : Result (List Row) (List ℕ)) → rows_seen (seen_in held) p.event ≡ read → SameRows p.event read told
+    by_rows : is_short (spell_package p) ≡ true → (read told : Result (List Row) (List ℕ)) → rows_seen (seen_in held) p.event ≡ read → SameRows w read told
         → Comes held (p ∷ ps) (over_rows told over)
-    by_rows short (Ok xs) (Ok ys) read agree = taken_so short xs ys read agree
-    by_rows short (Ok xs) (Err name) read agree = absurd agree
-    by_rows short (Err name) (Ok ys) read agree = absurd agree
-    by_rows short (Err name) (Err other) read agree =
-        subst (λ name. Comes held (p ∷ ps) (ends (Some (refused_as (bad_row name))))) agree (refused_so (refused_as (bad_row name)) (part_unread peer key held caller who p short may name read))
+    by_rows short (Ok xs) (Ok ys) read alike = taken_so short xs ys read alike
+    by_rows short (Ok xs) (Err name) read alike = absurd alike
+    by_rows short (Err name) (Ok ys) read alike = absurd alike
+    by_rows short (Err name) (Err other) read alike =
+        subst (λ name. Comes held (p ∷ ps) (ends (Some (refused_as (bad_row name))))) alike (refused_so (refused_as (bad_row name)) (part_unread peer key held caller who p short may name read))
 
     by_short : (b : Bool) → is_short (spell_package p) ≡ b → Comes held (p ∷ ps) (if b then over_rows (of p.event) over else ends (Some (refused_as too_large)))
     by_short true short = by_rows short (rows_seen (seen_in held) p.event) (of p.event) refl (same p.event)
@@ -107,7 +107,7 @@ module _ (peer : Host) (key : List ℕ) (caller : Caller) (who : who_of peer.adm
     unfolding parts_taken
     part_comes = by_short (is_short (spell_package p)) refl
 
-  pub parts_come : (ps : List Package) → AllByRecursion IsPackage ps → (held : Held) (of : RowsOf) → groups_of held ≡ groups → AreSame held of
+  pub parts_come : (ps : List Package) → AllByRecursion IsPackage ps → (held : Held) (of : RowsOf) → groups_of held ≡ groups → AreSame w held of
       → Comes held ps (parts_taken peer.name w groups of ps)
   unfolding parts_taken
   parts_come [] packs held of known same = (refl, refl)
@@ -160,7 +160,7 @@ module _ (here peer : Host) (link : Link) (own there : Held) where
       answered (Ok rows) is,
       λ packs. parts_come peer link.key caller who may (holds.owners link.key caller who) known (parts rows) packs (with_groups new there) (rows_seen (seen_in there))
           (groups_then there (map uncarried gs) holds.groups (taken_are (groups_of there) (map uncarried gs) (uncarried_are gs are)))
-          (same_seen (with_groups new there) there (rows_stay new there)),
+          (same_seen caller.org (with_groups new there) there (rows_stay new there)),
     )
 
     all_go : is_short (groups_text gs) ≡ true → Pushes (all_pushed peer.name caller.org (seen_in there) (map uncarried gs) sent)

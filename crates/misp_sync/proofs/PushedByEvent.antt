@@ -15,7 +15,7 @@ use Rattle.misp_sync.specs.Pushed.{RowsOf, over_rows, parts_taken, with_event}
 use Rattle.misp_core.specs.Sending.{all_numbered, numbered_from}
 use Rattle.misp_client.specs.Telling.{refused_as}
 use Rattle.misp_client.specs.Calling.{too_large}
-use Rattle.misp_sync.proofs.PackageSizes.{package_short}
+use Rattle.misp_client.proofs.ShortBodies.{package_short}
 
 -- rows that fit into a package
 abbrev pub Fits : List Row → Type 0

@@ -1,10 +1,12 @@
 -- The rows that are taken of a package: what they are, and how they are put and counted.
-use Rattle.std.proofs.Common.{◌≡◌, ◌∙◌, ◌≤◌, ◌==◌, ◌&&◌, ℕ, suc, eqb, true, false, not, cond, List, [], ◌∷◌, length, map, Ok, refl, sym, ap, inl, inr, arith}
+use Rattle.std.proofs.Common.{◌≡◌, ◌∙◌, ◌≤◌, ◌==◌, ◌&&◌, ℕ, suc, eqb, true, false, not, cond, List, [], ◌∷◌, length, map, Ok, refl, sym, ap, subst, inl, inr, arith}
 use Rattle.std.specs.List.{list_all}
 use Rattle.misp_ids.specs.Uid.{IsUid}
+use Rattle.misp_elem.specs.Prelude.{IsKey}
+use Rattle.misp_lists.proofs.All.{all_implied, all_part, all_true}
 use Rattle.misp_effects.specs.Batches.{batch, put_batches}
 use Rattle.misp_history.specs.Merging.{counts_row, handed, is_newer_row, rows_taken}
-use Rattle.misp_model.proofs.Prelude.{AllByRecursion, AreRows, EventId, Group, Inst, IsRow, OrgId, Row, and_from, and_parts, event_key, event_of, nat_tests, same_event, same_event-sound}
+use Rattle.misp_model.proofs.Prelude.{AllByRecursion, AreRows, EventId, Group, Inst, OrgId, Row, and_parts, event_key, event_of, nat_tests, same_event, same_event-sound}
 use Rattle.misp_model.specs.Package.{BeginsWith, IsPackage, is_packed}
 use Rattle.misp_model.specs.declared.package.PackageFields.{PackageFields as Package}
 use Rattle.misp_package.proofs.Handed.{handed_is_row}
@@ -20,7 +22,8 @@ use Rattle.misp_protocol.specs.declared.request.Answer.{Answer}
 use Rattle.misp_protocol.specs.declared.request.Request.{Request}
 use Rattle.misp_protocol.proofs.Tallies.{none_more}
 use Rattle.misp_sync.specs.OwnAnswers.{batching}
-use Rattle.misp_sync.proofs.RowsAlike.{Agree, IsOurs, all_kept, taken_alike}
+use Rattle.misp_core.proofs.AlikeTaken.{IsAt, taken_own}
+use Rattle.misp_core.proofs.RowsAlike.{AlikeFor, IsOurs}
 
 -- ---- what they are
 
@@ -30,8 +33,8 @@ are_rows w e [] ours = tt
 are_rows w e (row ∷ rows) ours = (ours.0.0, are_rows w e rows ours.1)
 
 pub are_of_event : (w : OrgId) (e : EventId) (rows : List Row) → AllByRecursion (IsOurs w e) rows → list_all (λ row. same_event (event_of row.key) e) rows ≡ true
-are_of_event w e [] ours = refl
-are_of_event w e (row ∷ rows) ours = and_from _ _ ours.0.2 (are_of_event w e rows ours.1)
+are_of_event w e rows ours =
+    all_true (λ row. same_event (event_of row.key) e) rows (all_implied (IsOurs w e) (λ row. same_event (event_of row.key) e ≡ true) (λ row is. is.2) rows ours)
 
 -- a row of a package is of its event, and was carried
 packed_parts : (e : EventId) (row : Row) → is_packed e row ≡ true → (same_event (event_of row.key) e ≡ true) × (row.carried ≡ true)
@@ -51,12 +54,11 @@ module _ (w : OrgId) (owner : IsUid w.0) (e : EventId) where
       let parts = packed_parts e row both.0 in
       ((handed_is_row w row row.content owner are.0 parts.1 refl, refl, parts.0), handed_ours rows both.1 are.1)
 
-  -- and the first is the event's own
-  own_first : (rows : List Row) → BeginsWith e rows → AllByRecursion (IsOurs w e) (map (handed w) rows)
-      → (own : Row) × IsRow own × (own.owner ≡ w) × (own.key ≡ event_key e)
-  unfolding handed event_key
-  own_first [] begins ours = absurd begins
-  own_first (row ∷ rows) begins ours = (handed w row, ours.0.0, refl, begins)
+-- the first is the event's own
+own_first : (e : EventId) (rows : List Row) → BeginsWith e rows → AreRows rows → IsKey (event_key e)
+unfolding event_key
+own_first e [] begins are = absurd begins
+own_first e (row ∷ rows) begins are = subst IsKey begins are.0.1.0
 
 module _ (w : OrgId) (owner : IsUid w.0) (p : Package) (packs : IsPackage p) (here : Inst) (groups : List Group) where
   coming_ours : AllByRecursion (IsOurs w p.event) (handed_rows w p)
@@ -65,13 +67,13 @@ module _ (w : OrgId) (owner : IsUid w.0) (p : Package) (packs : IsPackage p) (he
   pub taken_ours : (rows : List Row) → AllByRecursion (IsOurs w p.event) (package_taken here rows groups w p)
   unfolding rows_taken
   taken_ours rows =
-      all_kept (IsOurs w p.event) (is_newer_row rows) _ (all_kept (IsOurs w p.event) (counts_row here rows groups (handed_rows w p)) (handed_rows w p) coming_ours)
+      all_part (IsOurs w p.event) (is_newer_row rows) _ (all_part (IsOurs w p.event) (counts_row here rows groups (handed_rows w p)) (handed_rows w p) coming_ours)
 
-  -- over rows that agree as much is taken
-  pub taken_same : (xs ys : List Row) → Agree p.event xs ys → package_taken here xs groups w p ≡ package_taken here ys groups w p
-  taken_same xs ys agree =
-      let own = own_first w owner p.event p.rows packs.first coming_ours in
-      taken_alike here w p.event groups xs ys (handed_rows w p) agree own.0 own.1 own.2 own.3 coming_ours
+  -- over rows in which tests find the same as much is taken
+  pub taken_same : (xs ys : List Row) → AlikeFor w xs ys → package_taken here xs groups w p ≡ package_taken here ys groups w p
+  taken_same xs ys alike =
+      taken_own here w xs ys alike p.event (own_first p.event p.rows packs.first packs.rows) groups (handed_rows w p)
+      (all_implied (IsOurs w p.event) (λ row. (row.owner ≡ w) × IsAt p.event row) (λ row is. (is.1, (is.0.1.0, same_event-sound (event_of row.key) p.event is.2))) (handed_rows w p) coming_ours)
 
 -- ---- how they are put
 

@@ -1,5 +1,5 @@
 -- A pull of what is there already takes nothing.
-use Rattle.std.proofs.Common.{◌≡◌, ◌&&◌, ◌||◌, Bool, true, false, not, leb, List, [], ◌∷◌, ◌++◌, Contains, Some, None, Ok, refl, sym, ap, subst, ◌∙◌, arith, filter, map, if◌then◌else◌}
+use Rattle.std.proofs.Common.{◌≡◌, ◌&&◌, ◌||◌, Bool, true, not, leb, List, [], ◌∷◌, ◌++◌, Contains, Some, None, Ok, refl, sym, ap, subst, ◌∙◌, arith, filter, map, if◌then◌else◌}
 use Rattle.std.proofs.lemmas.List.{map-append}
 use Rattle.std.proofs.lemmas.List.Elements.{Contains-append_left, Contains-append_right}
 use Rattle.misp_lists.proofs.Elements.{any_has, found, here, kept_has, of_part, there}
@@ -23,7 +23,7 @@ use Rattle.misp_client.specs.Telling.{refused_as}
 use Rattle.misp_sync.specs.Laws.{BringsNothing, IsUpToDate, rows_of_packages}
 use Rattle.misp_sync.specs.Pulled.{all_pulled, ends, event_taken, events_sent, events_taken, groups_sent, package_batches, pulled, pulled_by, pulled_over, rows_pulled, synced}
 use Rattle.misp_sync.specs.declared.reply.SyncReply.{SyncReply}
-use Rattle.misp_sync.proofs.GroupsTaken.{taken_put}
+use Rattle.misp_core.proofs.TakenGroups.{groups_after as taken_put}
 
 -- ---- rows that are newer change a table where they are put
 
@@ -45,10 +45,7 @@ last_put x [] rows =
 last_put x (z ∷ xs) rows = let f = last_put z xs (put_row x rows) in (f.0, (there x (z ∷ xs) f.0 f.1.0, f.1.1))
 
 some_more : (a b c d e : Bool) → (d ≡ true → e ≡ true) → (a && (b || (c || d))) ≡ true → (a && (b || (c || e))) ≡ true
-some_more false b c d e more h = h
-some_more true true c d e more h = refl
-some_more true false true d e more h = refl
-some_more true false false d e more h = more h
+some_more a b c d e more h = grind (arith, more, h)
 
 module _ (i : Inst) (groups : List Group) (rows : List Row) where
   -- so where merging leaves the rows, nothing of them is taken

@@ -1,8 +1,7 @@
 -- The keys of a part that are wanted are those of a wanted list.
-use Rattle.std.proofs.Common.{◌≡◌, ◌⊎◌, ◌≤◌, ◌∙◌, ◌==◌, ℕ, suc, Bool, true, false, cond, Less, Equal, Greater, Ordering, nat_cmp, List, [], ◌∷◌, filter, length, map, None, Some, leb, leb-true, le-leb, refl, sym, ap, subst, inl, inr, arith, is_lt}
-use Rattle.std.proofs.lemmas.Cmp.{nat_list_cmp_total}
+use Rattle.std.proofs.Common.{◌≡◌, ◌⊎◌, ◌≤◌, ◌∙◌, ◌==◌, ℕ, suc, Bool, true, false, cond, List, [], ◌∷◌, filter, length, map, None, Some, leb, leb-true, le-leb, refl, sym, ap, subst, inl, inr, arith}
+use Rattle.misp_lists.proofs.Orders.{bytes_on}
 use Rattle.misp_elem.specs.Fields.{IsBetween, is_after}
-use Rattle.misp_elem.specs.Prelude.{slice_cmp}
 use Rattle.misp_elem.specs.Spelling.{key}
 use Rattle.misp_manifest.specs.Manifest.{AreStampedAfter}
 use Rattle.misp_manifest.specs.Wanted.{AreOwnAfter, IsWanted}
@@ -15,22 +14,13 @@ use Rattle.misp_protocol.specs.declared.part_keys.PartKeysFields.{PartKeysFields
 
 -- ---- keys that ascend
 
-below : (o : Ordering) → is_lt o ≡ true → o ≡ Less
-below Less h = refl
-below Equal h = absurd cc
-below Greater h = absurd cc
-
-after_trans : (a b c : List ℕ) → is_after a b ≡ true → is_after b c ≡ true → is_after a c ≡ true
-after_trans a b c first second =
-    ap is_lt (nat_list_cmp_total.trans a b c (below (slice_cmp nat_cmp a b) first) (below (slice_cmp nat_cmp b c) second))
-
 -- the key is this one, or stands before it
 abbrev IsUpTo : Key → Key → Type 0
 IsUpTo b c = (b ≡ c) ⊎ (is_after (key b) (key c) ≡ true)
 
 then_after : (b c d : Key) → IsUpTo b c → is_after (key c) (key d) ≡ true → is_after (key b) (key d) ≡ true
 then_after b c d (inl same) up = subst (λ x. is_after (key x) (key d) ≡ true) (sym same) up
-then_after b c d (inr first) up = after_trans (key b) (key c) (key d) first up
+then_after b c d (inr first) up = bytes_on (key b) (key c) (key d) first up
 
 -- ---- those of a part that pass a test
 

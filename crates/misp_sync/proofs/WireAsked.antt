@@ -7,19 +7,18 @@ use Rattle.misp_protocol.specs.Values.{IsAskable, IsSoundAnswer}
 use Rattle.misp_protocol.specs.declared.cause.Cause.{Cause}
 use Rattle.misp_protocol.specs.declared.request.Answer.{Answer}
 use Rattle.misp_protocol.specs.declared.request.Request.{Request}
+use Rattle.misp_lists.proofs.Lists.{some_same}
 use Rattle.misp_client.specs.Calling.{IsCall, IsCallable}
 use Rattle.misp_client.specs.Calls.{call_text}
 use Rattle.misp_client.specs.declared.call.Call.{Call}
 use Rattle.misp_sync.proofs.Growing.{grows_so}
-use Rattle.misp_sync.proofs.WirePeer.{OfPeer, peer_cut, peer_read, same_peer}
-use Rattle.misp_sync.proofs.WireRead.{read_cause, read_link}
+use Rattle.misp_sync.proofs.Peers.{same_peer}
+use Rattle.misp_sync.proofs.WirePeer.{OfPeer, peer_cut, peer_read}
+use Rattle.misp_sync.proofs.WireRead.{read_cause, read_link, same_cause}
 use Rattle.misp_sync.specs.Wire.{IsAnswered, IsSamePeer, IsUnanswered, MayBeDone, Meet, peer_of, wire_state}
 use Rattle.misp_sync.specs.WireAnswers.{IsCalled, IsCutShort, IsReadAs, IsWireCause, call_of, text_of, wire_conduct}
 
 -- ---- the request
-
-same_call : (call other : Call) → Some other ≡ Some call → call ≡ other
-same_call call other h = cc
 
 no_call : (call : Call) → None ≡ Some call → ⊥
 no_call call h = cc
@@ -27,9 +26,9 @@ no_call call h = cc
 askable_of : (q : Request) (call : Call) → call_of q ≡ Some call → (key : List ℕ) → IsCallable key call → IsAskable q
 askable_of Request.Groups call is key callable = tt
 askable_of Request.Manifest call is key callable = tt
-askable_of (Request.Rows w) call is key callable = subst IsCall (same_call call (Call.Rows w) is) callable.call_is
-askable_of (Request.TakeGroups gs) call is key callable = (subst IsCall (same_call call (Call.TakeGroups gs) is) callable.call_is).0
-askable_of (Request.TakePart p) call is key callable = subst IsCall (same_call call (Call.TakePart p) is) callable.call_is
+askable_of (Request.Rows w) call is key callable = subst IsCall (sym (some_same (Call.Rows w) call is)) callable.call_is
+askable_of (Request.TakeGroups gs) call is key callable = (subst IsCall (sym (some_same (Call.TakeGroups gs) call is)) callable.call_is).0
+askable_of (Request.TakePart p) call is key callable = subst IsCall (sym (some_same (Call.TakePart p) call is)) callable.call_is
 askable_of Request.Packages call is key callable = tt
 askable_of (Request.Missing k) call is key callable = absurd (no_call call is)
 
@@ -84,9 +83,6 @@ cut_cause : (cause : Cause) → IsCutShort cause → IsWireCause cause
 cut_cause cause (inl link) = subst IsWireCause (sym link) tt
 cut_cause cause (inr memory) = subst IsWireCause (sym memory) tt
 
-err_cause : (cause other : Cause) → ◌≡◌ {A = Result Answer Cause} (Err cause) (Err other) → cause ≡ other
-err_cause cause other h = cc
-
 module _ (key : List ℕ) (call : Call) (callable : IsCallable key call) (po : Option Standing) (to : Option (List (List ℕ))) (fo : ℕ) where
   abbrev Came : Result Answer Cause → Option Standing → Option (List (List ℕ)) → ℕ → Type 0
   Came result pn tn fn = IsCalled key call (wire_state po to fo) result (wire_state pn tn fn)
@@ -100,7 +96,6 @@ module _ (key : List ℕ) (call : Call) (callable : IsCallable key call) (po : O
       askable = askable_of q call is key callable;
       sound = sound;
       held = (peer q is).held;
-      told = (peer q is).told;
       trail = trail q is;
       why = why;
       cause = faults.cause;
@@ -130,7 +125,7 @@ module _ (key : List ℕ) (call : Call) (callable : IsCallable key call) (po : O
       called (Err cause) pn tn fn tt
       (λ q is. peer_cut key call callable q is po pn same cause cut may)
       (λ q is. trail_cut key call q is (peer_of po) to tn sent cause cut text grows)
-      (λ other err. subst IsWireCause (err_cause cause other err) (cut_cause cause cut))
+      (λ other err. subst IsWireCause (same_cause cause other err) (cut_cause cause cut))
       faults
       (same_peer po pn same)
 

@@ -1,5 +1,5 @@
 -- What is read of the bytes that a peer replied.
-use Rattle.std.proofs.Common.{◌≡◌, ◌⊎◌, ◌==◌, ◌<◌, ◌^◌, ℕ, Bool, true, false, List, length, Option, None, Some, Result, Ok, Err, refl, sym, ap, subst, ◌∙◌, inl, inr, arith, if◌then◌else◌}
+use Rattle.std.proofs.Common.{◌≡◌, ◌⊎◌, ◌==◌, ◌<◌, ◌^◌, ℕ, Bool, true, false, List, length, Option, None, Some, Result, Err, refl, sym, ap, subst, ◌∙◌, inl, inr, arith, if◌then◌else◌}
 use Rattle.misp_http.proofs.ReplyReadBack.{body_within, read_back}
 use Rattle.misp_core.specs.Effects.{by_keeper, stop_in}
 use Rattle.misp_core.specs.Sound.{IsWorded}
@@ -13,6 +13,7 @@ use Rattle.misp_client.proofs.Stops.{keeper_told}
 use Rattle.misp_client.specs.Answers.{IsToldBy, kind_of, or_garbled, read_of, refused_by}
 use Rattle.misp_client.specs.Bodies.{rule_told}
 use Rattle.misp_client.specs.declared.call.Call.{Call}
+use Rattle.misp_client.proofs.RefusedCalls.{no_refusal}
 use Rattle.misp_sync.specs.WireAnswers.{IsReadAs, IsWireCause}
 
 -- ---- causes
@@ -21,15 +22,12 @@ use Rattle.misp_sync.specs.WireAnswers.{IsReadAs, IsWireCause}
 abbrev pub IsReadCause : Cause → Type 0
 IsReadCause cause = ((body : Body) × (cause ≡ Cause.Garbled body)) ⊎ ((status : ℕ) × (rule : ℕ) × (cause ≡ Cause.Refused status rule))
 
-same_cause : (a b : Cause) → ◌≡◌ {A = Result Answer Cause} (Err a) (Err b) → a ≡ b
+pub same_cause : (a b : Cause) → ◌≡◌ {A = Result Answer Cause} (Err a) (Err b) → a ≡ b
 same_cause a b h = cc
-
-no_cause : (answer : Answer) (cause : Cause) → ◌≡◌ {A = Result Answer Cause} (Ok answer) (Err cause) → ⊥
-no_cause answer cause h = cc
 
 garbled_cause : (form : Body) (found : Option Answer) (cause : Cause) → or_garbled form found ≡ Err cause → (kind : Body) × (cause ≡ Cause.Garbled kind)
 garbled_cause form None cause h = (form, same_cause cause (Cause.Garbled form) (sym h))
-garbled_cause form (Some answer) cause h = absurd (no_cause answer cause h)
+garbled_cause form (Some answer) cause h = absurd (no_refusal answer cause h)
 
 refused_cause : (status : ℕ) (rule : Option ℕ) (cause : Cause) → ◌≡◌ {A = Result Answer Cause} (Err (refused_by status rule)) (Err cause) → IsReadCause cause
 refused_cause status None cause h = inl (Body.Body, same_cause cause (Cause.Garbled Body.Body) (sym h))

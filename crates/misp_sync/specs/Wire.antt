@@ -3,6 +3,7 @@ use Rattle.std.specs.Prelude.{◌≡◌, ◌⊎◌, ◌≤◌, ℕ, true, List, 
 use Rattle.misp_ids.specs.Uid.{IsUid}
 use Rattle.misp_orgs.specs.Admin.{who_of}
 use Rattle.misp_outside.specs.Causes.{HasCause}
+use Rattle.misp_outside.specs.Reporting.{WhereReported}
 use Rattle.misp_store.specs.Sharing.{has_groups_alone}
 use Rattle.misp_core.specs.Effects.{by_keeper}
 use Rattle.misp_core.specs.Prelude.{Caller, Did, Held, Host, Standing, host_of, seen_in, stop_in}
@@ -42,14 +43,14 @@ pub record IsSamePeer (old new : Standing) : Type 0 where
 
 -- It replied so to a call of this key, at some moment, and these are the bytes. Where it reports
 -- what it holds, the reply and what it holds then are the stated function of that, and all rows of
--- its administration are groups.
+-- its administration were groups.
 pub record IsAnswered (key : List ℕ) (call : Call) (old new : Standing) (bytes : List ℕ)
     : Type 0 where
   pub now : ℕ
   pub reply : Reply
   pub bytes_are : bytes ≡ http_text reply true
-  pub replied : IfSome old.held
-      (λ held. Did (called (host_of old) now key call (seen_in held)) held reply new.held)
+  pub replied : WhereReported old.held new.held
+      (λ held left. Did (called (host_of old) now key call (seen_in held)) held reply left)
   pub groups : IfSome old.held (λ held. has_groups_alone held ≡ true)
   pub owners : HasOwners (host_of old)
   pub sound : IsSound reply
@@ -59,9 +60,9 @@ pub record IsAnswered (key : List ℕ) (call : Call) (old new : Standing) (bytes
 -- no reply came: the call was not done, or it was and its reply is lost
 abbrev pub MayBeDone : List ℕ → Call → Standing → Standing → Type 0
 MayBeDone key call old new =
-    IfSome old.held (λ held. (new.held ≡ Some held)
+    WhereReported old.held new.held (λ held left. (left ≡ held)
     ⊎ ((now : ℕ) × (reply : Reply)
-    × Did (called (host_of old) now key call (seen_in held)) held reply new.held))
+    × Did (called (host_of old) now key call (seen_in held)) held reply left))
 
 -- ---- what went over it
 

@@ -223,9 +223,9 @@ pub fn what_is_asked_goes_to_one_address()
 /// groups and for the manifest, and then for those rows of the parts of that manifest which the
 /// holder wants over what it holds then, and for nothing else.
 pub fn a_pull_asks_for_what_is_wanted()
-    ensures { (link : Link) (here : Standing) (own new : Held) (peer : Option (Host × Held))
+    ensures { (link : Link) (here : Standing) (own new : Held) (peer left : Option (Host × Held))
         (count : SyncCount) (trail : List (List ℕ))
-        (c : IsCourse directions.Pull link here (Some new) peer (SyncReply.Done count) trail) →
+        (c : IsCourse directions.Pull link here (Some new) peer left (SyncReply.Done count) trail) →
         here.held ≡ Some own →
         AsksAsWanted (host_of here) link own new
         (share Side.Source (synchronising directions.Pull no_tally) c.answers) }

@@ -1,44 +1,17 @@
 -- Lists of fields are read as they are written.
-use Rattle.std.proofs.Common.{◌≡◌, ℕ, zero, suc, ◌+◌, ◌-◌, ◌<◌, ◌≤◌, ◌^◌, true, false, ◌&&◌, cond, eqb, ltb, leb, List, [], ◌∷◌, ◌++◌, length, take, drop, flat_map, Result, Ok, Err, refl, sym, ap, subst, ◌∙◌, append_assoc, append-nil, arith, w32}
+use Rattle.std.proofs.Common.{◌≡◌, ℕ, zero, suc, ◌+◌, ◌-◌, ◌<◌, ◌≤◌, ◌^◌, false, ltb, List, [], ◌∷◌, ◌++◌, length, take, drop, flat_map, Result, Ok, Err, refl, sym, ap, subst, ◌∙◌, append_assoc, append-nil, arith, w32}
 use Rattle.std.proofs.Common.{ltb-false, le-ltb, take_at, drop_at, take-append-drop, length-append, length-take}
-use Rattle.std.proofs.lemmas.Bool.Decides.{Decides-eqb}
 use Rattle.std.proofs.lemmas.List.Concat.{flat_map-cons}
-use Rattle.std.proofs.lemmas.Slice.Eq.{starts_is}
-use Rattle.std.specs.List.{starts_with}
 use Rattle.misp_lists.proofs.Bytes.{IsBytes, IsBytes-drop, IsBytes-take}
 use Rattle.misp_elem.specs.Prelude.{◌>>=◌, IsBetween, Reading}
 use Rattle.misp_elem.specs.Reading.{number_at}
 use Rattle.misp_elem.specs.Spelling.{text}
-use Rattle.misp_elem.proofs.Exact.{bind_ok, guard_ok, keep_ok, no_error, ok_is, Takes, Takes-then, IsField, IsMade, first, tested, whole}
-use Rattle.misp_package.specs.PackageReading.{before_others}
+use Rattle.misp_elem.proofs.Exact.{bind_ok, guard_ok, no_error, ok_is, Takes, Takes-then, IsField, IsMade, first, whole}
+use Rattle.misp_package.specs.PackageReading.{Fails, before_others}
 use Rattle.misp_package.specs.Spelling.{number}
-use Rattle.misp_package.proofs.PackageFields.{number_field_32}
-use Rattle.misp_wanted.specs.ManifestReading.{Fails, count_at, counted_at, form_at, framed_at, items_after, of_length}
-use Rattle.misp_wanted.specs.declared.reading.Stop.{Stop}
-
--- ---- what it begins with
-
-form_takes : (form bytes : List ℕ) (a : Unit {0}) (rest : List ℕ) → IsBytes bytes → form_at form bytes ≡ Ok (a, rest) → Unit {0} × Takes bytes form rest
-unfolding form_at
-form_takes form bytes a rest fits e =
-    let k = keep_ok (starts_with eqb bytes form) (length bytes) (tt, drop (length form) bytes) (a, rest) e in
-    let parts : bytes ≡ form ++ drop (length form) bytes = (starts_is Decides-eqb bytes form (starts_with eqb bytes form) refl).0 k.0 in
-    (tt, subst (λ (x : Unit {0} × List ℕ). Takes bytes form x.1) k.1 (record { parts = parts; rest_fits = IsBytes-drop (length form) bytes fits }))
-
-form_again : (form : List ℕ) (a : Unit {0}) (rest : List ℕ) → Unit {0} → form_at form (form ++ rest) ≡ Ok (a, rest)
-unfolding form_at
-form_again form a rest h =
-    let begins : starts_with eqb (form ++ rest) form ≡ true = (starts_is Decides-eqb (form ++ rest) form (starts_with eqb (form ++ rest) form) refl).1 rest refl in
-    ap (λ b. cond b (Ok (tt, drop (length form) (form ++ rest))) (Err (length (form ++ rest)))) begins ∙ ap (λ (r : List ℕ). Ok (tt, r)) (drop_at form rest (length form) refl)
-
-pub form_field : (form : List ℕ) → IsField {A = Unit {0}} (λ _. Unit {0}) (λ _. form) (form_at form)
-form_field form = record { takes = form_takes form; again = form_again form }
-
--- ---- numbers
-
-pub count_field : (least most : ℕ) → IsField (λ n. (n < 2 ^ 32) × IsBetween least most n) number (count_at least most)
-unfolding number count_at
-count_field least most = tested (λ n. leb least n && leb n most) number_field_32
+use Rattle.misp_package.proofs.PackageFields.{count_field, number_field_32}
+use Rattle.misp_wanted.specs.ManifestReading.{counted_at, framed_at, items_after, of_length}
+use Rattle.misp_package.specs.declared.reading.Stop.{Stop}
 
 -- ---- after a length
 

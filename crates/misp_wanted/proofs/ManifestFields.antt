@@ -14,12 +14,12 @@ use Rattle.misp_manifest.specs.declared.manifest.KeyStamp.{KeyStamp}
 use Rattle.misp_manifest.specs.declared.manifest.ManifestFields.{ManifestFields}
 use Rattle.misp_manifest.specs.declared.wanted.WantedFields.{WantedFields}
 use Rattle.misp_package.specs.Spelling.{number}
-use Rattle.misp_package.proofs.PackageFields.{number_field_32}
+use Rattle.misp_package.proofs.PackageFields.{form_field, number_field_32}
 use Rattle.misp_wanted.specs.ManifestReading.{any_part, event_after_at, event_before, key_before, key_stamp_at, manifest_at, manifest_event_at, manifest_of_bytes, part_at, parts_at, stands_after, wanted_at, wanted_before, wanted_keys_at, wanted_of_bytes}
 use Rattle.misp_wanted.specs.ManifestSpelling.{framed_key, manifest_form, spell_event, spell_key_stamp, spell_keys, spell_manifest, spell_wanted, wanted_form}
 use Rattle.misp_wanted.specs.Manifests.{AreEventsAfter, IsManifest}
 use Rattle.misp_wanted.proofs.KeyReadings.{listed_wholly, wanted_wholly}
-use Rattle.misp_wanted.proofs.ListFields.{AreAfter, counted_field, form_field, framed_field}
+use Rattle.misp_wanted.proofs.ListFields.{AreAfter, counted_field, framed_field}
 
 few_keys : (n : ℕ) → IsBetween 1 65 n → n < 2 ^ 32
 few_keys n h = omega (arith, leb-true n 65 (and_parts (leb 1 n) (leb n 65) h).1)

@@ -1,8 +1,7 @@
 -- Reading manifests and wanted lists from left to right. A fault is how many bytes were left where
 -- the first field stands that is not of its form.
-use Rattle.std.specs.Prelude.{◌≡◌, ℕ, zero, suc, ◌-◌, ◌^◌, ◌&&◌, List, [], ◌∷◌, length, take, drop, Bool, false, true, Option, Some, None, Result, Ok, Err, nat_eq, nat_lt, nat_le, if◌then◌else◌}
+use Rattle.std.specs.Prelude.{◌≡◌, ℕ, zero, suc, ◌-◌, ◌^◌, List, [], ◌∷◌, length, take, drop, Bool, false, true, Option, Some, None, Result, Ok, Err, nat_lt, if◌then◌else◌}
 use Rattle.std.specs.Int.{w32}
-use Rattle.std.specs.List.{starts_with}
 use Rattle.misp_elem.specs.Prelude.{◌>>=◌, Reading, between_at, event_at, event_key, is_after, key, stamp_at}
 use Rattle.misp_elem.specs.KeyReading.{key_of}
 use Rattle.misp_elem.specs.Reading.{ended, number_at}
@@ -12,26 +11,10 @@ use Rattle.misp_model.specs.Prelude.{EventId, Key}
 use Rattle.misp_manifest.specs.declared.manifest.KeyStamp.{KeyStamp}
 use Rattle.misp_manifest.specs.declared.manifest.ManifestFields.{ManifestFields}
 use Rattle.misp_manifest.specs.declared.wanted.WantedFields.{WantedFields}
-use Rattle.misp_package.specs.PackageReading.{before_others}
+use Rattle.misp_package.specs.PackageReading.{before_others, count_at, form_at}
 use Rattle.misp_wanted.specs.ManifestSpelling.{manifest_form, wanted_form}
-use Rattle.misp_wanted.specs.declared.reading.Stop.{Stop}
 
 -- ---- what a reader answers
-
--- A function that stopped so is at the fault, unless memory ran out.
-abbrev pub Fails : {A : Type 0} → Stop → Result A ℕ → Type 0
-Fails Stop.NoMemory read = Unit {0}
-Fails (Stop.Bad left) read = read ≡ Err left
-
--- A function that returned this, and left these bytes, read what reading gives.
-abbrev pub Gives : {A : Type 0} → Result A Stop → List ℕ → Reading A → Type 0
-Gives (Ok x) rest read = read ≡ Ok (x, rest)
-Gives (Err stop) rest read = Fails stop read
-
--- the same of all the bytes
-abbrev pub GivesAll : {A : Type 0} → Result A Stop → Result A ℕ → Type 0
-GivesAll (Ok x) read = read ≡ Ok x
-GivesAll (Err stop) read = Fails stop read
 
 -- An answer, as view shows it, is the one expected, unless memory ran out.
 abbrev pub AnswersBy : {X A : Type 0} → (X → A) → Result X DecodeFault → Result A DecodeFault
@@ -41,18 +24,6 @@ AnswersBy view (Err DecodeFault.NoMemory) expected = Unit {0}
 AnswersBy view (Err (DecodeFault.BadRow p)) expected = expected ≡ Err (DecodeFault.BadRow p)
 
 -- ---- any fields
-
--- what it begins with
-unfoldable pub form_at : List ℕ → List ℕ → Reading (Unit {0})
-form_at form bytes =
-    if starts_with nat_eq bytes form then Ok (tt, drop (length form) bytes)
-    else Err (length bytes)
-
--- a number of four bytes between these
-unfoldable pub count_at : ℕ → ℕ → List ℕ → Reading ℕ
-count_at least most bytes = do
-  count ← number_at w32 bytes
-  if nat_le least count.0 && nat_le count.0 most then Ok count else Err (length bytes)
 
 -- so many of a kind, each read after the one before it
 unfoldable pub items_after : {A S : Type 0} → (S → List ℕ → Reading A) → (A → S) → S → ℕ → List ℕ

@@ -1,29 +1,29 @@
 //! Reading keys of an event.
 
 ghost use Rattle.std.specs.Prelude.{◌≡◌};
-ghost use Rattle.misp_wanted.specs.ManifestReading.{Gives, GivesAll, first_key_at, first_key_of, framed_at, later_key_of, list_key_of, listed_key_of, own_key_of, wanted_key_of};
+ghost use Rattle.misp_package.specs.PackageReading.{Gives, GivesAll};
+ghost use Rattle.misp_wanted.specs.ManifestReading.{first_key_at, first_key_of, framed_at, later_key_of, list_key_of, listed_key_of, own_key_of, wanted_key_of};
 
-use crate::reading::{Reader, Stop};
+use crate::reading::{between, front, own_event};
 use misp_elem::{DecodeFault, Key, KeyForm, Place, compare_keys, decode_key};
 use misp_ids::EventId;
+use misp_package::{Reader, Stop};
 
-impl Reader<'_> {
-    // The key of the event itself.
-    #[tactic(auto, unfolding(crate::specs::ManifestReading::first_key_at))]
-    fn first_key(&mut self, event: EventId) -> Result<Key, Stop>
-        ensures { Gives result self.new (first_key_at event self.old) }
-    {
-        self.between(0, 0)?;
-        let own = self.own_event(event)?;
-        self.between(0, 0)?;
-        let _number = own.0.0;
-        Ok(Key {
-            form: KeyForm::Element {
-                event: own,
-                place: Place::Event,
-            },
-        })
-    }
+// The key of the event itself.
+#[tactic(auto, unfolding(crate::specs::ManifestReading::first_key_at))]
+fn first_key_at(reader: &mut Reader<'_>, event: EventId) -> Result<Key, Stop>
+    ensures { Gives result reader.new (first_key_at event reader.old) }
+{
+    between(reader, 0, 0)?;
+    let own = own_event(reader, event)?;
+    between(reader, 0, 0)?;
+    let _number = own.0.0;
+    Ok(Key {
+        form: KeyForm::Element {
+            event: own,
+            place: Place::Event,
+        },
+    })
 }
 
 // The key of the event itself that all of the bytes are.
@@ -32,7 +32,7 @@ fn first_key(bytes: &[u8], event: EventId) -> Result<Key, Stop>
     ensures { GivesAll result (first_key_of event bytes.now) }
 {
     let mut reader = Reader { rest: bytes };
-    let key = reader.first_key(event)?;
+    let key = first_key_at(&mut reader, event)?;
     if !reader.rest.is_empty() {
         return Err(reader.bad());
     }
@@ -45,7 +45,7 @@ fn own_key(bytes: &[u8], event: EventId) -> Result<Key, Stop>
     ensures { GivesAll result (own_key_of event bytes.now) }
 {
     let mut reader = Reader { rest: bytes };
-    reader.front(event)?;
+    front(&mut reader, event)?;
     match decode_key(bytes) {
         Ok(key) => Ok(key),
         Err(DecodeFault::BadRow { place }) => Err(Stop::Bad(bytes.len().saturating_sub(place))),
@@ -97,31 +97,29 @@ fn list_key(bytes: &[u8], event: EventId, before: Option<Key>, own_first: bool) 
     }
 }
 
-impl Reader<'_> {
-    // A key of a list after its length.
-    #[tactic(auto, unfolding(crate::specs::ManifestReading::framed_at))]
-    pub(super) fn framed_key(
-        &mut self,
-        event: EventId,
-        before: Option<Key>,
-        own_first: bool,
-    ) -> Result<Key, Stop>
-        ensures { Gives result self.new (framed_at (list_key_of own_first event before) self.old) }
-    {
-        let bad = self.bad();
-        let len = self.u32()? as usize;
-        if self.rest.len() < len {
-            return Err(bad);
-        }
-        let after_len = self.rest.len();
-        let (front, rest) = self.rest.split_at(len);
-        self.rest = rest;
-        match list_key(front, event, before, own_first) {
-            Ok(key) => Ok(key),
-            Err(Stop::Bad(left)) => Err(Stop::Bad(after_len.saturating_sub(
-                front.len().saturating_sub(left),
-            ))),
-            Err(Stop::NoMemory) => Err(Stop::NoMemory),
-        }
+// A key of a list after its length.
+#[tactic(auto, unfolding(crate::specs::ManifestReading::framed_at))]
+pub(super) fn framed_key(
+    reader: &mut Reader<'_>,
+    event: EventId,
+    before: Option<Key>,
+    own_first: bool,
+) -> Result<Key, Stop>
+    ensures { Gives result reader.new (framed_at (list_key_of own_first event before) reader.old) }
+{
+    let bad = reader.bad();
+    let len = reader.u32()? as usize;
+    if reader.rest.len() < len {
+        return Err(bad);
+    }
+    let after_len = reader.rest.len();
+    let (front, rest) = reader.rest.split_at(len);
+    reader.rest = rest;
+    match list_key(front, event, before, own_first) {
+        Ok(key) => Ok(key),
+        Err(Stop::Bad(left)) => Err(Stop::Bad(after_len.saturating_sub(
+            front.len().saturating_sub(left),
+        ))),
+        Err(Stop::NoMemory) => Err(Stop::NoMemory),
     }
 }

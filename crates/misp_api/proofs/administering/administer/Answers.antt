@@ -1,11 +1,12 @@
-use Rattle.std.proofs.Common.{None, ◌≡◌, ◌≤◌, refl, sym, subst}
+use Rattle.std.proofs.Common.{None, ◌≡◌, ◌≤◌, sym, subst, refl}
 use Rattle.misp_ids.specs.declared.stamp.TheConstants.{LAST_SECOND}
+use Rattle.misp_outside.proofs.Reporting.{stays_same}
 use Rattle.misp_core.specs.Prelude.{Effect, Held, administered, groups_of, stop_in}
 use Rattle.misp_core.specs.declared.reply.Reply.{Reply}
 use Rattle.misp_api.specs.Administering.{group_form, FormFits}
 use Rattle.misp_api.proofs.Turning.{not_turned, turned_by_fault}
 use Rattle.misp_api.proofs.GroupTexts.{text_by_form, by_instance, by_text, read_fits, unread_fits, no_keeper_read}
-use Rattle.misp_api.proofs.Told.{of_reply, of_told, text_told, every_reply, done_there, planned_there, cause_told, no_cause, unmet}
+use Rattle.misp_api.proofs.Told.{of_reply, of_told, text_told, every_reply, done_there, planned_there, cause_told, no_cause, unmet, where_short}
 use Rattle.misp_api.proofs.administering.administer.Goals as goal
 
 pub returns-in-Ok-clause-replied : goal.returns-in-Ok-clause-replied
@@ -14,7 +15,8 @@ returns-in-Ok-clause-replied g c =
     let comes : Held → Effect Reply = λ held. administered c.args.now c.args.request.now.by c.args.request.now.add c.in-Ok.group (groups_of held) in
     of_reply c.tell.result
     (λ reply done. by_instance c.args.now _ _ _ _ reply i.held _ c.in-Ok.ensures.read done)
-    (done_there c.tell.result comes c.plan_group-planned.result i.held _ _ refl (planned_there i.held comes _ c.plan_group-planned.ensures.planned) c.tell.ensures.done)
+    (done_there c.tell.result comes c.plan_group-planned.result i.held _ _ (stays_same i.held i.held refl) c.tell.ensures.silent (planned_there i.held comes _ c.plan_group-planned.ensures.planned)
+    c.tell.ensures.done)
 
 pub returns-in-Ok-clause-fits : goal.returns-in-Ok-clause-fits
 returns-in-Ok-clause-fits g c =
@@ -29,6 +31,15 @@ pub returns-in-Ok-clause-formed : goal.returns-in-Ok-clause-formed
 returns-in-Ok-clause-formed g c = every_reply c.tell.result (λ reply. not_turned _ _ _ _ _ c.in-Ok.ensures.read)
 
 -- ---- what was not read
+
+pub returns-in-Err-clause-kept : goal.returns-in-Err-clause-kept
+returns-in-Err-clause-kept g c = where_short c.told.result (stays_same c.args.instance.now.held c.args.instance.now.held refl)
+
+pub returns-in-Err-clause-refused : goal.returns-in-Err-clause-refused
+returns-in-Err-clause-refused g c = every_reply c.told.result (λ reply is. stays_same c.args.instance.now.held c.args.instance.now.held refl)
+
+pub returns-in-Err-clause-octets : goal.returns-in-Err-clause-octets
+returns-in-Err-clause-octets g c = every_reply c.told.result (λ reply is. stays_same c.args.instance.now.held c.args.instance.now.held refl)
 
 pub returns-in-Err-clause-text : goal.returns-in-Err-clause-text
 returns-in-Err-clause-text g c = text_told c.told.result c.refused.result _ _ c.told.ensures.reply c.told.ensures.text

@@ -1,14 +1,13 @@
-use Rattle.std.proofs.Common.{◌≡◌, true, ◌∙◌, subst, IfOk}
-use Rattle.misp_core.specs.Effects.{IsRefused}
+use Rattle.std.proofs.Common.{refl}
+use Rattle.misp_outside.proofs.Reporting.{silent_still, stays_same, stays_then}
 use Rattle.misp_core.specs.Standing.{host_of}
 use Rattle.misp_api.specs.Answering.{form_of}
 use Rattle.misp_api.specs.Request.{request_data}
-use Rattle.misp_core.specs.Text.{has_octets}
 use Rattle.misp_api.proofs.Replying.{refused_by_form, no_keeper}
 use Rattle.misp_api.proofs.Pulls.{sound_told, stays}
 use Rattle.misp_api.proofs.Turning.{out_of_memory, turned_unread}
 use Rattle.misp_api.proofs.Ordering.{order_by_fault}
-use Rattle.misp_api.proofs.Told.{replied_told, ordered_told, of_told, text_told, turned_told, unformed_told, where_short, cause_told, no_cause}
+use Rattle.misp_api.proofs.Told.{replied_told, ordered_told, of_reply, of_told, every_reply, text_told, turned_told, unformed_told, where_short, cause_told, no_cause}
 use Rattle.misp_api.proofs.answering.answer.Goals as goal
 
 -- ---- what was read
@@ -16,23 +15,22 @@ use Rattle.misp_api.proofs.answering.answer.Goals as goal
 pub returns-in-Ok-clause-replied : goal.returns-in-Ok-clause-replied
 returns-in-Ok-clause-replied g c =
     replied_told c.tell.result c.args.instance.now c.args.now (request_data c.args.word c.args.request.now) _ c.plan-planned.result _ _
-    c.in-Ok.ensures.read c.plan-planned.ensures.held c.plan-planned.ensures.planned c.tell.ensures.done
+    c.in-Ok.ensures.read c.plan-planned.ensures.held c.tell.ensures.silent c.plan-planned.ensures.planned c.tell.ensures.done
 
 pub returns-in-Ok-clause-pulled : goal.returns-in-Ok-clause-pulled
 returns-in-Ok-clause-pulled g c =
     stays c.tell.result (host_of c.args.instance.now) c.args.now (form_of c.args.instance.now.admin (request_data c.args.word c.args.request.now)) c.args.instance.now.held c.tell.new.instance.held
     (replied_told c.tell.result c.args.instance.now c.args.now (request_data c.args.word c.args.request.now) _ c.plan-planned.result _ _
-    c.in-Ok.ensures.read c.plan-planned.ensures.held c.plan-planned.ensures.planned c.tell.ensures.done)
-    (λ long. c.tell.ensures.kept long ∙ c.plan-planned.ensures.held)
-    (λ none. c.tell.ensures.silent (c.plan-planned.ensures.held ∙ none))
+    c.in-Ok.ensures.read c.plan-planned.ensures.held c.tell.ensures.silent c.plan-planned.ensures.planned c.tell.ensures.done)
+    (λ long. stays_then _ _ _ c.plan-planned.ensures.held (c.tell.ensures.kept long))
 
 pub returns-in-Ok-clause-silent : goal.returns-in-Ok-clause-silent
-returns-in-Ok-clause-silent g c = λ none. c.tell.ensures.silent (c.plan-planned.ensures.held ∙ none)
+returns-in-Ok-clause-silent g c = λ none. c.tell.ensures.silent (silent_still _ _ _ c.plan-planned.ensures.held none)
 
 pub returns-in-Ok-clause-order : goal.returns-in-Ok-clause-order
 returns-in-Ok-clause-order g c =
     ordered_told c.tell.result c.args.instance.now c.args.now (request_data c.args.word c.args.request.now) _ c.plan-planned.result _ _
-    c.in-Ok.ensures.read c.in-Ok.ensures.built c.plan-planned.ensures.held c.plan-planned.ensures.planned c.tell.ensures.done
+    c.in-Ok.ensures.read c.in-Ok.ensures.built c.plan-planned.ensures.held c.tell.ensures.silent c.plan-planned.ensures.planned c.tell.ensures.done
 
 pub returns-in-Ok-clause-formed : goal.returns-in-Ok-clause-formed
 returns-in-Ok-clause-formed g c =
@@ -53,17 +51,27 @@ pub returns-in-Ok-clause-cause : goal.returns-in-Ok-clause-cause
 returns-in-Ok-clause-cause g c = cause_told c.tell.result c.plan-planned.result _ _ _ c.plan-planned.ensures.cause c.tell.ensures.later c.tell.ensures.rose
 
 pub returns-in-Ok-clause-kept : goal.returns-in-Ok-clause-kept
-returns-in-Ok-clause-kept g c = λ long. c.tell.ensures.kept long ∙ c.plan-planned.ensures.held
+returns-in-Ok-clause-kept g c = λ long. stays_then _ _ _ c.plan-planned.ensures.held (c.tell.ensures.kept long)
 
 pub returns-in-Ok-clause-refused : goal.returns-in-Ok-clause-refused
-returns-in-Ok-clause-refused g c =
-    subst (λ held. IfOk c.tell.result (λ reply. IsRefused reply → c.tell.new.instance.held ≡ held)) c.plan-planned.ensures.held c.tell.ensures.refused
+returns-in-Ok-clause-refused g c = of_reply c.tell.result (λ reply stays is. stays_then _ _ _ c.plan-planned.ensures.held (stays is)) c.tell.ensures.refused
 
 pub returns-in-Ok-clause-octets : goal.returns-in-Ok-clause-octets
-returns-in-Ok-clause-octets g c =
-    subst (λ held. IfOk c.tell.result (λ reply. has_octets reply ≡ true → c.tell.new.instance.held ≡ held)) c.plan-planned.ensures.held c.tell.ensures.octets
+returns-in-Ok-clause-octets g c = of_reply c.tell.result (λ reply stays is. stays_then _ _ _ c.plan-planned.ensures.held (stays is)) c.tell.ensures.octets
 
 -- ---- what was not read
+
+pub returns-in-Err-clause-kept : goal.returns-in-Err-clause-kept
+returns-in-Err-clause-kept g c = λ long. stays_same c.args.instance.now.held c.args.instance.now.held refl
+
+pub returns-in-Err-clause-refused : goal.returns-in-Err-clause-refused
+returns-in-Err-clause-refused g c = every_reply c.told.result (λ reply is. stays_same c.args.instance.now.held c.args.instance.now.held refl)
+
+pub returns-in-Err-clause-octets : goal.returns-in-Err-clause-octets
+returns-in-Err-clause-octets g c = every_reply c.told.result (λ reply is. stays_same c.args.instance.now.held c.args.instance.now.held refl)
+
+pub returns-in-Err-clause-pulled : goal.returns-in-Err-clause-pulled
+returns-in-Err-clause-pulled g c = λ is. stays_same c.args.instance.now.held c.args.instance.now.held refl
 
 pub returns-in-Err-clause-text : goal.returns-in-Err-clause-text
 returns-in-Err-clause-text g c = text_told c.told.result c.refused.result _ _ c.told.ensures.reply c.told.ensures.text

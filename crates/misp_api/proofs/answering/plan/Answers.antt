@@ -1,4 +1,5 @@
-use Rattle.std.proofs.Common.{IfSome, subst}
+use Rattle.std.proofs.Common.{IfSome, subst, refl}
+use Rattle.misp_outside.proofs.Reporting.{stays_same}
 use Rattle.misp_core.specs.HandedGroups.{groups_handed}
 use Rattle.misp_core.specs.Prelude.{Plans, groups_of}
 use Rattle.misp_core.specs.Sharing.{group_shared}
@@ -13,6 +14,9 @@ returns-in-TakesGroups-clause-planned g c =
     (subst (λ coming. IfSome c.args.instance.now.held (λ held. Plans c.plan_handed_groups.result (groups_handed c.args.caller.now coming (groups_of held)))) c.into_vec.ensures
     c.plan_handed_groups.ensures.planned))
 
+pub returns-in-TakesGroups-clause-held : goal.returns-in-TakesGroups-clause-held
+returns-in-TakesGroups-clause-held g c = stays_same c.args.instance.now.held c.args.instance.now.held refl
+
 pub returns-in-TakesGroups-clause-cause : goal.returns-in-TakesGroups-clause-cause
 returns-in-TakesGroups-clause-cause g c = unmet _ c.plan_handed_groups.ensures.no_fault
 
@@ -22,6 +26,9 @@ returns-in-Shares-clause-planned g c =
     rw c.in-Shares.is
     (planned_there c.args.instance.now.held (λ held. group_shared c.args.now c.args.caller.now c.in-Shares.add c.in-Shares.group (groups_of held)) c.plan_shared_group.result
     c.plan_shared_group.ensures.planned)
+
+pub returns-in-Shares-clause-held : goal.returns-in-Shares-clause-held
+returns-in-Shares-clause-held g c = stays_same c.args.instance.now.held c.args.instance.now.held refl
 
 pub returns-in-Shares-clause-cause : goal.returns-in-Shares-clause-cause
 returns-in-Shares-clause-cause g c = unmet _ c.plan_shared_group.ensures.no_fault

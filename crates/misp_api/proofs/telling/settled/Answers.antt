@@ -1,5 +1,6 @@
 use Rattle.std.proofs.Common.{◌≡◌, ◌∙◌, Err, ap, arith, sym, subst}
 use Rattle.std.proofs.lemmas.Bool.{true≢false}
+use Rattle.misp_outside.proofs.Reporting.{silent_still}
 use Rattle.misp_core.proofs.Carried.{DidThere, settled_did, stopped_did}
 use Rattle.misp_core.specs.Effects.{stop_in, by_keeper}
 use Rattle.misp_api.proofs.Told.{no_stop_in, stopped_keeper}
@@ -22,6 +23,9 @@ returns-in-Ok-clause-long g c = λ long. absurd (omega (arith, long, c.requires.
 pub returns-in-Ok-clause-octets : goal.returns-in-Ok-clause-octets
 returns-in-Ok-clause-octets g c = λ is. absurd (true≢false (sym is ∙ c.requires.no_octets))
 
+pub returns-in-Ok-clause-silent : goal.returns-in-Ok-clause-silent
+returns-in-Ok-clause-silent g c = silent_still _ _ _ c.in-Ok.ensures.put
+
 pub returns-in-Ok-clause-cause : goal.returns-in-Ok-clause-cause
 returns-in-Ok-clause-cause g c = record {
   later = c.put_or_refuse.ensures.cause.later;
@@ -30,6 +34,9 @@ returns-in-Ok-clause-cause g c = record {
 
 pub returns-in-Err-clause-done : goal.returns-in-Err-clause-done
 returns-in-Err-clause-done g c = λ p e same some plans. rw c.stopped_by.ensures (stopped_did c.in-Err.stop e _ _ c.in-Err.ensures.err)
+
+pub returns-in-Err-clause-silent : goal.returns-in-Err-clause-silent
+returns-in-Err-clause-silent g c = silent_still _ _ _ c.in-Err.ensures.err
 
 pub returns-in-Err-clause-cause : goal.returns-in-Err-clause-cause
 returns-in-Err-clause-cause g c = record {

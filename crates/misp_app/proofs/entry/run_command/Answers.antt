@@ -148,7 +148,7 @@ returns-in-Sync-clause-keeper g c = λ is.
 pub returns-in-Sync-clause-bad_row : goal.returns-in-Sync-clause-bad_row
 returns-in-Sync-clause-bad_row g c = λ is.
     of_left (g.S.Source.left c.args.source.now) c.in-Ok-read_all.bytes.items c.deref-in-Sync.result.now
-    (λ left. IsUnsound (described left) (map g.K.Keeper.state c.args.keepers.now.items))
+    (λ left. IsUnsound (described left) (map g.K.Keeper.state c.sync_source.new.keepers.items))
     c.in-Ok-read_all.ensures.bytes c.deref-in-Sync.ensures.value (c.sync_source.ensures.bad_row is)
 
 pub returns-in-Sync-clause-told : goal.returns-in-Sync-clause-told

@@ -1,14 +1,20 @@
-use Rattle.std.proofs.Common.{◌≡◌, IfSome, IsSomeAnd, Option, arith, ap, sym, subst, Err}
+use Rattle.std.proofs.Common.{◌≡◌, IfSome, IsSomeAnd, Option, arith, ap, refl, subst, Err}
+use Rattle.misp_outside.proofs.Reporting.{stays_same}
 use Rattle.misp_model.specs.declared.package.PackageFields.{PackageFields as Package}
 use Rattle.misp_store.specs.declared.fault.LoadFault.{LoadFault}
-use Rattle.misp_core.specs.Ahead.{IsBeside, IsKeptFor}
+use Rattle.misp_core.specs.Ahead.{IsKeptFor}
 use Rattle.misp_core.specs.Handing.{host_at, scene_in}
 use Rattle.misp_core.proofs.Answered.{asked_planned, keeper_told, told_of_keeper, unread_planned}
 use Rattle.misp_core.proofs.KeptLandings.{landed_planned, still_lands}
 use Rattle.misp_core.proofs.KeptParts.{kept_planned, left_answers, still_answers}
+use Rattle.misp_core.proofs.Reported.{beside_still, groups_still}
 use Rattle.misp_core.proofs.reading.plan_permitted.Goals as goal
 
 -- ---- a package is kept
+
+-- a package that is kept is answered, and no keeper is asked
+pub returns-in-Ok-Some-clause-held : goal.returns-in-Ok-Some-clause-held
+returns-in-Ok-Some-clause-held g c = stays_same _ _ refl
 
 pub returns-in-Ok-Some-clause-planned : goal.returns-in-Ok-Some-clause-planned
 returns-in-Ok-Some-clause-planned g c =
@@ -57,19 +63,19 @@ returns-then-is_landed-clause-cause g c = record {
 pub returns-in-Ok-clause-planned : goal.returns-in-Ok-clause-planned
 returns-in-Ok-clause-planned g c =
     asked_planned (host_at c.args.site.now) c.args.site.now.moment (c.args.site.now.caller.now, c.args.ask) c.args.site.now.groups.now c.in-Ok.rows.items c.plan_request.result _
-    c.requires.permitted c.requires.beside.groups c.in-Ok.ensures.found c.in-Ok.ensures.table c.plan_request.ensures.plan
+    c.requires.permitted (groups_still _ _ _ c.in-Ok.ensures.held c.requires.beside.groups) c.in-Ok.ensures.found c.in-Ok.ensures.table c.plan_request.ensures.plan
 
 pub returns-in-Ok-clause-beside : goal.returns-in-Ok-clause-beside
 returns-in-Ok-clause-beside g c =
-    subst (λ held. IsBeside (host_at c.args.site.now) held c.args.site.now.groups.now c.plan_request.new.kept c.plan_request.new.landed) (sym c.in-Ok.ensures.held)
-    (record {
-      groups = c.requires.beside.groups;
-      ahead = still_answers (host_at c.args.site.now) _ c.args.site.now.groups.now c.in-Ok.rows.items c.args.site.now.moment c.args.site.now.caller.now c.args.ask _ _ c.requires.permitted c.requires.beside.groups
+    let still = beside_still (host_at c.args.site.now) _ _ _ _ _ c.in-Ok.ensures.held c.requires.beside in
+    record {
+      groups = still.groups;
+      ahead = still_answers (host_at c.args.site.now) _ c.args.site.now.groups.now c.in-Ok.rows.items c.args.site.now.moment c.args.site.now.caller.now c.args.ask _ _ c.requires.permitted still.groups
           c.in-Ok.ensures.found c.in-Ok.ensures.table
-          (left_answers (host_at c.args.site.now) _ _ _ c.requires.beside.ahead c.take_kept.ensures.left) c.plan_request.ensures.kept;
+          (left_answers (host_at c.args.site.now) _ _ _ still.ahead c.take_kept.ensures.left) c.plan_request.ensures.kept;
       landed = still_lands c.args.site.now.here.now c.args.site.now.caller.now c.in-Ok.rows.items (scene_in c.args.site.now) _ c.args.ask _ _
-          c.in-Ok.ensures.found c.requires.beside.landed c.plan_request.ensures.landed;
-    })
+          c.in-Ok.ensures.found still.landed c.plan_request.ensures.landed;
+    }
 
 pub returns-in-Ok-clause-cause : goal.returns-in-Ok-clause-cause
 returns-in-Ok-clause-cause g c = record {
@@ -85,16 +91,16 @@ returns-in-Ok-clause-stays g c = λ not_. c.in-Ok.ensures.stays (λ is. absurd c
 pub returns-in-Err-rows_for-clause-planned : goal.returns-in-Err-rows_for-clause-planned
 returns-in-Err-rows_for-clause-planned g c =
     unread_planned (host_at c.args.site.now) c.args.site.now.moment (c.args.site.now.caller.now, c.args.ask) c.args.site.now.groups.now _ c.in-Err-rows_for.fault c.unread.result
-    c.requires.permitted c.requires.beside.groups c.in-Err-rows_for.ensures.bad c.unread.ensures.plans
+    c.requires.permitted (groups_still _ _ _ c.in-Err-rows_for.ensures.held c.requires.beside.groups) c.in-Err-rows_for.ensures.bad c.unread.ensures.plans
 
 pub returns-in-Err-rows_for-clause-beside : goal.returns-in-Err-rows_for-clause-beside
 returns-in-Err-rows_for-clause-beside g c =
-    subst (λ held. IsBeside (host_at c.args.site.now) held c.args.site.now.groups.now c.take_kept.new.ahead c.args.landed.now) (sym c.in-Err-rows_for.ensures.held)
-    (record {
-      groups = c.requires.beside.groups;
-      ahead = left_answers (host_at c.args.site.now) _ _ _ c.requires.beside.ahead c.take_kept.ensures.left;
-      landed = c.requires.beside.landed;
-    })
+    let still = beside_still (host_at c.args.site.now) _ _ _ _ _ c.in-Err-rows_for.ensures.held c.requires.beside in
+    record {
+      groups = still.groups;
+      ahead = left_answers (host_at c.args.site.now) _ _ _ still.ahead c.take_kept.ensures.left;
+      landed = still.landed;
+    }
 
 pub returns-in-Err-rows_for-clause-cause : goal.returns-in-Err-rows_for-clause-cause
 returns-in-Err-rows_for-clause-cause g c = record {

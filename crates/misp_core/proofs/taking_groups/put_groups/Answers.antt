@@ -6,7 +6,7 @@ use Rattle.misp_core.proofs.TakenGroups.{no_groups_held, no_more}
 use Rattle.misp_core.proofs.taking_groups.put_groups.Goals as goal
 
 pub returns-in_default-clause-put : goal.returns-in_default-clause-put
-returns-in_default-clause-put g c = no_groups_held _ _ (sym c.as_slice.ensures.value ∙ no_more _ c.in_default.len_below)
+returns-in_default-clause-put g c = no_groups_held (g.K.Keeper.state c.args.keeper.now).held _ (sym c.as_slice.ensures.value ∙ no_more _ c.in_default.len_below)
 
 pub returns-in_default-clause-groups : goal.returns-in_default-clause-groups
 returns-in_default-clause-groups g c =

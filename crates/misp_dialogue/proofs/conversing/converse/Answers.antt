@@ -1,5 +1,5 @@
 use Rattle.std.proofs.Common.{◌∙◌}
-use Rattle.misp_dialogue.proofs.Courses.{both_told, by_replies, by_states}
+use Rattle.misp_dialogue.proofs.Courses.{by_replies, by_states}
 use Rattle.misp_dialogue.proofs.Steps.{held_after}
 use Rattle.misp_dialogue.proofs.conversing.converse.Goals as goal
 
@@ -33,9 +33,3 @@ returns-in-Err-clause-states g c = λ s s1 t t1 a b a1 b1.
     (g.L.Leader.dialogue c.args.leader.now) _ _ c.in-Err.ending
     (c.loop-ending.invariant.so_far _ c.in-Err.ending c.in-Err.ensures.ended))
     a b a1 b1
-
-pub returns-in-Err-clause-told : goal.returns-in-Err-clause-told
-returns-in-Err-clause-told g c =
-    both_told g.L.Leader.memory (g.A.Party.conduct (g.A.Party.setting c.args.source.now)) (g.B.Party.conduct (g.B.Party.setting c.args.sink.now))
-    (g.L.Leader.dialogue c.args.leader.now) _ _ c.in-Err.ending
-    (c.loop-ending.invariant.so_far _ c.in-Err.ending c.in-Err.ensures.ended)

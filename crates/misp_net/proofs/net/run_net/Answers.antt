@@ -2,7 +2,7 @@ use Rattle.std.proofs.Common.{◌≡◌, ℕ, List, ◌++◌, length, map, take,
 use Rattle.std.proofs.lemmas.List.{length-map}
 use Rattle.misp_script.specs.Directory.{roster_names}
 use Rattle.misp_effects.specs.KeeperStates.{OneFailed}
-use Rattle.misp_store.specs.Sharing.{may_be_unsound}
+use Rattle.misp_store.specs.Sharing.{WereSound, may_be_unsound}
 use Rattle.misp_effects.proofs.KeeperStates.{all_kept}
 use Rattle.misp_net.specs.Prelude.{AreKept, Description, KeeperState, Standing, described_host, described_hosts, hosts_of, state_of, states_of}
 use Rattle.misp_net.specs.Opening.{opened_states}
@@ -11,7 +11,7 @@ use Rattle.misp_net.specs.Asking.{names_of}
 use Rattle.misp_net.proofs.Asking.{names_described}
 use Rattle.misp_net.proofs.Privacy.{is_net_run}
 use Rattle.misp_net.proofs.SyncLaw.{both_laws}
-use Rattle.misp_net.proofs.Fronts.{AreInFront, opened_long, run_in_front, cut_in_front, others_kept}
+use Rattle.misp_net.proofs.Fronts.{AreInFront, opened_long, run_in_front, cut_in_front, others_kept, sound_in_front}
 use Rattle.misp_net.proofs.net.run_net.Goals as goal
 
 -- the instances are before the other keepers, before and after
@@ -40,6 +40,17 @@ returns-clause-ran g c =
     (both_laws (record { told = pulls.told; left = pulls.left; elsewhere = pulls.elsewhere; groups = pulls.groups })
     (record { told = pushes.told; left = pushes.left; elsewhere = pushes.elsewhere; groups = pushes.groups })) _ _ _ _ _ _ _
     (run_in_front front (rw (← c.in_ok-directory.ensures) c.in_ok-lines.ensures.ran))
+
+pub returns-clause-sound : goal.returns-clause-sound
+returns-clause-sound g c =
+    let front = in_front c.args.net c.in_ok-instances.instances.items c.run_lines-lines.new.instances.items (map g.K.Keeper.state c.open_all.new.keepers.items)
+    (map g.K.Keeper.state c.args.keepers.now.items) (map g.K.Keeper.state c.close_all.new.keepers.items) (vec_len c.into_vec.result)
+    (c.into_vec.result.ok.0 ∙ ap length c.into_vec.ensures) (c.in_ok-instances.ensures.hosts ∙ ap (map described_host) c.into_vec.ensures)
+    c.in_ok-instances.ensures.opened c.in_ok-instances.ensures.rest
+    (omega (arith, c.run_lines-lines.ensures.places, c.run_lines-lines.new.instances.ok.0, c.in_ok-instances.instances.ok.0)) c.close_all.ensures in
+    let long : vec_len c.into_vec.result ≡ length c.args.net.instances = c.into_vec.result.ok.0 ∙ ap length c.into_vec.ensures in
+    sound_in_front front
+    (subst (λ n. WereSound (take n (map g.K.Keeper.state c.args.keepers.now.items)) (states_of c.in_ok-instances.instances.items)) long c.in_ok-instances.ensures.sound) c.in_ok-lines.ensures.ran
 
 pub returns-clause-others : goal.returns-clause-others
 returns-clause-others g c =
@@ -116,7 +127,7 @@ returns-in_err-lines-clause-places g c =
 
 -- ---- the instances do not open, or memory ran out
 
--- each keeper tells what it told, or is open
+-- what each keeper holds stays, or is that renewed
 pub returns-in_err-instances-clause-kept : goal.returns-in_err-instances-clause-kept
 returns-in_err-instances-clause-kept g c =
     if_err c.from_residual-in_err-instances.result (λ fault unopened. c.in_err-instances.ensures.back)
@@ -135,4 +146,4 @@ returns-in_err-instances-clause-stopped g c =
     opening_stopped _ _ _ _ _ _ (inl (take_opened (length c.args.net.instances) _ _ c.in_err-instances.ensures.back, refl))
     c.from_residual-in_err-instances.result (Err c.in_err-instances.field-0.0) c.in_err-instances.field-0.0 refl c.from_residual-in_err-instances.ensures.1
     (λ is. subst (λ n. OneFailed (take n olds) (take n news)) long (c.in_err-instances.ensures.keeper is))
-    (λ is. subst (λ n. may_be_unsound (take n olds) ≡ true) long (c.in_err-instances.ensures.bad_row is))
+    (λ is. subst (λ n. may_be_unsound (take n news) ≡ true) long (c.in_err-instances.ensures.bad_row is))

@@ -35,7 +35,9 @@ loop-entry-preserved g c =
           ∙ ap (drop 1) c.loop-entry.invariant.rest
           ∙ drop-drop 1 (length c.loop-entry.yielded) olds
           ∙ ap (λ n. drop n olds) (sym more);
-      sound = rw more (sound_next (length c.loop-entry.yielded) olds _ c.loop-entry.invariant.rest c.loop-entry.invariant.sound c.in-Ok.ensures.sound);
+      sound =
+          rw (split, more)
+          (sound_next (length c.loop-entry.yielded) olds (states_of before) _ (state_of one) c.loop-entry.invariant.rest c.loop-entry.invariant.sound c.in-Ok.ensures.sound);
       count = search rules;
       room = search rules;
       others = search rules;

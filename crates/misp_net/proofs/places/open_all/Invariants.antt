@@ -1,5 +1,5 @@
-use Rattle.std.proofs.Common.{◌≡◌, ◌+◌, ◌≤◌, true, map, length, take, drop, vec_len, vec_capacity}
-use Rattle.misp_store.specs.Sharing.{may_be_sound}
+use Rattle.std.proofs.Common.{◌≡◌, ◌+◌, ◌≤◌, map, length, take, drop, vec_len, vec_capacity}
+use Rattle.misp_store.specs.Sharing.{WereSound}
 use Rattle.misp_net.specs.Opening.{opened_states}
 use Rattle.misp_net.specs.Prelude.{AreKept, described_host, hosts_of, states_of}
 use Rattle.misp_net.proofs.places.open_all.Given as goal
@@ -12,7 +12,7 @@ invariant-loop-entry g l =
       hosts : hosts_of l.instances.items ≡ map described_host l.yielded;
       opened : AreKept (opened_states (take (length l.yielded) (seen l.fn.keepers.items))) (states_of l.instances.items);
       rest : seen l.keepers.items ≡ drop (length l.yielded) (seen l.fn.keepers.items);
-      sound : may_be_sound (take (length l.yielded) (seen l.fn.keepers.items)) ≡ true;
+      sound : WereSound (take (length l.yielded) (seen l.fn.keepers.items)) (states_of l.instances.items);
       count : vec_len l.instances ≡ length l.yielded;
       room : vec_len l.fn.entries ≤ vec_capacity l.instances;
       others : vec_len l.instances + vec_len l.keepers ≡ vec_len l.fn.keepers;

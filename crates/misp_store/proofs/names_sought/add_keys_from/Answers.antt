@@ -6,7 +6,7 @@ pub returns-in_ok-add_key-in-len1-up-clause-found : goal.returns-in_ok-add_key-i
 returns-in_ok-add_key-in-len1-up-clause-found g c =
     on_ok c.add_keys.result
     (keys_joined c.args.event.now c.args.owner.now _ _ c.key-item.result c.args.keys.now c.args.found.now.items c.add_key.new.found.items c.add_keys.new.found.items
-    c.in-len1-up.len_at_least c.key-item.is c.in_ok-add_key-in-len1-up.ensures.held c.in_ok-add_key-in-len1-up.ensures.found)
+    c.in-len1-up.len_at_least c.key-item.is c.add_keys.ensures.held c.in_ok-add_key-in-len1-up.ensures.found)
     c.add_keys.ensures.found
 
 pub returns-in-empty-clause-found : goal.returns-in-empty-clause-found

@@ -17,8 +17,7 @@ returns-in-Pull-clause-conversed g c =
     (by_pull c.args.direction c.args.link.now c.args.instance.now _ _ _ c.converse.result _ c.new-leader.ensures
     (rw own_first.now at (ap (λ (s : (Host × Link) × ℕ). s.0.0) c.converse.ensures.sink))
     (rw first.now at (ap (λ (s : WireSetting). s.host) c.converse.ensures.source)) c.in-Pull.is
-    (rw (first.now, first.key, own_first.now, own_first.link) at c.converse.ensures.replies)
-    (rw (first.now, own_first.now) at c.converse.ensures.told))
+    (rw (first.now, first.key, own_first.now, own_first.link) at c.converse.ensures.replies))
 
 pub returns-in-Pull-clause-through : goal.returns-in-Pull-clause-through
 returns-in-Pull-clause-through g c =
@@ -39,8 +38,7 @@ returns-clause-conversed g c =
     (by_push c.args.direction c.args.link.now c.args.instance.now _ _ _ c.converse-in-Push.result _ c.new-leader.ensures
     (rw own_first.now at (ap (λ (s : (Host × Link) × ℕ). s.0.0) c.converse-in-Push.ensures.source))
     (rw first.now at (ap (λ (s : WireSetting). s.host) c.converse-in-Push.ensures.sink)) c.in-Push.is
-    (rw (first.now, first.key, own_first.now, own_first.link) at c.converse-in-Push.ensures.replies)
-    (rw (first.now, own_first.now) at c.converse-in-Push.ensures.told))
+    (rw (first.now, first.key, own_first.now, own_first.link) at c.converse-in-Push.ensures.replies))
 
 pub returns-clause-through : goal.returns-clause-through
 returns-clause-through g c =

@@ -1,6 +1,4 @@
 use Rattle.std.proofs.Common.{sym, ◌∙◌}
-use Rattle.misp_sync.proofs.PullTakes.{pull_takes}
-use Rattle.misp_sync.proofs.PushTakes.{push_takes}
 use Rattle.misp_sync.proofs.Synchronised.{not_synchronised, synchronised}
 use Rattle.misp_sync.proofs.synchronising.synchronise.Goals as goal
 
@@ -12,5 +10,5 @@ returns-in-Err-clause-synced g c =
 pub returns-clause-synced : goal.returns-clause-synced
 returns-clause-synced g c =
     rw c.told.ensures
-    (synchronised pull_takes push_takes c.args.link.now c.in-Ok.link c.is_identified.ensures c.args.instance.now _ _ _ c.converse_over.result
+    (synchronised c.args.link.now c.in-Ok.link c.is_identified.ensures c.args.instance.now _ _ _ c.converse_over.result
     (sym c.usable.ensures ∙ c.in-Ok.is) c.args.direction c.converse_over.ensures.conversed)

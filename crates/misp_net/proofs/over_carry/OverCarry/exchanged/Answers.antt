@@ -1,5 +1,6 @@
 use Rattle.std.proofs.Common.{◌≡◌, ℕ, List, [], ◌∷◌, Some, Result, Ok, Err, IfOk, MatchResult, refl, subst, sym}
 use Rattle.std.proofs.lemmas.Result.{err_from_is_err_and}
+use Rattle.misp_outside.proofs.Reporting.{stays_same}
 use Rattle.misp_http.specs.Reading.{IsRead}
 use Rattle.misp_http.specs.declared.request.Read.{Read}
 use Rattle.misp_api.specs.Exchange.{IsExchanged}
@@ -34,7 +35,7 @@ returns-in-Ok-clause-answered g c = λ read is.
 pub returns-in_err-sent-clause-left : goal.returns-in_err-sent-clause-left
 returns-in_err-sent-clause-left g c = λ read is.
     let now = c.args.self.now in
-    where_full c.from_residual.result (left_alone now.now (read_form now.peer.now.admin now.word read) now.peer.now now.peer.now.held now.peer.now.held refl)
+    where_full c.from_residual.result (left_alone now.now (read_form now.peer.now.admin now.word read) now.peer.now now.peer.now.held now.peer.now.held (stays_same now.peer.now.held now.peer.now.held refl))
 
 pub returns-in-Err-clause-left : goal.returns-in-Err-clause-left
 returns-in-Err-clause-left g c = λ read is.

@@ -1,0 +1,5 @@
+use Rattle.misp_sqlite.proofs.Reports.{clean_store}
+use Rattle.misp_sqlite.proofs.keeper.SqliteKeeperKeeper.load_next.Goals as goal
+
+pub returns-clause-clean : goal.returns-clause-clean
+returns-clause-clean g c = clean_store g.A.Store c.next_row-answer.new.connection (g.met.A.Store.shut_if_dirty c.next_row-answer.new.connection.store)
