@@ -7,6 +7,7 @@ use Rattle.misp_format.specs.Prelude.{◌>>=◌, Data, Reading, attributes_at, e
 use Rattle.misp_format.specs.Rows.{row, body_at}
 use Rattle.misp_format.specs.Tables.{event_itself_at, unwrapped, parts_at, elements_at, tag_body_at}
 use Rattle.misp_format.specs.Edits.{event_edit_at, attribute_edit_at, object_edit_at}
+use Rattle.misp_format.specs.Filters.{filter_at}
 use Rattle.misp_format.specs.Statements.{proposal_at, judgement_at, sighting_at}
 use Rattle.misp_elem.specs.declared.key.Place.{Place}
 use Rattle.misp_format.specs.declared.reading.parts.PartForm.{PartForm}
@@ -16,8 +17,9 @@ use Rattle.misp_core.specs.Answers.{IsAdded, IsBuilt}
 use Rattle.misp_core.specs.Prelude.{Ask, EventId, Group, View}
 use Rattle.misp_api.specs.GroupList.{groups_in}
 use Rattle.misp_api.specs.declared.command.Command.{Command}
+use Rattle.misp_api.specs.declared.query.PageQuery.{PageQuery}
 use Rattle.misp_api.specs.declared.route.Route.{Route}
-use Rattle.misp_api.specs.Request.{ask_command, command_of, formed, groups_command, share_command, event_in, event_edit_in, attribute_edit_in, object_edit_in, parts_in, tag_in, untag_in, proposal_in, judgement_in, sighting_in, package_in, wanted_in}
+use Rattle.misp_api.specs.Request.{ask_command, command_of, formed, groups_command, share_command, event_in, event_edit_in, attribute_edit_in, object_edit_in, parts_in, tag_in, untag_in, proposal_in, judgement_in, sighting_in, index_in, search_in, package_in, wanted_in}
 use Rattle.misp_api.specs.Request as request
 use Rattle.misp_api.proofs.Handed.{package_built, wanted_built}
 
@@ -42,6 +44,12 @@ are_parts e object form word d fits = bind_keeps IsParts (elements_at object for
 made_built : {A : Type 0} (ask : A → Ask) (at : Data → Reading A) → ((d : Data) (x : A) → at d ≡ Ok x → IsBuilt (ask x)) → (body : List ℕ) (a : Ask)
     → json_in body >>= (λ d. request.ask_from ask (at d)) ≡ Ok a → IsBuilt a
 made_built ask at each body = bind_keeps IsBuilt (json_in body) _ (λ d is. bind_keeps IsBuilt (at d) _ (λ x found. ok_keeps IsBuilt _ (each d x found)))
+
+-- a list of events is built, where a page of it is asked for
+index_built : (page : PageQuery) (a : Ask) → index_in page ≡ Ok a → IsBuilt a
+index_built (PageQuery.Of page) = ok_keeps IsBuilt (Ask.Index page) tt
+index_built PageQuery.BadPage = λ a h. absurd cc
+index_built PageQuery.BadLimit = λ a h. absurd cc
 
 -- what holds of each ask that is built, of each that is read where those that are read are built, of groups that are
 -- read, and of a group that is read, holds of every request
@@ -75,6 +83,9 @@ command_is P said read take share Route.TakePart body word = read (package_in bo
 command_is P said read take share Route.TakeGroups body word = take (groups_in body)
 command_is P said read take share Route.AddGroup body word = share true (group_in_text body)
 command_is P said read take share Route.EditGroup body word = share false (group_in_text body)
+command_is P said read take share (Route.Index page) body word = read (index_in page) (index_built page)
+command_is P said read take share Route.SearchEvents body word = read (search_in true body) (made_built (λ filter. Ask.Search filter true) filter_at (λ d x h. tt) body)
+command_is P said read take share Route.SearchAttributes body word = read (search_in false body) (made_built (λ filter. Ask.Search filter false) filter_at (λ d x h. tt) body)
 command_is P said read take share Route.Groups body word = said Ask.Groups tt
 command_is P said read take share Route.SyncGroups body word = said Ask.SyncGroups tt
 command_is P said read take share Route.SyncEvents body word = said Ask.SyncEvents tt

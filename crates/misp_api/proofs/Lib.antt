@@ -10,6 +10,7 @@ pub mod HttpTexts
 pub mod ListedGroups
 pub mod Replying
 pub mod Pulls
+pub mod Queries
 pub mod Runs
 pub mod Outgoing
 pub mod Turning

@@ -91,7 +91,9 @@ in_scene admin s (Ask.SyncPart event n) built = by_part admin s event n (pulled_
 in_scene admin s Ask.SyncManifest built = refl
 in_scene admin s (Ask.SyncRows w) built = by_rows_of admin s w (pulled_part s w.event w.part)
 in_scene admin s (Ask.TakePart p) built = refl
-in_scene admin s Ask.Index built = absurd built
+in_scene admin s (Ask.Index page) built = refl
+in_scene admin s (Ask.Search filter true) built = refl
+in_scene admin s (Ask.Search filter false) built = refl
 
 -- over what is read for it
 by_rows : (host : Host) (now : ℕ) (it : Asked) (groups : List Group) (rows : Result (List Row) (List ℕ)) → IsBuilt it.1

@@ -40,7 +40,8 @@ writes_none s (Ask.Change c) is = absurd cc
 writes_none s (Ask.Propose d) is = absurd cc
 writes_none s (Ask.Judge e n accept) is = absurd cc
 writes_none s (Ask.Sight e t d) is = absurd cc
-writes_none s Ask.Index is = absurd cc
+writes_none s (Ask.Index page) is = absurd cc
+writes_none s (Ask.Search filter whole) is = absurd cc
 writes_none s Ask.Groups is = absurd cc
 writes_none s (Ask.TakePart p) is = absurd cc
 

@@ -8,6 +8,7 @@ pub mod Order
 pub mod Path
 pub mod Pattern
 pub mod Prelude
+pub mod Query
 pub mod Refusing
 pub mod Request
 pub mod Route

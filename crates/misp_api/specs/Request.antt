@@ -7,6 +7,7 @@ use Rattle.misp_elem.specs.declared.key.Place.{Place}
 use Rattle.misp_http.specs.declared.request.Request.{Request}
 use Rattle.misp_format.specs.Prelude.{◌>>=◌, Need, event_at, group_in_text, json_in}
 use Rattle.misp_format.specs.Edits.{event_edit_at, attribute_edit_at, object_edit_at}
+use Rattle.misp_format.specs.Filters.{filter_at}
 use Rattle.misp_format.specs.Statements.{proposal_at, judgement_at, sighting_at}
 use Rattle.misp_format.specs.Tables.{parts_at, tag_body_at}
 use Rattle.misp_format.specs.declared.reading.parts.PartForm.{PartForm}
@@ -18,6 +19,7 @@ use Rattle.misp_model.specs.declared.package.PackageFields.{PackageFields}
 use Rattle.misp_core.specs.Prelude.{Ask, EventId, FormatFault, Group, Refusal, RuleName, View, bare}
 use Rattle.misp_api.specs.GroupList.{groups_in}
 use Rattle.misp_api.specs.declared.command.Command.{Command}
+use Rattle.misp_api.specs.declared.query.PageQuery.{PageQuery}
 use Rattle.misp_api.specs.declared.route.Route.{Route}
 use Rattle.misp_api.specs.declared.request.AskFault.{AskFault}
 use Rattle.misp_format.specs.Rows as rows
@@ -116,6 +118,17 @@ abbrev pub sighting_in : EventId → Place → List ℕ → ℕ → rows.Reading
 sighting_in event target body word =
     json_in body >>= λ d. ask_from (Ask.Sight event target) (sighting_at word d)
 
+-- the list of events that a query asks for a page of
+abbrev pub index_in : PageQuery → rows.Reading Ask
+index_in (PageQuery.Of page) = Ok (Ask.Index page)
+index_in PageQuery.BadPage = Err (FormatFault.BadField (codes "query.page") Need.Range)
+index_in PageQuery.BadLimit = Err (FormatFault.BadField (codes "query.limit") Need.Range)
+
+-- the search that a body is, for whole events or for attributes
+abbrev pub search_in : Bool → List ℕ → rows.Reading Ask
+search_in whole body =
+    json_in body >>= λ d. ask_from (λ filter. Ask.Search filter whole) (filter_at d)
+
 -- whether a number is that of a byte
 abbrev pub is_byte : ℕ → Bool
 is_byte number = nat_lt number 256
@@ -176,8 +189,8 @@ path_ask (Route.SyncPart event part) = Some (Ask.SyncPart event part)
 path_ask Route.SyncManifest = Some Ask.SyncManifest
 path_ask route = None
 
--- what the body of another request is: the ask of its route, a group that is added or edited, or
--- groups that are handed in
+-- what another request is by its query or its body: the ask of its route, a group that is added or
+-- edited, or groups that are handed in
 abbrev pub body_command : Route → List ℕ → ℕ → rows.Reading Command
 body_command Route.AddEvent body word = ask_command (event_in body word)
 body_command (Route.EditEvent event) body word = ask_command (event_edit_in event body)
@@ -198,6 +211,9 @@ body_command (Route.Propose event target) body word =
 body_command (Route.Judge event accept) body word = ask_command (judgement_in event accept body)
 body_command (Route.Sight event target) body word =
     ask_command (sighting_in event target body word)
+body_command (Route.Index page) body word = ask_command (index_in page)
+body_command Route.SearchEvents body word = ask_command (search_in true body)
+body_command Route.SearchAttributes body word = ask_command (search_in false body)
 body_command Route.SyncRows body word = ask_command (wanted_in body)
 body_command Route.TakePart body word = ask_command (package_in body)
 body_command Route.AddGroup body word = share_command true (group_in_text body)

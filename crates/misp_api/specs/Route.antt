@@ -1,5 +1,5 @@
 -- Which request a method and a target are.
-use Rattle.std.specs.Prelude.{ℕ, ◌==◌, Bool, true, false, List, take, position, codes, bytes_eq, Option, Some, None, option_map, Result, Ok, Err, if◌then◌else◌}
+use Rattle.std.specs.Prelude.{ℕ, ◌+◌, ◌==◌, Bool, true, false, List, [], take, drop, position, codes, bytes_eq, Option, Some, None, option_map, Result, Ok, Err, if◌then◌else◌}
 use Rattle.std.specs.Option.{option_map_or}
 use Rattle.misp_ids.specs.declared.refusal.RuleName.TheVariants.{NoRoute, NoMethod}
 use Rattle.misp_groups.specs.Prelude.{OrgId, RuleName, Uid}
@@ -10,6 +10,7 @@ use Rattle.misp_api.specs.declared.route.Route.{Route}
 use Rattle.misp_api.specs.declared.path_kind.PathKind.{PathKind}
 use Rattle.misp_api.specs.declared.path_ids.PathIds.{PathIds}
 use Rattle.misp_api.specs.Path.{kind_of, ids_of, part_of}
+use Rattle.misp_api.specs.Query.{page_query}
 
 -- ---- targets
 
@@ -19,6 +20,11 @@ is_question_mark byte = byte == 63
 -- what stands before the first `?`
 abbrev pub path_of : List ℕ → List ℕ
 path_of target = option_map_or (λ at. take at target) (position is_question_mark target) target
+
+-- what stands behind it
+abbrev pub query_of : List ℕ → List ℕ
+query_of target =
+    option_map_or (λ at. drop (at + 1) target) (position is_question_mark target) []
 
 -- ---- paths
 
@@ -100,6 +106,9 @@ element_route kind ids = None
 -- of paths of any kind
 abbrev pub route_with : PathKind → PathIds → Option Route
 route_with PathKind.AddEvent ids = alone Route.AddEvent ids
+route_with PathKind.Index ids = alone (Route.Index (page_query [])) ids
+route_with PathKind.SearchEvents ids = alone Route.SearchEvents ids
+route_with PathKind.SearchAttributes ids = alone Route.SearchAttributes ids
 route_with PathKind.Groups ids = alone Route.Groups ids
 route_with PathKind.AddGroup ids = alone Route.AddGroup ids
 route_with PathKind.EditGroup ids = alone Route.EditGroup ids
@@ -150,13 +159,21 @@ at_method method Route.SyncGroups =
     if bytes_eq method (codes "POST") then Route.TakeGroups else Route.SyncGroups
 at_method method route = route
 
--- what the path of a target is for by this method, whatever is after a `?`
+-- with the page that a query asks for, where it is a list of pages
+abbrev pub with_query : List ℕ → Route → Route
+with_query query (Route.Index page) = Route.Index (page_query query)
+with_query query route = route
+
+-- what a target is for by this method: its query is looked at for the page of a list alone
 abbrev pub route_at : List ℕ → List ℕ → Option Route
-route_at method target = option_map (at_method method) (path_route (path_of target))
+route_at method target =
+    option_map (λ route. with_query (query_of target) (at_method method route))
+    (path_route (path_of target))
 
 -- by which method it is asked for
 abbrev pub method_of : Route → List ℕ
 method_of (Route.ViewEvent event owner) = codes "GET"
+method_of (Route.Index page) = codes "GET"
 method_of Route.Groups = codes "GET"
 method_of Route.SyncGroups = codes "GET"
 method_of Route.SyncEvents = codes "GET"

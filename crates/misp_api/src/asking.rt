@@ -1,26 +1,29 @@
 //! What a request is, by its route and body.
 
-ghost use Rattle.std.specs.Prelude.{◌≡◌, true, IfOk};
+ghost use Rattle.std.specs.Prelude.{◌≡◌, true, Err, IfOk};
 ghost use Rattle.misp_elem.specs.declared.key.Place.TheVariants as places;
+ghost use Rattle.misp_fields.specs.declared.need.Need.{Need};
 ghost use Rattle.misp_format.specs.Prelude.{group_in_text};
+ghost use Rattle.misp_format.specs.declared.fault.FormatFault.{FormatFault};
 ghost use Rattle.misp_format.specs.Rows as rows;
 ghost use Rattle.misp_format.specs.Tables.{is_form_for};
 ghost use Rattle.misp_model.specs.declared.ask.Ask.TheVariants as asks;
 ghost use Rattle.misp_model.specs.declared.change.Change.TheVariants as changes;
 ghost use Rattle.misp_api.specs.Commands.{AsksBuilt};
 ghost use Rattle.misp_api.specs.GroupList.{groups_in};
-ghost use Rattle.misp_api.specs.Request.{Gives, ask_command, groups_command, share_command, path_ask, body_command, event_in, event_edit_in, attribute_edit_in, object_edit_in, parts_in, tag_in, untag_in, proposal_in, judgement_in, sighting_in, package_in, wanted_in, command_of};
+ghost use Rattle.misp_api.specs.Request.{Gives, ask_command, groups_command, share_command, path_ask, body_command, event_in, index_in, search_in, event_edit_in, attribute_edit_in, object_edit_in, parts_in, tag_in, untag_in, proposal_in, judgement_in, sighting_in, package_in, wanted_in, command_of};
 
 use crate::command::Command;
 use crate::group_list::read_groups;
+use crate::query::PageQuery;
 use crate::request::{AskFault, fault};
 use crate::route::Route;
 use misp_elem::{DecodeFault, Place};
 use misp_fields::Need;
 use misp_format::{
-    FormatFault, PartForm, read_attribute_edit, read_event, read_event_edit, read_group_text,
-    read_json, read_judgement, read_object_edit, read_parts, read_proposal, read_sighting,
-    read_tag,
+    FormatFault, PartForm, read_attribute_edit, read_event, read_event_edit, read_filter,
+    read_group_text, read_json, read_judgement, read_object_edit, read_parts, read_proposal,
+    read_sighting, read_tag,
 };
 use misp_ids::{ElemId, EventId, Items, Text};
 use misp_model::{Ask, AttributePlace, Change, ElementPlace, NewTag, Parts, TaggedPlace};
@@ -169,6 +172,36 @@ fn sighting_in(
     }))
 }
 
+// The fault of a member of a query that is no number of its range.
+fn bad_query(alloc: Global, name: &str) -> Result<Command, FormatFault>
+    ensures { rows.Gives result (Err (FormatFault.BadField name.now Need.Range)) }
+{
+    Err(FormatFault::BadField {
+        path: Text::of(String::from_str(alloc, name)?),
+        need: Need::Range,
+    })
+}
+
+// The list of events that a query asks for a page of.
+fn index_in(alloc: Global, page: PageQuery) -> Result<Command, FormatFault>
+    ensures { rows.Gives result (ask_command (index_in page)) }
+{
+    match page {
+        PageQuery::Of(page) => Ok(Command::Asks(Ask::Index(page))),
+        PageQuery::BadPage => bad_query(alloc, "query.page"),
+        PageQuery::BadLimit => bad_query(alloc, "query.limit"),
+    }
+}
+
+// The search that a body is, for whole events or for attributes.
+fn search_in(alloc: Global, whole: bool, body: &[u8]) -> Result<Command, FormatFault>
+    ensures { rows.Gives result (ask_command (search_in whole body.now)) }
+{
+    let value = read_json(alloc, body)?;
+    let filter = read_filter(alloc, &value)?;
+    Ok(Command::Asks(Ask::Search { filter, whole }))
+}
+
 // The handing in of the package that a body is.
 fn package_in(alloc: Global, body: &[u8]) -> Result<Command, FormatFault>
     ensures { rows.Gives result (ask_command (package_in body.now)) }
@@ -276,7 +309,7 @@ fn path_ask(route: &Route) -> Option<Ask>
     }
 }
 
-// What the body of another request is, by its route.
+// What another request is by its query or its body, by its route.
 fn body_command(
     alloc: Global,
     route: Route,
@@ -302,6 +335,9 @@ fn body_command(
         Route::Propose(event, target) => proposal_in(alloc, event, target, body, word),
         Route::Judge(event, accept) => judgement_in(alloc, event, accept, body),
         Route::Sight(event, target) => sighting_in(alloc, event, target, body, word),
+        Route::Index(page) => index_in(alloc, page),
+        Route::SearchEvents => search_in(alloc, true, body),
+        Route::SearchAttributes => search_in(alloc, false, body),
         Route::SyncRows => wanted_in(alloc, body),
         Route::TakePart => package_in(alloc, body),
         Route::AddGroup => share_command(alloc, true, body),

@@ -22,6 +22,9 @@ pub enum PathKind {
     Accept,
     Discard,
     Sight,
+    Index,
+    SearchEvents,
+    SearchAttributes,
     Groups,
     AddGroup,
     EditGroup,
@@ -35,9 +38,12 @@ pub enum PathKind {
 
 /// The patterns of paths, each with what it is for. A name in braces is an identifier, or the
 /// number of a part.
-pub(crate) const PATHS: [(&str, PathKind); 39] = [
+pub(crate) const PATHS: [(&str, PathKind); 42] = [
     ("/events/view/{event}", PathKind::ViewEvent),
     ("/events/view/{event}/{owner}", PathKind::ViewEvent),
+    ("/events/index", PathKind::Index),
+    ("/events/restSearch", PathKind::SearchEvents),
+    ("/attributes/restSearch", PathKind::SearchAttributes),
     ("/events/add", PathKind::AddEvent),
     ("/events/edit/{event}", PathKind::EditEvent),
     ("/events/delete/{event}", PathKind::DeleteEvent),

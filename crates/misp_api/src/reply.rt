@@ -1,11 +1,14 @@
 //! Writes replies.
 
 ghost use Rattle.std.specs.Prelude.{◌≡◌, ◌++◌, OnOk, decimal, codes, drop, string_bytes};
+ghost use Rattle.misp_format.specs.Found.{hits_text};
 ghost use Rattle.misp_core.specs.Text.{answer_text, has_octets, reply_text};
 
 use crate::event_list::put_event_list;
-use misp_core::{Answer, Reply};
-use misp_format::{put_event, put_groups, write_refusal, write_saved, write_taken};
+use misp_core::{Answer, Hits, Reply};
+use misp_format::{
+    put_event, put_events, put_groups, put_hits, put_index, write_refusal, write_saved, write_taken,
+};
 use misp_ids::NoMemory;
 use misp_package::package_bytes;
 use misp_wanted::manifest_bytes;
@@ -28,6 +31,14 @@ pub fn put_number(out: &mut Vec<u8>, alloc: Global, number: usize) -> Result<(),
     put_text(out, text.as_str())
 }
 
+fn put_found(out: &mut Vec<u8>, alloc: Global, hits: &Hits) -> Result<(), NoMemory>
+    ensures { OnOk result (out.new.items
+        ≡ out.old.items ++ hits_text hits.now.group_names hits.now.attributes) }
+{
+    let names = hits.group_names.as_slice();
+    put_hits(out, alloc, names, hits.attributes.as_slice())
+}
+
 fn put_answer(out: &mut Vec<u8>, alloc: Global, answer: &Answer) -> Result<(), NoMemory>
     ensures { OnOk result (out.new.items ≡ out.old.items ++ answer_text answer.now) }
 {
@@ -38,6 +49,9 @@ fn put_answer(out: &mut Vec<u8>, alloc: Global, answer: &Answer) -> Result<(), N
             stamp,
         } => Ok(out.extend_from_slice(&write_saved(alloc, *elements, event, *stamp)?)?),
         Answer::Event(event) => put_event(out, alloc, event),
+        Answer::Index(events) => put_index(out, alloc, events.as_slice()),
+        Answer::Hits(hits) => put_found(out, alloc, hits),
+        Answer::Events(events) => put_events(out, alloc, events.as_slice()),
         Answer::Groups(groups) => put_groups(out, alloc, groups.as_slice()),
         Answer::Taken(count) => Ok(out.extend_from_slice(&write_taken(alloc, *count)?)?),
         Answer::Parts(events) => put_event_list(out, alloc, events.as_slice()),

@@ -3,11 +3,12 @@
 ghost use Rattle.std.specs.Prelude.{◌≡◌};
 ghost use Rattle.misp_api.specs.Path.{ids_of};
 ghost use Rattle.misp_api.specs.declared.route.Route.TheVariants as routes;
-ghost use Rattle.misp_api.specs.Route.{path_of, event_in, object_in, reference_in, attribute_in, tagged_in, copy_in, parent_in, alone, element_route, route_with, route_by, part_route, route_as, at_method, method_of};
+ghost use Rattle.misp_api.specs.Route.{path_of, query_of, with_query, event_in, object_in, reference_in, attribute_in, tagged_in, copy_in, parent_in, alone, element_route, route_with, route_by, part_route, route_as, at_method, method_of};
 
 use crate::path_ids::{PathIds, ids_of};
 use crate::path_kind::PathKind;
 use crate::path_part::part_of;
+use crate::query::{PageQuery, page_query};
 use misp_elem::Place;
 use misp_ids::{ElemId, EventId, OrgId};
 use misp_model::{AttributePlace, TaggedPlace};
@@ -38,6 +39,12 @@ pub enum Route {
     /// Accepts a proposal, or discards it.
     Judge(EventId, bool),
     Sight(EventId, AttributePlace),
+    /// A page of the events that are seen.
+    Index(PageQuery),
+    /// Whole events that are searched for.
+    SearchEvents,
+    /// Attributes that are searched for.
+    SearchAttributes,
     /// The groups that concern who asks.
     Groups,
     /// A group that is added.
@@ -67,6 +74,16 @@ pub(crate) fn path_of(target: &str) -> &str
     match target.split_once('?') {
         Some((path, _)) => path,
         None => target,
+    }
+}
+
+/// What stands behind the first `?`.
+pub(crate) fn query_of(target: &str) -> &str
+    ensures { result.now ≡ query_of target.now }
+{
+    match target.split_once('?') {
+        Some((_, query)) => query,
+        None => "",
     }
 }
 
@@ -203,6 +220,9 @@ fn route_with(kind: PathKind, ids: PathIds) -> Option<Route>
 {
     match kind {
         PathKind::AddEvent => alone(Route::AddEvent, ids),
+        PathKind::Index => alone(Route::Index(page_query("")), ids),
+        PathKind::SearchEvents => alone(Route::SearchEvents, ids),
+        PathKind::SearchAttributes => alone(Route::SearchAttributes, ids),
         PathKind::Groups => alone(Route::Groups, ids),
         PathKind::AddGroup => alone(Route::AddGroup, ids),
         PathKind::EditGroup => alone(Route::EditGroup, ids),
@@ -289,12 +309,23 @@ pub(crate) fn at_method(method: &str, route: Route) -> Route
     }
 }
 
+/// With the page that the query asks for, where it is a list of pages.
+pub(crate) fn with_query(query: &str, route: Route) -> Route
+    ensures { result ≡ with_query query.now route }
+{
+    match route {
+        Route::Index(_) => Route::Index(page_query(query)),
+        _ => route,
+    }
+}
+
 /// The method by which it is asked for.
 pub(crate) fn method_of(route: &Route) -> &'static str
     ensures { result.now ≡ method_of route.now }
 {
     match route {
         Route::ViewEvent(_, _)
+        | Route::Index(_)
         | Route::Groups
         | Route::SyncGroups
         | Route::SyncEvents

@@ -7,7 +7,7 @@ ghost use Rattle.misp_api.specs.Route.{path_route, route_of};
 ghost use Rattle.misp_api.specs.Router.{rows_of, texts_of};
 
 use crate::path_kind::{PATHS, PathKind};
-use crate::route::{Route, at_method, method_of, path_of, route_as};
+use crate::route::{Route, at_method, method_of, path_of, query_of, route_as, with_query};
 use matchit::{InsertError, Router};
 use misp_ids::{NoMemory, RuleName};
 use std::alloc::Global;
@@ -76,7 +76,7 @@ impl Routes {
     {
         match self.path_route(path_of(target)) {
             Some(route) => {
-                let route = at_method(method, route);
+                let route = with_query(query_of(target), at_method(method, route));
                 if method == method_of(&route) {
                     Ok(route)
                 } else {

@@ -1,6 +1,5 @@
 -- How a command ends, by where it came to an end.
-use Rattle.std.proofs.Common.{◌≡◌, ℕ, List, ◌<◌, true, nat_lt, length, Option, None, Some, Ok, Err, IfSome, IfOk, inl, inr, refl, sym, subst, arith}
-use Rattle.std.proofs.lemmas.Bool.Decides.{nat_tests}
+use Rattle.std.proofs.Common.{◌≡◌, ℕ, List, true, Option, None, Some, Ok, Err, IfSome, IfOk, inl, inr, refl, sym, subst}
 use Rattle.std.specs.Io.KnownBytes.{Appends}
 use Rattle.misp_script.specs.Faults.{Reading}
 use Rattle.misp_effects.specs.KeeperStates.{OneFailed}
@@ -10,11 +9,10 @@ use Rattle.misp_net.specs.Opening.{IsStoppedBy}
 use Rattle.misp_net.specs.Passing.{Trail}
 use Rattle.misp_net.specs.Prelude.{Description, Host, KeeperState}
 use Rattle.misp_net.specs.declared.places.NetFault.{NetFault}
-use Rattle.misp_words.specs.Words.{CommandData, Serve, ServeData, Sync, SyncData}
+use Rattle.misp_words.specs.Words.{CommandData, Gen, Net, Serve, ServeData, Sync, SyncData}
 use Rattle.misp_app.specs.Checking.{EndsCheck, ok_line}
-use Rattle.misp_app.specs.Ends.{IsFaultEnd, IsHostEnd, IsPutEnd, IsReadEnd, IsSyncEnd}
-use Rattle.misp_app.specs.Limits.{source_limit}
-use Rattle.misp_app.specs.Source.{described, host_named, net_status, status_of}
+use Rattle.misp_app.specs.Ends.{IsFaultEnd, IsHostEnd, IsPutEnd, IsSyncEnd}
+use Rattle.misp_app.specs.Source.{described, host_named, net_status, source_of, status_of}
 use Rattle.misp_app.specs.Status.{EndsAs, Wrote, status_after}
 use Rattle.misp_app.specs.Synchronising.{Dialled, EndsSync, HasSyncLine, HasSynced, IsCutSync, peer_address}
 use Rattle.misp_app.specs.declared.status.Status.{Status}
@@ -92,32 +90,30 @@ sync_ends words decided Status.TooMuch end is = absurd end
 pub named_done : (name : List ℕ) (net : Description) (host : Host) → Some host ≡ host_named name net → net_status name net ≡ Status.Done
 named_done name net host is = rw (← is) refl
 
--- ---- where it was not read
+-- what is generated is run as a script is
+pub generated_ends : (count : ℕ) (decided status : Status) → EndsAs status Net decided → EndsAs status (Gen count) decided
+generated_ends count decided Status.Done end = end
+generated_ends count decided Status.Stopped end = end
+generated_ends count decided Status.Usage end = end
+generated_ends count decided Status.ReadFault end = end
+generated_ends count decided Status.WriteFault end = end
+generated_ends count decided Status.BadDescription end = end
+generated_ends count decided Status.NoSuchInstance end = end
+generated_ends count decided Status.DoorFault end = end
+generated_ends count decided Status.OutOfMemory end = end
+generated_ends count decided Status.TooMuch end = end
+generated_ends count decided Status.KeeperFault end = end
+generated_ends count decided Status.BadRow end = end
 
-too_long : (left : List ℕ) → source_limit < length left → nat_lt source_limit (length left) ≡ true
-too_long left more = grind (arith, nat_tests)
+-- ---- memory ran out
 
-pub read_ends : (o : Option CommandData) (source : Option (List ℕ)) (status : Status) → IsReadEnd status → (status ≡ Status.TooMuch → IfSome source (λ left. source_limit < length left))
-    → IfSome o (λ command. IfSome source (λ left. EndsAs status command (status_of command left)))
-read_ends None source status end long = tt
-read_ends (Some command) None status end long = tt
-read_ends (Some command) (Some left) Status.ReadFault end long = tt
-read_ends (Some command) (Some left) Status.OutOfMemory end long = tt
-read_ends (Some command) (Some left) Status.TooMuch end long = rw (too_long left (long refl)) refl
-read_ends (Some command) (Some left) Status.Done end long = absurd end
-read_ends (Some command) (Some left) Status.Stopped end long = absurd end
-read_ends (Some command) (Some left) Status.Usage end long = absurd end
-read_ends (Some command) (Some left) Status.WriteFault end long = absurd end
-read_ends (Some command) (Some left) Status.BadDescription end long = absurd end
-read_ends (Some command) (Some left) Status.NoSuchInstance end long = absurd end
-read_ends (Some command) (Some left) Status.DoorFault end long = absurd end
-read_ends (Some command) (Some left) Status.KeeperFault end long = absurd end
-read_ends (Some command) (Some left) Status.BadRow end long = absurd end
+memory_ends : (command : CommandData) (source : Option (List ℕ)) → IfSome source (λ left. EndsAs Status.OutOfMemory command (status_of command left))
+memory_ends command None = tt
+memory_ends command (Some left) = tt
 
-pub out_of_memory : (o : Option CommandData) (source : Option (List ℕ)) → IfSome o (λ command. IfSome source (λ left. EndsAs Status.OutOfMemory command (status_of command left)))
+pub out_of_memory : (o : Option CommandData) (source : Option (List ℕ)) → IfSome o (λ command. IfSome (source_of (Some command) source) (λ left. EndsAs Status.OutOfMemory command (status_of command left)))
 out_of_memory None source = tt
-out_of_memory (Some command) None = tt
-out_of_memory (Some command) (Some left) = tt
+out_of_memory (Some command) source = memory_ends command (source_of (Some command) source)
 
 -- ---- why a script was not run to its end
 

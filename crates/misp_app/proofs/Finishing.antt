@@ -1,5 +1,5 @@
 -- Over keepers that hold nothing, where nothing fails, a command stops only where memory runs out.
-use Rattle.std.proofs.Common.{◌≡◌, ℕ, zero, suc, List, [], ◌∷◌, ◌<◌, ◌≤◌, ◌⊎◌, true, nat_lt, length, take, Option, Some, None, refl, sym, ◌∙◌, ap, subst, inl, inr, arith, IfSome, Ok, Err, option_map}
+use Rattle.std.proofs.Common.{◌≡◌, ℕ, zero, suc, List, [], ◌∷◌, ◌<◌, ◌≤◌, ◌⊎◌, true, nat_lt, if◌then◌else◌, length, take, Option, Some, None, refl, sym, ◌∙◌, ap, subst, inl, inr, arith, IfSome, Ok, Err, option_map}
 use Rattle.std.proofs.lemmas.Bool.{cases_Bool}
 use Rattle.std.proofs.lemmas.Bool.Decides.{nat_tests}
 use Rattle.misp_outside.proofs.Reporting.{reported_at}
@@ -13,12 +13,12 @@ use Rattle.misp_net.specs.History.{empty_tables}
 use Rattle.misp_net.specs.Opening.{AreKeptOrOpened, IsKeptOrOpened, opened_state, opened_states}
 use Rattle.misp_net.specs.Prelude.{Description, Host, KeeperState, Tell, nothing_held}
 use Rattle.misp_net.proofs.Openings.{nothing_is_sound}
-use Rattle.misp_words.specs.Words.{CommandData, Net, Check, Serve, Sync}
+use Rattle.misp_words.specs.Words.{CommandData, Net, Check, Serve, Sync, Gen}
 use Rattle.misp_app.specs.Causes.{Faults, HasCauses, IsFaultless}
 use Rattle.misp_app.specs.declared.status.Status.{Status}
 use Rattle.misp_app.specs.Status.{EndsAs, Finishes, IsUnopened}
 use Rattle.misp_app.specs.Limits.{source_limit}
-use Rattle.misp_app.specs.Source.{described, status_of, status_over, IsUnsound, HasFailed, HoldNothing}
+use Rattle.misp_app.specs.Source.{described, source_of, status_of, status_over, IsUnsound, IsWithin, HasFailed, HoldNothing}
 
 -- who held nothing holds nothing, where it still reports what it holds
 still_nothing : (s t : KeeperState) (now : Held) → s.held ≡ Some nothing_held → IsKeptOrOpened s t → t.held ≡ Some now → t.held ≡ Some nothing_held
@@ -87,37 +87,58 @@ finishes (Sync words) decided Status.Stopped end read write door keeper bad = in
 finishes (Serve words) decided Status.Stopped end read write door keeper bad = inr (inr end)
 finishes Net decided Status.Stopped end read write door keeper bad = inr (inr end)
 finishes Check decided Status.Stopped end read write door keeper bad = inr (inr end)
+finishes (Gen count) decided Status.Stopped end read write door keeper bad = inr (inr end)
 
-pub finished : (o : Option CommandData) (source : Option (List ℕ)) (status : Status) (old new : List KeeperState) (before after : Faults) → IsFaultless old new before after → HoldNothing old → AllReport new
-    → (IsUnopened status → AreKeptOrOpened old new) → HasCauses source old new before after status → IfSome o (λ command. IfSome source (λ left. EndsAs status command (status_of command left)))
-    → IfSome o (λ command. IfSome source (λ left. Finishes command (status_of command left) status))
-finished None source status old new before after whole empty all kept causes ends = tt
-finished (Some command) None status old new before after whole empty all kept causes ends = tt
-finished (Some command) (Some left) status old new before after whole empty all kept causes ends =
-    finishes command (status_of command left) status ends (λ is. whole.source (causes.read is)) (λ is. whole.sink (causes.write is)) (λ is. whole.door (causes.door is))
-    (λ is. whole.keepers (failed_one (described left) old new (causes.keeper is))) (λ is. unsound_none (described left) old new empty all (kept (subst IsUnopened (sym is) tt)) (causes.bad_row is))
+module _ (status : Status) (old new : List KeeperState) (before after : Faults) (whole : IsFaultless old new before after) (empty : HoldNothing old) (all : AllReport new)
+    (kept : IsUnopened status → AreKeptOrOpened old new) where
+  -- over its source
+  finished_over : (command : CommandData) (source : Option (List ℕ)) → HasCauses source old new before after status → IfSome source (λ left. EndsAs status command (status_of command left))
+      → IfSome source (λ left. Finishes command (status_of command left) status)
+  finished_over command None causes ends = tt
+  finished_over command (Some left) causes ends =
+      finishes command (status_of command left) status ends (λ is. whole.source (causes.read is)) (λ is. whole.sink (causes.write is)) (λ is. whole.door (causes.door is))
+      (λ is. whole.keepers (failed_one (described left) old new (causes.keeper is))) (λ is. unsound_none (described left) old new empty all (kept (subst IsUnopened (sym is) tt)) (causes.bad_row is))
+
+  pub finished : (o : Option CommandData) (left : Option (List ℕ)) → HasCauses (source_of o left) old new before after status
+      → IfSome o (λ command. IfSome (source_of (Some command) left) (λ l. EndsAs status command (status_of command l)))
+      → IfSome o (λ command. IfSome (source_of (Some command) left) (λ l. Finishes command (status_of command l) status))
+  finished None left causes ends = tt
+  finished (Some command) left causes ends = finished_over command (source_of (Some command) left) causes ends
 
 below : (m n : ℕ) → nat_lt m n ≡ true → m < n
 below m n is = grind (arith, nat_tests)
 
 -- a source that is not too long ends as its description says
-status_within : (command : CommandData) (source : List ℕ) → length source ≤ source_limit → status_of command source ≡ status_over command (described source)
-status_within command source short = elim (cases_Bool (nat_lt source_limit (length source))) [
+status_short : (command : CommandData) (source : List ℕ) → length source ≤ source_limit
+    → (if nat_lt source_limit (length source) then Status.TooMuch else status_over command (described source)) ≡ status_over command (described source)
+status_short command source short = elim (cases_Bool (nat_lt source_limit (length source))) [
   | inl more ↦ absurd (let lt : source_limit < length source = below source_limit (length source) more in omega (arith, lt, short))
   | inr less ↦ rw less refl
 ]
+
+status_within : (command : CommandData) (source : List ℕ) → IsWithin command source → status_of command source ≡ status_over command (described source)
+status_within (Gen count) source within = refl
+status_within Net source within = status_short Net source within
+status_within Check source within = status_short Check source within
+status_within (Serve words) source within = status_short (Serve words) source within
+status_within (Sync words) source within = status_short (Sync words) source within
 
 -- what holds of the bytes that were read holds of what the source had left
 pub of_left : (o : Option (List ℕ)) (bytes here : List ℕ) (P : List ℕ → Type 0) → IfSome o (λ left. bytes ≡ left) → here ≡ bytes → P here → IfSome o P
 of_left None bytes here P is same holds = tt
 of_left (Some left) bytes here P is same holds = subst P (same ∙ is) holds
 
+-- by the command that the words ask for
+pub of_source : (o : Option CommandData) (command : CommandData) (left : Option (List ℕ)) (bytes here : List ℕ) (P : List ℕ → Type 0)
+    → o ≡ Some command → IfSome (source_of (Some command) left) (λ l. bytes ≡ l) → here ≡ bytes → P here → IfSome (source_of o left) P
+of_source o command left bytes here P read is same holds = subst (λ c. IfSome (source_of c left) P) (sym read) (of_left (source_of (Some command) left) bytes here P is same holds)
+
 -- how a command ended over these bytes is how the words ended over the source
 pub status_read : (o : Option CommandData) (command : CommandData) (left : Option (List ℕ)) (bytes here : List ℕ) (status : Status)
-    → o ≡ Some command → IfSome left (λ l. bytes ≡ l) → here ≡ bytes → length bytes ≤ source_limit → EndsAs status command (status_over command (described here))
-    → IfSome o (λ c. IfSome left (λ l. EndsAs status c (status_of c l)))
+    → o ≡ Some command → IfSome (source_of (Some command) left) (λ l. bytes ≡ l) → here ≡ bytes → IsWithin command bytes → EndsAs status command (status_over command (described here))
+    → IfSome o (λ c. IfSome (source_of (Some c) left) (λ l. EndsAs status c (status_of c l)))
 status_read o command left bytes here status read is same short how =
     let P : CommandData → List ℕ → Type 0 = λ c l. EndsAs status c (status_of c l) in
-    let within : length here ≤ source_limit = rw same short in
+    let within : IsWithin command here = rw same short in
     let ended : P command here = rw (status_within command here within) how in
-    subst (λ o. IfSome o (λ c. IfSome left (P c))) (sym read) (of_left left bytes here (P command) is same ended)
+    subst (λ k. IfSome k (λ c. IfSome (source_of (Some c) left) (P c))) (sym read) (of_left (source_of (Some command) left) bytes here (P command) is same ended)

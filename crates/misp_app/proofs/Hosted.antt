@@ -13,7 +13,7 @@ use Rattle.misp_app.specs.Hosting.{HasLinesServed, HasServed, IsReady}
 use Rattle.misp_app.specs.Source.{described, host_named}
 use Rattle.misp_app.specs.Status.{HasKeepers, status_after}
 use Rattle.misp_app.specs.Limits.{least_keepers}
-use Rattle.misp_words.specs.Words.{Check, CommandData, Net, Serve, ServeData, Sync, command_data, serve_data}
+use Rattle.misp_words.specs.Words.{Check, CommandData, Gen, Net, Serve, ServeData, Sync, command_data, serve_data}
 use Rattle.misp_words.specs.declared.command.Command.{Command}
 use Rattle.misp_words.specs.declared.command.ServeWords.{ServeWords}
 use Rattle.misp_app.specs.declared.serving.ServeFault.TheVariants as faults
@@ -118,3 +118,4 @@ enough_keepers (Some Net) count some = some
 enough_keepers (Some Check) count some = some
 enough_keepers (Some (Serve words)) count some = omega (arith, some)
 enough_keepers (Some (Sync words)) count some = omega (arith, some)
+enough_keepers (Some (Gen events)) count some = some

@@ -1,12 +1,12 @@
 -- Why a run ends in a fault, and what it leaves as it was.
-use Rattle.std.specs.Prelude.{◌≡◌, ◌≢◌, ◌≤◌, ℕ, ◌<◌, List, length, map, IfSome, Option, Some}
+use Rattle.std.specs.Prelude.{◌≡◌, ◌≤◌, ℕ, ◌<◌, List, length, map, IfSome, Option, Some}
 use Rattle.misp_outside.specs.Causes.{Rose, StaysUnless}
 use Rattle.misp_effects.specs.KeeperStates.{OneFailed}
 use Rattle.misp_net.specs.Prelude.{KeeperState}
-use Rattle.misp_words.specs.Words.{CommandData, Check, Net}
+use Rattle.misp_words.specs.Words.{CommandData, Check}
 use Rattle.misp_app.specs.Limits.{source_limit}
 use Rattle.misp_app.specs.Source.{described, HasFailed, IsUnsound, OthersStay}
-use Rattle.misp_app.specs.Status.{HasDial, HasDoor, IsStill, IsUnasked}
+use Rattle.misp_app.specs.Status.{HasDial, HasDoor, HasScript, IsStill, IsUnasked}
 use Rattle.misp_app.specs.declared.status.Status.{Status}
 use Rattle.misp_app.specs.declared.status.Status.TheVariants.{ReadFault, WriteFault, DoorFault, TooMuch, KeeperFault, BadRow}
 
@@ -54,7 +54,7 @@ pub record LeavesAlone {K C D L T : Type 0} (state : K → KeeperState)
   pub others : IfSome source (λ left. OthersStay (described left) (map state old) (map state new))
   pub still : IsStill status → new ≡ old
   pub checked : command ≡ Some Check → new ≡ old
-  pub untouched : command ≢ Some Net → carry_left ≡ carry
+  pub untouched : (HasScript command → ⊥) → carry_left ≡ carry
   pub undialled : (HasDial command → ⊥) → dial_left ≡ dial
   pub unasked : IsUnasked status → dial_left ≡ dial
   pub indoors : (HasDoor command → ⊥) → (door_left ≡ door) × (clock_left ≡ clock)

@@ -1,5 +1,5 @@
 -- An instance, served over the first keeper.
-use Rattle.std.specs.Prelude.{◌≡◌, ◌≢◌, ℕ, true, List, [], ◌∷◌, All, Option, Some, Result, Ok, Err}
+use Rattle.std.specs.Prelude.{◌≡◌, ◌≢◌, ℕ, List, [], ◌∷◌, All, Option, Some, Result, Ok, Err}
 use Rattle.misp_outside.specs.Wires.{Connection}
 use Rattle.misp_effects.specs.KeeperStates.{AreKept}
 use Rattle.misp_store.specs.Sharing.{WereSound}

@@ -1,5 +1,5 @@
 -- What a source describes, and the line that tells where it does not.
-use Rattle.std.specs.Prelude.{◌≡◌, ℕ, true, List, map, length, take, drop, nat_lt, Ok, Err, if◌then◌else◌, Option, Some, option_map}
+use Rattle.std.specs.Prelude.{◌≡◌, ◌≤◌, ℕ, true, List, map, length, take, drop, nat_lt, Ok, Err, if◌then◌else◌, Option, Some, option_map}
 use Rattle.std.specs.Option.{option_map_or}
 use Rattle.misp_script.specs.declared.fault.DescFault.{DescFault}
 use Rattle.misp_script.specs.Faults.{Reading}
@@ -10,7 +10,8 @@ use Rattle.misp_store.specs.Sharing.{may_be_unsound}
 use Rattle.misp_net.specs.Prelude.{Description, Host, KeeperState, described_hosts, description_at, host_at, nothing_held}
 use Rattle.misp_app.specs.declared.status.Status.{Status}
 use Rattle.misp_app.specs.declared.status.Status.TheVariants.{Done, BadDescription, NoSuchInstance, TooMuch}
-use Rattle.misp_words.specs.Words.{CommandData, Serve, Sync}
+use Rattle.misp_words.specs.Words.{CommandData, Gen, Serve, Sync}
+use Rattle.misp_generated.specs.Script.{source_text}
 use Rattle.misp_app.specs.Limits.{source_limit}
 use Rattle.misp_app.specs.Streams.{fault_line}
 
@@ -35,16 +36,27 @@ abbrev pub served_status : List ℕ → Reading Description → Status
 served_status name (Ok net) = net_status name net
 served_status name (Err fault) = BadDescription
 
+-- the source of a run: that of the generated network, or what is read
+abbrev pub source_of : Option CommandData → Option (List ℕ) → Option (List ℕ)
+source_of (Some (Gen count)) left = Some (source_text count)
+source_of command left = left
+
 -- how a command ends over what is described, unless a fault stops it or memory runs out
 abbrev pub status_over : CommandData → Reading Description → Status
 status_over (Serve words) read = served_status words.name read
 status_over (Sync words) read = served_status words.name read
 status_over command read = described_status read
 
--- the same over this source
+-- the same over this source; one that is generated is never too long
 abbrev pub status_of : CommandData → List ℕ → Status
+status_of (Gen count) source = described_status (described source)
 status_of command source =
     if nat_lt source_limit (length source) then TooMuch else status_over command (described source)
+
+-- a source that is read is not too long
+abbrev pub IsWithin : CommandData → List ℕ → Type 0
+IsWithin (Gen count) source = Unit {0}
+IsWithin command source = length source ≤ source_limit
 
 -- of a description that has a fault, the line of its first fault was written so
 abbrev pub IsTold : Reading Description → (List ℕ → Type 0) → Type 0

@@ -3,7 +3,7 @@ use Rattle.std.specs.Prelude.{◌≡◌, ◌⊎◌, ℕ, ◌<◌, ◌≤◌, Lis
 use Rattle.std.specs.Io.KnownBytes.{Appends}
 use Rattle.misp_http.specs.Streams.{AppendsSome}
 use Rattle.misp_net.specs.declared.places.NetFault.{NetFault}
-use Rattle.misp_words.specs.Words.{CommandData, Serve, Sync}
+use Rattle.misp_words.specs.Words.{CommandData, Gen, Net, Serve, Sync}
 use Rattle.misp_app.specs.Limits.{least_keepers}
 use Rattle.misp_app.specs.declared.status.Status.{Status}
 use Rattle.misp_app.specs.declared.status.Status.TheVariants.{Done, Stopped, Usage, ReadFault, WriteFault, BadDescription, NoSuchInstance, DoorFault, OutOfMemory, TooMuch, KeeperFault, BadRow}
@@ -103,6 +103,12 @@ HasDoor command = ⊥
 abbrev pub HasDial : Option CommandData → Type 0
 HasDial (Some (Sync words)) = Unit {0}
 HasDial command = ⊥
+
+-- a script is run
+abbrev pub HasScript : Option CommandData → Type 0
+HasScript (Some Net) = Unit {0}
+HasScript (Some (Gen count)) = Unit {0}
+HasScript command = ⊥
 
 -- there are as many keepers as a description has instances at most, or one of the instance that
 -- is served or synchronised

@@ -1,5 +1,5 @@
 -- A synchronisation of an instance over one of its links, and the line that tells it.
-use Rattle.std.specs.Prelude.{◌≡◌, ◌⊎◌, ℕ, true, List, [], ◌∷◌, slice_get, Option, Some, None, IfSome}
+use Rattle.std.specs.Prelude.{◌≡◌, ◌⊎◌, ℕ, List, [], ◌∷◌, slice_get, Option, Some, None, IfSome}
 use Rattle.std.specs.Option.{option_map_or}
 use Rattle.misp_ids.specs.declared.label.Direction.{Direction}
 use Rattle.misp_orgs.specs.Admin.{link_of}

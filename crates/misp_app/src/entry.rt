@@ -9,32 +9,31 @@ ghost use Rattle.misp_effects.specs.KeeperStates.{AllReport};
 ghost use Rattle.misp_script.specs.Source.{script_part};
 ghost use Rattle.misp_net.specs.Carrying.{carried};
 ghost use Rattle.misp_net.specs.Opening.{AreKeptOrOpened};
-ghost use Rattle.misp_words.specs.Words.{ServeData, SyncData, Net, Check, Serve, Sync, command_of};
+ghost use Rattle.misp_words.specs.Words.{ServeData, SyncData, Net, Check, Serve, Sync, Gen, command_of};
+ghost use Rattle.misp_generated.specs.Script.{source_text};
 ghost use Rattle.misp_app.specs.Causes.{faults, HasCauses, IsFaultless, LeavesAlone};
 ghost use Rattle.misp_app.specs.Checking.{ok_line, EndsCheck};
-ghost use Rattle.misp_app.specs.Ends.{IsRunEnd};
 ghost use Rattle.misp_app.specs.Hosting.{HasLinesServed, HasServed, IsReady};
 ghost use Rattle.misp_app.specs.Limits.{source_limit, least_keepers};
-ghost use Rattle.misp_app.specs.Net.{EndsRun};
-ghost use Rattle.misp_app.specs.Source.{described, described_status, status_of, IsTold, IsUnsound, HasFailed, OthersStay, HoldNothing, host_named};
-ghost use Rattle.misp_app.specs.Status.{EndsAs, Finishes, IsSilent, IsStill, IsUnasked, IsUnopened, HasDial, HasDoor, HasKeepers, TellsFault, WritesNothing, Wrote};
+ghost use Rattle.misp_app.specs.Net.{EndsGenerated, EndsRun};
+ghost use Rattle.misp_app.specs.Source.{described, source_of, status_of, IsTold, IsUnsound, HasFailed, OthersStay, HoldNothing, host_named};
+ghost use Rattle.misp_app.specs.Status.{EndsAs, Finishes, IsStill, IsUnasked, IsUnopened, HasDial, HasDoor, HasKeepers, HasScript, TellsFault, WritesNothing, Wrote};
 ghost use Rattle.misp_app.specs.Synchronising.{EndsSync, HasSyncLine, HasSynced, IsCutSync, dialled, peer_address};
 
 use crate::checking::check_source;
-use crate::fault::{put, tell_fault};
 use crate::hosting::serve_source;
-use crate::reading::read_all;
+use crate::reading::source_bytes;
+use crate::running::{Shown, run_source};
 use crate::synchronising::sync_source;
 use crate::{KEEPERS, MAX_SOURCE, Status};
 use misp_ids::LAST_SECOND;
-use misp_net::run_net;
 use misp_outside::{Carry, Clock, Dial, Door, Keeper, Sink, Source};
-use misp_script::{DescFault, read_description, split_source};
 use misp_words::{Command, Words, WordsFault};
 use std::alloc::Global;
 
 /// Does all that the program does: reads the source, runs its script over the keepers and writes
-/// the lines, checks its description, or serves or synchronises an instance of it.
+/// the lines, checks its description, or serves or synchronises an instance of it; or runs a
+/// generated network, and writes a summary.
 #[tactic(auto, unfolding(misp_ids::specs::Moments::last_stamp))]
 pub fn run<S: Source, W: Sink, K: Keeper, C: Carry, D: Door, L: Dial, T: Clock>(
     alloc: Global,
@@ -59,6 +58,18 @@ pub fn run<S: Source, W: Sink, K: Keeper, C: Carry, D: Door, L: Dial, T: Clock>(
         (carried (C.faults carry.old) (C.passed carry.old))
         (carried (C.faults carry.new) (C.passed carry.new))
         (W.written sink.old) (W.written sink.new))) }
+
+    // A generated network is run the same way, and what its lines come to is summed up. The source
+    // is not read.
+    ensures generated { (count : ℕ) → command_of words.now ≡ Some (Gen count) →
+        IfOk (described (source_text count)) (λ net.
+        EndsGenerated count result net (script_part (source_text count))
+        (map K.state keepers.old.items) (map K.state keepers.new.items)
+        (carried (C.faults carry.old) (C.passed carry.old))
+        (carried (C.faults carry.new) (C.passed carry.new))
+        (W.written sink.old) (W.written sink.new)) }
+    ensures unread { (count : ℕ) → command_of words.now ≡ Some (Gen count) →
+        source.new ≡ source.old }
 
     // Connections are served one after another, each by a session on what the one before it left.
     ensures served { (asked : ServeData) (time word : ℕ) (back coming : List Connection) →
@@ -86,13 +97,15 @@ pub fn run<S: Source, W: Sink, K: Keeper, C: Carry, D: Door, L: Dial, T: Clock>(
     // whatever the command.
     ensures checked { command_of words.now ≡ Some Check → EndsCheck result
         (S.left source.old) (W.written sink.old) (W.written sink.new) }
-    ensures told { TellsFault result → IfSome (S.left source.old) (λ left. IsTold
+    ensures told { TellsFault result →
+        IfSome (source_of (command_of words.now) (S.left source.old)) (λ left. IsTold
         (described left) (Wrote result (W.written sink.old) (W.written sink.new))) }
 
     // The words and the source decide how it ends, where nothing stops it before.
     ensures usage { result ≡ Status.Usage ↔ command_of words.now ≡ None }
     ensures status { IfSome (command_of words.now) (λ command.
-        IfSome (S.left source.old) (λ left. EndsAs result command (status_of command left))) }
+        IfSome (source_of (Some command) (S.left source.old))
+        (λ left. EndsAs result command (status_of command left))) }
 
     // Over keepers that hold nothing and report that to the end, where nothing fails, only want of
     // memory stops it.
@@ -104,10 +117,11 @@ pub fn run<S: Source, W: Sink, K: Keeper, C: Carry, D: Door, L: Dial, T: Clock>(
         (C.faults carry.new) (L.faults dial.new)) →
         HoldNothing (map K.state keepers.old.items) →
         AllReport (map K.state keepers.new.items) → IfSome (command_of words.now) (λ command.
-        IfSome (S.left source.old) (λ left. Finishes command (status_of command left) result)) }
+        IfSome (source_of (Some command) (S.left source.old))
+        (λ left. Finishes command (status_of command left) result)) }
 
     // A fault is told only where it was met, and one of the source as nothing else.
-    ensures causes { HasCauses (S.left source.old)
+    ensures causes { HasCauses (source_of (command_of words.now) (S.left source.old))
         (map K.state keepers.old.items) (map K.state keepers.new.items)
         (faults (S.faults source.old) (W.faults sink.old) (D.faults door.old)
         (C.faults carry.old) (L.faults dial.old))
@@ -121,7 +135,8 @@ pub fn run<S: Source, W: Sink, K: Keeper, C: Carry, D: Door, L: Dial, T: Clock>(
     ensures unopened { IsUnopened result →
         (command_of words.now ≢ Some Check)
         × AreKeptOrOpened (map K.state keepers.old.items) (map K.state keepers.new.items) }
-    ensures alone { LeavesAlone K.state (command_of words.now) (S.left source.old)
+    ensures alone { LeavesAlone K.state (command_of words.now)
+        (source_of (command_of words.now) (S.left source.old))
         keepers.old.items keepers.new.items carry.old carry.new door.old door.new
         dial.old dial.new clock.old clock.new result }
 
@@ -154,22 +169,33 @@ fn run_command<S: Source, W: Sink, K: Keeper, C: Carry, D: Door, L: Dial, T: Clo
         (carried (C.faults carry.old) (C.passed carry.old))
         (carried (C.faults carry.new) (C.passed carry.new))
         (W.written sink.old) (W.written sink.new))) }
+    ensures generated { (count : ℕ) → command_of words.now ≡ Some (Gen count) →
+        IfOk (described (source_text count)) (λ net.
+        EndsGenerated count result net (script_part (source_text count))
+        (map K.state keepers.old.items) (map K.state keepers.new.items)
+        (carried (C.faults carry.old) (C.passed carry.old))
+        (carried (C.faults carry.new) (C.passed carry.new))
+        (W.written sink.old) (W.written sink.new)) }
     ensures later { C.faults carry.old ≤ C.faults carry.new }
     ensures usage { result ≡ Status.Usage ↔ command_of words.now ≡ None }
     ensures status { IfSome (command_of words.now) (λ command.
-        IfSome (S.left source.old) (λ left. EndsAs result command (status_of command left))) }
+        IfSome (source_of (Some command) (S.left source.old))
+        (λ left. EndsAs result command (status_of command left))) }
     ensures read { result ≡ Status.ReadFault → Rose (S.faults source.old) (S.faults source.new) }
     ensures stays { StaysUnless (S.faults source.old) (S.faults source.new)
         (result ≡ Status.ReadFault) }
     ensures write { result ≡ Status.WriteFault → Rose (W.faults sink.old) (W.faults sink.new) }
     ensures too_much { result ≡ Status.TooMuch →
-        IfSome (S.left source.old) (λ left. source_limit < length left) }
+        IfSome (source_of (command_of words.now) (S.left source.old))
+        (λ left. source_limit < length left) }
     ensures door { result ≡ Status.DoorFault → Rose (D.faults door.old) (D.faults door.new) }
     ensures silent { WritesNothing (command_of words.now) result →
         W.written sink.new ≡ W.written sink.old }
-    ensures keeper { result ≡ Status.KeeperFault → IfSome (S.left source.old) (λ left. HasFailed
+    ensures keeper { result ≡ Status.KeeperFault →
+        IfSome (source_of (command_of words.now) (S.left source.old)) (λ left. HasFailed
         (described left) (map K.state keepers.old.items) (map K.state keepers.new.items)) }
-    ensures bad_row { result ≡ Status.BadRow → IfSome (S.left source.old)
+    ensures bad_row { result ≡ Status.BadRow →
+        IfSome (source_of (command_of words.now) (S.left source.old))
         (λ left. IsUnsound (described left) (map K.state keepers.new.items)) }
     ensures unopened { IsUnopened result →
         (command_of words.now ≢ Some Check)
@@ -181,7 +207,8 @@ fn run_command<S: Source, W: Sink, K: Keeper, C: Carry, D: Door, L: Dial, T: Clo
         (λ _. Wrote result (W.written sink.old) (W.written sink.new) ok_line)) }
     ensures still_checked { command_of words.now ≡ Some Check →
         keepers.new.items ≡ keepers.old.items }
-    ensures told { TellsFault result → IfSome (S.left source.old) (λ left. IsTold
+    ensures told { TellsFault result →
+        IfSome (source_of (command_of words.now) (S.left source.old)) (λ left. IsTold
         (described left) (Wrote result (W.written sink.old) (W.written sink.new))) }
     ensures served { (asked : ServeData) (time word : ℕ) (back coming : List Connection) →
         command_of words.now ≡ Some (Serve asked) →
@@ -213,10 +240,13 @@ fn run_command<S: Source, W: Sink, K: Keeper, C: Carry, D: Door, L: Dial, T: Clo
     ensures unasked { IsUnasked result → dial.new ≡ dial.old }
     ensures dialling { L.faults dial.old ≤ L.faults dial.new }
     ensures places { vec_len keepers.new ≡ vec_len keepers.old }
-    ensures others { IfSome (S.left source.old) (λ left. OthersStay (described left)
+    ensures others { IfSome (source_of (command_of words.now) (S.left source.old))
+        (λ left. OthersStay (described left)
         (map K.state keepers.old.items) (map K.state keepers.new.items)) }
     ensures still { IsStill result → keepers.new.items ≡ keepers.old.items }
-    ensures untouched { command_of words.now ≢ Some Net → carry.new ≡ carry.old }
+    ensures untouched { (HasScript (command_of words.now) → ⊥) → carry.new ≡ carry.old }
+    ensures unread { (count : ℕ) → command_of words.now ≡ Some (Gen count) →
+        source.new ≡ source.old }
     ensures undialled { (HasDial (command_of words.now) → ⊥) → dial.new ≡ dial.old }
     ensures indoors { (HasDoor (command_of words.now) → ⊥) →
         (door.new ≡ door.old) × (clock.new ≡ clock.old) }
@@ -226,57 +256,17 @@ fn run_command<S: Source, W: Sink, K: Keeper, C: Carry, D: Door, L: Dial, T: Clo
         Err(WordsFault::Usage) => return Status::Usage,
         Err(WordsFault::OutOfMemory) => return Status::OutOfMemory,
     };
-    let bytes = match read_all(alloc, source) {
+    let bytes = match source_bytes(alloc, command, source) {
         Ok(bytes) => bytes,
         Err(status) => return status,
     };
     match command {
-        Command::Net => run_source(alloc, &bytes, sink, keepers, carry),
+        Command::Net => run_source(alloc, &bytes, Shown::Lines, sink, keepers, carry),
+        Command::Gen(count) => {
+            run_source(alloc, &bytes, Shown::Summary(*count), sink, keepers, carry)
+        }
         Command::Check => check_source(alloc, &bytes, sink),
         Command::Sync(words) => sync_source(alloc, &bytes, words, sink, keepers, dial),
         Command::Serve(words) => serve_source(alloc, &bytes, words, sink, keepers, door, clock),
-    }
-}
-
-// Runs what the source said.
-fn run_source<W: Sink, K: Keeper, C: Carry>(
-    alloc: Global,
-    bytes: &[u8],
-    sink: &mut W,
-    keepers: &mut Vec<K>,
-    carry: &mut C,
-) -> Status
-    requires { least_keepers ≤ vec_len keepers.old }
-    ensures net { IfOk (described bytes.now) (λ net. EndsRun result net (script_part bytes.now)
-        (map K.state keepers.old.items) (map K.state keepers.new.items)
-        (carried (C.faults carry.old) (C.passed carry.old))
-        (carried (C.faults carry.new) (C.passed carry.new))
-        (W.written sink.old) (W.written sink.new)) }
-    ensures later { C.faults carry.old ≤ C.faults carry.new }
-    ensures status { EndsAs result Net (described_status (described bytes.now)) }
-    ensures write { result ≡ Status.WriteFault → Rose (W.faults sink.old) (W.faults sink.new) }
-    ensures silent { IsSilent result → W.written sink.new ≡ W.written sink.old }
-    ensures ends { IsRunEnd result }
-    ensures keeper { result ≡ Status.KeeperFault → HasFailed (described bytes.now)
-        (map K.state keepers.old.items) (map K.state keepers.new.items) }
-    ensures bad_row { result ≡ Status.BadRow →
-        IsUnsound (described bytes.now) (map K.state keepers.new.items) }
-    ensures unopened { IsUnopened result →
-        AreKeptOrOpened (map K.state keepers.old.items) (map K.state keepers.new.items) }
-    ensures told { TellsFault result → IsTold (described bytes.now)
-        (Wrote result (W.written sink.old) (W.written sink.new)) }
-    ensures places { vec_len keepers.new ≡ vec_len keepers.old }
-    ensures others { OthersStay (described bytes.now)
-        (map K.state keepers.old.items) (map K.state keepers.new.items) }
-    ensures still { IsStill result → keepers.new.items ≡ keepers.old.items }
-{
-    let (description, script) = split_source(bytes);
-    match read_description(alloc, description) {
-        Ok(net) => match run_net(alloc, net, keepers, carry, script) {
-            Ok(lines) => put(sink, &lines),
-            Err(fault) => Status::from(fault),
-        },
-        Err(DescFault::Bad { path, need }) => tell_fault(alloc, sink, path.as_str(), need),
-        Err(DescFault::NoMemory) => Status::OutOfMemory,
     }
 }

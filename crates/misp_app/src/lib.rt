@@ -8,6 +8,7 @@ mod fault;
 mod hosting;
 mod laws;
 mod reading;
+mod running;
 mod serving;
 mod status;
 mod synchronising;

@@ -106,7 +106,8 @@ wide_alike admin rows s (Ask.SyncPart e n) built = asked_alike admin s (event_ro
 wide_alike admin rows s Ask.SyncManifest built = refl
 wide_alike admin rows s (Ask.SyncRows w) built = asked_alike admin s (event_rows w.event rows) rows (Ask.SyncRows w) refl (record { same = ask_of_event w.event rows s (Ask.SyncRows w) refl; refusals = λ rule. refl })
 wide_alike admin rows s (Ask.TakePart p) built = handed_of_event admin s rows p built
-wide_alike admin rows s ask built = absurd built
+wide_alike admin rows s (Ask.Index page) built = refl
+wide_alike admin rows s (Ask.Search filter whole) built = refl
 
 -- what says what it looks at hands in no package
 looks_alone : (i : Inst) (o : OrgId) (ask : Ask) (l : Looks) → looks_of i o ask ≡ Some l → hands_in ask ≡ false
@@ -253,7 +254,8 @@ module _ (host : Host) (now : ℕ) (by : Caller) (groups : List Group) (rows : L
   read_alike Ask.SyncManifest built = wide_alike host.admin rows there Ask.SyncManifest built
   read_alike (Ask.SyncRows w) built = wide_alike host.admin rows there (Ask.SyncRows w) built
   read_alike (Ask.TakePart p) built = wide_alike host.admin rows there (Ask.TakePart p) built
-  read_alike Ask.Index built = absurd built
+  read_alike (Ask.Index page) built = wide_alike host.admin rows there (Ask.Index page) built
+  read_alike (Ask.Search filter whole) built = wide_alike host.admin rows there (Ask.Search filter whole) built
 
 -- ---- the number of an act
 

@@ -9,6 +9,8 @@ use Rattle.misp_model.specs.declared.change.Change.TheVariants.{AddEvent}
 use Rattle.misp_model.specs.Answers.{Packed, concerns, concerning}
 use Rattle.misp_model.specs.Manifests.{only_of, pulled_manifest, pulled_only}
 use Rattle.misp_model.specs.Pulling.{pulled_events, pulled_groups, pulled_part}
+use Rattle.misp_model.specs.Shown.{index}
+use Rattle.misp_model.specs.Prelude.{GroupId, VisibleAttribute}
 use Rattle.misp_manifest.specs.declared.manifest.ManifestFields.{ManifestFields}
 use Rattle.misp_manifest.specs.declared.wanted.WantedFields.{WantedFields as Wanted}
 use Rattle.misp_model.specs.declared.package.PackageFields.{PackageFields as Package}
@@ -20,10 +22,14 @@ use Rattle.misp_copies.specs.Barring.{rule_of}
 use Rattle.misp_copies.specs.declared.change_fault.ChangeFault.{ChangeFault}
 use Rattle.misp_edit.specs.Refusals.{named, place_of, refusal_of, label_place, uuid_place, rule_named}
 use Rattle.misp_edit.specs.declared.fault.AddFault.{AddFault}
+use Rattle.misp_search.specs.Fitting.{hits, whole_events}
+use Rattle.misp_search.specs.Page.{PageNumbers, page_of}
+use Rattle.misp_search.specs.declared.fitting.Filter.{Filter}
+use Rattle.misp_view.specs.Naming.{hit_names}
 use Rattle.misp_store.specs.Reach.{wide_reach}
 use Rattle.misp_core.specs.Prelude.{Admin, Answer, Ask, Asked, Effect, EventId, Group, Host, IsBuilt, IsRefused, OrgId, Plan, Refusal, Reply, Row, RuleName, Scene, View, ask_rules, asked_over, asked_where, bare, fresh_row, read_where}
 use Rattle.misp_core.specs.Prelude.{refused, reply_in, scene_at, seeing, writes_in}
-use Rattle.misp_core.specs.Answers.{reply_of, rows_brought, greatest, event_parts, event_saved, named_event, saved}
+use Rattle.misp_core.specs.Answers.{reply_of, rows_brought, greatest, event_parts, event_saved, hits_named, named_event, saved}
 use Rattle.misp_core.specs.declared.reply.EventParts.{EventParts}
 use Rattle.misp_core.specs.Changing.{NamesGroupOf}
 use Rattle.misp_core.specs.Saving.{IsOfEvent, NamesPlace, place_named}
@@ -101,6 +107,34 @@ pub listed : (admin : Admin) (s : Scene) (groups : List Group) → groups ≡ fi
 unfolding ask_rules first_rule ok_answer brings concerning
 listed admin s groups is =
     planned admin s Ask.Groups (record { answer = Answer.Groups groups; batch = None }) refl (ap (λ (gs : List Group). Reply.Ok (Answer.Groups gs)) (sym is)) refl tt
+
+-- ---- lists of events and searches
+
+-- the page of events is listed
+pub events_indexed : (admin : Admin) (s : Scene) (page : PageNumbers) (events : List VisibleEvent) → events ≡ page_of page (index s) → IsPlan (record { answer = Answer.Index events; batch = None }) (asked admin s (Ask.Index page))
+unfolding ask_rules first_rule ok_answer brings
+events_indexed admin s page events is =
+    planned admin s (Ask.Index page) (record { answer = Answer.Index events; batch = None }) refl (ap (λ (es : List VisibleEvent). Reply.Ok (Answer.Index es)) (sym is)) refl tt
+
+module _ (admin : Admin) (s : Scene) (f : Filter) where
+  -- attributes are found
+  pub attributes_found : (found : List VisibleAttribute) (names : List (GroupId × List ℕ)) → found ≡ page_of f.page (hits f (index s)) → names ≡ hit_names s.groups found
+      → IsPlan (record { answer = Answer.Hits (hits_named names found); batch = None }) (asked admin s (Ask.Search f false))
+  unfolding ask_rules first_rule ok_answer brings
+  attributes_found found names is named_so =
+      planned admin s (Ask.Search f false) (record { answer = Answer.Hits (hits_named names found); batch = None }) refl
+      (ap (λ (hits : List VisibleAttribute). Reply.Ok (Answer.Hits (hits_named (hit_names s.groups hits) hits))) (sym is)
+      ∙ ap (λ (all : List (GroupId × List ℕ)). Reply.Ok (Answer.Hits (hits_named all found))) (sym named_so))
+      refl tt
+
+  -- whole events are found
+  pub events_found : (found events : List VisibleEvent) → found ≡ page_of f.page (whole_events f (index s)) → events ≡ map (named_event admin s.groups) found
+      → IsPlan (record { answer = Answer.Events events; batch = None }) (asked admin s (Ask.Search f true))
+  unfolding ask_rules first_rule ok_answer brings
+  events_found found events is named_so =
+      planned admin s (Ask.Search f true) (record { answer = Answer.Events events; batch = None }) refl
+      (ap (λ (es : List VisibleEvent). Reply.Ok (Answer.Events (map (named_event admin s.groups) es))) (sym is) ∙ ap (λ (es : List VisibleEvent). Reply.Ok (Answer.Events es)) (sym named_so))
+      refl tt
 
 -- ---- what a pull asks
 
@@ -289,6 +323,8 @@ refused_alone admin s (Ask.Change c) built is = refused_of_event admin s (Ask.Ch
 refused_alone admin s (Ask.Propose d) built is = refused_of_event admin s (Ask.Propose d) d.event refl (first_rule (ask_rules s (Ask.Propose d))) refl is
 refused_alone admin s (Ask.Judge e n accept) built is = refused_of_event admin s (Ask.Judge e n accept) e refl (first_rule (ask_rules s (Ask.Judge e n accept))) refl is
 refused_alone admin s (Ask.Sight e t d) built is = refused_of_event admin s (Ask.Sight e t d) e refl (first_rule (ask_rules s (Ask.Sight e t d))) refl is
+refused_alone admin s (Ask.Index page) built is = ap row_batches (writes_none admin s (Ask.Index page) refl)
+refused_alone admin s (Ask.Search filter whole) built is = ap row_batches (writes_none admin s (Ask.Search filter whole) refl)
 refused_alone admin s Ask.Groups built is = ap row_batches (writes_none admin s Ask.Groups refl)
 refused_alone admin s Ask.SyncGroups built is = ap row_batches (writes_none admin s Ask.SyncGroups refl)
 refused_alone admin s Ask.SyncEvents built is = ap row_batches (writes_none admin s Ask.SyncEvents refl)
@@ -296,7 +332,6 @@ refused_alone admin s (Ask.SyncPart event n) built is = ap row_batches (writes_n
 refused_alone admin s Ask.SyncManifest built is = ap row_batches (writes_none admin s Ask.SyncManifest refl)
 refused_alone admin s (Ask.SyncRows w) built is = ap row_batches (writes_none admin s (Ask.SyncRows w) refl)
 refused_alone admin s (Ask.TakePart part) built is = absurd (never_refused admin s part is)
-refused_alone admin s ask built is = absurd built
 
 -- the same over what is read
 refused_over : (host : Host) (now : ℕ) (it : Asked) (groups : List Group) (read : Result (List Row) (List ℕ)) → IsBuilt it.1

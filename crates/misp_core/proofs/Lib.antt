@@ -8,6 +8,7 @@ pub mod Decisions
 pub mod HandedAsks
 pub mod HandedGroups
 pub mod HandedRows
+pub mod Indexed
 pub mod Keeping
 pub mod KeepingGroups
 pub mod KeptLandings
@@ -28,3 +29,4 @@ pub mod Sending
 pub mod SharedGroups
 pub mod TakenGroups
 pub mod TakenRows
+pub mod Windowed

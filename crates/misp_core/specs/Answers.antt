@@ -4,7 +4,7 @@ use Rattle.hex.specs.Hex.{encode_lower}
 use Rattle.misp_ids.specs.Refusal.{bare}
 use Rattle.misp_orgs.specs.Keys.{CallerFields as Caller}
 use Rattle.misp_orgs.specs.Org.{name_of}
-use Rattle.misp_model.specs.Prelude.{EventId, Group, OrgId, Row, Scene, Submission, Version, VisibleEvent, answer, brings, date_of, is_accepted}
+use Rattle.misp_model.specs.Prelude.{EventId, Group, GroupId, OrgId, Row, Scene, Submission, Version, VisibleAttribute, VisibleEvent, answer, brings, date_of, is_accepted}
 use Rattle.misp_model.specs.Answers.{newer}
 use Rattle.misp_model.specs.Package.{IsPackage}
 use Rattle.misp_model.specs.declared.ask.Ask.{Ask}
@@ -12,7 +12,7 @@ use Rattle.misp_model.specs.declared.change.Change.TheVariants.{AddEvent}
 use Rattle.misp_history.specs.History.{fresh_row}
 use Rattle.misp_history.specs.Merging.{handed}
 use Rattle.misp_copies.specs.Scenes.{scene_of}
-use Rattle.misp_view.specs.Naming.{group_names}
+use Rattle.misp_view.specs.Naming.{group_names, hit_names}
 use Rattle.misp_edit.specs.Refusals.{refusal_of}
 use Rattle.misp_store.specs.Prelude.{Admin, Refusal, RuleName}
 use Rattle.misp_store.specs.Reach.{wide_reach}
@@ -21,6 +21,7 @@ use Rattle.misp_core.specs.Partners.{partner_of}
 use Rattle.misp_core.specs.Standing.{Host}
 use Rattle.misp_core.specs.declared.reply.Answer.{Answer}
 use Rattle.misp_core.specs.declared.reply.EventParts.{EventParts}
+use Rattle.misp_core.specs.declared.reply.Hits.{Hits}
 use Rattle.misp_core.specs.declared.reply.Reply.{Reply}
 use Rattle.misp_model.specs.Answers as model
 
@@ -30,9 +31,8 @@ use Rattle.misp_model.specs.Answers as model
 abbrev pub IsAdded : Submission → Type 0
 IsAdded b = is_some b.body ≡ true
 
--- the asks that are built: all but the index; what is handed in is a package
+-- the asks that can be made: what is handed in is a package
 abbrev pub IsBuilt : Ask → Type 0
-IsBuilt Ask.Index = ⊥
 IsBuilt (Ask.TakePart part) = IsPackage part
 IsBuilt (Ask.Change (AddEvent b)) = IsAdded b
 IsBuilt ask = Unit {0}
@@ -90,11 +90,20 @@ named_event admin groups v =
 abbrev pub event_parts : EventId × ℕ → EventParts
 event_parts p = record { event = p.0; parts = p.1 }
 
+-- attributes that are found, with these names of groups
+abbrev pub hits_named : List (GroupId × List ℕ) → List VisibleAttribute → Hits
+hits_named names found = record { attributes = found; group_names = names }
+
 -- a reply of the definitions, as it is given
 abbrev pub reply_of : Admin → Scene → Ask → model.Reply → Reply
 reply_of admin s ask (model.Refused rule) = Reply.Refused (refusal_of s ask rule)
 reply_of admin s ask (model.Seen v) =
     Reply.Ok (Answer.Event (named_event admin s.groups v))
+reply_of admin s ask (model.Listed events) = Reply.Ok (Answer.Index events)
+reply_of admin s ask (model.Hits found) =
+    Reply.Ok (Answer.Hits (hits_named (hit_names s.groups found) found))
+reply_of admin s ask (model.Events found) =
+    Reply.Ok (Answer.Events (map (named_event admin s.groups) found))
 reply_of admin s ask (model.Shares groups) = Reply.Ok (Answer.Groups groups)
 reply_of admin s ask (model.Parts events) =
     Reply.Ok (Answer.Parts (map event_parts events))
@@ -102,7 +111,7 @@ reply_of admin s ask (model.Packed p) = Reply.Ok (Answer.Part p)
 reply_of admin s ask (model.Manifested events) = Reply.Ok (Answer.Manifest events)
 reply_of admin s ask (model.Saved vs) = saved (wide_reach s.by ask) vs
 reply_of admin s ask (model.Taken n) = Reply.Ok (Answer.Taken n)
-reply_of admin s ask _ = Reply.Refused (bare RuleName.NoRoute)
+reply_of admin s ask model.Other = Reply.Refused (bare RuleName.NoRoute)
 
 -- the reply to an ask in these surroundings
 unfoldable pub reply_in : Admin → Scene → Ask → Reply

@@ -10,6 +10,7 @@ pub mod HandedGroups
 pub mod Handing
 pub mod Keeping
 pub mod KeptLanding
+pub mod Listing
 pub mod Partners
 pub mod Planning
 pub mod Prelude

@@ -1,6 +1,7 @@
 -- What is written for a reply.
 use Rattle.std.specs.Prelude.{ℕ, Bool, true, false, List, ◌∷◌, ◌++◌, codes, decimal, if◌then◌else◌}
 use Rattle.misp_ids.specs.Refusal.{rule_status}
+use Rattle.misp_format.specs.Found.{events_text, hits_text, index_text}
 use Rattle.misp_format.specs.Prelude.{body_data, compact_text}
 use Rattle.misp_format.specs.Replies.{saved_data, taken_data, refusal_data}
 use Rattle.misp_format.specs.WholeGroup.{groups_text}
@@ -17,6 +18,9 @@ use Rattle.misp_http.specs.Texts as http
 abbrev pub answer_text : Answer → List ℕ
 answer_text (Answer.Saved elements event stamp) = compact_text (saved_data elements event stamp)
 answer_text (Answer.Event event) = compact_text (body_data event)
+answer_text (Answer.Index events) = index_text events
+answer_text (Answer.Hits hits) = hits_text hits.group_names hits.attributes
+answer_text (Answer.Events events) = events_text events
 answer_text (Answer.Groups groups) = groups_text groups
 answer_text (Answer.Taken count) = compact_text (taken_data count)
 answer_text (Answer.Parts events) = event_list_text events

@@ -7,7 +7,7 @@ ghost use Rattle.misp_model.specs.Machine.{seeing};
 ghost use Rattle.misp_model.specs.declared.ask.Ask.TheVariants.{View};
 ghost use Rattle.misp_model.specs.declared.ask.Ask.TheVariants as asks;
 ghost use Rattle.misp_core.specs.Ahead.{StaysOrIsPacked};
-ghost use Rattle.misp_core.specs.Answers.{IsBuilt, named_event};
+ghost use Rattle.misp_core.specs.Answers.{IsBuilt};
 ghost use Rattle.misp_core.specs.Handing.{ChangesNone, IsOwn, scene_in, scene_for, pull_scene, knowing};
 ghost use Rattle.misp_core.specs.KeptLanding.{StaysOrLands};
 ghost use Rattle.misp_core.specs.Effects.{asked, by_keeper};
@@ -18,61 +18,19 @@ use crate::ahead::Ahead;
 use crate::changing::plan_change;
 use crate::handing_in::plan_package;
 use crate::manifest::plan_manifest;
-use crate::naming::name_text;
+use crate::naming::named;
 use crate::planning::{NoPlan, Plan, told};
 use crate::pulling::{plan_event_list, plan_part, plan_pulled_groups, plan_rows};
 use crate::reply::Answer;
+use crate::searching::{plan_index, plan_search};
 use crate::site::{Site, asker, known_at};
 use crate::stating::{plan_judgement, plan_proposal, plan_sighting};
-use misp_elem::{NoMemory, Row, VisibleEvent};
-use misp_groups::Groups;
+use misp_elem::{NoMemory, Row};
 use misp_ids::{EventId, Items, OrgId, Refusal, RuleName};
 use misp_model::{Ask, Change};
-use misp_orgs::Admin;
 use misp_package::Landing;
-use misp_view::{concerning, group_names, shown};
+use misp_view::{concerning, shown};
 use std::alloc::Global;
-
-fn holder(event: &VisibleEvent) -> OrgId
-    ensures { result ≡ event.now.row.owner }
-{
-    event.row.owner
-}
-
-// Gives the event the name of its holder, and those of the groups that its labels name.
-fn put_names(
-    alloc: Global,
-    admin: &Admin,
-    groups: &Groups,
-    event: &mut VisibleEvent,
-) -> Result<(), NoMemory>
-    ensures { OnOk result (event.new ≡ named_event admin.now groups.now event.old) }
-{
-    let name = name_text(alloc, admin, &holder(event))?;
-    let names = group_names(alloc, groups, event)?;
-    event.org_name = name;
-    event.group_names = Items::of(names);
-    Ok(())
-}
-
-// The event with these names.
-fn named(
-    alloc: Global,
-    admin: &Admin,
-    groups: &Groups,
-    event: VisibleEvent,
-) -> Result<VisibleEvent, NoMemory>
-    ensures { IfOk result (λ named. named ≡ named_event admin.now groups.now event) }
-{
-    let mut event = event;
-    match put_names(alloc, admin, groups, &mut event) {
-        Ok(()) => Ok(event),
-        Err(NoMemory) => {
-            drop(event);
-            Err(NoMemory)
-        }
-    }
-}
 
 // Changes an event, over all rows of it that are read, of which the caller sees what it knows.
 fn change_known(
@@ -145,6 +103,8 @@ fn plan_own(alloc: Global, site: &Site<'_>, ask: &Ask, rows: Vec<Row>) -> Result
     match ask {
         Ask::View { event, owner } => view(alloc, site, event, *owner, &rows),
         Ask::Groups => list(alloc, site),
+        Ask::Index(page) => plan_index(alloc, site, *page, rows),
+        Ask::Search { filter, whole } => plan_search(alloc, site, filter, *whole, rows),
         Ask::Propose(draft) => plan_proposal(alloc, site, draft, rows),
         Ask::Judge {
             event,

@@ -5,9 +5,9 @@ ghost use Rattle.misp_core.specs.Effects.{refused_by, rule_of_stop};
 ghost use Rattle.misp_core.specs.Planning.{unplanned};
 
 use crate::planning::NoPlan;
-use misp_elem::VisibleEvent;
+use misp_elem::{VisibleAttribute, VisibleEvent};
 use misp_groups::Group;
-use misp_ids::{EventId, Items, Refusal, RuleName, Stamp};
+use misp_ids::{EventId, GroupId, Items, Refusal, RuleName, Stamp, Text};
 use misp_manifest::ManifestEvent;
 use misp_model::Package;
 use misp_outside::KeeperFault;
@@ -20,6 +20,13 @@ pub struct EventParts {
     pub parts: u32,
 }
 
+/// Attributes that are found, with the names of the groups that their labels name.
+#[derive(Drop)]
+pub struct Hits {
+    pub attributes: Items<VisibleAttribute>,
+    pub group_names: Items<(GroupId, Text)>,
+}
+
 /// What an accepted request is answered.
 #[derive(Drop)]
 pub enum Answer {
@@ -30,6 +37,11 @@ pub enum Answer {
         stamp: Stamp,
     },
     Event(VisibleEvent),
+    /// A page of the events that the caller sees, as a list shows them.
+    Index(Items<VisibleEvent>),
+    Hits(Hits),
+    /// Whole events that are found.
+    Events(Items<VisibleEvent>),
     /// The groups that concern the caller, or that a pull brings.
     Groups(Items<Group>),
     /// So many groups were taken, or so many rows of a package.

@@ -7,7 +7,7 @@ use Rattle.misp_ids.specs.declared.label.Direction.{Direction}
 use Rattle.misp_ids.specs.declared.label.Direction.TheVariants.{Pull, Push}
 use Rattle.misp_model.specs.Prelude.{ElementExists, ElementFull, EventExists, EventGone, GroupNotUsable, NotGranted, NotOwner, ProposalExists, TimeLimit, VisibleAttribute, VisibleObject, Way}
 use Rattle.misp_manifest.specs.declared.manifest.ManifestFields.{ManifestFields}
-use Rattle.misp_model.specs.Answers.{Manifested, Packed, Parts, Shares}
+use Rattle.misp_model.specs.Answers.{Events, Hits, Manifested, Packed, Parts, Shares}
 use Rattle.misp_model.specs.Scene.{LockedCopy, OlderTime, ProposalClosed}
 use Rattle.misp_model.specs.Shown.{order_of}
 use Rattle.misp_history.specs.Outcomes.{Stopped, Whole, run_partly}
@@ -43,6 +43,11 @@ use Rattle.misp_model.specs.Shown
 use Rattle.misp_model.specs.Statements
 use Rattle.misp_model.specs.Version
 use Rattle.misp_model.specs.View
+use Rattle.misp_search.specs.Fitting
+use Rattle.misp_search.specs.Page
+use Rattle.misp_search.specs.Page.{page_at}
+use Rattle.misp_search.specs.Wishes
+use Rattle.misp_search.specs.declared.fitting.Filter.{Filter}
 
 org : ℕ → OrgId
 org n = record { 0 = record { 0 = n } }
@@ -158,6 +163,8 @@ tell (Some (Refused r)) = 1000 + rule_number r
 tell (Some (Saved vs)) = 2000 + length vs
 tell (Some (Seen v)) = 3000 + 100 * length v.attributes + label_kind v.row.label
 tell (Some (Listed vs)) = 4000 + length vs
+tell (Some (Hits found)) = 4000 + length found
+tell (Some (Events found)) = 4000 + length found
 tell (Some (Shares gs)) = 4000 + length gs
 tell (Some (Parts es)) = 4000 + length es
 tell (Some (Packed p)) = 7000 + 100 * p.parts + length p.rows
@@ -217,6 +224,8 @@ inside (Some (Seen v)) = 1000 + 10 * first_references v.objects + first_sighting
 inside (Some (Refused r)) = 1
 inside (Some (Saved vs)) = 2
 inside (Some (Listed vs)) = 3
+inside (Some (Hits found)) = 3
+inside (Some (Events found)) = 3
 inside (Some (Shares gs)) = 3
 inside (Some (Parts es)) = 3
 inside (Some (Packed p)) = 3
@@ -246,6 +255,29 @@ administers i time o add g = record { at = i; now = time; command = Administers 
 -- the wanted rows of a package of event 11
 wants : ℕ → List Place → Ask
 wants n places = Ask.SyncRows (record { event = event 11; part = n; keys = map (λ p. Element (event 11) p) places })
+
+-- a filter that wants nothing, and one that wants a value; the page is the first of three items
+any : Filter
+any =
+    record {
+      kind = None;
+      category = None;
+      value = None;
+      to_ids = None;
+      tags = None;
+      org = None;
+      published = None;
+      from = None;
+      to = None;
+      stamp = None;
+      page = page_at 1 3;
+    }
+
+of_value : ℕ → Filter
+of_value n = record any { value = Some (n ∷ []) }
+
+second_page : Filter
+second_page = record any { page = page_at 2 3 }
 
 is_nothing : Command → Bool
 is_nothing Nothing = true
@@ -289,8 +321,11 @@ unfolding Outcomes.coming Outcomes.arriving Outcomes.takes Outcomes.first_brough
     Shown.is_proposal_on Shown.is_sighting_on Shown.is_verdict_on Shown.is_closed Shown.proposals_on Shown.sightings_on Shown.shown_attribute Shown.object_of Shown.shown_object Shown.creator
     Shown.form_of Shown.event_row Shown.shown Shown.is_chosen Shown.index View.is_row_of RowFacts.is_tombstone RowFacts.is_deleted View.has_copy View.has_home View.has_gone View.row_is_open
     View.has_open View.element_granted View.granted_somewhere View.granted_by View.granted View.is_known View.known View.is_live View.is_before View.first_of_all View.chosen View.is_least
+    Fitting.body_fits Fitting.event_content_fits Fitting.event_fits Fitting.tags_of Fitting.wants_tags Fitting.attribute_body_fits Fitting.attribute_content_fits Fitting.attribute_fits
+    Fitting.fits Fitting.attributes_of Fitting.hits Fitting.has_hit Fitting.whole_events Page.page_of Wishes.wants_text Wishes.wants_flag Wishes.wants_category Wishes.wants_org
+    Wishes.wants_from Wishes.wants_to Wishes.wants_since
     count script asks no_links event_with event_of_two elem_id event org attribute add_one a b c route links syncs asks_at rule_number count_keys tell view publish stamps comment relabel propose accept
-    first_references first_sightings inside group administers in_group add_levels asks_for wants is_nothing
+    first_references first_sightings inside group administers in_group add_levels asks_for wants any of_value second_page is_nothing
 everything = tt
 
 -- Beta sees one attribute of the first event, Gamma and Alpha see what is theirs
@@ -461,3 +496,22 @@ pulls_of_another_are_erased : (left_of 1 ≡ false ∷ false ∷ false ∷ true 
     × (left_of 2 ≡ false ∷ false ∷ true ∷ false ∷ false ∷ false ∷ false ∷ false ∷ [])
 unfolding everything by_manifest left_of
 pulls_of_another_are_erased = (refl, refl)
+
+-- a search finds what its caller sees: of four attributes Alpha finds all, on two pages, and Beta one
+searched : List Act
+searched =
+    asks_at a 1 100 (Ask.Change (AddEvent (event_of_two 11 Label.Community))) ∷ asks_at a 1 100 (Ask.Change (AddEvent (event_of_two 12 Label.Own)))
+    ∷ asks_at a 1 110 (Ask.Search any false) ∷ asks_at a 1 110 (Ask.Search second_page false) ∷ asks_at a 1 110 (Ask.Search (of_value 22) false) ∷ asks_at a 1 110 (Ask.Search any true)
+    ∷ asks_at a 2 120 (Ask.Search any false) ∷ asks_at a 2 120 (Ask.Search second_page false) ∷ asks_at a 2 120 (Ask.Search (of_value 22) false) ∷ asks_at a 2 120 (Ask.Search any true)
+    ∷ asks_at a 2 120 (Ask.Index (page_at 1 3)) ∷ []
+
+what_a_search_finds : (map tell (replies (org 1) links searched) ≡ 2003 ∷ 2003 ∷ 4003 ∷ 4001 ∷ 4002 ∷ 4002 ∷ 0 ∷ 0 ∷ 0 ∷ 0 ∷ 0 ∷ [])
+    × (map tell (replies (org 2) links searched) ≡ 0 ∷ 0 ∷ 0 ∷ 0 ∷ 0 ∷ 0 ∷ 4001 ∷ 4000 ∷ 4000 ∷ 4001 ∷ 4001 ∷ [])
+unfolding everything searched
+what_a_search_finds = (refl, refl)
+
+-- with what Beta was never granted left out, and with it the searches of Alpha, Beta finds the same
+erased_from_searches : (map (λ act. is_nothing act.command) (erased (org 2) links searched) ≡ false ∷ true ∷ true ∷ true ∷ true ∷ true ∷ false ∷ false ∷ false ∷ false ∷ false ∷ [])
+    × (map tell (replies (org 2) links (erased (org 2) links searched)) ≡ 0 ∷ 0 ∷ 0 ∷ 0 ∷ 0 ∷ 0 ∷ 4001 ∷ 4000 ∷ 4000 ∷ 4001 ∷ 4001 ∷ [])
+unfolding everything searched
+erased_from_searches = (refl, refl)

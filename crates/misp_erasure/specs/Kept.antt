@@ -3,7 +3,7 @@
 use Rattle.std.specs.Prelude.{Bool, List, [], ◌∷◌, ◌++◌, map, filter, ℕ, suc, true, false, cond, Option}
 use Rattle.misp_model.specs.Prelude.{Element, Key, OrgId, Proposal, Reference, Reply, Scene, Sighting, Verdict, is_accepted, judged_place, list_any, parents, same_key, same_org}
 use Rattle.misp_model.specs.declared.ask.Ask.{Ask}
-use Rattle.misp_model.specs.declared.ask.Ask.TheVariants.{View, Propose, Judge, Sight, Index, Groups, SyncGroups, SyncEvents, SyncPart, SyncManifest, SyncRows, TakePart}
+use Rattle.misp_model.specs.declared.ask.Ask.TheVariants.{View, Propose, Judge, Sight, Index, Search, Groups, SyncGroups, SyncEvents, SyncPart, SyncManifest, SyncRows, TakePart}
 use Rattle.misp_history.specs.Acts.{World, known_at, Act, Net, step, Asks, Misfits, Syncs, Takes_groups, Administers, Shares, Makes, Nothing, scene, replies_to}
 use Rattle.misp_erasure.specs.Erasure.{erase}
 
@@ -38,7 +38,8 @@ acceptance_in s (View e owner) = []
 acceptance_in s (Ask.Change c) = []
 acceptance_in s (Propose d) = []
 acceptance_in s (Sight e t d) = []
-acceptance_in s Index = []
+acceptance_in s (Index page) = []
+acceptance_in s (Search filter whole) = []
 acceptance_in s Groups = []
 acceptance_in s SyncGroups = []
 acceptance_in s SyncEvents = []

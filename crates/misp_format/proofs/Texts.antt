@@ -5,12 +5,13 @@ use Rattle.json.specs.Token.{Token}
 use Rattle.json.specs.Tree.{json_tokens, items_tokens, members_tokens}
 use Rattle.serde_json.specs.Written.{outline, items_outline, members_outline}
 use Rattle.serde_json.proofs.Texts.{print-outline}
-use Rattle.misp_format.specs.Prelude.{AttributeBody, Data, EventBody, GroupNames, Items, Label, Members, ObjectBody, VisibleAttribute, VisibleEvent, VisibleObject, array, attribute_members, attribute_with, compact_text, event_members}
-use Rattle.misp_format.specs.Kinds.{category_name}
-use Rattle.misp_format.specs.Prelude.{boolean, label_kind, string, event_with, item, member, no_items, no_members, object, object_members, object_with, put_member, with_group}
-use Rattle.misp_format.specs.Fields.{moment_if_known, number_data, text_if_any, with_some}
+use Rattle.misp_format.specs.Prelude.{AttributeBody, Data, EventBody, GroupNames, Items, Label, Members, ObjectBody, VisibleAttribute, VisibleEvent, VisibleObject, array, attribute_with, compact_text, event_members}
+use Rattle.misp_format.specs.Prelude.{event_with, item, member, no_items, no_members, object, object_members, object_with, put_member, uuid_data, with_group}
+use Rattle.misp_elem.specs.Parents.{event_of}
+use Rattle.misp_format.specs.Fields.{moment_if_known, text_if_any, with_some}
+use Rattle.misp_format.specs.Found.{hit_texts, hit_with}
 use Rattle.misp_format.specs.Tokens.{PutDown, behind, push, with, put_value, put_members, put_some, put_attribute_lists, put_seen_and_part, put_object_lists, put_event_lists}
-use Rattle.misp_format.specs.Written.{attribute_rest, attribute_texts, with_seen_and_part, object_texts, event_texts}
+use Rattle.misp_format.specs.Written.{attribute_rest, attribute_texts, with_attribute_front, with_attribute_lists, with_seen_and_part, object_texts, event_texts}
 use Rattle.json.specs.Token as tokens
 
 -- one list of tokens after another
@@ -58,20 +59,33 @@ seen_and_part_put b ms was =
     ∙ some_put (codes "object_relation") (text_if_any b.object_relation) ms _
 
 pub attribute_texts_put : (a : VisibleAttribute) (b : AttributeBody) (was : PutDown)
-    → put_members (attribute_texts a b) was ≡ put_members (attribute_rest a b) (put_seen_and_part b
-    (put_member (codes "distribution") (number_data (label_kind a.row.label)) (put_member (codes "deleted") (boolean b.deleted) (put_member (codes "comment") (string b.comment) (put_member (codes "category") (string (category_name b.category)) was)))))
+    → put_members (attribute_texts a b) was ≡ put_members (attribute_rest a b) (put_seen_and_part b (put_members (with_attribute_front a b no_members) was))
 attribute_texts_put a b was = seen_and_part_put b (attribute_rest a b) _
 
-grouped_attribute : (names : GroupNames) (label : Label) (a : VisibleAttribute) (b : AttributeBody) (was : PutDown)
-    → put_members (with_group names label (attribute_members a b)) was ≡ put_members (attribute_texts a b) (put_attribute_lists names label a b was)
-grouped_attribute names (Label.Group group) a b was = refl
-grouped_attribute names _ a b was = refl
+pub hit_texts_put : (a : VisibleAttribute) (b : AttributeBody) (was : PutDown)
+    → put_members (hit_texts a b) was ≡ put_members (attribute_rest a b) (put_seen_and_part b (put_member (codes "event_uuid") (uuid_data (event_of a.row.key).0) (put_members (with_attribute_front a b no_members) was)))
+hit_texts_put a b was = seen_and_part_put b (attribute_rest a b) _
+
+-- its lists and the sharing group, and these members behind them
+grouped_attribute : (names : GroupNames) (label : Label) (a : VisibleAttribute) (b : AttributeBody) (ms : Members) (was : PutDown)
+    → put_members (with_group names label (with_attribute_lists a b ms)) was ≡ put_members ms (put_attribute_lists names label a b was)
+grouped_attribute names (Label.Group group) a b ms was = refl
+grouped_attribute names _ a b ms was = refl
+
+whole_attribute : (names : GroupNames) (a : VisibleAttribute) (b : AttributeBody) (ms : Members) (was : PutDown)
+    → put_value (object (with_group names a.row.label (with_attribute_lists a b ms))) was ≡ push tokens.end_object (put_members ms (put_attribute_lists names a.row.label a b (push tokens.begin_object was)))
+whole_attribute names a b ms was =
+    object_put (with_group names a.row.label (with_attribute_lists a b ms)) was ∙ ap (push tokens.end_object) (grouped_attribute names a.row.label a b ms (push tokens.begin_object was))
 
 pub attribute_put : (names : GroupNames) (a : VisibleAttribute) (b : AttributeBody) (was : PutDown)
     → put_value (attribute_with names a b) was ≡ push tokens.end_object (put_members (attribute_texts a b) (put_attribute_lists names a.row.label a b (push tokens.begin_object was)))
 unfolding attribute_with
-attribute_put names a b was =
-    object_put (with_group names a.row.label (attribute_members a b)) was ∙ ap (push tokens.end_object) (grouped_attribute names a.row.label a b (push tokens.begin_object was))
+attribute_put names a b was = whole_attribute names a b (attribute_texts a b) was
+
+pub hit_put : (names : GroupNames) (a : VisibleAttribute) (b : AttributeBody) (was : PutDown)
+    → put_value (hit_with names a b) was ≡ push tokens.end_object (put_members (hit_texts a b) (put_attribute_lists names a.row.label a b (push tokens.begin_object was)))
+unfolding hit_with
+hit_put names a b was = whole_attribute names a b (hit_texts a b) was
 
 grouped_object : (names : GroupNames) (label : Label) (o : VisibleObject) (b : ObjectBody) (was : PutDown)
     → put_members (with_group names label (object_members names o b)) was ≡ put_members (object_texts o b) (put_object_lists names label o was)

@@ -4,6 +4,8 @@ pub mod Edits
 pub mod Elements
 pub mod Entries
 pub mod Fields
+pub mod Filters
+pub mod Found
 pub mod Gathered
 pub mod GroupText
 pub mod Groups

@@ -127,22 +127,30 @@ with_seen_and_part b ms =
     with_some (codes "last_seen") (moment_if_known b.last_seen) (
     with_some (codes "object_relation") (text_if_any b.object_relation) ms))
 
--- but for its lists and the sharing group
-abbrev pub attribute_texts : VisibleAttribute → AttributeBody → Members
-attribute_texts a b =
+-- its first texts, and these members behind them
+abbrev pub with_attribute_front : VisibleAttribute → AttributeBody → Members → Members
+with_attribute_front a b ms =
     member (codes "category") (string (category_name b.category)) (
     member (codes "comment") (string b.comment) (
     member (codes "deleted") (boolean b.deleted) (
-    member (codes "distribution") (number_data (label_kind a.row.label)) (
-    with_seen_and_part b (attribute_rest a b)))))
+    member (codes "distribution") (number_data (label_kind a.row.label))
+    ms)))
 
--- but for the sharing group
-abbrev pub attribute_members : VisibleAttribute → AttributeBody → Members
-attribute_members a b =
+-- but for its lists and the sharing group
+abbrev pub attribute_texts : VisibleAttribute → AttributeBody → Members
+attribute_texts a b = with_attribute_front a b (with_seen_and_part b (attribute_rest a b))
+
+-- its lists, and these members behind them
+abbrev pub with_attribute_lists : VisibleAttribute → AttributeBody → Members → Members
+with_attribute_lists a b ms =
     member (codes "ShadowAttribute") (list_data proposal_data a.proposals) (
     member (codes "Sighting") (list_data sighting_data a.sightings) (
     member (codes "Tag") (list_data tag_data b.tags)
-    (attribute_texts a b)))
+    ms))
+
+-- but for the sharing group
+abbrev pub attribute_members : VisibleAttribute → AttributeBody → Members
+attribute_members a b = with_attribute_lists a b (attribute_texts a b)
 
 unfoldable pub attribute_with : GroupNames → VisibleAttribute → AttributeBody → Data
 attribute_with names a b = object (with_group names a.row.label (attribute_members a b))

@@ -3,6 +3,7 @@
 ghost use Rattle.std.specs.Prelude.{◌≡◌, map, position, slice_get, unwrap_or, codes};
 ghost use Rattle.std.specs.Str.{bytes_eq};
 ghost use Rattle.serde_json.specs.View.{view};
+ghost use Rattle.misp_format.specs.Filters.{category_named};
 ghost use Rattle.misp_format.specs.Kinds.{category_texts, category_in, category_of, category_name, is_file_type};
 
 use misp_fields::{self as fields, Need};
@@ -45,13 +46,20 @@ fn place_of(text: &str) -> Option<usize>
     place_in(&CATEGORIES, text)
 }
 
+/// The number of the category of this name.
+fn category_number(text: &str) -> Option<u8>
+    ensures { result ≡ position (λ name. bytes_eq name text.now) category_texts }
+{
+    match place_of(text) {
+        Some(number) => Some(number as u8),
+        None => None,
+    }
+}
+
 fn category_in(text: &str) -> Result<u8, Need>
     ensures { result ≡ category_in text.now }
 {
-    match place_of(text) {
-        Some(number) => Ok(number as u8),
-        None => Err(Need::Range),
-    }
+    category_number(text).ok_or(Need::Range)
 }
 
 /// The number of the category that a value names.
@@ -60,6 +68,16 @@ pub(crate) fn category(value: &Value) -> Result<u8, Need>
 {
     match fields::text(value) {
         Ok(text) => category_in(text),
+        Err(need) => Err(need),
+    }
+}
+
+/// The number of the category of the name that a value is, if there is one.
+pub(crate) fn named_category(value: &Value) -> Result<Option<u8>, Need>
+    ensures { result ≡ category_named (view value.now) }
+{
+    match fields::text(value) {
+        Ok(text) => Ok(category_number(text)),
         Err(need) => Err(need),
     }
 }

@@ -11,12 +11,14 @@ use Rattle.misp_model.specs.Numbers.{version_as, versions_as, reply_as}
 use Rattle.misp_model.specs.declared.change.Change.TheVariants.{DeleteReference}
 use Rattle.misp_model.specs.Statements.{proposal_row}
 use Rattle.misp_model.proofs.Numbers.{index_alike, rules_alike, rules_as, shown_alike}
-use Rattle.misp_model.specs.Answers.{Packed}
+use Rattle.misp_search.specs.Fitting.{hits, whole_events}
+use Rattle.misp_search.specs.Page.{page_of}
+use Rattle.misp_model.specs.Answers.{Events, Hits, Packed}
 use Rattle.misp_model.specs.Machine.{pulls}
 use Rattle.misp_model.specs.Manifests.{pulled_manifest, pulled_only}
 use Rattle.misp_model.specs.Pulling.{pulled_events, pulled_groups, pulled_part, pulled_rows}
 use Rattle.misp_model.specs.declared.package.PackageFields.{PackageFields as Package}
-use Rattle.misp_history.proofs.Prelude.{Groups, Propose, Sight, SyncEvents, SyncGroups, SyncManifest, SyncPart, SyncRows, false≢true}
+use Rattle.misp_history.proofs.Prelude.{Groups, Propose, Search, Sight, SyncEvents, SyncGroups, SyncManifest, SyncPart, SyncRows, false≢true}
 
 -- ---- lists
 map_cond : {X Y : Type 0} (f : X → Y) (b : Bool) (xs ys : List X) → cond b (map f xs) (map f ys) ≡ map f (cond b xs ys)
@@ -163,7 +165,9 @@ module _ (n : ℕ) (partner : Option Partner) (s : Scene) where
   ok_alike (Judge e m accept) h = ap Saved (judge_as e m accept)
   ok_alike (Propose d) h = refl
   ok_alike (Sight e p d) h = refl
-  ok_alike Index h = ap Listed (index_alike n partner s)
+  ok_alike (Index page) h = ap (λ events. Listed (page_of page events)) (index_alike n partner s)
+  ok_alike (Search filter true) h = ap (λ events. Events (page_of filter.page (whole_events filter events))) (index_alike n partner s)
+  ok_alike (Search filter false) h = ap (λ events. Hits (page_of filter.page (hits filter events))) (index_alike n partner s)
   ok_alike Groups h = refl
   ok_alike (TakePart p) h = ap Taken (ap (λ vs. length (newer other vs)) (taken_as p.rows) ∙ ap length (newer_as (taken_rows s p.rows)) ∙ length-map (newer s (taken_rows s p.rows)) (version_as n))
   ok_alike _ h = absurd (false≢true (sym h))

@@ -31,7 +31,7 @@ pub use Rattle.misp_model.specs.Prelude.{EventDraft, scene_as}
 unfoldable pub use Rattle.misp_model.specs.Version.{is_event_of}
 pub use Rattle.misp_model.specs.Version.{Came, Handed_in, Published, Written}
 pub use Rattle.misp_model.specs.declared.ask.Ask.{Ask}
-pub use Rattle.misp_model.specs.declared.ask.Ask.TheVariants.{Groups, Index, Judge, Propose, Sight, SyncEvents, SyncGroups, SyncManifest, SyncPart, SyncRows, TakePart, View}
+pub use Rattle.misp_model.specs.declared.ask.Ask.TheVariants.{Groups, Index, Judge, Propose, Search, Sight, SyncEvents, SyncGroups, SyncManifest, SyncPart, SyncRows, TakePart, View}
 pub use Rattle.misp_model.specs.declared.change.Change.{Change}
 pub use Rattle.misp_model.specs.declared.change.Change.TheVariants.{AddEvent, AddParts, Delete, DeleteEvent, EditAttribute, EditEvent, Publish}
 pub use Rattle.misp_history.proofs.Growing.{cell_back, newest_more}

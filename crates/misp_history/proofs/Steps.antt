@@ -1,9 +1,11 @@
 -- What an act does to the state: an accepted request adds what it brings, and a refused one, a view and an act without effect leave it.
 use Rattle.std.proofs.Common.{◌≡◌, List, [], ◌++◌, Bool, ◌∙◌, true, refl, false, ℕ, append-nil, Option, inl, inr}
 use Rattle.misp_history.proofs.Prelude.{Act, Administers, Ask, Asks, Caller, Change, EventId, Group, Groups, Index, Inst, Misfits, Net, Nothing, OrgId, Scene, View, World, asked, brings, cases_Bool, change_writes, is_accepted, same_inst}
-use Rattle.misp_history.proofs.Prelude.{SyncEvents, SyncGroups, SyncManifest, SyncPart, SyncRows, false≢true, same_inst-refl, scene, step, with_groups}
+use Rattle.misp_history.proofs.Prelude.{Search, SyncEvents, SyncGroups, SyncManifest, SyncPart, SyncRows, false≢true, same_inst-refl, scene, step, with_groups}
 use Rattle.misp_model.specs.Machine.{pulls}
 use Rattle.misp_groups.specs.Changes.{administered}
+use Rattle.misp_search.specs.Page.{PageNumbers}
+use Rattle.misp_search.specs.declared.fitting.Filter.{Filter}
 
 asked_accepted : (w : World) (s : Scene) (a : Ask) → is_accepted s a ≡ true → asked w s a ≡ record w { log = w.log ++ brings s a }
 unfolding asked
@@ -54,9 +56,13 @@ module _ (net : Net) (n : ℕ) (w : World) (act : Act) where
   unfolding step brings scene
   step_view c e owner h = rw h (asked_nothing w (scene n w act c) (View e owner) refl)
 
-  pub step_index : (c : Caller) → act.command ≡ Asks c Index → step net n w act ≡ w
+  pub step_index : (c : Caller) (page : PageNumbers) → act.command ≡ Asks c (Index page) → step net n w act ≡ w
   unfolding step brings scene
-  step_index c h = rw h (asked_nothing w (scene n w act c) Index refl)
+  step_index c page h = rw h (asked_nothing w (scene n w act c) (Index page) refl)
+
+  pub step_search : (c : Caller) (filter : Filter) (whole : Bool) → act.command ≡ Asks c (Search filter whole) → step net n w act ≡ w
+  unfolding step brings scene
+  step_search c filter whole h = rw h (asked_nothing w (scene n w act c) (Search filter whole) refl)
 
   pub step_groups : (c : Caller) → act.command ≡ Asks c Groups → step net n w act ≡ w
   unfolding step brings scene

@@ -9,12 +9,14 @@ ghost use Rattle.misp_groups.specs.declared.group.GroupFields.{GroupFields as Gr
 ghost use Rattle.misp_model.specs.declared.change.Change.{Change};
 ghost use Rattle.misp_model.specs.declared.change.Change.TheVariants.{Publish};
 ghost use Rattle.misp_model.specs.declared.ask.Ask.{Ask};
-ghost use Rattle.misp_model.specs.declared.ask.Ask.TheVariants.{View, Index, Groups};
+ghost use Rattle.misp_model.specs.declared.ask.Ask.TheVariants.{View, Index, Search, Groups};
 ghost use Rattle.misp_model.specs.declared.ask.Ask.TheVariants as ask;
 ghost use Rattle.misp_ids.specs.Same.{Inst, same_inst, same_org};
 ghost use Rattle.misp_elem.specs.SameKey.{same_key};
 ghost use Rattle.misp_elem.specs.Parents.{event_key};
 ghost use Rattle.misp_lists.specs.Order.{put};
+ghost use Rattle.misp_search.specs.Page.{PageNumbers};
+ghost use Rattle.misp_search.specs.declared.fitting.Filter.{Filter};
 ghost use Rattle.misp_model.specs.View.{has_copy, has_home, has_gone};
 ghost use Rattle.misp_model.specs.Version.{Version, Written, is_published, is_event_of};
 ghost use Rattle.misp_elem.specs.RowFacts.{is_gone};
@@ -84,10 +86,10 @@ pub fn a_copy_is_as_its_event_came()
         ≡ list_any (λ v. is_event_of o e v && is_gone v.content) (newest log i) }
 {}
 
-/// An accepted request adds to the history what it brings. A refused one, a view, the index, the
-/// groups, what a pull asks, a request refused by its form and an act that does nothing leave the
-/// state as it is. An administration changes the groups of its instance, and nothing else. After
-/// each act the history has no number of a later one.
+/// An accepted request adds to the history what it brings. A refused one, a view, the index, a
+/// search, the groups, what a pull asks, a request refused by its form and an act that does nothing
+/// leave the state as it is. An administration changes the groups of its instance, and nothing
+/// else. After each act the history has no number of a later one.
 pub fn what_an_act_leaves()
     ensures accepted { (net : Net) (n : ℕ) (w : World) (act : Act) (c : Caller) (a : Ask) →
         act.command ≡ Asks c a → is_accepted (scene n w act c) a ≡ true →
@@ -100,8 +102,11 @@ pub fn what_an_act_leaves()
     ensures view { (net : Net) (n : ℕ) (w : World) (act : Act) (c : Caller)
         (e : EventId) (o : Option OrgId) →
         act.command ≡ Asks c (View e o) → step net n w act ≡ w }
-    ensures index { (net : Net) (n : ℕ) (w : World) (act : Act) (c : Caller) →
-        act.command ≡ Asks c Index → step net n w act ≡ w }
+    ensures index { (net : Net) (n : ℕ) (w : World) (act : Act) (c : Caller) (page : PageNumbers) →
+        act.command ≡ Asks c (Index page) → step net n w act ≡ w }
+    ensures search { (net : Net) (n : ℕ) (w : World) (act : Act) (c : Caller)
+        (filter : Filter) (whole : Bool) →
+        act.command ≡ Asks c (Search filter whole) → step net n w act ≡ w }
     ensures groups { (net : Net) (n : ℕ) (w : World) (act : Act) (c : Caller) →
         act.command ≡ Asks c Groups → step net n w act ≡ w }
     ensures pull { (net : Net) (n : ℕ) (w : World) (act : Act) (c : Caller) (a : Ask) →

@@ -4,7 +4,7 @@ use Rattle.std.proofs.lemmas.Bool.{and_from, false≢true, or_cases, or_right}
 use Rattle.misp_lists.proofs.Lists.{none_not_some, some_same}
 use Rattle.misp_ids.proofs.Same.{same_event-refl, same_org-refl}
 use Rattle.misp_elem.proofs.Same.{same_key-sound}
-use Rattle.misp_model.specs.Prelude.{AddEvent, AddParts, Ask, Change, Delete, DeleteEvent, DeleteReference, EditAttribute, EditEvent, EditObject, EventId, Groups, Index, IsTable, Judge, Key, OrgId, Place, Propose, Publish, Row, Scene, Sight, SyncEvents}
+use Rattle.misp_model.specs.Prelude.{AddEvent, AddParts, Ask, Change, Delete, DeleteEvent, DeleteReference, EditAttribute, EditEvent, EditObject, EventId, Groups, Index, Search, IsTable, Judge, Key, OrgId, Place, Propose, Publish, Row, Scene, Sight, SyncEvents}
 use Rattle.misp_model.specs.Prelude.{SyncGroups, SyncManifest, SyncPart, SyncRows, TakePart, View, event_key, event_of, has_copy, holds_copy, is_statement, is_tombstone, same_event, same_key, same_org, up_to}
 use Rattle.misp_model.specs.Shown.{event_row}
 use Rattle.misp_model.specs.Machine.{seeing}
@@ -81,7 +81,8 @@ more_same l rows s (View e owner) h =
 more_same l rows s (Propose d) h = refl
 more_same l rows s (Sight e t d) h = refl
 more_same l rows s (Judge e n accept) h = refl
-more_same l rows s Index h = refl
+more_same l rows s (Index page) h = refl
+more_same l rows s (Search filter whole) h = refl
 more_same l rows s Groups h = refl
 more_same l rows s SyncGroups h = refl
 more_same l rows s SyncEvents h = refl
@@ -137,7 +138,8 @@ first_within_last l s (View e owner) h = subst (λ k. IsWithin k (last_looks k (
 first_within_last l s (Propose d) h = λ w k g. g
 first_within_last l s (Sight e t d) h = λ w k g. g
 first_within_last l s (Judge e n accept) h = λ w k g. g
-first_within_last l s Index h = λ w k g. g
+first_within_last l s (Index page) h = λ w k g. g
+first_within_last l s (Search filter whole) h = λ w k g. g
 first_within_last l s Groups h = λ w k g. g
 first_within_last l s SyncGroups h = λ w k g. g
 first_within_last l s SyncEvents h = λ w k g. g
@@ -172,7 +174,8 @@ looked_same l rows s (View e owner) t h =
 looked_same l rows s (Propose d) t h = same_by l s rows (Propose d) (subst (IsEnough (seeing s rows) (Propose d)) (some_same _ l h) (propose_enough (seeing s rows) d))
 looked_same l rows s (Sight e p d) t h = same_by l s rows (Sight e p d) (subst (IsEnough (seeing s rows) (Sight e p d)) (some_same _ l h) (sight_enough (seeing s rows) e p d))
 looked_same l rows s (Judge e n accept) t h = same_by l s rows (Judge e n accept) (subst (IsEnough (seeing s rows) (Judge e n accept)) (some_same _ l h) (judge_enough (seeing s rows) e n accept))
-looked_same l rows s Index t h = absurd (none_not_some h)
+looked_same l rows s (Index page) t h = absurd (none_not_some h)
+looked_same l rows s (Search filter whole) t h = absurd (none_not_some h)
 looked_same l rows s Groups t h = absurd (none_not_some h)
 looked_same l rows s SyncGroups t h = absurd (none_not_some h)
 looked_same l rows s SyncEvents t h = absurd (none_not_some h)

@@ -2,7 +2,7 @@
 use Rattle.std.proofs.Common.{◌≡◌, ℕ, List, [], ◌∷◌, ◌++◌, Bool, true, false, refl, ap, sym, map, ◌&&◌, ◌||◌, not, Option, Some, None, option_map, filter}
 use Rattle.misp_model.specs.Scene.{Partner}
 use Rattle.misp_model.specs.Prelude.{AddEvent, AddParts, Ask, Change, Content, Delete, DeleteEvent, DeleteReference, EditAttribute, EditEvent, EditObject, Element, ElementExists, ElementFull, ElemId, EventExists, EventGone, EventId}
-use Rattle.misp_model.specs.Prelude.{GroupNotUsable, Groups, Index, Judge, Key, Label, NotGranted, OrgId, Place, Proposal, ProposalDraft, ProposalExists, ProposalName, Propose, Publish, Reference, Row, Scene, Sight, Sighting}
+use Rattle.misp_model.specs.Prelude.{GroupNotUsable, Groups, Index, Search, Judge, Key, Label, NotGranted, OrgId, Place, Proposal, ProposalDraft, ProposalExists, ProposalName, Propose, Publish, Reference, Row, Scene, Sight, Sighting}
 use Rattle.misp_model.specs.Prelude.{SyncEvents, SyncGroups, SyncManifest, SyncPart, SyncRows}
 use Rattle.misp_model.specs.Machine.{pulls}
 use Rattle.misp_model.specs.Pulling.{pulled_part, pulled_rows}
@@ -175,7 +175,8 @@ module _ (n : ℕ) (partner : Option Partner) (s : Scene) where
   rules_alike (Propose d) h = propose_as d
   rules_alike (Judge e m accept) h = judge_as e m accept
   rules_alike (Sight e p d) h = sight_as e p d
-  rules_alike Index h = refl
+  rules_alike (Index page) h = refl
+  rules_alike (Search filter whole) h = refl
   rules_alike Groups h = refl
   rules_alike (TakePart p) h = refl
   rules_alike _ h = absurd (false≢true (sym h))

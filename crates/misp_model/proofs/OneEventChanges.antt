@@ -1,6 +1,6 @@
 -- A change of one event, and a statement on one, are refused, answered and written from the event's own rows as from all.
 use Rattle.std.proofs.Common.{◌≡◌, true, ap, ◌∙◌, List, Bool, refl, false, subst, Option, None, Some}
-use Rattle.misp_model.specs.Prelude.{AddEvent, AddParts, Ask, Change, Delete, DeleteEvent, DeleteReference, EditAttribute, EditEvent, EditObject, Element, EventId, Groups, Index, Judge, Key, OrgId, Place, Proposal, ProposalDraft}
+use Rattle.misp_model.specs.Prelude.{AddEvent, AddParts, Ask, Change, Delete, DeleteEvent, DeleteReference, EditAttribute, EditEvent, EditObject, Element, EventId, Groups, Index, Search, Judge, Key, OrgId, Place, Proposal, ProposalDraft}
 use Rattle.misp_model.specs.Prelude.{ProposalName, Propose, Publish, Row, Scene, Sight, SightingDraft, SyncEvents, SyncGroups, SyncManifest, SyncPart, SyncRows, TakePart, Verdict, View, cut_rows, event_of, judged_place, proposal_key, same_event}
 use Rattle.misp_model.specs.Prelude.{sighting_key}
 use Rattle.misp_model.proofs.Prelude.{cut_scene, event_rows, false≢true, of_event, same_event-refl, seeing}
@@ -77,7 +77,8 @@ ask_here e s (Ask.Change c) h = subst (λ x. IsSame (cut_scene (of_event x) s) s
 ask_here e s (Propose d) h = subst (λ x. IsSame (cut_scene (of_event x) s) s (Propose d)) (ap (some_is d.event) h) (propose_here d.event s d refl)
 ask_here e s (Judge f n accept) h = subst (λ x. IsSame (cut_scene (of_event x) s) s (Judge f n accept)) (ap (some_is f) h) (judge_here f s n accept)
 ask_here e s (Sight f t d) h = subst (λ x. IsSame (cut_scene (of_event x) s) s (Sight f t d)) (ap (some_is f) h) (sight_here f s t d)
-ask_here e s Index h = absurd (false≢true (ap (λ (o : Option EventId). elim o [ None ↦ false | Some x ↦ true ]) h))
+ask_here e s (Index page) h = absurd (false≢true (ap (λ (o : Option EventId). elim o [ None ↦ false | Some x ↦ true ]) h))
+ask_here e s (Search filter _) h = absurd (false≢true (ap (λ (o : Option EventId). elim o [ None ↦ false | Some x ↦ true ]) h))
 ask_here e s (SyncPart f n) h = subst (λ x. IsSame (cut_scene (of_event x) s) s (SyncPart f n)) (ap (some_is f) h) (sync_part_here f s n)
 ask_here e s (SyncRows w) h = subst (λ x. IsSame (cut_scene (of_event x) s) s (SyncRows w)) (ap (some_is w.event) h) (sync_rows_here w s)
 ask_here e s SyncGroups h = absurd (false≢true (ap (λ (o : Option EventId). elim o [ None ↦ false | Some x ↦ true ]) h))

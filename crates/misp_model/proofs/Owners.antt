@@ -1,7 +1,7 @@
 -- What a request brings is the caller's, and of its act.
 use Rattle.std.proofs.Common.{◌≡◌, List, [], ◌∷◌, Bool, true, refl, false, map, cond, Option, Some, None, option_to_list, option_map, filter_map}
 use Rattle.misp_lists.proofs.Lists.{all-map, all_both}
-use Rattle.misp_model.specs.Prelude.{AddEvent, AddParts, Ask, Change, Content, Delete, DeleteEvent, DeleteReference, EditAttribute, EditEvent, EditObject, Element, EventId, Groups, Index, Judge, Key, Label, ProposalBody, ProposalName}
+use Rattle.misp_model.specs.Prelude.{AddEvent, AddParts, Ask, Change, Content, Delete, DeleteEvent, DeleteReference, EditAttribute, EditEvent, EditObject, Element, EventId, Groups, Index, Search, Judge, Key, Label, ProposalBody, ProposalName}
 use Rattle.misp_model.specs.Prelude.{Propose, Publish, ReferenceDraft, Row, Scene, Sight, Stamp, Submission, SyncEvents, SyncGroups, SyncManifest, SyncPart, SyncRows, TakePart, Version, View, acceptance, accepted, as_deleted, as_published, at_attribute, at_publishing, at_tags, body_seen, brings}
 use Rattle.misp_model.specs.Prelude.{change_writes, changed, changed_row, counted, event_key, handed_in, has_tag, is_for_new, judge_writes, judged_place, let_out, let_out_row, list_all, made, own_reference, own_row, own_row_is}
 use Rattle.misp_model.specs.Prelude.{part_version, parts_written, propose_writes, same_inst, sight_writes, taken_rows, untagged, written}
@@ -79,7 +79,8 @@ module _ (s : Scene) (own : Version → Bool)
       choice true (Some p) = acceptance_own e n p
       choice false o = refl
   brings_each (Sight e t d) = and_from _ _ (written_is _ _ _ _) refl
-  brings_each Index = refl
+  brings_each (Index page) = refl
+  brings_each (Search filter whole) = refl
   brings_each Groups = refl
   brings_each SyncGroups = refl
   brings_each SyncEvents = refl

@@ -3,12 +3,15 @@ use Rattle.std.specs.Prelude.{Bool, true, false, List, [], ◌∷◌, Some, None
 use Rattle.misp_groups.specs.declared.group.GroupFields.{GroupFields as Group}
 use Rattle.misp_groups.specs.Audience.{allows}
 use Rattle.misp_elem.specs.declared.row.RowFields.{RowFields as Row}
+use Rattle.misp_elem.specs.declared.visible.VisibleAttribute.{VisibleAttribute}
 use Rattle.misp_elem.specs.declared.visible.VisibleEvent.{VisibleEvent}
 use Rattle.misp_elem.specs.Prelude.{EventId, Inst, OrgId, list_any, same_org}
 use Rattle.misp_manifest.specs.declared.manifest.ManifestFields.{ManifestFields}
+use Rattle.misp_search.specs.Fitting.{hits, whole_events}
+use Rattle.misp_search.specs.Page.{page_of}
 use Rattle.misp_model.specs.declared.package.PackageFields.{PackageFields}
 use Rattle.misp_model.specs.declared.ask.Ask.{Ask}
-use Rattle.misp_model.specs.declared.ask.Ask.TheVariants.{View, Propose, Judge, Sight, Index, Groups, SyncGroups, SyncEvents, SyncPart, SyncManifest, SyncRows, TakePart}
+use Rattle.misp_model.specs.declared.ask.Ask.TheVariants.{View, Propose, Judge, Sight, Index, Search, Groups, SyncGroups, SyncEvents, SyncPart, SyncManifest, SyncRows, TakePart}
 use Rattle.misp_model.specs.Scene.{Scene, Rule, NotGranted, first_rule}
 use Rattle.misp_model.specs.Changing.{change_rules, change_writes}
 use Rattle.misp_model.specs.Statements.{propose_rules, judge_rules, sight_rules, propose_writes, judge_writes, sight_writes}
@@ -31,7 +34,8 @@ ask_rules s (Ask.Change c) = change_rules s c
 ask_rules s (Propose d) = propose_rules s d
 ask_rules s (Judge e n accept) = judge_rules s e n accept
 ask_rules s (Sight e t d) = sight_rules s e t d
-ask_rules s Index = []
+ask_rules s (Index page) = []
+ask_rules s (Search filter whole) = []
 ask_rules s Groups = []
 ask_rules s SyncGroups = []
 ask_rules s SyncEvents = []
@@ -51,7 +55,8 @@ brings s (Ask.Change c) = change_writes s c
 brings s (Propose d) = propose_writes s d
 brings s (Judge e n accept) = judge_writes s e n accept
 brings s (Sight e t d) = sight_writes s e t d
-brings s Index = []
+brings s (Index page) = []
+brings s (Search filter whole) = []
 brings s Groups = []
 brings s SyncGroups = []
 brings s SyncEvents = []
@@ -68,6 +73,8 @@ pub data Reply : Type 0 where
   Refused : Rule → Reply
   Seen : VisibleEvent → Reply
   Listed : List VisibleEvent → Reply
+  Hits : List VisibleAttribute → Reply
+  Events : List VisibleEvent → Reply
   Shares : List Group → Reply
   Parts : List (EventId × ℕ) → Reply
   Packed : PackageFields → Reply
@@ -97,7 +104,9 @@ ok_answer s (Ask.Change c) = Saved (change_writes s c)
 ok_answer s (Propose d) = Saved (propose_writes s d)
 ok_answer s (Judge e n accept) = Saved (judge_writes s e n accept)
 ok_answer s (Sight e t d) = Saved (sight_writes s e t d)
-ok_answer s Index = Listed (index s)
+ok_answer s (Index page) = Listed (page_of page (index s))
+ok_answer s (Search filter true) = Events (page_of filter.page (whole_events filter (index s)))
+ok_answer s (Search filter false) = Hits (page_of filter.page (hits filter (index s)))
 ok_answer s Groups = Shares (concerning s)
 ok_answer s SyncGroups = Shares (pulled_groups s)
 ok_answer s SyncEvents = Parts (pulled_events s)

@@ -11,7 +11,7 @@ use Rattle.misp_model.specs.Adding.{reference_key}
 use Rattle.misp_model.specs.declared.ask.Ask.{Ask}
 use Rattle.misp_model.specs.declared.change.Change.TheVariants.{AddEvent, AddParts, EditEvent, EditAttribute, EditObject, Delete, DeleteReference, DeleteEvent, Publish}
 use Rattle.misp_model.specs.declared.change.Change.{Change}
-use Rattle.misp_model.specs.declared.ask.Ask.TheVariants.{View, Propose, Judge, Sight, Index, Groups, SyncGroups, SyncEvents, SyncPart, SyncManifest, SyncRows, TakePart}
+use Rattle.misp_model.specs.declared.ask.Ask.TheVariants.{View, Propose, Judge, Sight, Index, Search, Groups, SyncGroups, SyncEvents, SyncPart, SyncManifest, SyncRows, TakePart}
 use Rattle.misp_model.specs.Statements.{proposal_key, sighting_key, judged_place}
 use Rattle.misp_model.specs.Changing.{own_reference, row_passes}
 use Rattle.misp_model.specs.Answers.{is_accepted}
@@ -69,7 +69,8 @@ erased_ask keep s (Ask.Change (Change.Tag e p tag)) =
 erased_ask keep s (Ask.Change (Change.Untag e p name)) =
     where_kept (keep (Element e p)) (Ask.Change (Change.Untag e p name))
 erased_ask keep s (Sight e t d) = where_kept (keep (sighting_key s e t d)) (Sight e t d)
-erased_ask keep s Index = None
+erased_ask keep s (Index page) = None
+erased_ask keep s (Search filter whole) = None
 erased_ask keep s Groups = None
 erased_ask keep s SyncGroups = None
 erased_ask keep s SyncEvents = None
@@ -112,7 +113,8 @@ HasPair keep s (View e owner) = Unit {0}
 HasPair keep s (Ask.Change c) = Unit {0}
 HasPair keep s (Propose d) = Unit {0}
 HasPair keep s (Sight e t d) = Unit {0}
-HasPair keep s Index = Unit {0}
+HasPair keep s (Index page) = Unit {0}
+HasPair keep s (Search filter whole) = Unit {0}
 HasPair keep s Groups = Unit {0}
 HasPair keep s SyncGroups = Unit {0}
 HasPair keep s SyncEvents = Unit {0}

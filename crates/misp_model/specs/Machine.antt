@@ -5,7 +5,7 @@ use Rattle.std.specs.Ordering.{is_lt}
 use Rattle.misp_lists.specs.Order.{put}
 use Rattle.misp_ids.specs.Moments.{next_stamp}
 use Rattle.misp_elem.specs.Spelling.{uid, key}
-use Rattle.misp_model.specs.Prelude.{AddEvent, AddParts, Ask, Change, Delete, DeleteEvent, DeleteReference, EditAttribute, EditEvent, EditObject, EventId, Groups, Index, Judge, OrgId, Propose, Publish, Row, Scene, Sight, Stamp, SyncEvents, SyncGroups, SyncManifest, SyncPart, SyncRows, TakePart}
+use Rattle.misp_model.specs.Prelude.{AddEvent, AddParts, Ask, Change, Delete, DeleteEvent, DeleteReference, EditAttribute, EditEvent, EditObject, EventId, Groups, Index, Search, Judge, OrgId, Propose, Publish, Row, Scene, Sight, Stamp, SyncEvents, SyncGroups, SyncManifest, SyncPart, SyncRows, TakePart}
 pub use Rattle.misp_model.specs.Packing.{event_rows}
 use Rattle.misp_model.specs.Prelude.{View, at_publishing, event_of, known, nat_cmp, same_event, same_key, same_org, slice_cmp, stands_before}
 
@@ -66,7 +66,8 @@ hands_in (Ask.Change c) = false
 hands_in (Propose d) = false
 hands_in (Judge e n accept) = false
 hands_in (Sight e t d) = false
-hands_in Index = false
+hands_in (Index page) = false
+hands_in (Search filter whole) = false
 hands_in Groups = false
 hands_in SyncGroups = false
 hands_in SyncEvents = false
@@ -86,7 +87,8 @@ pulls (Ask.Change c) = false
 pulls (Propose d) = false
 pulls (Judge e n accept) = false
 pulls (Sight e t d) = false
-pulls Index = false
+pulls (Index page) = false
+pulls (Search filter whole) = false
 pulls Groups = false
 pulls (TakePart p) = false
 
@@ -111,7 +113,8 @@ event_asked (Ask.Change c) = Some (event_changed c)
 event_asked (Propose d) = Some d.event
 event_asked (Judge e n accept) = Some e
 event_asked (Sight e t d) = Some e
-event_asked Index = None
+event_asked (Index page) = None
+event_asked (Search filter whole) = None
 event_asked Groups = None
 event_asked SyncGroups = None
 event_asked SyncEvents = None

@@ -2,7 +2,7 @@
 use Rattle.std.specs.Prelude.{ℕ, List, map}
 use Rattle.misp_model.specs.Scene.{Scene}
 use Rattle.misp_model.specs.Version.{Version}
-use Rattle.misp_model.specs.Answers.{Reply, Refused, Seen, Listed, Shares, Parts, Manifested, Packed, Saved, Taken, Other}
+use Rattle.misp_model.specs.Answers.{Reply, Refused, Seen, Listed, Hits, Events, Shares, Parts, Manifested, Packed, Saved, Taken, Other}
 
 -- the same surroundings of the n-th act
 abbrev pub scene_as : ℕ → Scene → Scene
@@ -21,6 +21,8 @@ reply_as n (Saved vs) = Saved (versions_as n vs)
 reply_as n (Refused rule) = Refused rule
 reply_as n (Seen v) = Seen v
 reply_as n (Listed vs) = Listed vs
+reply_as n (Hits found) = Hits found
+reply_as n (Events found) = Events found
 reply_as n (Shares groups) = Shares groups
 reply_as n (Parts events) = Parts events
 reply_as n (Packed p) = Packed p

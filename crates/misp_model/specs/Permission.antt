@@ -24,7 +24,8 @@ change_permission (Change.DeleteEvent event) = Perm.Write
 -- what is to be permitted for an ask
 abbrev pub permission_of : Ask → Perm
 permission_of (Ask.View event owner) = Perm.Read
-permission_of Ask.Index = Perm.Read
+permission_of (Ask.Index page) = Perm.Read
+permission_of (Ask.Search filter whole) = Perm.Read
 permission_of Ask.Groups = Perm.Read
 permission_of (Ask.Change change) = change_permission change
 permission_of (Ask.Propose draft) = Perm.Propose

@@ -44,7 +44,7 @@ pub use Rattle.misp_model.specs.Version.{Version}
 unfoldable pub use Rattle.misp_model.specs.View.{element_granted, first_of_all, granted, granted_by, granted_somewhere, has_copy, has_gone, has_home, has_open, is_before, is_known, is_least, is_live, is_row_of, known, row_is_open}
 pub use Rattle.misp_model.specs.View.{IsTable}
 pub use Rattle.misp_model.specs.declared.ask.Ask.{Ask}
-pub use Rattle.misp_model.specs.declared.ask.Ask.TheVariants.{Groups, Index, Judge, Propose, Sight, SyncEvents, SyncGroups, SyncManifest, SyncPart, SyncRows, TakePart, View}
+pub use Rattle.misp_model.specs.declared.ask.Ask.TheVariants.{Groups, Index, Judge, Propose, Search, Sight, SyncEvents, SyncGroups, SyncManifest, SyncPart, SyncRows, TakePart, View}
 pub use Rattle.misp_model.specs.declared.change.Change.{Change}
 pub use Rattle.misp_model.specs.declared.change.Change.TheVariants.{AddEvent, AddParts, Delete, DeleteEvent, DeleteReference, EditAttribute, EditEvent, EditObject, Publish}
 pub use Rattle.misp_model.specs.declared.statement.ProposalDraftFields.{ProposalDraftFields as ProposalDraft}

@@ -6,6 +6,7 @@ use crate::place::{AttributePlace, NamedProposal};
 use crate::statement::{ProposalDraft, SightingDraft};
 use misp_ids::{EventId, OrgId};
 use misp_manifest::Wanted;
+use misp_search::{Filter, Page};
 
 /// What an organisation asks of an instance.
 #[derive(Drop)]
@@ -28,7 +29,13 @@ pub enum Ask {
         target: AttributePlace,
         draft: SightingDraft,
     },
-    Index,
+    /// Lists a page of the events that the organisation sees.
+    Index(Page),
+    /// Searches what the organisation sees: for attributes, or for whole events.
+    Search {
+        filter: Filter,
+        whole: bool,
+    },
     /// Lists the sharing groups that the organisation created or that allow it.
     Groups,
     /// Lists the sharing groups that carry to the partner of the caller's key.

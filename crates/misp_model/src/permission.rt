@@ -28,7 +28,7 @@ pub fn permission_for(ask: &Ask) -> Perm
     ensures { result ≡ permission_of ask.now }
 {
     match ask {
-        Ask::View { .. } | Ask::Index | Ask::Groups => Perm::Read,
+        Ask::View { .. } | Ask::Index(_) | Ask::Search { .. } | Ask::Groups => Perm::Read,
         Ask::Change(change) => change_permission(change),
         Ask::Propose(_) => Perm::Propose,
         Ask::Judge { .. } => Perm::Write,

@@ -437,7 +437,8 @@ pub(crate) fn looks(
             Ok(Some(at_proposal(alloc, by, event, proposal, makes, verdict)?))
         }
         Ask::View { event, .. } => Ok(Some(at_event(alloc, by, event)?)),
-        Ask::Index
+        Ask::Index(_)
+        | Ask::Search { .. }
         | Ask::Groups
         | Ask::SyncGroups
         | Ask::SyncEvents

@@ -64,7 +64,8 @@ fn wide_reach(by: &OrgId, ask: &Ask) -> Reach
         Ask::SyncRows(wanted) => Reach::Event(wanted.fields.event),
         Ask::Change(change) => wide_change_reach(by, change),
         Ask::Propose(draft) => Reach::Event(draft.fields.event),
-        Ask::Index | Ask::SyncEvents | Ask::SyncManifest => Reach::All,
+        Ask::Index(_) | Ask::Search { .. } => Reach::All,
+        Ask::SyncEvents | Ask::SyncManifest => Reach::All,
         Ask::Groups | Ask::SyncGroups => Reach::Nothing,
         Ask::TakePart(part) => Reach::Event(part.fields.event),
     }

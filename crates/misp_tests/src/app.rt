@@ -110,9 +110,10 @@ fn case_ended(
     }
 }
 
-// The first keeper has applied so many batches, and the others none.
-fn applied(first: u64) -> [u64; 16] {
-    [first, 0, 0, 0, 0, 0, 0, 0, 0, 0, 0, 0, 0, 0, 0, 0]
+// The first keepers have applied so many batches, and the others none.
+fn applied(first: [u64; 4]) -> [u64; 16] {
+    let [a, b, c, d] = first;
+    [a, b, c, d, 0, 0, 0, 0, 0, 0, 0, 0, 0, 0, 0, 0]
 }
 
 // Asserts that a run ended as the case says, and wrote this.
@@ -163,7 +164,7 @@ fn a_row_of_the_administration_that_is_none_ends_the_run(rt: HostRuntime) -> Res
         fails: [0, 0, 0],
         status: Status::BadRow,
         written: "",
-        batches: 1,
+        batches: [1, 0, 0, 0],
     };
     let source = named(alloc, case.source)?;
     let ran = case_ended(&rt, alloc, source.as_str(), &case, none(&rt, alloc));

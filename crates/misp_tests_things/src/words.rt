@@ -32,6 +32,7 @@ fn shown(rt: &impl Abort, alloc: Global, words: &[String]) -> String {
         Ok(Command::Check) => add(rt, &mut line, "check"),
         Ok(Command::Serve(words)) => show_serve(rt, &mut line, &words),
         Ok(Command::Sync(words)) => show_sync(rt, &mut line, &words),
+        Ok(Command::Gen(count)) => write!(line, "{count} events").expect(rt, "memory"),
         Err(WordsFault::Usage) => add(rt, &mut line, "usage"),
         Err(WordsFault::OutOfMemory) => add(rt, &mut line, "no memory"),
     }
@@ -48,7 +49,7 @@ fn words_of(rt: &impl Abort, alloc: Global, line: &str) -> Vec<String> {
 }
 
 /// Words, and what they ask for.
-const READ: [(&str, &str); 11] = [
+const READ: [(&str, &str); 13] = [
     ("net", "net"),
     ("check", "check"),
     ("serve a 127.0.0.1:0 1", "a at <127.0.0.1:0> 1 times"),
@@ -63,10 +64,12 @@ const READ: [(&str, &str); 11] = [
     ("sync a b pull", "a pulls over b"),
     ("sync a-1 a-1 push", "a-1 pushes over a-1"),
     ("sync sync pull push", "sync pushes over pull"),
+    ("gen 1", "1 events"),
+    ("gen 10000", "10000 events"),
 ];
 
 /// Words that ask for nothing: those of a command with a letter more, fewer or other, and others.
-const OTHERS: [(&str, &str); 55] = [
+const OTHERS: [(&str, &str); 62] = [
     ("", "usage"),
     ("help", "usage"),
     ("n", "usage"),
@@ -106,6 +109,13 @@ const OTHERS: [(&str, &str); 55] = [
     ("serve A x 1", "usage"),
     ("serve 1 x 1", "usage"),
     ("serve  x 1", "usage"),
+    ("gen", "usage"),
+    ("gens 1", "usage"),
+    ("gen 0", "usage"),
+    ("gen 01", "usage"),
+    ("gen 10001", "usage"),
+    ("gen x", "usage"),
+    ("gen 1 1", "usage"),
     ("syn a b pull", "usage"),
     ("syncs a b pull", "usage"),
     ("Sync a b pull", "usage"),

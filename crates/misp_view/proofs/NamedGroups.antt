@@ -2,10 +2,10 @@
 use Rattle.std.proofs.Common.{◌≡◌, ℕ, Bool, true, false, refl, ap, ◌∙◌, cond, List, map, ◌||◌, filter, BTreeSet}
 use Rattle.std.specs.BTreeSet.{IsEmpty}
 use Rattle.std.specs.BTreeMap.{is_at}
-use Rattle.misp_model.specs.Prelude.{Group, GroupId, VisibleEvent, contains, same_group, same_org}
+use Rattle.misp_model.specs.Prelude.{Group, GroupId, contains, same_group, same_org}
 use Rattle.misp_copies.specs.Table.{pair_cmp}
 use Rattle.misp_copies.proofs.Pairs.{pair_more, none_in}
-use Rattle.misp_view.specs.Naming.{has_group, event_names, group_names, with_name}
+use Rattle.misp_view.specs.Naming.{has_group, with_name}
 
 -- the set with a group more
 pub has_more : (old new : BTreeSet (ℕ × ℕ)) (g id : GroupId) →
@@ -19,13 +19,15 @@ pub none_has : (ids : BTreeSet (ℕ × ℕ)) (id : GroupId) → IsEmpty ids → 
 unfolding has_group
 none_has ids id h = none_in ids id.creator.0.0 id.uuid.0 h
 
--- the groups of a set are those that an event names
-pub names_are : (ids : BTreeSet (ℕ × ℕ)) (groups : List Group) (v : VisibleEvent) → ((id : GroupId) → has_group ids id ≡ event_names id v)
-    → map with_name (filter (λ g. has_group ids g.id) groups) ≡ group_names groups v
-unfolding group_names
-names_are ids groups v h = λ i. map with_name (filter (λ g. h g.id i) groups)
+-- the groups of a set are those that a test takes
+pub names_are : (ids : BTreeSet (ℕ × ℕ)) (groups : List Group) (test : GroupId → Bool) → ((id : GroupId) → has_group ids id ≡ test id)
+    → map with_name (filter (λ g. has_group ids g.id) groups) ≡ map with_name (filter (λ g. test g.id) groups)
+names_are ids groups test h = λ i. map with_name (filter (λ g. h g.id i) groups)
 
 -- ---- one step after another
+
+pub one_more : (none first a : Bool) → none ≡ false → first ≡ (none || a) → first ≡ a
+one_more none first a e h = h ∙ ap (λ t. t || a) e
 
 pub two_more : (old next new a b : Bool) → next ≡ (old || a) → new ≡ (next || b) → new ≡ (old || (a || b))
 two_more old next new a b h k = k ∙ ap (λ t. t || b) h ∙ one old
@@ -35,4 +37,4 @@ two_more old next new a b h k = k ∙ ap (λ t. t || b) h ∙ one old
     one false = refl
 
 pub three_more : (none first next new a b d : Bool) → none ≡ false → first ≡ (none || a) → next ≡ (first || b) → new ≡ (next || d) → new ≡ (a || b || d)
-three_more none first next new a b d e h k m = m ∙ ap (λ t. t || d) (k ∙ ap (λ t. t || b) (h ∙ ap (λ t. t || a) e))
+three_more none first next new a b d e h k m = m ∙ ap (λ t. t || d) (k ∙ ap (λ t. t || b) (one_more none first a e h))

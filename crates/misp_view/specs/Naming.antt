@@ -36,6 +36,11 @@ with_name g = (g.id, g.name)
 unfoldable pub group_names : List Group → VisibleEvent → GroupNames
 group_names groups v = map with_name (filter (λ g. event_names g.id v) groups)
 
+-- the known groups that a label of these attributes names, in their order, each once with its name
+unfoldable pub hit_names : List Group → List VisibleAttribute → GroupNames
+hit_names groups hits =
+    map with_name (filter (λ g. list_any (attribute_names g.id) hits) groups)
+
 -- ---- as they are found
 
 -- the group is among these, which are the numbers of creators and of their groups

@@ -16,4 +16,4 @@ mod statements;
 pub use choice::chosen;
 pub use form::{shown, shown_owner};
 pub use listing::concerning;
-pub use naming::group_names;
+pub use naming::{group_names, hit_names};

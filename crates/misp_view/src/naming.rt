@@ -3,7 +3,7 @@
 ghost use Rattle.std.specs.Prelude.{◌≡◌, ◌||◌, map, IfOk, OnOk};
 ghost use Rattle.std.specs.List.{list_any, filter};
 ghost use Rattle.misp_ids.specs.declared.uid.GroupId.{GroupId as Id};
-ghost use Rattle.misp_view.specs.Naming.{label_names, attribute_names, object_names, event_names, group_names, has_group, with_name};
+ghost use Rattle.misp_view.specs.Naming.{label_names, attribute_names, object_names, event_names, group_names, has_group, hit_names, with_name};
 
 use misp_elem::{NoMemory, Row, VisibleAttribute, VisibleEvent, VisibleObject};
 use misp_groups::Groups;
@@ -112,5 +112,27 @@ pub fn group_names(
     ensures { IfOk result (λ names. names.items ≡ group_names groups.now event.now) }
 {
     let ids = named(alloc, event)?;
+    names_of(alloc, groups, &ids)
+}
+
+// The groups that the labels of attributes name.
+fn named_in(alloc: Global, attributes: &[VisibleAttribute]) -> Result<Ids, NoMemory>
+    ensures { IfOk result (λ ids. (id : Id) →
+        has_group ids id ≡ list_any (attribute_names id) attributes.now) }
+{
+    let mut ids = BTreeSet::new(alloc);
+    note_attributes(&mut ids, attributes)?;
+    Ok(ids)
+}
+
+/// The known groups that the labels of attributes name, each once with its name.
+pub fn hit_names(
+    alloc: Global,
+    groups: &Groups,
+    hits: &[VisibleAttribute],
+) -> Result<Vec<(GroupId, Text)>, NoMemory>
+    ensures { IfOk result (λ names. names.items ≡ hit_names groups.now hits.now) }
+{
+    let ids = named_in(alloc, hits)?;
     names_of(alloc, groups, &ids)
 }

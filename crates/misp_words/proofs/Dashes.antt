@@ -1,11 +1,11 @@
 -- Words of which one begins with a dash ask for nothing.
-use Rattle.std.proofs.Common.{◌≡◌, ℕ, Bool, true, false, not, ◌&&◌, ◌||◌, List, [], ◌∷◌, length, Option, None, option_map, if◌then◌else◌, bytes_eq, refl, sym, ap, subst, inl, inr}
+use Rattle.std.proofs.Common.{◌≡◌, ℕ, Bool, true, false, not, ◌&&◌, ◌||◌, List, [], ◌∷◌, length, Option, None, option_and_then, option_map, if◌then◌else◌, bytes_eq, refl, sym, ap, subst, inl, inr}
 use Rattle.std.specs.Prelude.{codes, nat_le}
 use Rattle.std.specs.Str.Parse.{digits_value}
 use Rattle.std.proofs.lemmas.Bool.{eqb-true, false≢true, or_cases}
 use Rattle.misp_ids.specs.Names.{is_inst_name}
-use Rattle.misp_words.specs.Count.{count_of, is_numeral, within_limit}
-use Rattle.misp_words.specs.Words.{NoDashIsAccepted, Serve, ServeData, Sync, SyncData, begins_with_dash, command_named, command_with, serve_words, sync_words, direction_of, with_count, with_direction}
+use Rattle.misp_words.specs.Count.{count_of, events_of, is_numeral, within_events, within_limit}
+use Rattle.misp_words.specs.Words.{Gen, NoDashIsAccepted, Serve, ServeData, Sync, SyncData, begins_with_dash, command_counted, command_named, command_with, serve_words, sync_words, direction_of, with_count, with_direction}
 
 -- what holds of every word that has a dash first
 dashed : (P : List ℕ → Type 0) → ((bytes : List ℕ) → P (45 ∷ bytes)) → (word : List ℕ) → begins_with_dash word ≡ true → P word
@@ -25,6 +25,19 @@ neither : (serve sync : Bool) (x : Option ServeData) (y : Option SyncData) → x
 neither true sync x y none other = ap (option_map Serve) none
 neither false true x y none other = ap (option_map Sync) other
 neither false false x y none other = refl
+
+no_count : (bytes : List ℕ) → count_of (45 ∷ bytes) ≡ None
+no_count bytes = ap (λ t. if t then within_limit (digits_value 10 (45 ∷ bytes)) else None) (and_no (nat_le (length (45 ∷ bytes)) 7) (is_numeral (45 ∷ bytes)) refl)
+
+-- a dash in one of two words
+two : (word count : List ℕ) → (begins_with_dash word || (begins_with_dash count || false)) ≡ true → command_counted word count ≡ None
+two word count dash = elim (or_cases (begins_with_dash word) _ dash) [
+  | inl is ↦ dashed (λ w. command_counted w count ≡ None) (λ bytes. refl) word is
+  | inr rest ↦ elim (or_cases (begins_with_dash count) false rest) [
+    | inl is ↦ if_none (bytes_eq word (codes "gen")) (option_map Gen (events_of count)) (ap (λ n. option_map Gen (option_and_then within_events n)) (dashed (λ w. count_of w ≡ None) no_count count is))
+    | inr none ↦ absurd (false≢true none)
+  ]
+]
 
 module _ (word a b c : List ℕ) where
   -- none of both commands
@@ -46,11 +59,8 @@ module _ (word a b c : List ℕ) where
   dash_last dash = asks_nothing
       (if_none (is_inst_name a && not (begins_with_dash b)) (with_count a b (count_of c)) (ap (with_count a b) (dashed (λ w. count_of w ≡ None) no_count c dash)))
       (if_none (is_inst_name a && is_inst_name b) (with_direction a b (direction_of c)) (ap (with_direction a b) (dashed (λ w. direction_of w ≡ None) (λ bytes. refl) c dash)))
-    where
-      no_count : (bytes : List ℕ) → count_of (45 ∷ bytes) ≡ None
-      no_count bytes = ap (λ t. if t then within_limit (digits_value 10 (45 ∷ bytes)) else None) (and_no (nat_le (length (45 ∷ bytes)) 7) (is_numeral (45 ∷ bytes)) refl)
 
-  -- one of the four
+  -- a dash in one of four words
   four : (begins_with_dash word || (begins_with_dash a || (begins_with_dash b || (begins_with_dash c || false)))) ≡ true → command_with word a b c ≡ None
   four dash = elim (or_cases (begins_with_dash word) _ dash) [
     | inl is ↦ dash_first is
@@ -72,7 +82,7 @@ no_dash (word ∷ []) dash = elim (or_cases (begins_with_dash word) false dash) 
   | inl is ↦ dashed (λ w. command_named w ≡ None) (λ bytes. refl) word is
   | inr none ↦ absurd (false≢true none)
 ]
-no_dash (word ∷ a ∷ []) dash = refl
+no_dash (word ∷ a ∷ []) dash = two word a dash
 no_dash (word ∷ a ∷ b ∷ []) dash = refl
 no_dash (word ∷ a ∷ b ∷ c ∷ []) dash = four word a b c dash
 no_dash (word ∷ a ∷ b ∷ c ∷ d ∷ words) dash = refl

@@ -1,5 +1,5 @@
 -- How many connections a word asks for.
-use Rattle.std.specs.Prelude.{ℕ, Bool, false, not, ◌==◌, ◌&&◌, nat_le, List, [], ◌∷◌, length, Option, Some, None, if◌then◌else◌}
+use Rattle.std.specs.Prelude.{ℕ, Bool, false, not, ◌==◌, ◌&&◌, nat_le, List, [], ◌∷◌, length, Option, Some, None, option_and_then, if◌then◌else◌}
 use Rattle.std.specs.Char.{is_ascii_digit}
 use Rattle.std.specs.List.{list_all}
 use Rattle.std.specs.Str.Parse.{digits_value}
@@ -23,3 +23,15 @@ count_of text =
     if nat_le (length text) 7 && is_numeral text
     then within_limit (digits_value 10 text)
     else None
+
+-- the most events
+abbrev pub events_limit : ℕ
+events_limit = 10_000
+
+-- a number of events that is at most their limit
+abbrev pub within_events : ℕ → Option ℕ
+within_events count = if nat_le count events_limit then Some count else None
+
+-- the number of events of a text, which is from 1 to their limit
+abbrev pub events_of : List ℕ → Option ℕ
+events_of text = option_and_then within_events (count_of text)

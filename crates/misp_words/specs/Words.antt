@@ -3,7 +3,7 @@ use Rattle.std.specs.Prelude.{◌≡◌, ℕ, Bool, true, false, not, ◌==◌, 
 use Rattle.std.specs.List.{list_any}
 use Rattle.misp_ids.specs.Names.{is_inst_name}
 use Rattle.misp_ids.specs.declared.label.Direction.{Direction}
-use Rattle.misp_words.specs.Count.{count_of}
+use Rattle.misp_words.specs.Count.{count_of, events_of}
 use Rattle.misp_words.specs.declared.command.Command.{Command}
 use Rattle.misp_words.specs.declared.command.Command.TheVariants as command
 use Rattle.misp_words.specs.declared.command.ServeWords.{ServeWords}
@@ -27,6 +27,7 @@ pub data CommandData : Type 0 where
   Net Check : CommandData
   Serve : ServeData → CommandData
   Sync : SyncData → CommandData
+  Gen : ℕ → CommandData
 
 abbrev pub serve_data : ServeWords → ServeData
 serve_data words = record { name = words.name; address = words.address.now; count = words.count }
@@ -39,6 +40,7 @@ command_data command.Net = Net
 command_data command.Check = Check
 command_data (command.Serve words) = Serve (serve_data words)
 command_data (command.Sync words) = Sync (sync_data words)
+command_data (command.Gen count) = Gen count
 
 -- ---- the words of each command
 
@@ -85,6 +87,11 @@ command_named word =
     else if bytes_eq word (codes "check") then Some Check
     else None
 
+-- the command of this name with a number
+abbrev pub command_counted : List ℕ → List ℕ → Option CommandData
+command_counted word count =
+    if bytes_eq word (codes "gen") then option_map Gen (events_of count) else None
+
 -- the command of this name with these three words
 abbrev pub command_with : List ℕ → List ℕ → List ℕ → List ℕ → Option CommandData
 command_with word name other last =
@@ -97,6 +104,7 @@ command_with word name other last =
 -- what the words ask for, where they are accepted
 abbrev pub command_of : List (List ℕ) → Option CommandData
 command_of (word ∷ []) = command_named word
+command_of (word ∷ count ∷ []) = command_counted word count
 command_of (word ∷ name ∷ other ∷ last ∷ []) = command_with word name other last
 command_of words = None
 

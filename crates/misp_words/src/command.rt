@@ -1,10 +1,10 @@
 //! What the words ask for.
 
 ghost use Rattle.std.specs.Prelude.{◌≡◌, map, option_map, string_bytes};
-ghost use Rattle.misp_words.specs.Words.{begins_with_dash, command_data, serve_data, serve_words, sync_data, sync_words, direction_of, command_named, command_with, command_of};
+ghost use Rattle.misp_words.specs.Words.{begins_with_dash, command_data, serve_data, serve_words, sync_data, sync_words, direction_of, command_counted, command_named, command_with, command_of};
 
-use crate::count::read_count;
-use crate::names::{CHECK, NET, SERVE, SYNC};
+use crate::count::{read_count, read_events};
+use crate::names::{CHECK, GEN, NET, SERVE, SYNC};
 use misp_ids::{Direction, InstId};
 
 /// What the program is to do.
@@ -18,6 +18,8 @@ pub enum Command<'a> {
     Serve(ServeWords<'a>),
     /// Synchronises an instance of the description of a source over one of its links.
     Sync(SyncWords),
+    /// Runs the script of a generated network with so many events, and sums up what came of it.
+    Gen(u32),
 }
 
 /// The words after `serve`.
@@ -100,6 +102,18 @@ fn command_named<'a>(word: &str) -> Option<Command<'a>>
     }
 }
 
+fn command_counted<'a>(word: &str, count: &str) -> Option<Command<'a>>
+    ensures { option_map command_data result ≡ command_counted word.now count.now }
+{
+    match word {
+        GEN => match read_events(count) {
+            Some(count) => Some(Command::Gen(count)),
+            None => None,
+        },
+        _ => None,
+    }
+}
+
 fn command_with<'a>(word: &str, name: &str, other: &'a str, last: &str) -> Option<Command<'a>>
     ensures { option_map command_data result
         ≡ command_with word.now name.now other.now last.now }
@@ -124,7 +138,7 @@ pub(crate) fn command_of<'a>(words: &'a [String]) -> Option<Command<'a>>
     match words {
         [] => None,
         [word] => command_named(word.as_str()),
-        [_, _] => None,
+        [word, count] => command_counted(word.as_str(), count.as_str()),
         [_, _, _] => None,
         [word, name, other, last] => command_with(
             word.as_str(),

@@ -1,9 +1,9 @@
 //! Counts in decimal digits.
 
 ghost use Rattle.std.specs.Prelude.{◌≡◌};
-ghost use Rattle.misp_words.specs.Count.{is_numeral, count_of};
+ghost use Rattle.misp_words.specs.Count.{count_of, events_of, is_numeral};
 
-use crate::MAX_COUNT;
+use crate::{MAX_COUNT, MAX_EVENTS};
 use misp_ids::{are_digits, decimal_value};
 
 const MAX_DIGITS: usize = 7;
@@ -16,6 +16,17 @@ fn is_numeral(text: &[u8]) -> bool
         [b'0', ..] => false,
         [_, ..] => are_digits(text),
     }
+}
+
+// How many events are generated: a number from 1 to `MAX_EVENTS`, in digits without a leading zero.
+pub(crate) fn read_events(text: &str) -> Option<u32>
+    ensures { result ≡ events_of text.now }
+{
+    let count = read_count(text)?;
+    if count > MAX_EVENTS {
+        return None;
+    }
+    Some(count)
 }
 
 // A number from 1 to `MAX_COUNT`, in digits without a leading zero.

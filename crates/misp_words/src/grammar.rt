@@ -1,6 +1,6 @@
 //! The words as the crate `clap` reads them.
 
-use crate::names::{CHECK, NET, SERVE, SYNC};
+use crate::names::{CHECK, GEN, NET, SERVE, SYNC};
 use clap::{Arg, ArgAction, ArgMatches, Command, Error};
 use std::alloc::Global;
 
@@ -13,6 +13,8 @@ const COUNT: &str = "COUNT";
 const LINK: &str = "LINK";
 
 const WAY: &str = "WAY";
+
+const EVENTS: &str = "EVENTS";
 
 fn required<'a>(alloc: Global, name: &'a str) -> Arg<'a> {
     Arg::new(alloc, name).required(true).action(ArgAction::Set)
@@ -46,7 +48,8 @@ fn grammar<'a>(alloc: Global) -> Result<Command<'a>, Error> {
             .subcommand(without_help(alloc, NET))?
             .subcommand(without_help(alloc, CHECK))?
             .subcommand(with_words(alloc, SERVE, ADDRESS, COUNT)?)?
-            .subcommand(with_words(alloc, SYNC, LINK, WAY)?)?,
+            .subcommand(with_words(alloc, SYNC, LINK, WAY)?)?
+            .subcommand(without_help(alloc, GEN).arg(required(alloc, EVENTS))?)?,
     )
 }
 
@@ -63,6 +66,7 @@ fn has_values(found: &ArgMatches, command: &str, values: &[String]) -> bool {
                 && found.get_str(second) == Some(other.as_str())
                 && found.get_str(third) == Some(last.as_str())
         }
+        [count] => found.get_str(EVENTS) == Some(count.as_str()),
         _ => values.is_empty(),
     }
 }

@@ -7,3 +7,5 @@ pub(crate) const CHECK: &str = "check";
 pub(crate) const SERVE: &str = "serve";
 
 pub(crate) const SYNC: &str = "sync";
+
+pub(crate) const GEN: &str = "gen";

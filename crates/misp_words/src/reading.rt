@@ -1,12 +1,12 @@
 //! Reads the words.
 
 ghost use Rattle.std.specs.Prelude.{◌≡◌, ◌↔◌, ℕ, List, None, Some, Err, IfOk, map, string_bytes};
-ghost use Rattle.misp_words.specs.Count.{count_limit};
+ghost use Rattle.misp_words.specs.Count.{count_limit, events_limit};
 ghost use Rattle.misp_words.specs.Words.{command_of, command_data};
 
-use crate::MAX_COUNT;
 use crate::command::{Command, command_of};
 use crate::grammar::agrees;
+use crate::{MAX_COUNT, MAX_EVENTS};
 use std::alloc::Global;
 use std::marker::Model;
 
@@ -24,7 +24,7 @@ pub fn read_words<'a>(alloc: Global, words: &'a [String]) -> Result<Command<'a>,
         ↔ command_of (map string_bytes words.now) ≡ None }
     ensures read { IfOk result (λ command.
         command_of (map string_bytes words.now) ≡ Some (command_data command)) }
-    ensures limit { MAX_COUNT ≡ count_limit }
+    ensures limits { (MAX_COUNT ≡ count_limit) × (MAX_EVENTS ≡ events_limit) }
 {
     let Some(command) = command_of(words) else {
         return Err(WordsFault::Usage);

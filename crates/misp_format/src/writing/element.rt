@@ -1,10 +1,11 @@
 //! Tags, attributes and objects as they are written.
 
 ghost use Rattle.std.specs.Prelude.{◌≡◌, ◌++◌, IfOk, OnOk, codes, string_bytes};
+ghost use Rattle.serde_json.specs.Data.{no_members};
 ghost use Rattle.misp_format.specs.Fields.{list_data};
 ghost use Rattle.misp_format.specs.Names.{names_in};
 ghost use Rattle.misp_format.specs.Tokens.{put_value, put_members, put_attribute_lists, put_object_lists, put_seen_and_part};
-ghost use Rattle.misp_format.specs.Written.{colour_text, tag_data, attribute_rest, attribute_texts, attribute_with, attribute_data, object_texts, object_with, object_data};
+ghost use Rattle.misp_format.specs.Written.{colour_text, tag_data, attribute_rest, attribute_texts, attribute_with, attribute_data, object_texts, object_with, object_data, with_attribute_front};
 
 use crate::kinds::category_name;
 use crate::writing::group_names::{GroupNames, put_sharing_group};
@@ -92,7 +93,8 @@ fn put_attribute(
     Ok(())
 }
 
-fn put_attribute_lists(
+/// Its lists, and the sharing group.
+pub(crate) fn put_attribute_lists(
     out: &mut Writer,
     names: &GroupNames,
     attribute: &VisibleAttribute,
@@ -109,8 +111,8 @@ fn put_attribute_lists(
     Ok(())
 }
 
-// When it was first and last seen, and its part in an object, each where there is one.
-fn put_seen_and_part(out: &mut Writer, body: &AttributeBody) -> Result<(), NoMemory>
+/// When it was first and last seen, and its part in an object, each where there is one.
+pub(crate) fn put_seen_and_part(out: &mut Writer, body: &AttributeBody) -> Result<(), NoMemory>
     ensures { OnOk result (out.new ≡ put_seen_and_part body.now out.old) }
 {
     out.moment_if_known("first_seen", &body.first_seen)?;
@@ -127,16 +129,29 @@ fn put_attribute_texts(
     ensures { OnOk result (out.new
         ≡ put_members (attribute_texts attribute.now body.now) out.old) }
 {
-    out.text("category", category_name(body.category))?;
-    out.text("comment", body.comment.as_str())?;
-    out.flag("deleted", body.deleted)?;
-    out.number("distribution", label_number(&attribute.row.label))?;
+    put_attribute_front(out, attribute, body)?;
     put_seen_and_part(out, body)?;
     put_attribute_rest(out, attribute, body)
 }
 
-// Its last texts.
-fn put_attribute_rest(
+/// Its first texts.
+pub(crate) fn put_attribute_front(
+    out: &mut Writer,
+    attribute: &VisibleAttribute,
+    body: &AttributeBody,
+) -> Result<(), NoMemory>
+    ensures { OnOk result (out.new
+        ≡ put_members (with_attribute_front attribute.now body.now no_members) out.old) }
+{
+    out.text("category", category_name(body.category))?;
+    out.text("comment", body.comment.as_str())?;
+    out.flag("deleted", body.deleted)?;
+    out.number("distribution", label_number(&attribute.row.label))?;
+    Ok(())
+}
+
+/// Its last texts.
+pub(crate) fn put_attribute_rest(
     out: &mut Writer,
     attribute: &VisibleAttribute,
     body: &AttributeBody,

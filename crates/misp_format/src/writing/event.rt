@@ -25,7 +25,7 @@ use std::mem;
 
 /// How many attributes are shown, those in objects included.
 #[tactic(auto, unfolding(crate::specs::Written::attribute_count))]
-fn attribute_count(event: &VisibleEvent) -> Result<usize, NoMemory>
+pub(crate) fn attribute_count(event: &VisibleEvent) -> Result<usize, NoMemory>
     ensures { IfOk result (λ n. n ≡ attribute_count event.now) }
 {
     let mut total = event.attributes.as_slice().len();
@@ -115,13 +115,20 @@ fn put_body(out: &mut Writer, names: &GroupNames, event: &VisibleEvent) -> Resul
     Ok(())
 }
 
+/// An event in a member of its own, with the names of its groups.
+pub(crate) fn put_event_value(out: &mut Writer, event: &VisibleEvent) -> Result<(), NoMemory>
+    ensures { OnOk result (out.new ≡ put_value (body_data event.now) out.old) }
+{
+    let names = group_names(out.alloc, event.group_names.as_slice())?;
+    put_body(out, &names, event)
+}
+
 /// Puts the text of an event at the end of a text.
 pub fn put_event(text: &mut Vec<u8>, alloc: Global, event: &VisibleEvent) -> Result<(), NoMemory>
     ensures { OnOk result (text.new.items ≡ text.old.items ++ compact_text (body_data event.now)) }
 {
-    let names = group_names(alloc, event.group_names.as_slice())?;
     let mut out = Writer::behind(alloc, mem::replace(text, Vec::new(alloc)));
-    let put = put_body(&mut out, &names, event);
+    let put = put_event_value(&mut out, event);
     *text = out.into_text();
     put?;
     Ok(())

@@ -7,13 +7,12 @@ ghost use Rattle.misp_format.specs.Tokens.{put_value};
 ghost use Rattle.misp_format.specs.WholeGroup.{server_url, named_server_data, whole_group_data, group_text, groups_text, uncarried};
 
 use crate::writing::group_names::GroupNames;
-use crate::writing::listed::{Listed, put_items, put_list};
+use crate::writing::listed::{Listed, put_list, put_list_text};
 use crate::writing::writer::Writer;
 use misp_groups::{Group, GroupOrg, GroupServer};
 use misp_ids::{InstId, NoMemory};
 use std::alloc::Global;
 use std::collections::BTreeMap;
-use std::mem;
 
 // ---- organisations
 
@@ -136,9 +135,6 @@ pub fn write_group(alloc: Global, group: &Group) -> Result<Vec<u8>, NoMemory>
 pub fn put_groups(lines: &mut Vec<u8>, alloc: Global, groups: &[Group]) -> Result<(), NoMemory>
     ensures { OnOk result (lines.new.items ≡ lines.old.items ++ groups_text groups.now) }
 {
-    let mut out = Writer::behind(alloc, mem::replace(lines, Vec::new(alloc)));
-    let put = put_items::<Groups>(&mut out, &BTreeMap::new(alloc), groups);
-    *lines = out.into_text();
-    put?;
-    Ok(())
+    let names = BTreeMap::new(alloc);
+    put_list_text::<Groups>(lines, alloc, &names, groups)
 }

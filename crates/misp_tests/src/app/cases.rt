@@ -162,12 +162,12 @@ pub(super) struct Case<'a> {
     pub(super) fails: [u64; 3],
     pub(super) status: Status,
     pub(super) written: &'a str,
-    pub(super) batches: u64,
+    pub(super) batches: [u64; 4],
 }
 
 const NONE: [u64; 3] = [0, 0, 0];
 
-pub(super) const CASES: [Case<'static>; 28] = [
+pub(super) const CASES: [Case<'static>; 30] = [
     Case {
         words: "net",
         source: "{net}---\n{A adds} {wave}\n{B views}{e1}\n",
@@ -175,7 +175,7 @@ pub(super) const CASES: [Case<'static>; 28] = [
         fails: NONE,
         status: Status::Done,
         written: "1 {saved}\n2 {shown}\n",
-        batches: 2,
+        batches: [2, 0, 0, 0],
     },
     // What is hidden is as what is not there, and another holder's event may be added.
     Case {
@@ -185,7 +185,7 @@ pub(super) const CASES: [Case<'static>; 28] = [
         fails: NONE,
         status: Status::Done,
         written: "1 {saved}\n2 {hidden}\n3 {hidden}\n4 {saved}\n",
-        batches: 3,
+        batches: [3, 0, 0, 0],
     },
     Case {
         words: "net",
@@ -194,7 +194,7 @@ pub(super) const CASES: [Case<'static>; 28] = [
         fails: NONE,
         status: Status::Done,
         written: "1 {saved}\n2 409 {'name':'EventExists','place':'','rule':12}\n3 {saved}\n",
-        batches: 3,
+        batches: [3, 0, 0, 0],
     },
     // Moments are shown in UTC, and the part of an attribute in its object; a date is no moment.
     Case {
@@ -206,7 +206,7 @@ pub(super) const CASES: [Case<'static>; 28] = [
         written: "1 200 {'elements':3,'event':'{e1}','timestamp':'1700000000'}\n2 {shown seen}\n\
                   3 400 {'name':'BadField','place':'Event.Attribute[0].first_seen moment',\
                   'rule':7}\n",
-        batches: 2,
+        batches: [2, 0, 0, 0],
     },
     // Each rule before those that follow.
     Case {
@@ -221,7 +221,7 @@ pub(super) const CASES: [Case<'static>; 28] = [
                   4 {no json}\n5 400 {'name':'BadField','place':'Event.info range','rule':7}\n\
                   6 403 {'name':'NoPermission','place':'Write','rule':8}\n\
                   7 409 {'name':'ElementExists','place':'{u1}','rule':14}\n8 {hidden}\n",
-        batches: 1,
+        batches: [1, 0, 0, 0],
     },
     // A reader views and does not add, and who sets up does not view.
     Case {
@@ -233,7 +233,7 @@ pub(super) const CASES: [Case<'static>; 28] = [
         status: Status::Done,
         written: "1 {saved}\n2 {hidden}\n\
                   3 403 {'name':'NoPermission','place':'Read','rule':8}\n",
-        batches: 2,
+        batches: [2, 0, 0, 0],
     },
     // The copy of an owner, and another instance.
     Case {
@@ -245,7 +245,7 @@ pub(super) const CASES: [Case<'static>; 28] = [
         fails: NONE,
         status: Status::Done,
         written: "1 {saved}\n2 {shown}\n3 {hidden}\n4 {no route}\n5 {no key}\n6 {hidden}\n",
-        batches: 2,
+        batches: [2, 0, 0, 0],
     },
     Case {
         words: "net",
@@ -254,7 +254,7 @@ pub(super) const CASES: [Case<'static>; 28] = [
         fails: NONE,
         status: Status::Done,
         written: "1 bad 0\n2 bad 11\n3 bad 10\n4 -\n",
-        batches: 1,
+        batches: [1, 0, 0, 0],
     },
     // No line is run.
     Case {
@@ -264,7 +264,7 @@ pub(super) const CASES: [Case<'static>; 28] = [
         fails: NONE,
         status: Status::Done,
         written: "",
-        batches: 1,
+        batches: [1, 0, 0, 0],
     },
     Case {
         words: "net",
@@ -273,7 +273,7 @@ pub(super) const CASES: [Case<'static>; 28] = [
         fails: NONE,
         status: Status::Done,
         written: "",
-        batches: 1,
+        batches: [1, 0, 0, 0],
     },
     Case {
         words: "net",
@@ -282,7 +282,7 @@ pub(super) const CASES: [Case<'static>; 28] = [
         fails: NONE,
         status: Status::BadDescription,
         written: "bad description: org[0].uuid present\n",
-        batches: 1,
+        batches: [1, 0, 0, 0],
     },
     // A check runs nothing.
     Case {
@@ -292,7 +292,7 @@ pub(super) const CASES: [Case<'static>; 28] = [
         fails: NONE,
         status: Status::Done,
         written: "ok\n",
-        batches: 1,
+        batches: [1, 0, 0, 0],
     },
     Case {
         words: "check",
@@ -301,7 +301,7 @@ pub(super) const CASES: [Case<'static>; 28] = [
         fails: NONE,
         status: Status::BadDescription,
         written: "bad description: key[0].org known\n",
-        batches: 1,
+        batches: [1, 0, 0, 0],
     },
     Case {
         words: "check",
@@ -310,7 +310,7 @@ pub(super) const CASES: [Case<'static>; 28] = [
         fails: [0, 1, 0],
         status: Status::WriteFault,
         written: "",
-        batches: 1,
+        batches: [1, 0, 0, 0],
     },
     // Other words, also over a source and a sink that fail.
     Case {
@@ -320,7 +320,7 @@ pub(super) const CASES: [Case<'static>; 28] = [
         fails: [1, 1, 0],
         status: Status::Usage,
         written: "",
-        batches: 1,
+        batches: [1, 0, 0, 0],
     },
     Case {
         words: "feed",
@@ -329,7 +329,7 @@ pub(super) const CASES: [Case<'static>; 28] = [
         fails: [1, 1, 0],
         status: Status::Usage,
         written: "",
-        batches: 1,
+        batches: [1, 0, 0, 0],
     },
     Case {
         words: "net",
@@ -338,7 +338,7 @@ pub(super) const CASES: [Case<'static>; 28] = [
         fails: [2, 0, 0],
         status: Status::ReadFault,
         written: "",
-        batches: 1,
+        batches: [1, 0, 0, 0],
     },
     // The script was run before the write.
     Case {
@@ -348,7 +348,7 @@ pub(super) const CASES: [Case<'static>; 28] = [
         fails: [0, 1, 0],
         status: Status::WriteFault,
         written: "",
-        batches: 2,
+        batches: [2, 0, 0, 0],
     },
     Case {
         words: "net",
@@ -357,7 +357,7 @@ pub(super) const CASES: [Case<'static>; 28] = [
         fails: [0, 1, 0],
         status: Status::WriteFault,
         written: "",
-        batches: 1,
+        batches: [1, 0, 0, 0],
     },
     // A load that fails, and a batch.
     Case {
@@ -367,7 +367,7 @@ pub(super) const CASES: [Case<'static>; 28] = [
         fails: [0, 0, 4],
         status: Status::Done,
         written: "1 {no keeper}\n2 {hidden}\n",
-        batches: 1,
+        batches: [1, 0, 0, 0],
     },
     Case {
         words: "net",
@@ -376,7 +376,7 @@ pub(super) const CASES: [Case<'static>; 28] = [
         fails: [0, 0, 5],
         status: Status::Done,
         written: "1 {no keeper}\n2 {hidden}\n3 {saved}\n",
-        batches: 2,
+        batches: [2, 0, 0, 0],
     },
     // A load of the administration that fails, and one of all rows.
     Case {
@@ -386,7 +386,7 @@ pub(super) const CASES: [Case<'static>; 28] = [
         fails: [0, 0, 2],
         status: Status::KeeperFault,
         written: "",
-        batches: 1,
+        batches: [1, 0, 0, 0],
     },
     Case {
         words: "net",
@@ -395,7 +395,7 @@ pub(super) const CASES: [Case<'static>; 28] = [
         fails: [0, 0, 3],
         status: Status::KeeperFault,
         written: "",
-        batches: 1,
+        batches: [1, 0, 0, 0],
     },
     // A group is added once, and edited where it is known, by its creator alone.
     Case {
@@ -408,7 +408,7 @@ pub(super) const CASES: [Case<'static>; 28] = [
         status: Status::Done,
         written: "1 200 []\n2 {taken}\n3 409 {'name':'GroupExists','place':'','rule':29}\n\
                   4 {taken}\n5 {not creator}\n6 {rings}\n7 200 []\n",
-        batches: 3,
+        batches: [3, 0, 0, 0],
     },
     Case {
         words: "net",
@@ -421,7 +421,7 @@ pub(super) const CASES: [Case<'static>; 28] = [
         written: "1 404 {'name':'NoGroup','place':'','rule':30}\n2 {no json}\n\
                   3 400 {'name':'BadField','place':'SharingGroup.name present','rule':7}\n\
                   4 bad 92\n5 bad 56\n6 200 []\n",
-        batches: 1,
+        batches: [1, 0, 0, 0],
     },
     // A label of a group is used where the group is known, and opens to its organisations.
     Case {
@@ -434,7 +434,7 @@ pub(super) const CASES: [Case<'static>; 28] = [
         written: "1 {not usable}\n2 {taken}\n\
                   3 200 {'elements':1,'event':'{e1}','timestamp':'1700000000'}\n\
                   4 {shown shared}\n5 {hidden}\n",
-        batches: 3,
+        batches: [3, 0, 0, 0],
     },
     // What a keeper holds counts: A has deleted the event, and B, who cannot see that, may add it.
     Case {
@@ -446,7 +446,26 @@ pub(super) const CASES: [Case<'static>; 28] = [
         status: Status::Done,
         written: "1 {hidden}\n2 {gone}\n3 {hidden}\n\
                   4 200 {'elements':1,'event':'{e9}','timestamp':'1700000000'}\n",
-        batches: 2,
+        batches: [2, 0, 0, 0],
+    },
+    // A generated network: the source is not called, so its first call does not fail.
+    Case {
+        words: "gen 10",
+        source: "",
+        len: 0,
+        fails: [1, 0, 0],
+        status: Status::Done,
+        written: "events 10\nb 20 10\nc 14 7\nd 6 3\na 0 0\nagain 0\nhits 1 1 1 0\n",
+        batches: [21, 10, 7, 3],
+    },
+    Case {
+        words: "gen 1",
+        source: "",
+        len: 0,
+        fails: [0, 1, 0],
+        status: Status::WriteFault,
+        written: "",
+        batches: [3, 1, 1, 0],
     },
     // One byte too many.
     Case {
@@ -456,6 +475,6 @@ pub(super) const CASES: [Case<'static>; 28] = [
         fails: NONE,
         status: Status::TooMuch,
         written: "",
-        batches: 1,
+        batches: [1, 0, 0, 0],
     },
 ];

@@ -29,7 +29,7 @@ returns-clause-causes g c = record {
 
 pub returns-clause-finished : goal.returns-clause-finished
 returns-clause-finished g c = λ whole empty all.
-    finished _ _ c.run_command.result _ _ _ _ whole empty all (λ is. (c.run_command.ensures.unopened is).1) (returns-clause-causes g c) c.run_command.ensures.status
+    finished c.run_command.result _ _ _ _ whole empty all (λ is. (c.run_command.ensures.unopened is).1) _ (g.S.Source.left c.args.source.now) (returns-clause-causes g c) c.run_command.ensures.status
 
 pub returns-clause-alone : goal.returns-clause-alone
 returns-clause-alone g c = record {

@@ -6,11 +6,12 @@ use Rattle.misp_net.specs.Carrying.{carried}
 use Rattle.misp_net.specs.Prelude.{AreDistinct, described_hosts}
 use Rattle.misp_net.proofs.Apart.{net_is_distinct}
 use Rattle.misp_words.specs.Words.{Net}
+use Rattle.misp_app.specs.Net.{shown_text}
 use Rattle.misp_app.specs.Status.{Wrote}
 use Rattle.misp_app.specs.Source.{described, described_status, IsTold}
 use Rattle.misp_app.proofs.Endings.{after_ends, by_keeper, by_row, fault_ends, put_ends}
 use Rattle.misp_app.proofs.Netted.{ran_ends, stopped_ends, undescribed}
-use Rattle.misp_app.proofs.entry.run_source.Goals as goal
+use Rattle.misp_app.proofs.running.run_source.Goals as goal
 
 -- ---- its lines were run
 
@@ -19,12 +20,12 @@ returns-in-Ok-run_net-clause-net g c =
     let said : described c.args.bytes.now ≡ Ok c.in-Ok.net = ap description_at (sym c.split_source.ensures.description) ∙ c.in-Ok.ensures.description in
     let distinct : AreDistinct (described_hosts c.in-Ok.net) = search (rules, net_is_distinct) in
     rw (said, ← c.split_source.ensures.script)
-    (ran_ends c.in-Ok.net _ _ _ _ _ _ _ _ c.put.result distinct c.in-Ok-run_net.ensures.sound c.in-Ok-run_net.ensures.ran c.put.ensures.ends (rw c.deref.ensures.value at c.put.ensures.wrote))
+    (ran_ends (shown_text c.args.shown) c.in-Ok.net _ _ _ _ _ _ _ _ c.put_shown.result distinct c.in-Ok-run_net.ensures.sound c.in-Ok-run_net.ensures.ran c.put_shown.ensures.ends (rw c.deref.ensures.value at c.put_shown.ensures.wrote))
 
 pub returns-in-Ok-run_net-clause-status : goal.returns-in-Ok-run_net-clause-status
 returns-in-Ok-run_net-clause-status g c =
     let said : described c.args.bytes.now ≡ Ok c.in-Ok.net = ap description_at (sym c.split_source.ensures.description) ∙ c.in-Ok.ensures.description in
-    put_ends Net _ c.put.result c.put.ensures.ends (ap described_status said)
+    put_ends Net _ c.put_shown.result c.put_shown.ensures.ends (ap described_status said)
 
 -- ---- they were not, or not all
 
@@ -32,7 +33,7 @@ pub returns-in-Err-clause-net : goal.returns-in-Err-clause-net
 returns-in-Err-clause-net g c =
     let said : described c.args.bytes.now ≡ Ok c.in-Ok.net = ap description_at (sym c.split_source.ensures.description) ∙ c.in-Ok.ensures.description in
     rw (said, ← c.split_source.ensures.script)
-    (stopped_ends c.in-Ok.net _ _ _ _ _ _ _ c.in-Err.fault c.from.result c.from.ensures c.in-Err.ensures.stopped)
+    (stopped_ends (shown_text c.args.shown) c.in-Ok.net _ _ _ _ _ _ _ c.in-Err.fault c.from.result c.from.ensures c.in-Err.ensures.stopped)
 
 pub returns-in-Err-clause-status : goal.returns-in-Err-clause-status
 returns-in-Err-clause-status g c =
@@ -73,5 +74,5 @@ returns-in-Err-Bad-clause-net g c =
 -- memory ran out
 pub returns-in-Err-NoMemory-clause-net : goal.returns-in-Err-NoMemory-clause-net
 returns-in-Err-NoMemory-clause-net g c =
-    undescribed (map g.K.Keeper.state c.args.keepers.now.items) (carried (g.C.Carry.faults c.args.carry.now) (g.C.Carry.passed c.args.carry.now)) (g.W.Sink.written c.args.sink.now) (g.W.Sink.written c.args.sink.now)
+    undescribed (shown_text c.args.shown) (map g.K.Keeper.state c.args.keepers.now.items) (carried (g.C.Carry.faults c.args.carry.now) (g.C.Carry.passed c.args.carry.now)) (g.W.Sink.written c.args.sink.now) (g.W.Sink.written c.args.sink.now)
     (described c.args.bytes.now) (script_part c.args.bytes.now)

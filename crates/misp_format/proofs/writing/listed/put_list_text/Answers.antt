@@ -1,0 +1,7 @@
+use Rattle.misp_format.specs.Prelude.{list_data}
+use Rattle.misp_format.specs.Names.{names_in}
+use Rattle.misp_format.proofs.Texts.{printed}
+use Rattle.misp_format.proofs.writing.listed.put_list_text.Goals as goal
+
+pub returns : goal.returns
+returns g c = rw (c.into_text.ensures, c.in_ok-put.ensures, c.behind-out.ensures, c.replace.ensures.value) (printed c.args.text.now.items (list_data (g.L.Listed.value (names_in c.args.names.now)) c.args.items.now))

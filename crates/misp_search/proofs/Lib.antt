@@ -1,0 +1,3 @@
+pub mod NameSets
+pub mod Coming
+pub mod Finding

@@ -1,0 +1,5 @@
+pub mod Page
+pub mod Window
+pub mod Wishes
+pub mod Fitting
+pub mod Names
