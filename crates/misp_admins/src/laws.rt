@@ -2,7 +2,8 @@
 
 ghost use Rattle.std.specs.Prelude.{◌≡◌, ◌++◌, ◌∷◌, [], List};
 ghost use Rattle.misp_orgs.specs.Admin.{AdminFields};
-ghost use Rattle.misp_admins.specs.Made.{Item, put_item, with_items};
+ghost use Rattle.misp_admins.specs.Made.{put_item, with_items};
+ghost use Rattle.misp_admins.specs.declared.item.Item.{Item};
 
 /// Where no request made anything, the administration is that of the description.
 #[tactic(auto, unfolding(crate::specs::Made::with_items))]

@@ -61,27 +61,27 @@ command_for (Call.Rows w) = Command.Asks (Ask.SyncRows w)
 command_for (Call.TakeGroups groups) = Command.TakesGroups (map uncarried groups)
 command_for (Call.TakePart p) = Command.Asks (Ask.TakePart p)
 
-rows_read : (w : Wanted) → IsWanted w → (word : ℕ) → command_of Route.SyncRows (spell_wanted w) word ≡ Ok (Command.Asks (Ask.SyncRows w))
+rows_read : (here : List ℕ) (w : Wanted) → IsWanted w → (word : ℕ) → command_of here Route.SyncRows (spell_wanted w) word ≡ Ok (Command.Asks (Ask.SyncRows w))
 unfolding command_of
-rows_read w is word = ap (λ read. formed (ask_command (asked_rows read))) (wanted_again w is)
+rows_read here w is word = ap (λ read. formed (ask_command (asked_rows read))) (wanted_again w is)
 
-groups_read : (groups : List Group) → AllByRecursion IsGroup groups → (word : ℕ) → command_of Route.TakeGroups (groups_text groups) word ≡ Ok (Command.TakesGroups (map uncarried groups))
+groups_read : (here : List ℕ) (groups : List Group) → AllByRecursion IsGroup groups → (word : ℕ) → command_of here Route.TakeGroups (groups_text groups) word ≡ Ok (Command.TakesGroups (map uncarried groups))
 unfolding command_of
-groups_read groups are word =
+groups_read here groups are word =
     ap (λ (read : rows.Reading (List Group)). formed (groups_command read)) (groups_listed_in (groups_text groups) (map uncarried groups) (groups_back groups are))
 
-part_read : (p : Package) → IsPackage p → list_all is_byte (spell_package p) ≡ true → (word : ℕ) → command_of Route.TakePart (spell_package p) word ≡ Ok (Command.Asks (Ask.TakePart p))
+part_read : (here : List ℕ) (p : Package) → IsPackage p → list_all is_byte (spell_package p) ≡ true → (word : ℕ) → command_of here Route.TakePart (spell_package p) word ≡ Ok (Command.Asks (Ask.TakePart p))
 unfolding command_of
-part_read p is fits word =
+part_read here p is fits word =
     (λ i. formed (ask_command (if fits i then handed (package_of_bytes_again p is i) else Err no_package)))
 
-command_is : (call : Call) → IsCall call → list_all is_byte (body_of call) ≡ true → (word : ℕ) → command_of (route_for call) (body_of call) word ≡ Ok (command_for call)
+command_is : (here : List ℕ) (call : Call) → IsCall call → list_all is_byte (body_of call) ≡ true → (word : ℕ) → command_of here (route_for call) (body_of call) word ≡ Ok (command_for call)
 unfolding command_of
-command_is Call.Groups is fits word = refl
-command_is Call.Manifest is fits word = refl
-command_is (Call.Rows w) is fits word = rows_read w is word
-command_is (Call.TakeGroups groups) is fits word = groups_read groups is.0 word
-command_is (Call.TakePart p) is fits word = part_read p is fits word
+command_is here Call.Groups is fits word = refl
+command_is here Call.Manifest is fits word = refl
+command_is here (Call.Rows w) is fits word = rows_read here w is word
+command_is here (Call.TakeGroups groups) is fits word = groups_read here groups is.0 word
+command_is here (Call.TakePart p) is fits word = part_read here p is fits word
 
 -- ---- its form
 
@@ -90,10 +90,10 @@ abbrev form_by : Option Caller → Command → Reading Commanded
 form_by None command = Err (bare RuleName.NoKey)
 form_by (Some caller) command = Ok (caller, command)
 
-by_key_is : (caller : Option Caller) (route : Route) (body : List ℕ) (word : ℕ) (command : Command) → command_of route body word ≡ Ok command
-    → by_key caller route body word ≡ form_by caller command
-by_key_is None route body word command is = refl
-by_key_is (Some caller) route body word command is = rw is refl
+by_key_is : (here : List ℕ) (caller : Option Caller) (route : Route) (body : List ℕ) (word : ℕ) (command : Command) → command_of here route body word ≡ Ok command
+    → by_key here caller route body word ≡ form_by caller command
+by_key_is here None route body word command is = refl
+by_key_is here (Some caller) route body word command is = rw is refl
 
 -- ---- what it comes to
 
@@ -142,12 +142,12 @@ form_syncs (Some caller) call = role_syncs (is_allowed (caller, command_for call
 -- ---- THE LAW
 
 module _ (host : Host) (word : ℕ) (key : List ℕ) (call : Call) (is : IsCallable key call) (fits : list_all is_byte (body_of call) ≡ true) where
-  read_is : read_of host.admin (request_data word (request_of key call)) ≡ form_by (who_of host.admin key) (command_for call)
+  read_is : read_of host.admin (request_data host.name word (request_of key call)) ≡ form_by (who_of host.admin key) (command_for call)
   unfolding read_of
-  read_is = rw (route_is call, is.key_is) (by_key_is (who_of host.admin key) (route_for call) (body_of call) word (command_for call) (command_is call is.call_is fits word))
+  read_is = rw (route_is call, is.key_is) (by_key_is host.name (who_of host.admin key) (route_for call) (body_of call) word (command_for call) (command_is host.name call is.call_is fits word))
 
   effect_as : (now : ℕ) (seen : Seen) (short : Bool)
-      → replied host now (read_form host.admin word (if short then reads.Request (request_of key call) else reads.Refused (BadHead LongBody))) seen
+      → replied host now (read_form host word (if short then reads.Request (request_of key call) else reads.Refused (BadHead LongBody))) seen
       ≡ (if short then called_as host now (who_of host.admin key) call seen else refused too_large)
   effect_as now seen true =
       ap (λ form. replied host now (permitted form) seen) read_is
@@ -155,12 +155,12 @@ module _ (host : Host) (word : ℕ) (key : List ℕ) (call : Call) (is : IsCalla
       ∙ commands host now (who_of host.admin key) call seen
   effect_as now seen false = refl
 
-  pub call_comes : (now : ℕ) (seen : Seen) → replied host now (read_form host.admin word (read_of_call key call)) seen ≡ called host now key call seen
+  pub call_comes : (now : ℕ) (seen : Seen) → replied host now (read_form host word (read_of_call key call)) seen ≡ called host now key call seen
   call_comes now seen = effect_as now seen (is_short (body_of call))
 
-  syncs_as : (short : Bool) → IsSync (read_form host.admin word (if short then reads.Request (request_of key call) else reads.Refused (BadHead LongBody)))
+  syncs_as : (short : Bool) → IsSync (read_form host word (if short then reads.Request (request_of key call) else reads.Refused (BadHead LongBody)))
   syncs_as true = subst (λ form. IsSync (permitted form)) (sym read_is) (form_syncs (who_of host.admin key) call)
   syncs_as false = tt
 
-  pub call_syncs : IsSync (read_form host.admin word (read_of_call key call))
+  pub call_syncs : IsSync (read_form host word (read_of_call key call))
   call_syncs = syncs_as (is_short (body_of call))

@@ -55,7 +55,7 @@ no_reply (Err fault) P short not_ = tt
 
 -- the bytes of what was answered
 pub exchanged : {V E : Type 0} (items : V → List ℕ) (r : Result V E) (now word : ℕ) (read : Read) (old new : Standing) (reply : Reply) (close : Bool) → close ≡ closes read
-    → IsAnswered now word read old new reply → (IsSync (read_form old.admin word read) → IsSound reply) → IsWorded reply
+    → IsAnswered now word read old new reply → (IsSync (read_form (host_of old) word read) → IsSound reply) → IsWorded reply
     → IfOk r (λ v. items v ≡ http_text reply close) → IfOk r (λ v. IsExchanged now word read old new (items v))
 exchanged items (Ok v) now word read old new reply close closed answered sound worded bytes =
     record { reply = reply; answered = answered; sound = sound; worded = worded; bytes_are = bytes ∙ ap (http_text reply) closed }

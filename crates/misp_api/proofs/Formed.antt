@@ -7,13 +7,13 @@ use Rattle.misp_format.specs.Rows.{◌>>=◌}
 use Rattle.misp_format.specs.Rows as rows
 
 -- a request is the ask of its path, or what its body is
-pub by_the_path : (route : Route) (body : List ℕ) (word : ℕ) (ask : Ask) → path_ask route ≡ Some ask → command_of route body word ≡ Ok (Command.Asks ask)
+pub by_the_path : (here : List ℕ) (route : Route) (body : List ℕ) (word : ℕ) (ask : Ask) → path_ask route ≡ Some ask → command_of here route body word ≡ Ok (Command.Asks ask)
 unfolding command_of
-by_the_path route body word ask is = ap (λ a. command_by a (body_command route body word)) is
+by_the_path here route body word ask is = ap (λ a. command_by a (body_command here route body word)) is
 
-pub by_the_body : (route : Route) (body : List ℕ) (word : ℕ) → path_ask route ≡ None → command_of route body word ≡ formed (body_command route body word)
+pub by_the_body : (here : List ℕ) (route : Route) (body : List ℕ) (word : ℕ) → path_ask route ≡ None → command_of here route body word ≡ formed (body_command here route body word)
 unfolding command_of
-by_the_body route body word none = ap (λ a. command_by a (body_command route body word)) none
+by_the_body here route body word none = ap (λ a. command_by a (body_command here route body word)) none
 
 -- what is made of what is read has its fault
 pub fails_on : {A B : Type 0} (fault : FormatFault) (read : rows.Reading A) (f : A → rows.Reading B) → rows.Fails fault read → rows.Fails fault (read >>= f)

@@ -1,9 +1,7 @@
 -- What a request asks is built, its role permits it, and its caller is the one whose key it has.
 use Rattle.std.proofs.Common.{◌≡◌, ℕ, Bool, true, false, List, refl, subst, Option, Some, None, Result, Ok, Err, if◌then◌else◌}
-use Rattle.misp_core.specs.Answers.{IsBuilt}
 use Rattle.misp_api.specs.Commands.{AsksBuilt}
-use Rattle.misp_api.specs.Prelude.{Admin, Ask, Caller, Command, Commanded, FormatFault, Group, Reading, RequestData, Route, RuleName, barred, caller_in, command_of, form_of, formed, is_allowed, read_of}
-use Rattle.misp_api.specs.Request.{ask_command, groups_command, share_command}
+use Rattle.misp_api.specs.Prelude.{Admin, Caller, Command, Commanded, FormatFault, Reading, RequestData, Route, RuleName, barred, caller_in, command_of, form_of, formed, is_allowed, read_of}
 use Rattle.misp_api.specs.Prelude.{route_of}
 use Rattle.misp_api.specs.Answering.{by_body, by_route, permitted}
 use Rattle.misp_api.proofs.Built.{command_is}
@@ -18,46 +16,32 @@ abbrev pub BuiltForm : Reading Commanded → Type 0
 BuiltForm (Ok it) = AsksBuilt it.1
 BuiltForm (Err refusal) = Unit {0}
 
-asked_built : (read : Result Ask FormatFault) → ((ask : Ask) → read ≡ Ok ask → IsBuilt ask) → BuiltCommand (formed (ask_command read))
-asked_built (Ok ask) built = built ask refl
-asked_built (Err FormatFault.NoJson) built = tt
-asked_built (Err (FormatFault.BadField path need)) built = tt
-asked_built (Err (FormatFault.BinaryType path)) built = tt
-asked_built (Err FormatFault.NoMemory) built = tt
+read_built : (read : Result Command FormatFault) → ((command : Command) → read ≡ Ok command → AsksBuilt command) → BuiltCommand (formed read)
+read_built (Ok command) built = built command refl
+read_built (Err FormatFault.NoJson) built = tt
+read_built (Err (FormatFault.BadField path need)) built = tt
+read_built (Err (FormatFault.BinaryType path)) built = tt
+read_built (Err FormatFault.NoMemory) built = tt
 
-groups_built : (read : Result (List Group) FormatFault) → BuiltCommand (formed (groups_command read))
-groups_built (Ok groups) = tt
-groups_built (Err FormatFault.NoJson) = tt
-groups_built (Err (FormatFault.BadField path need)) = tt
-groups_built (Err (FormatFault.BinaryType path)) = tt
-groups_built (Err FormatFault.NoMemory) = tt
-
-share_built : (add : Bool) (read : Result Group FormatFault) → BuiltCommand (formed (share_command add read))
-share_built add (Ok g) = tt
-share_built add (Err FormatFault.NoJson) = tt
-share_built add (Err (FormatFault.BadField path need)) = tt
-share_built add (Err (FormatFault.BinaryType path)) = tt
-share_built add (Err FormatFault.NoMemory) = tt
-
-command_built : (route : Route) (body : List ℕ) (word : ℕ) → BuiltCommand (command_of route body word)
-command_built = command_is BuiltCommand (λ ask built. built) asked_built groups_built share_built
+command_built : (here : List ℕ) (route : Route) (body : List ℕ) (word : ℕ) → BuiltCommand (command_of here route body word)
+command_built = command_is BuiltCommand (λ ask built. built) read_built
 
 -- what a request asks is built
-pub asks_built : (route : Route) (body : List ℕ) (word : ℕ) (command : Command) → command_of route body word ≡ Ok command → AsksBuilt command
-asks_built route body word command is = subst BuiltCommand is (command_built route body word)
+pub asks_built : (here : List ℕ) (route : Route) (body : List ℕ) (word : ℕ) (command : Command) → command_of here route body word ≡ Ok command → AsksBuilt command
+asks_built here route body word command is = subst BuiltCommand is (command_built here route body word)
 
 body_built : (caller : Caller) (read : Reading Command) → BuiltCommand read → BuiltForm (by_body caller read)
 body_built caller (Ok command) built = built
 body_built caller (Err refusal) built = tt
 
-route_built : (route : Result Route RuleName) (caller : Option Caller) (body : List ℕ) (word : ℕ) → BuiltForm (by_route route caller body word)
-route_built (Err rule) caller body word = tt
-route_built (Ok route) None body word = tt
-route_built (Ok route) (Some caller) body word = body_built caller (command_of route body word) (command_built route body word)
+route_built : (here : List ℕ) (route : Result Route RuleName) (caller : Option Caller) (body : List ℕ) (word : ℕ) → BuiltForm (by_route here route caller body word)
+route_built here (Err rule) caller body word = tt
+route_built here (Ok route) None body word = tt
+route_built here (Ok route) (Some caller) body word = body_built caller (command_of here route body word) (command_built here route body word)
 
-read_built : (admin : Admin) (request : RequestData) → BuiltForm (read_of admin request)
+request_built : (admin : Admin) (request : RequestData) → BuiltForm (read_of admin request)
 unfolding read_of
-read_built admin request = route_built (route_of request.method request.target) (caller_in admin request.key) request.body request.word
+request_built admin request = route_built request.here (route_of request.method request.target) (caller_in admin request.key) request.body request.word
 
 -- `permitted`, by whether the role permits it
 abbrev pub allowed : Bool → Commanded → Reading Commanded
@@ -72,7 +56,7 @@ permitted_built (Ok it) built = allowed_built (is_allowed it) it built
 permitted_built (Err refusal) built = tt
 
 pub form_built : (admin : Admin) (request : RequestData) → BuiltForm (form_of admin request)
-form_built admin request = permitted_built (read_of admin request) (read_built admin request)
+form_built admin request = permitted_built (read_of admin request) (request_built admin request)
 
 -- ---- what is permitted
 
@@ -101,14 +85,14 @@ body_asked : (caller : Caller) (read : Reading Command) → AskedBy (Some caller
 body_asked caller (Ok command) = refl
 body_asked caller (Err refusal) = tt
 
-route_asked : (route : Result Route RuleName) (caller : Option Caller) (body : List ℕ) (word : ℕ) → AskedBy caller (by_route route caller body word)
-route_asked (Err rule) caller body word = tt
-route_asked (Ok route) None body word = tt
-route_asked (Ok route) (Some caller) body word = body_asked caller (command_of route body word)
+route_asked : (here : List ℕ) (route : Result Route RuleName) (caller : Option Caller) (body : List ℕ) (word : ℕ) → AskedBy caller (by_route here route caller body word)
+route_asked here (Err rule) caller body word = tt
+route_asked here (Ok route) None body word = tt
+route_asked here (Ok route) (Some caller) body word = body_asked caller (command_of here route body word)
 
 read_caller : (admin : Admin) (request : RequestData) → AskedBy (caller_in admin request.key) (read_of admin request)
 unfolding read_of
-read_caller admin request = route_asked (route_of request.method request.target) (caller_in admin request.key) request.body request.word
+read_caller admin request = route_asked request.here (route_of request.method request.target) (caller_in admin request.key) request.body request.word
 
 allowed_asked : (caller : Option Caller) (may : Bool) (it : Commanded) → caller ≡ Some it.0 → AskedBy caller (allowed may it)
 allowed_asked caller true it is = is

@@ -8,6 +8,7 @@ pub mod Forms
 pub mod Handed
 pub mod HttpTexts
 pub mod ListedGroups
+pub mod Managed
 pub mod Replying
 pub mod Pulls
 pub mod Queries
@@ -19,6 +20,7 @@ pub mod GroupTexts
 pub mod Ordering
 pub mod Idle
 pub mod Placing
+pub mod Plans
 pub mod Table
 pub mod Told
 pub mod TokenRows

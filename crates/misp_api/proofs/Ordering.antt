@@ -20,15 +20,23 @@ use Rattle.misp_ids.specs.Moments.{last_stamp}
 use Rattle.misp_ids.specs.declared.uid.GroupId.{GroupId}
 use Rattle.misp_groups.specs.Audience.{is_known_group, known_group}
 use Rattle.misp_groups.specs.Groups.{why_kept, why_not}
+use Rattle.misp_orgs.specs.declared.link.Link.{Link}
+use Rattle.misp_orgs.specs.Admin.{link_of, record_of}
+use Rattle.misp_orgs.specs.Keys.{KeyFields, caller_where}
+use Rattle.misp_admins.specs.Asks.{Ground, first_ground, item_of, link_edited, revoked}
+use Rattle.misp_admins.specs.declared.ask.AdminAsk.{AdminAsk}
+use Rattle.misp_admins.specs.declared.ask.LinkEdit.{LinkEdit}
+use Rattle.misp_admins.specs.declared.item.Item.{Item}
+use Rattle.misp_core.specs.Managing.{managed_by}
 use Rattle.misp_core.proofs.Decisions.{of_event}
 use Rattle.misp_core.specs.Effects.{telling}
 use Rattle.misp_api.specs.Commands.{AsksBuilt}
 use Rattle.misp_api.specs.Prelude.{AskFault, Command, Commanded, Gives, Reading, Reply, RequestData, Route, barred, caller_in, command_effect, command_of, commanded, fault_reply, formed, is_allowed, read_of, route_of}
-use Rattle.misp_api.specs.Request.{ask_command, groups_command, share_command}
 use Rattle.misp_api.specs.Route.{method_of, by_method}
 use Rattle.misp_api.proofs.Built.{command_is}
 use Rattle.misp_api.specs.Answering.{by_body, by_key, by_route}
-use Rattle.misp_api.specs.Order.{Ground, first_ground, rule_of, IsInOrder, command_grounds, sharing_grounds, is_carried, is_last, ground_of, row_grounds, grounds, route_asked, is_refused_by, asked_grounds, order}
+use Rattle.misp_api.specs.Order.{rule_of, IsInOrder, command_grounds, sharing_grounds, is_carried, is_last, ground_of, row_grounds, grounds, route_asked, is_refused_by, asked_grounds, order}
+use Rattle.misp_admins.specs.Asks as asks
 use Rattle.misp_effects.specs.Effect as effects
 use Rattle.misp_model.specs.Scene as asking
 use Rattle.misp_model.specs.Answers as model
@@ -132,12 +140,39 @@ of_rule : (why : Option RuleName) (g : Group) → rule_of (effect_by why g).repl
 of_rule None g = refl
 of_rule (Some rule) g = refl
 
+-- of what a site administrator asks: what no rule refuses makes an item
+by_item : (why : Option RuleName) (item : Option Item) → (why ≡ None → item ≡ None → ⊥) → rule_of (managed_by why item).reply ≡ why
+by_item None (Some item) there = refl
+by_item None None there = absurd (there refl refl)
+by_item (Some rule) item there = refl
+
+key_there : (found : Option KeyFields) → first_ground ((not (is_some (option_map_or (λ k. caller_where k k.revoked) found None)), RuleName.UnknownKey) ∷ []) ≡ None
+    → option_map (λ k. Item.Key (revoked k)) found ≡ None → ⊥
+unfolding first_ground
+key_there None free none = absurd cc
+key_there (Some k) free none = absurd cc
+
+link_there : (e : LinkEdit) (found : Option Link) (rules : List Ground) → first_ground ((not (is_some found), RuleName.NoLink) ∷ rules) ≡ None
+    → option_map (λ l. Item.Link (link_edited e l)) found ≡ None → ⊥
+unfolding first_ground
+link_there e None rules free none = absurd cc
+link_there e (Some l) rules free none = absurd cc
+
+item_there : (admin : Admin) (ask : AdminAsk) → asks.why_not admin ask ≡ None → item_of admin ask ≡ None → ⊥
+unfolding item_of
+item_there admin (AdminAsk.AddOrg o) free none = absurd cc
+item_there admin (AdminAsk.AddKey k) free none = absurd cc
+item_there admin (AdminAsk.RevokeKey key) free none = key_there (record_of admin.keys key) free none
+item_there admin (AdminAsk.AddLink l) free none = absurd cc
+item_there admin (AdminAsk.EditLink e) free none = link_there e (link_of admin.links e.name) _ free none
+
 by_command : (host : Host) (now : ℕ) (caller : Caller) (command : Command) (seen : Seen) → AsksBuilt command
     → rule_of (command_effect host now caller command seen).reply ≡ first_ground (command_grounds host now caller command seen)
 unfolding first_ground
 by_command host now caller (Command.Asks ask) seen built = by_rows host now (caller, ask) seen.groups (read_where host now (caller, ask) seen) built
 by_command host now caller (Command.TakesGroups groups) seen built = refl
 by_command host now caller (Command.Shares add g) seen built = of_rule (why_not add seen.groups caller.org g.id) _ ∙ why_first add seen.groups caller.org g.id
+by_command host now caller (Command.Manages ask) seen built = by_item (asks.why_not host.admin ask) (item_of host.admin ask) (item_there host.admin ask)
 
 -- by whether the role permits it
 by_role : (host : Host) (now : ℕ) (it : Commanded) (may : Bool) (seen : Seen) → AsksBuilt it.1
@@ -179,8 +214,8 @@ formed_named (Err (FormatFault.BadField path need)) = λ went. refl
 formed_named (Err (FormatFault.BinaryType path)) = λ went. refl
 formed_named (Err FormatFault.NoMemory) = λ went. absurd cc
 
-command_named : (route : Route) (body : List ℕ) (word : ℕ) → IsNamed (command_of route body word)
-command_named = command_is IsNamed (λ ask built. tt) (λ read built. formed_named (ask_command read)) (λ read. formed_named (groups_command read)) (λ add read. formed_named (share_command add read))
+command_named : (here : List ℕ) (route : Route) (body : List ℕ) (word : ℕ) → IsNamed (command_of here route body word)
+command_named = command_is IsNamed (λ ask built. tt) (λ read built. formed_named read)
 
 -- ---- from the path on
 
@@ -201,23 +236,23 @@ module _ (host : Host) (now : ℕ) (held : Held) where
   by_reading caller (Ok command) named = refl
   by_reading caller (Err refusal) named = named
 
-  by_caller : (route : Route) (caller : Option Caller) (body : List ℕ) (word : ℕ)
-      → IsFirst (by_key caller route body word)
-      (first_ground ((not (is_some caller), RuleName.NoKey) ∷ from_body (command_of route body word) (asked_grounds host now (by_key caller route body word) held)))
+  by_caller : (here : List ℕ) (route : Route) (caller : Option Caller) (body : List ℕ) (word : ℕ)
+      → IsFirst (by_key here caller route body word)
+      (first_ground ((not (is_some caller), RuleName.NoKey) ∷ from_body (command_of here route body word) (asked_grounds host now (by_key here caller route body word) held)))
   unfolding first_ground
-  by_caller route None body word = λ went. refl
-  by_caller route (Some caller) body word = by_reading caller (command_of route body word) (command_named route body word)
+  by_caller here route None body word = λ went. refl
+  by_caller here route (Some caller) body word = by_reading caller (command_of here route body word) (command_named here route body word)
 
-  abbrev by_same : Bool → Route → Option Caller → List ℕ → ℕ → Reading Commanded
-  by_same same route caller body word = by_route (if same then Ok route else Err RuleName.NoMethod) caller body word
+  abbrev by_same : List ℕ → Bool → Route → Option Caller → List ℕ → ℕ → Reading Commanded
+  by_same here same route caller body word = by_route here (if same then Ok route else Err RuleName.NoMethod) caller body word
 
-  by_verb : (same : Bool) (route : Route) (caller : Option Caller) (body : List ℕ) (word : ℕ)
-      → IsFirst (by_same same route caller body word)
+  by_verb : (here : List ℕ) (same : Bool) (route : Route) (caller : Option Caller) (body : List ℕ) (word : ℕ)
+      → IsFirst (by_same here same route caller body word)
       (first_ground ((not same, RuleName.NoMethod) ∷ (not (is_some caller), RuleName.NoKey)
-      ∷ from_body (command_of route body word) (asked_grounds host now (by_same same route caller body word) held)))
+      ∷ from_body (command_of here route body word) (asked_grounds host now (by_same here same route caller body word) held)))
   unfolding first_ground
-  by_verb true route caller body word = by_caller route caller body word
-  by_verb false route caller body word = λ went. refl
+  by_verb here true route caller body word = by_caller here route caller body word
+  by_verb here false route caller body word = λ went. refl
 
   -- the rules of a request whose path is for this
   abbrev from_path : Option Route → RequestData → List Ground → List Ground
@@ -225,20 +260,20 @@ module _ (host : Host) (now : ℕ) (held : Held) where
       (not (is_some route), RuleName.NoRoute)
       ∷ (option_map_or (λ r. not (bytes_eq request.method (method_of r))) route false, RuleName.NoMethod)
       ∷ (not (is_some (caller_in host.admin request.key)), RuleName.NoKey)
-      ∷ (option_map_or (λ r. is_refused_by RuleName.BadJson (command_of r request.body request.word)) route false, RuleName.BadJson)
-      ∷ (option_map_or (λ r. is_refused_by RuleName.BadField (command_of r request.body request.word)) route false, RuleName.BadField)
-      ∷ (option_map_or (λ r. is_refused_by RuleName.BinaryType (command_of r request.body request.word)) route false, RuleName.BinaryType)
+      ∷ (option_map_or (λ r. is_refused_by RuleName.BadJson (command_of request.here r request.body request.word)) route false, RuleName.BadJson)
+      ∷ (option_map_or (λ r. is_refused_by RuleName.BadField (command_of request.here r request.body request.word)) route false, RuleName.BadField)
+      ∷ (option_map_or (λ r. is_refused_by RuleName.BinaryType (command_of request.here r request.body request.word)) route false, RuleName.BinaryType)
       ∷ rest
 
   abbrev read_at : Option Route → RequestData → Reading Commanded
-  read_at route request = by_route (by_method request.method route) (caller_in host.admin request.key) request.body request.word
+  read_at route request = by_route request.here (by_method request.method route) (caller_in host.admin request.key) request.body request.word
 
   by_path : (route : Option Route) (request : RequestData)
       → IsFirst (read_at route request) (first_ground (from_path route request (asked_grounds host now (read_at route request) held)))
   unfolding first_ground
   by_path None request = λ went. refl
   by_path (Some route) request =
-      by_verb (bytes_eq request.method (method_of route)) route (caller_in host.admin request.key) request.body request.word
+      by_verb request.here (bytes_eq request.method (method_of route)) route (caller_in host.admin request.key) request.body request.word
 
   ordered : (request : RequestData) → IsFirst (read_of host.admin request) (first_ground (order host now request held))
   unfolding read_of route_of

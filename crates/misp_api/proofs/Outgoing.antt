@@ -17,13 +17,14 @@ use Rattle.misp_core.specs.Effects.{stop_by}
 use Rattle.misp_core.specs.declared.planning.NoPlan.{NoPlan}
 use Rattle.misp_core.proofs.Carried.{refused_did, stopped_did}
 use Rattle.misp_api.specs.Prelude.{Commanded, Reading, Reply, RuleName, Standing, by_keeper, form_of, refused_by, replied, seen_in, stop_in}
-use Rattle.misp_api.specs.Answering.{IsReplied}
+use Rattle.misp_api.specs.Answering.{IsReplied, admin_after}
 use Rattle.misp_api.specs.Refusing.{TurnsAway}
 use Rattle.misp_api.specs.Request.{request_data}
 use Rattle.misp_api.specs.Sending.{GoOut, IsAnswered}
 use Rattle.misp_core.specs.Text.{body_text, http_text, kind_of, reply_text, status_of}
 use Rattle.misp_api.specs.declared.TheConstants.{CHANGE_TEXT, REPLY_ROOM}
 use Rattle.misp_api.proofs.HttpTexts.{body_behind, long_text, no_memory, text_long}
+use Rattle.misp_api.proofs.Managed.{after_refusal}
 
 -- ---- memory ran out
 
@@ -40,17 +41,18 @@ lost_turned (Err refusal) old new reply away = record { just = inr refl; no_faul
 
 module _ {E : Type 0} (result : Result Reply E) (now word : ℕ) (request : Request) (old new : Standing) where
   abbrev form : Reading Commanded
-  form = form_of old.admin (request_data word request)
+  form = form_of old.admin (request_data old.name word request)
 
   pub request_answered : IfOk result (λ reply. WhereReported old.held new.held (λ held left. IsReplied (host_of old) now form held reply left)) → IfOk result (λ reply. TurnsAway form old new reply)
-      → HasCause old.faults new.faults (IsOkAnd result (λ reply. stop_in reply ≡ by_keeper)) → new.name ≡ old.name → new.admin ≡ old.admin
+      → HasCause old.faults new.faults (IsOkAnd result (λ reply. stop_in reply ≡ by_keeper)) → new.name ≡ old.name → IfOk result (λ reply. new.admin ≡ admin_after form old.admin reply)
       → IfOk result (IsAnswered now word (reads.Request request) old new)
-  request_answered replies forms cause name admin = answered_in result replies forms cause
+  request_answered replies forms cause name admin = answered_in result replies forms cause admin
     where
       answered_in : (r : Result Reply E) → IfOk r (λ reply. WhereReported old.held new.held (λ held left. IsReplied (host_of old) now form held reply left)) → IfOk r (λ reply. TurnsAway form old new reply)
-          → HasCause old.faults new.faults (IsOkAnd r (λ reply. stop_in reply ≡ by_keeper)) → IfOk r (IsAnswered now word (reads.Request request) old new)
-      answered_in (Ok reply) replies forms cause = record { replied = replies; formed = forms; cause = record { later = cause.later; rose = cause.rose }; name = name; admin = admin }
-      answered_in (Err short) replies forms cause = tt
+          → HasCause old.faults new.faults (IsOkAnd r (λ reply. stop_in reply ≡ by_keeper)) → IfOk r (λ reply. new.admin ≡ admin_after form old.admin reply)
+          → IfOk r (IsAnswered now word (reads.Request request) old new)
+      answered_in (Ok reply) replies forms cause admin = record { replied = replies; formed = forms; cause = record { later = cause.later; rose = cause.rose }; name = name; admin = admin }
+      answered_in (Err short) replies forms cause admin = tt
 
   pub request_dropped : IfOk result (λ reply. TurnsAway form old new reply) → OnErr result (TurnsAway form old new (refused_by RuleName.NoMemory)) → StaysHeld old.held new.held
       → HasCause old.faults new.faults (IsOkAnd result (λ reply. stop_in reply ≡ by_keeper)) → new.name ≡ old.name → new.admin ≡ old.admin
@@ -60,7 +62,7 @@ module _ {E : Type 0} (result : Result Reply E) (now word : ℕ) (request : Requ
     formed = away result forms unformed;
     cause = record { later = cause.later; rose = λ is. absurd cc };
     name = name;
-    admin = admin;
+    admin = admin ∙ sym (after_refusal form old.admin _);
   }
     where
       away : (r : Result Reply E) → IfOk r (λ reply. TurnsAway form old new reply) → OnErr r (TurnsAway form old new (refused_by RuleName.NoMemory)) → TurnsAway form old new (refused_by RuleName.NoMemory)

@@ -11,15 +11,16 @@ use Rattle.misp_core.specs.Answers.{writes_in}
 use Rattle.misp_core.specs.Effects.{asked_over, read_where, row_batches, telling}
 use Rattle.misp_core.specs.Planning.{IsBarred, unplanned}
 use Rattle.misp_core.specs.Prelude.{Row, spelled}
-use Rattle.misp_core.specs.Sound.{IsSound, IsSoundAnswer}
+use Rattle.misp_core.specs.Sound.{IsSound}
 use Rattle.misp_core.specs.Text.{reply_text}
-use Rattle.misp_core.specs.declared.planning.Plan.{Plan}
 use Rattle.misp_core.specs.declared.planning.NoPlan.{NoPlan}
 use Rattle.misp_store.specs.Seen.{Seen}
 use Rattle.misp_api.specs.Commands.{is_pulling, is_syncing}
 use Rattle.misp_api.specs.Prelude.{Ask, Asked, AskFault, Caller, Command, Commanded, Effect, Group, Held, Host, Reading, Reply, RequestData, Standing, barred, command_effect, fault_reply, form_of, is_allowed, read_of, replied, seen_in}
 use Rattle.misp_api.specs.Answering.{IsPull, IsReplied, IsSync, permitted}
+use Rattle.misp_api.specs.Planned.{IsSoundPlan}
 use Rattle.misp_api.specs.declared.TheConstants.{CHANGE_TEXT}
+use Rattle.misp_api.specs.declared.planned.Planned.{Planned}
 use Rattle.misp_api.proofs.Forms.{allowed}
 
 -- ---- what is held stays
@@ -53,6 +54,7 @@ command_none : (host : Host) (now : ℕ) (caller : Caller) (command : Command) (
 command_none host now caller (Command.Asks ask) seen is = over_none host now (caller, ask) seen.groups (read_where host now (caller, ask) seen) is
 command_none host now caller (Command.TakesGroups groups) seen is = absurd cc
 command_none host now caller (Command.Shares add g) seen is = absurd cc
+command_none host now caller (Command.Manages ask) seen is = absurd cc
 
 replied_none : (host : Host) (now : ℕ) (form : Reading Commanded) (seen : Seen) → IsPull form → (replied host now form seen).batches ≡ []
 replied_none host now (Ok it) seen is = command_none host now it.0 it.1 seen is
@@ -80,20 +82,20 @@ pub sound_unread : (fault : AskFault) → IsSound (fault_reply fault)
 sound_unread (AskFault.Refused refusal) = tt
 sound_unread AskFault.NoMemory = tt
 
-abbrev PlansSound : Result Plan NoPlan → Type 0
-PlansSound planned = IfOk planned (λ plan. IsSoundAnswer plan.answer)
+abbrev PlansSound : Result Planned NoPlan → Type 0
+PlansSound planned = IfOk planned IsSoundPlan
 
-barred_sound : (refusal : _) (old new : Standing) (planned : Result Plan NoPlan) → IsBarred refusal old new planned → PlansSound planned
+barred_sound : (refusal : _) (old new : Standing) (planned : Result Planned NoPlan) → IsBarred refusal old new planned → PlansSound planned
 barred_sound refusal old new planned bars = elim bars.just [
   | inl e ↦ subst PlansSound (sym e) tt
   | inr e ↦ subst PlansSound (sym e) tt
 ]
 
-by_role : (may : Bool) (it : Commanded) (planned : Result Plan NoPlan) → (may ≡ false → PlansSound planned) → (is_syncing it.1 ≡ true → PlansSound planned) → IsSync (allowed may it) → PlansSound planned
+by_role : (may : Bool) (it : Commanded) (planned : Result Planned NoPlan) → (may ≡ false → PlansSound planned) → (is_syncing it.1 ≡ true → PlansSound planned) → IsSync (allowed may it) → PlansSound planned
 by_role true it planned bars sound is = sound is
 by_role false it planned bars sound is = bars refl
 
-pub sound_told : {E : Type 0} (r : Result Reply E) (old mid : Standing) (request : RequestData) (it : Commanded) (planned : Result Plan NoPlan) → read_of old.admin request ≡ Ok it
+pub sound_told : {E : Type 0} (r : Result Reply E) (old mid : Standing) (request : RequestData) (it : Commanded) (planned : Result Planned NoPlan) → read_of old.admin request ≡ Ok it
     → (is_allowed it ≡ false → IsBarred (barred it.1) old mid planned) → (is_syncing it.1 ≡ true → PlansSound planned)
     → (PlansSound planned → IfOk r IsSound) → IsSync (form_of old.admin request) → IfOk r IsSound
 sound_told r old mid request it planned read bars sound told is =

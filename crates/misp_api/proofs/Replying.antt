@@ -7,7 +7,6 @@ use Rattle.misp_effects.specs.Effect.{Stopped}
 use Rattle.misp_core.specs.Prelude.{Did, Refusal, bare, host_of, refused}
 use Rattle.misp_api.specs.Prelude.{Admin, AskFault, Caller, Command, Commanded, Effect, FormatFault, Gives, Held, Host, Reading, Reply, RequestData, Route, RuleName, Standing, Stop, barred, command_of}
 use Rattle.misp_api.specs.Prelude.{by_keeper, caller_in, command_effect, commanded, fault_reply, form_of, formed, is_allowed, read_of, replied, route_of, seen_in, stop_in}
-use Rattle.misp_api.specs.Request.{ask_command, groups_command, share_command}
 use Rattle.misp_api.specs.Route.{method_of, route_at, by_method}
 use Rattle.misp_api.proofs.Built.{command_is}
 use Rattle.misp_api.proofs.Forms.{allowed}
@@ -44,8 +43,8 @@ formed_by_form (Err (FormatFault.BadField path need)) = inl refl
 formed_by_form (Err (FormatFault.BinaryType path)) = inl refl
 formed_by_form (Err FormatFault.NoMemory) = inr refl
 
-command_by_form : (route : Route) (body : List ℕ) (word : ℕ) → ByForm (command_of route body word)
-command_by_form = command_is ByForm (λ ask built. tt) (λ read built. formed_by_form (ask_command read)) (λ read. formed_by_form (groups_command read)) (λ add read. formed_by_form (share_command add read))
+command_by_form : (here : List ℕ) (route : Route) (body : List ℕ) (word : ℕ) → ByForm (command_of here route body word)
+command_by_form = command_is ByForm (λ ask built. tt) (λ read built. formed_by_form read)
 
 body_by_form : (caller : Caller) (read : Reading Command) → ByForm read → ByForm (by_body caller read)
 body_by_form caller (Ok command) formed = tt
@@ -68,14 +67,14 @@ target_by_form : (method target : List ℕ) → ByRoute (route_of method target)
 unfolding route_of
 target_by_form method target = path_by_form method (route_at method target)
 
-route_by_form : (route : Result Route RuleName) (caller : Option Caller) (body : List ℕ) (word : ℕ) → ByRoute route → ByForm (by_route route caller body word)
-route_by_form (Err rule) caller body word formed = formed
-route_by_form (Ok route) None body word formed = inl refl
-route_by_form (Ok route) (Some caller) body word formed = body_by_form caller (command_of route body word) (command_by_form route body word)
+route_by_form : (here : List ℕ) (route : Result Route RuleName) (caller : Option Caller) (body : List ℕ) (word : ℕ) → ByRoute route → ByForm (by_route here route caller body word)
+route_by_form here (Err rule) caller body word formed = formed
+route_by_form here (Ok route) None body word formed = inl refl
+route_by_form here (Ok route) (Some caller) body word formed = body_by_form caller (command_of here route body word) (command_by_form here route body word)
 
 pub read_by_form : (admin : Admin) (request : RequestData) → ByForm (read_of admin request)
 unfolding read_of
-read_by_form admin request = route_by_form (route_of request.method request.target) (caller_in admin request.key) request.body request.word (target_by_form request.method request.target)
+read_by_form admin request = route_by_form request.here (route_of request.method request.target) (caller_in admin request.key) request.body request.word (target_by_form request.method request.target)
 
 -- where memory ran out, nothing is left
 pub out_of_memory : (e : Effect Reply) (held : Held) → Did e held (fault_reply AskFault.NoMemory) held

@@ -16,11 +16,11 @@ use Rattle.misp_core.proofs.Carried.{DidThere, is_planned}
 use Rattle.misp_api.specs.Commands.{AsksBuilt}
 use Rattle.misp_api.specs.Prelude.{Commanded, Reply, RequestData, RuleName, barred, by_keeper, commanded, form_of, is_allowed, read_of, refused_by}
 use Rattle.misp_api.specs.Order.{IsInOrder, order}
+use Rattle.misp_api.specs.Planned.{PlansCommand}
 use Rattle.misp_api.specs.Refusing.{TurnsAway}
-use Rattle.misp_core.specs.Text.{has_octets, reply_text}
-use Rattle.misp_core.specs.declared.reply.Answer.{Answer}
-use Rattle.misp_model.specs.declared.package.PackageFields.{PackageFields}
+use Rattle.misp_core.specs.Text.{reply_text}
 use Rattle.misp_api.specs.Answering.{IsReplied}
+use Rattle.misp_api.specs.declared.planned.Planned.{Planned}
 use Rattle.misp_api.proofs.Turning.{lost_there, turned_there, turned_by_step}
 use Rattle.misp_api.proofs.Replying.{by_step}
 use Rattle.misp_api.proofs.Ordering.{order_by_step}
@@ -47,23 +47,23 @@ module _ {E : Type 0} where
   of_told (Err short) reply P same holds = tt
 
   -- what was planned over what is held was done; who ceased to report reports nothing afterwards
-  pub done_there : (r : Result Reply E) (comes : Held → Effect Reply) (planned : Result Plan NoPlan) (old mid new : Option Held) → StaysHeld old mid
-      → (mid ≡ None → new ≡ None) → IfSome mid (λ held. IsPlanned planned (comes held))
-      → ((e : Effect Reply) → IsPlanned planned e → IfOk r (λ reply. DidThere e mid reply new))
+  pub done_there : (plan : Effect Reply → Type 0) (r : Result Reply E) (comes : Held → Effect Reply) (old mid new : Option Held) → StaysHeld old mid
+      → (mid ≡ None → new ≡ None) → IfSome mid (λ held. plan (comes held))
+      → ((e : Effect Reply) → plan e → IfOk r (λ reply. DidThere e mid reply new))
       → IfOk r (λ reply. WhereReported old new (λ held left. Did (comes held) held reply left))
-  done_there (Ok reply) comes planned old mid new same silent plans done =
+  done_there plan (Ok reply) comes old mid new same silent plans done =
       reported_later old mid new (λ held left. Did (comes held) held reply left) same (over mid new silent plans done)
     where
-      over : (mid new : Option Held) → (mid ≡ None → new ≡ None) → IfSome mid (λ held. IsPlanned planned (comes held))
-          → ((e : Effect Reply) → IsPlanned planned e → DidThere e mid reply new) → WhereReported mid new (λ held left. Did (comes held) held reply left)
+      over : (mid new : Option Held) → (mid ≡ None → new ≡ None) → IfSome mid (λ held. plan (comes held))
+          → ((e : Effect Reply) → plan e → DidThere e mid reply new) → WhereReported mid new (λ held left. Did (comes held) held reply left)
       over None None silent plans done = tt
       over None (Some now) silent plans done = let none = silent refl in absurd cc
       over (Some held) None silent plans done = tt
       over (Some held) (Some now) silent plans done = done (comes held) plans
-  done_there (Err short) comes planned old mid new same silent plans done = tt
+  done_there plan (Err short) comes old mid new same silent plans done = tt
 
   -- what the role forbids is turned away
-  pub turned_told : (r : Result Reply E) (old mid new : Standing) (request : RequestData) (it : Commanded) (planned : Result Plan NoPlan) → read_of old.admin request ≡ Ok it
+  pub turned_told : (r : Result Reply E) (old mid new : Standing) (request : RequestData) (it : Commanded) (planned : Result Planned NoPlan) → read_of old.admin request ≡ Ok it
       → (is_allowed it ≡ false → IsBarred (barred it.1) old mid planned)
       → IfErr planned (λ why. IfOk r (λ reply. reply ≡ unplanned why)) → OnErr planned (new ≡ mid)
       → IfOk r (λ reply. TurnsAway (form_of old.admin request) old new reply)
@@ -72,7 +72,7 @@ module _ {E : Type 0} where
   turned_told (Err short) old mid new request it planned is bars just still = tt
 
   -- the same, where memory runs out for its text
-  pub unformed_told : (r : Result Reply E) (old mid new : Standing) (request : RequestData) (it : Commanded) (planned : Result Plan NoPlan) → read_of old.admin request ≡ Ok it
+  pub unformed_told : (r : Result Reply E) (old mid new : Standing) (request : RequestData) (it : Commanded) (planned : Result Planned NoPlan) → read_of old.admin request ≡ Ok it
       → (is_allowed it ≡ false → IsBarred (barred it.1) old mid planned) → OnErr planned (new ≡ mid)
       → OnErr r (TurnsAway (form_of old.admin request) old new (refused_by RuleName.NoMemory))
   unformed_told (Ok reply) old mid new request it planned is bars still = tt
@@ -85,7 +85,7 @@ module _ {E : Type 0} where
   where_short (Err short) holds = holds
 
   -- a fault that is told has its cause in the planning, or in the telling
-  pub cause_told : (r : Result Reply E) (planned : Result Plan NoPlan) (before mid now : ℕ) → HasCause before mid (stop_planned planned ≡ by_keeper) → mid ≤ now
+  pub cause_told : {A : Type 0} (r : Result Reply E) (planned : Result A NoPlan) (before mid now : ℕ) → HasCause before mid (stop_planned planned ≡ by_keeper) → mid ≤ now
       → IfOk r (λ reply. stop_in reply ≡ by_keeper → (stop_planned planned ≡ by_keeper) ⊎ Rose mid now)
       → HasCause before now (IsOkAnd r (λ reply. stop_in reply ≡ by_keeper))
   cause_told (Ok reply) planned before mid now cause later rose = record {
@@ -128,6 +128,12 @@ text_before before more after start long is = ap (take start) is ∙ take_at bef
 pub start_within : (before more after : List ℕ) (start : ℕ) → length before ≡ start → after ≡ before ++ more → start ≤ length after
 start_within before more after start long is = omega (arith, long, ap length is, length-append before more)
 
+-- what is written in place of what was written last
+pub text_instead : (before more mid after instead : List ℕ) (start : ℕ) (reply : Reply) → length before ≡ start → mid ≡ before ++ more → after ≡ take start mid ++ instead → instead ≡ reply_text reply
+    → after ≡ before ++ reply_text reply
+text_instead before more mid after instead start reply long is put text =
+    put ∙ ap (λ front. front ++ instead) (text_before before more mid start long is) ∙ ap (λ t. before ++ t) text
+
 -- what puts nothing was done
 pub nothing_did : (p : Plan) (e : Effect Reply) (old : Option Held) → IsPlan p e → p.batch ≡ None → DidThere e old (Reply.Ok p.answer) old
 nothing_did p e None plans none = tt
@@ -144,21 +150,21 @@ nothing_did p e (Some held) plans none =
 -- ---- a request that was read
 
 -- what was planned of it was replied
-pub replied_told : {E : Type 0} (r : Result Reply E) (i : Standing) (now : ℕ) (request : RequestData) (it : Commanded) (planned : Result Plan NoPlan) (mid new : Option Held)
+pub replied_told : {E : Type 0} (r : Result Reply E) (i : Standing) (now : ℕ) (request : RequestData) (it : Commanded) (planned : Result Planned NoPlan) (mid new : Option Held)
     → read_of i.admin request ≡ Ok it → StaysHeld i.held mid → (mid ≡ None → new ≡ None)
-    → IfSome mid (λ held. IsPlanned planned (commanded (host_of i) now it (seen_in held)))
-    → ((e : Effect Reply) → IsPlanned planned e → IfOk r (λ reply. DidThere e mid reply new))
+    → IfSome mid (λ held. PlansCommand planned (commanded (host_of i) now it (seen_in held)))
+    → ((e : Effect Reply) → PlansCommand planned e → IfOk r (λ reply. DidThere e mid reply new))
     → IfOk r (λ reply. WhereReported i.held new (λ held left. IsReplied (host_of i) now (form_of i.admin request) held reply left))
 replied_told r i now request it planned mid new is same silent plans done =
     of_reply r (λ reply answered. by_step i now request it reply i.held new is answered)
-    (done_there r (λ held. commanded (host_of i) now it (seen_in held)) planned i.held mid new same silent plans done)
+    (done_there (PlansCommand planned) r (λ held. commanded (host_of i) now it (seen_in held)) i.held mid new same silent plans done)
 
 -- and by the first of its rules
-pub ordered_told : {E : Type 0} (r : Result Reply E) (i : Standing) (now : ℕ) (request : RequestData) (it : Commanded) (planned : Result Plan NoPlan) (mid new : Option Held)
+pub ordered_told : {E : Type 0} (r : Result Reply E) (i : Standing) (now : ℕ) (request : RequestData) (it : Commanded) (planned : Result Planned NoPlan) (mid new : Option Held)
     → read_of i.admin request ≡ Ok it → AsksBuilt it.1 → StaysHeld i.held mid → (mid ≡ None → new ≡ None)
-    → IfSome mid (λ held. IsPlanned planned (commanded (host_of i) now it (seen_in held)))
-    → ((e : Effect Reply) → IsPlanned planned e → IfOk r (λ reply. DidThere e mid reply new))
+    → IfSome mid (λ held. PlansCommand planned (commanded (host_of i) now it (seen_in held)))
+    → ((e : Effect Reply) → PlansCommand planned e → IfOk r (λ reply. DidThere e mid reply new))
     → IfOk r (λ reply. WhereReported i.held new (λ held _. IsInOrder (order (host_of i) now request held) reply))
 ordered_told r i now request it planned mid new is built same silent plans done =
     of_reply r (λ reply answered. order_by_step i now request it reply i.held new is built answered)
-    (done_there r (λ held. commanded (host_of i) now it (seen_in held)) planned i.held mid new same silent plans done)
+    (done_there (PlansCommand planned) r (λ held. commanded (host_of i) now it (seen_in held)) i.held mid new same silent plans done)

@@ -2,7 +2,6 @@
 use Rattle.std.proofs.Common.{◌≡◌, Bool, true, false, refl, sym, subst, ◌∙◌, inl, inr, Result, Ok, Err, IfErr, OnErr}
 use Rattle.std.proofs.lemmas.Result.{IfErr-at_err}
 use Rattle.misp_core.specs.Planning.{unplanned, IsBarred}
-use Rattle.misp_core.specs.declared.planning.Plan.{Plan}
 use Rattle.misp_core.specs.declared.planning.NoPlan.{NoPlan}
 use Rattle.misp_api.specs.Prelude.{AskFault, Command, Commanded, Gives, Reading, Reply, RequestData, RuleName, Standing, barred, by_keeper, fault_reply, form_of, is_allowed, read_of, refused_by, stop_in}
 use Rattle.misp_api.specs.Refusing.{IsTurnedAway, TurnsAway}
@@ -40,7 +39,7 @@ no_memory : stop_in (refused_by RuleName.NoMemory) ≡ by_keeper → ⊥
 no_memory is = absurd cc
 
 -- what the role forbids is refused just so
-pub turned_there : (old mid new : Standing) (command : Command) (planned : Result Plan NoPlan) (reply : Reply) → IsBarred (barred command) old mid planned
+pub turned_there : {A : Type 0} (old mid new : Standing) (command : Command) (planned : Result A NoPlan) (reply : Reply) → IsBarred (barred command) old mid planned
     → IfErr planned (λ no. reply ≡ unplanned no) → OnErr planned (new ≡ mid) → IsTurnedAway (barred command) old new reply
 turned_there old mid new command planned reply bars is still = elim bars.just [
   | inl e ↦
@@ -52,7 +51,7 @@ turned_there old mid new command planned reply bars is still = elim bars.just [
 ]
 
 -- and where memory runs out for its text, it stands as it stood
-pub lost_there : (old mid new : Standing) (command : Command) (planned : Result Plan NoPlan) → IsBarred (barred command) old mid planned
+pub lost_there : {A : Type 0} (old mid new : Standing) (command : Command) (planned : Result A NoPlan) → IsBarred (barred command) old mid planned
     → OnErr planned (new ≡ mid) → IsTurnedAway (barred command) old new (refused_by RuleName.NoMemory)
 lost_there old mid new command planned bars still = elim bars.just [
   | inl e ↦ record { just = inr refl; no_fault = no_memory; still = IfErr-at_err (λ no. new ≡ mid) e still ∙ bars.still }

@@ -17,7 +17,7 @@ pub record IsExchanged (now word : ℕ) (read : Read) (old new : Standing) (byte
     : Type 0 where
   pub reply : Reply
   pub answered : IsAnswered now word read old new reply
-  pub sound : IsSync (read_form old.admin word read) → IsSound reply
+  pub sound : IsSync (read_form (host_of old) word read) → IsSound reply
   pub worded : IsWorded reply
   pub bytes_are : bytes ≡ http_text reply (closes read)
 

@@ -7,6 +7,7 @@ pub mod Limits
 pub mod Order
 pub mod Path
 pub mod Pattern
+pub mod Planned
 pub mod Prelude
 pub mod Query
 pub mod Refusing

@@ -1,24 +1,17 @@
 -- The one order of refusals: each rule in its place, with whether it refuses the request.
-use Rattle.std.specs.Prelude.{◌≡◌, ℕ, ◌==◌, Bool, true, false, not, bytes_eq, is_some, List, [], ◌∷◌, map, find, Option, None, Some, Result, Ok, Err, option_map, if◌then◌else◌}
+use Rattle.std.specs.Prelude.{◌≡◌, ℕ, ◌==◌, Bool, true, false, not, bytes_eq, is_some, List, [], ◌∷◌, map, Option, None, Some, Result, Ok, Err, if◌then◌else◌}
 use Rattle.misp_ids.specs.Same.{same_org}
 use Rattle.misp_ids.specs.Moments.{last_stamp}
 use Rattle.misp_ids.specs.declared.uid.GroupId.{GroupId}
 use Rattle.misp_ids.specs.declared.uid.OrgId.{OrgId}
 use Rattle.misp_groups.specs.Audience.{is_known_group, known_group}
+use Rattle.misp_admins.specs.Asks.{Ground, grounds_of, first_ground}
 use Rattle.misp_model.specs.Scene.{Rule}
 use Rattle.misp_edit.specs.Refusals.{named}
 use Rattle.misp_core.specs.Prelude.{Asked, Group, Held, Host, Row, RuleName, Seen, ask_rules, option_map_or, read_where, rule_number, scene_at, seeing, seen_in, stop_in}
 use Rattle.misp_api.specs.Commands.{Commanded, is_allowed}
 use Rattle.misp_api.specs.Prelude.{Caller, Command, Reading, Reply, RequestData, Route, caller_in, command_of, read_of}
 use Rattle.misp_api.specs.Route.{method_of, route_at}
-
--- whether a rule refuses a request, and the rule
-abbrev pub Ground : Type 0
-Ground = Bool × RuleName
-
--- the first of these rules that refuses
-unfoldable pub first_ground : List Ground → Option RuleName
-first_ground grounds = option_map (λ g. g.1) (find (λ g. g.0) grounds)
 
 -- the rule by which a reply refuses
 abbrev pub rule_of : Reply → Option RuleName
@@ -69,14 +62,15 @@ abbrev pub sharing_grounds : Bool → List Group → OrgId → GroupId → List 
 sharing_grounds add groups by id =
     if add then adding_grounds groups by id else editing_grounds groups by id
 
--- the same for what is asked, and for a group that is added or edited; groups that are handed in
--- are refused by none of these
+-- the same for what is asked, for a group that is added or edited, and for what a site
+-- administrator asks; groups that are handed in are refused by none of these
 abbrev pub command_grounds : Host → ℕ → Caller → Command → Seen → List Ground
 command_grounds host now caller (Command.Asks ask) seen =
     row_grounds host now (caller, ask) seen.groups (read_where host now (caller, ask) seen)
 command_grounds host now caller (Command.TakesGroups groups) seen = []
 command_grounds host now caller (Command.Shares add g) seen =
     sharing_grounds add seen.groups caller.org g.id
+command_grounds host now caller (Command.Manages ask) seen = grounds_of host.admin ask
 
 -- of a command, where this is seen: first the role of the caller must permit it
 abbrev pub grounds : Host → ℕ → Commanded → Seen → List Ground
@@ -102,7 +96,8 @@ is_refused_by rule (Err refusal) = rule_number refusal.name == rule_number rule
 -- the body is not what the path needs, by this rule
 abbrev pub body_breaks : RuleName → RequestData → Bool
 body_breaks rule request =
-    option_map_or (λ route. is_refused_by rule (command_of route request.body request.word))
+    option_map_or
+    (λ route. is_refused_by rule (command_of request.here route request.body request.word))
     (route_asked request) false
 
 -- the rules of the command, where it was read

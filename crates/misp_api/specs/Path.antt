@@ -6,6 +6,7 @@ use Rattle.std.specs.Option.{option_map_or}
 use Rattle.std.specs.Str.Parse.{digits_value}
 use Rattle.misp_ids.specs.Uid.{read_uid}
 use Rattle.misp_groups.specs.Prelude.{Uid}
+use Rattle.misp_api.specs.declared.path_kind.AdminRoute.{AdminRoute}
 use Rattle.misp_api.specs.declared.path_kind.PathKind.{PathKind}
 use Rattle.misp_api.specs.declared.path_ids.PathIds.{PathIds}
 use Rattle.misp_api.specs.Pattern.{is_slash, fits_pattern}
@@ -58,6 +59,11 @@ paths =
     ∷ (codes "/sync/manifest", PathKind.SyncManifest)
     ∷ (codes "/sync/rows", PathKind.SyncRows)
     ∷ (codes "/sync/part", PathKind.TakePart)
+    ∷ (codes "/admin/organisations/add", PathKind.Admin AdminRoute.AddOrganisation)
+    ∷ (codes "/admin/keys/add", PathKind.Admin AdminRoute.AddAuthKey)
+    ∷ (codes "/admin/keys/revoke", PathKind.Admin AdminRoute.RevokeAuthKey)
+    ∷ (codes "/admin/links/add", PathKind.Admin AdminRoute.AddServer)
+    ∷ (codes "/admin/links/edit", PathKind.Admin AdminRoute.EditServer)
     ∷ []
 
 -- what the first pattern is for that fits the path

@@ -6,6 +6,7 @@ use Rattle.misp_elem.specs.Prelude.{ElemId}
 use Rattle.misp_elem.specs.declared.key.Place.{Place}
 use Rattle.misp_http.specs.declared.request.Request.{Request}
 use Rattle.misp_format.specs.Prelude.{◌>>=◌, Need, event_at, group_in_text, json_in}
+use Rattle.misp_format.specs.Administering.{key_in_text, link_in_text, link_edit_in_text, organisation_in_text, revoked_in_text}
 use Rattle.misp_format.specs.Edits.{event_edit_at, attribute_edit_at, object_edit_at}
 use Rattle.misp_format.specs.Filters.{filter_at}
 use Rattle.misp_format.specs.Statements.{proposal_at, judgement_at, sighting_at}
@@ -17,25 +18,35 @@ use Rattle.misp_wanted.specs.ManifestReading.{wanted_of_bytes}
 use Rattle.misp_model.specs.declared.change.Change.{Change}
 use Rattle.misp_model.specs.declared.package.PackageFields.{PackageFields}
 use Rattle.misp_core.specs.Prelude.{Ask, EventId, FormatFault, Group, Refusal, RuleName, View, bare}
+use Rattle.misp_admins.specs.declared.ask.AdminAsk.{AdminAsk}
 use Rattle.misp_api.specs.GroupList.{groups_in}
 use Rattle.misp_api.specs.declared.command.Command.{Command}
+use Rattle.misp_api.specs.declared.path_kind.AdminRoute.{AdminRoute}
 use Rattle.misp_api.specs.declared.query.PageQuery.{PageQuery}
 use Rattle.misp_api.specs.declared.route.Route.{Route}
 use Rattle.misp_api.specs.declared.request.AskFault.{AskFault}
 use Rattle.misp_format.specs.Rows as rows
 
--- a request: its key, its method, its target, its body, and the word of which identifiers are made
--- for elements that have none
+-- a request: the instance that is asked, its key, its method, its target, its body, and the word of
+-- which identifiers are made for elements that have none
 pub record RequestData : Type 0 where
+  pub here : List ℕ
   pub key : Option (List ℕ)
   pub method : List ℕ
   pub target : List ℕ
   pub body : List ℕ
   pub word : ℕ
 
-abbrev pub request_data : ℕ → Request → RequestData
-request_data word r =
-    record { key = r.key; method = r.method; target = r.target; body = r.body; word = word }
+abbrev pub request_data : List ℕ → ℕ → Request → RequestData
+request_data here word r =
+    record {
+      here = here;
+      key = r.key;
+      method = r.method;
+      target = r.target;
+      body = r.body;
+      word = word;
+    }
 
 -- a value, or the refusal
 abbrev pub Reading : Type 0 → Type 0
@@ -166,6 +177,10 @@ ask_command read = read >>= λ ask. Ok (Command.Asks ask)
 abbrev pub groups_command : rows.Reading (List Group) → rows.Reading Command
 groups_command read = read >>= λ groups. Ok (Command.TakesGroups groups)
 
+-- what a site administrator asks by what was read
+abbrev pub admin_command : {A : Type 0} → (A → AdminAsk) → rows.Reading A → rows.Reading Command
+admin_command ask read = read >>= λ x. Ok (Command.Manages (ask x))
+
 -- the adding or editing of the group that was read
 abbrev pub share_command : Bool → rows.Reading Group → rows.Reading Command
 share_command add read = read >>= λ g. Ok (Command.Shares add g)
@@ -189,42 +204,58 @@ path_ask (Route.SyncPart event part) = Some (Ask.SyncPart event part)
 path_ask Route.SyncManifest = Some Ask.SyncManifest
 path_ask route = None
 
+-- what a request of a site administrator is by its body
+abbrev pub managing_command : List ℕ → AdminRoute → List ℕ → rows.Reading Command
+managing_command here AdminRoute.AddOrganisation body =
+    admin_command AdminAsk.AddOrg (organisation_in_text body)
+managing_command here AdminRoute.AddAuthKey body =
+    admin_command AdminAsk.AddKey (key_in_text body)
+managing_command here AdminRoute.RevokeAuthKey body =
+    admin_command AdminAsk.RevokeKey (revoked_in_text body)
+managing_command here AdminRoute.AddServer body =
+    admin_command AdminAsk.AddLink (link_in_text here body)
+managing_command here AdminRoute.EditServer body =
+    admin_command AdminAsk.EditLink (link_edit_in_text body)
+
 -- what another request is by its query or its body: the ask of its route, a group that is added or
--- edited, or groups that are handed in
-abbrev pub body_command : Route → List ℕ → ℕ → rows.Reading Command
-body_command Route.AddEvent body word = ask_command (event_in body word)
-body_command (Route.EditEvent event) body word = ask_command (event_edit_in event body)
-body_command (Route.AddAttributes event object) body word =
+-- edited, groups that are handed in, or what a site administrator asks of this instance
+abbrev pub body_command : List ℕ → Route → List ℕ → ℕ → rows.Reading Command
+body_command here Route.AddEvent body word = ask_command (event_in body word)
+body_command here (Route.EditEvent event) body word = ask_command (event_edit_in event body)
+body_command here (Route.AddAttributes event object) body word =
     ask_command (parts_in event object PartForm.Attributes body word)
-body_command (Route.EditAttribute event place) body word =
+body_command here (Route.EditAttribute event place) body word =
     ask_command (attribute_edit_in event place body)
-body_command (Route.AddObject event) body word =
+body_command here (Route.AddObject event) body word =
     ask_command (parts_in event None PartForm.Object body word)
-body_command (Route.EditObject event object) body word =
+body_command here (Route.EditObject event object) body word =
     ask_command (object_edit_in event object body)
-body_command (Route.AddReference event object) body word =
+body_command here (Route.AddReference event object) body word =
     ask_command (parts_in event (Some object) PartForm.Reference body word)
-body_command (Route.Tag event place) body word = ask_command (tag_in event place body)
-body_command (Route.Untag event place) body word = ask_command (untag_in event place body)
-body_command (Route.Propose event target) body word =
+body_command here (Route.Tag event place) body word = ask_command (tag_in event place body)
+body_command here (Route.Untag event place) body word = ask_command (untag_in event place body)
+body_command here (Route.Propose event target) body word =
     ask_command (proposal_in event target body word)
-body_command (Route.Judge event accept) body word = ask_command (judgement_in event accept body)
-body_command (Route.Sight event target) body word =
+body_command here (Route.Judge event accept) body word =
+    ask_command (judgement_in event accept body)
+body_command here (Route.Sight event target) body word =
     ask_command (sighting_in event target body word)
-body_command (Route.Index page) body word = ask_command (index_in page)
-body_command Route.SearchEvents body word = ask_command (search_in true body)
-body_command Route.SearchAttributes body word = ask_command (search_in false body)
-body_command Route.SyncRows body word = ask_command (wanted_in body)
-body_command Route.TakePart body word = ask_command (package_in body)
-body_command Route.AddGroup body word = share_command true (group_in_text body)
-body_command Route.EditGroup body word = share_command false (group_in_text body)
-body_command route body word = groups_command (groups_in body)
+body_command here (Route.Index page) body word = ask_command (index_in page)
+body_command here Route.SearchEvents body word = ask_command (search_in true body)
+body_command here Route.SearchAttributes body word = ask_command (search_in false body)
+body_command here Route.SyncRows body word = ask_command (wanted_in body)
+body_command here Route.TakePart body word = ask_command (package_in body)
+body_command here Route.AddGroup body word = share_command true (group_in_text body)
+body_command here Route.EditGroup body word = share_command false (group_in_text body)
+body_command here (Route.Admin asked) body word = managing_command here asked body
+body_command here route body word = groups_command (groups_in body)
 
 -- the ask of the path, or what was read of the body
 abbrev pub command_by : Option Ask → rows.Reading Command → Reading Command
 command_by (Some ask) read = Ok (Command.Asks ask)
 command_by None read = formed read
 
--- what a request of this route is
-unfoldable pub command_of : Route → List ℕ → ℕ → Reading Command
-command_of route body word = command_by (path_ask route) (body_command route body word)
+-- what a request of this route is, at this instance
+unfoldable pub command_of : List ℕ → Route → List ℕ → ℕ → Reading Command
+command_of here route body word =
+    command_by (path_ask route) (body_command here route body word)

@@ -103,6 +103,21 @@ element_route PathKind.DeleteReference ids =
     option_map (λ p. Route.DeleteReference p.0 p.1.0 p.1.1) (reference_in ids)
 element_route kind ids = None
 
+-- of paths of a kind that is for an event, or for what stands in one
+abbrev pub event_route : PathKind → PathIds → Option Route
+event_route PathKind.ViewEvent ids = option_map (λ p. Route.ViewEvent p.0 p.1) (copy_in ids)
+event_route PathKind.EditEvent ids = option_map Route.EditEvent (event_in ids)
+event_route PathKind.DeleteEvent ids = option_map Route.DeleteEvent (event_in ids)
+event_route PathKind.Publish ids = option_map Route.Publish (event_in ids)
+event_route PathKind.AddObject ids = option_map Route.AddObject (event_in ids)
+event_route PathKind.Tag ids = option_map (λ p. Route.Tag p.0 p.1) (tagged_in ids)
+event_route PathKind.Untag ids = option_map (λ p. Route.Untag p.0 p.1) (tagged_in ids)
+event_route PathKind.Propose ids = option_map (λ p. Route.Propose p.0 p.1) (tagged_in ids)
+event_route PathKind.Accept ids = option_map (λ e. Route.Judge e true) (event_in ids)
+event_route PathKind.Discard ids = option_map (λ e. Route.Judge e false) (event_in ids)
+event_route PathKind.Sight ids = option_map (λ p. Route.Sight p.0 p.1) (attribute_in ids)
+event_route kind ids = element_route kind ids
+
 -- of paths of any kind
 abbrev pub route_with : PathKind → PathIds → Option Route
 route_with PathKind.AddEvent ids = alone Route.AddEvent ids
@@ -117,18 +132,7 @@ route_with PathKind.SyncEvents ids = alone Route.SyncEvents ids
 route_with PathKind.SyncManifest ids = alone Route.SyncManifest ids
 route_with PathKind.SyncRows ids = alone Route.SyncRows ids
 route_with PathKind.TakePart ids = alone Route.TakePart ids
-route_with PathKind.ViewEvent ids = option_map (λ p. Route.ViewEvent p.0 p.1) (copy_in ids)
-route_with PathKind.EditEvent ids = option_map Route.EditEvent (event_in ids)
-route_with PathKind.DeleteEvent ids = option_map Route.DeleteEvent (event_in ids)
-route_with PathKind.Publish ids = option_map Route.Publish (event_in ids)
-route_with PathKind.AddObject ids = option_map Route.AddObject (event_in ids)
-route_with PathKind.Tag ids = option_map (λ p. Route.Tag p.0 p.1) (tagged_in ids)
-route_with PathKind.Untag ids = option_map (λ p. Route.Untag p.0 p.1) (tagged_in ids)
-route_with PathKind.Propose ids = option_map (λ p. Route.Propose p.0 p.1) (tagged_in ids)
-route_with PathKind.Accept ids = option_map (λ e. Route.Judge e true) (event_in ids)
-route_with PathKind.Discard ids = option_map (λ e. Route.Judge e false) (event_in ids)
-route_with PathKind.Sight ids = option_map (λ p. Route.Sight p.0 p.1) (attribute_in ids)
-route_with kind ids = element_route kind ids
+route_with kind ids = event_route kind ids
 
 abbrev pub route_by : PathKind → Option PathIds → Option Route
 route_by kind None = None
@@ -141,6 +145,7 @@ part_route path = option_map (λ p. Route.SyncPart (event p.0) p.1) (part_of pat
 -- of a path of a kind
 abbrev pub route_as : PathKind → List ℕ → Option Route
 route_as PathKind.SyncPart path = part_route path
+route_as (PathKind.Admin route) path = Some (Route.Admin route)
 route_as kind path = route_by kind (ids_of path)
 
 abbrev pub route_in : List ℕ → Option PathKind → Option Route

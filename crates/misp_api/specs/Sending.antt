@@ -5,34 +5,34 @@ use Rattle.misp_outside.specs.Reporting.{WhereReported}
 use Rattle.misp_http.specs.Faults.{fault_refusal}
 use Rattle.misp_http.specs.declared.request.Read.{Read}
 use Rattle.misp_http.specs.declared.request.Read.TheVariants as reads
-use Rattle.misp_core.specs.Prelude.{Admin, Standing, host_of, stop_in}
+use Rattle.misp_core.specs.Prelude.{Host, Standing, host_of, stop_in}
 use Rattle.misp_core.specs.Effects.{by_keeper}
 use Rattle.misp_core.specs.declared.reply.Reply.{Reply}
-use Rattle.misp_api.specs.Answering.{form_of, IsReplied}
+use Rattle.misp_api.specs.Answering.{IsReplied, admin_after, form_at}
 use Rattle.misp_api.specs.Commands.{Commanded}
 use Rattle.misp_api.specs.Refusing.{TurnsAway}
-use Rattle.misp_api.specs.Request.{Reading, request_data}
+use Rattle.misp_api.specs.Request.{Reading}
 use Rattle.misp_core.specs.Text.{http_text}
 use Rattle.misp_api.specs.declared.TheConstants.{REPLY_ROOM}
 
 -- ---- what is replied
 
 -- what bytes are that were read so, as a request of this word; bytes that are none are refused
-abbrev pub read_form : Admin → ℕ → Read → Reading Commanded
-read_form admin word (reads.Request request) = form_of admin (request_data word request)
-read_form admin word (reads.Refused fault) = Err (fault_refusal fault)
+abbrev pub read_form : Host → ℕ → Read → Reading Commanded
+read_form host word (reads.Request request) = form_at host word request
+read_form host word (reads.Refused fault) = Err (fault_refusal fault)
 
 -- it was replied so at this moment, and the instance is left so
 pub record IsAnswered (now word : ℕ) (read : Read) (old new : Standing) (reply : Reply)
     : Type 0 where
   -- where the keeper reports, reply and rows are the stated functions of what was read and is held
   pub replied : WhereReported old.held new.held
-      (λ held left. IsReplied (host_of old) now (read_form old.admin word read) held reply left)
+      (λ held left. IsReplied (host_of old) now (read_form (host_of old) word read) held reply left)
   -- what its form refuses is refused just so, and the instance stands as it stood
-  pub formed : TurnsAway (read_form old.admin word read) old new reply
+  pub formed : TurnsAway (read_form (host_of old) word read) old new reply
   pub cause : HasCause old.faults new.faults (stop_in reply ≡ by_keeper)
   pub name : new.name ≡ old.name
-  pub admin : new.admin ≡ old.admin
+  pub admin : new.admin ≡ admin_after (read_form (host_of old) word read) old.admin reply
 
 -- ---- its bytes
 

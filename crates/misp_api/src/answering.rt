@@ -4,10 +4,10 @@ ghost use Rattle.std.specs.Prelude.{◌≡◌, true, false, ◌<◌, ◌++◌, E
 ghost use Rattle.misp_outside.specs.Causes.{HasCause};
 ghost use Rattle.misp_outside.specs.Reporting.{StaysHeld, WhereReported};
 ghost use Rattle.misp_core.specs.Effects.{stop_in, by_keeper, refused_by, IsRefused};
-ghost use Rattle.misp_core.specs.Planning.{IsBarred, IsPlanned, stop_planned};
-ghost use Rattle.misp_core.specs.Sound.{IsSoundAnswer};
+ghost use Rattle.misp_core.specs.Planning.{IsBarred, stop_planned};
+ghost use Rattle.misp_api.specs.Planned.{IsAskedFor, IsSoundPlan, PlansCommand};
 ghost use Rattle.misp_store.specs.Seen.{seen_in};
-ghost use Rattle.misp_api.specs.Answering.{IsPull, IsReplied, IsSync, caller_in, form_of, read_of};
+ghost use Rattle.misp_api.specs.Answering.{IsPull, IsReplied, IsSync, admin_after, caller_in, form_at, read_of};
 ghost use Rattle.misp_api.specs.Commands.{AsksBuilt, barred, commanded, is_allowed, is_syncing};
 ghost use Rattle.misp_api.specs.Unread.{fault_reply};
 ghost use Rattle.misp_api.specs.Order.{IsInOrder, order};
@@ -20,10 +20,12 @@ ghost use Rattle.misp_api.specs.declared.TheConstants.{CHANGE_TEXT};
 
 use crate::asking::read_command;
 use crate::command::Command;
+use crate::managing::tell_planned;
+use crate::planned::Planned;
 use crate::request::AskFault;
 use crate::routes::Routes;
-use crate::telling::{tell, told};
-use misp_core::{Instance, NoPlan, Plan, Reply};
+use crate::telling::told;
+use misp_core::{Instance, NoPlan, Reply};
 use misp_http::Request;
 use misp_ids::{ApiKey, NoMemory, Refusal, RuleName, Stamp, Text};
 use misp_orgs::Caller;
@@ -49,7 +51,8 @@ fn read<K: Keeper>(
     word: u128,
     request: &Request,
 ) -> Result<(Caller, Command), AskFault>
-    ensures read { Gives result (read_of instance.now.admin (request_data word request.now)) }
+    ensures read { Gives result (read_of instance.now.admin
+        (request_data instance.now.name word request.now)) }
     ensures built { IfOk result (λ it. AsksBuilt it.1) }
 {
     let route = match routes.route(request.method.as_str(), request.target.as_str()) {
@@ -59,7 +62,7 @@ fn read<K: Keeper>(
     let Some(caller) = caller(instance, &request.key) else {
         return Err(AskFault::Refused(Refusal::bare(alloc, RuleName::NoKey)));
     };
-    let command = read_command(alloc, route, request.body.as_slice(), word)?;
+    let command = read_command(alloc, instance.name(), route, request.body.as_slice(), word)?;
     Ok((caller, command))
 }
 
@@ -70,14 +73,14 @@ fn plan<K: Keeper>(
     now: Stamp,
     caller: &Caller,
     command: Command,
-) -> Result<Plan, NoPlan>
+) -> Result<Planned, NoPlan>
     requires { AsksBuilt command }
-    ensures planned { IfSome instance.new.held (λ held. IsPlanned result
+    ensures planned { IfSome instance.new.held (λ held. PlansCommand result
         (commanded (host_of instance.old) now (caller.now, command) (seen_in held))) }
     ensures barred { is_allowed (caller.now, command) ≡ false →
         IsBarred (barred command) instance.old instance.new result }
-    ensures sound { is_syncing command ≡ true →
-        IfOk result (λ plan. IsSoundAnswer plan.answer) }
+    ensures made { IfOk result (IsAskedFor instance.old.admin command) }
+    ensures sound { is_syncing command ≡ true → IfOk result IsSoundPlan }
     ensures held { StaysHeld instance.old.held instance.new.held }
     ensures cause { HasCause instance.old.faults instance.new.faults
         (stop_planned result ≡ by_keeper) }
@@ -85,13 +88,14 @@ fn plan<K: Keeper>(
     ensures admin { instance.new.admin ≡ instance.old.admin }
 {
     match command {
-        Command::Asks(ask) => instance.plan(alloc, now, caller, ask),
+        Command::Asks(ask) => Planned::of_rows(instance.plan(alloc, now, caller, ask)),
         Command::TakesGroups(groups) => {
-            instance.plan_handed_groups(alloc, caller, groups.into_vec())
+            Planned::of_rows(instance.plan_handed_groups(alloc, caller, groups.into_vec()))
         }
         Command::Shares { add, group } => {
-            instance.plan_shared_group(alloc, now, caller, add, group)
+            Planned::of_rows(instance.plan_shared_group(alloc, now, caller, add, group))
         }
+        Command::Manages(ask) => Planned::of_item(instance.plan_managed(alloc, caller, ask)),
     }
 }
 
@@ -128,20 +132,21 @@ pub fn answer<K: Keeper>(
     ensures replied { IfOk result (λ reply.
         WhereReported instance.old.held instance.new.held (λ held new. IsReplied
         (host_of instance.old) now
-        (form_of instance.old.admin (request_data word request.now)) held reply new)) }
+        (form_at (host_of instance.old) word request.now) held reply new)) }
 
     // Where several rules refuse the request, the first in the one order is answered.
     ensures order { IfOk result (λ reply.
         WhereReported instance.old.held instance.new.held (λ held _. IsInOrder
-        (order (host_of instance.old) now (request_data word request.now) held) reply)) }
+        (order (host_of instance.old) now
+        (request_data instance.old.name word request.now) held) reply)) }
 
     // What the form of the request refuses, or the role of its caller, is refused just so, and the
     // keeper is as it was.
     ensures formed { IfOk result (λ reply.
-        TurnsAway (form_of instance.old.admin (request_data word request.now))
+        TurnsAway (form_at (host_of instance.old) word request.now)
         instance.old instance.new reply) }
     ensures unformed { OnErr result
-        (TurnsAway (form_of instance.old.admin (request_data word request.now))
+        (TurnsAway (form_at (host_of instance.old) word request.now)
         instance.old instance.new (refused_by RuleName.NoMemory)) }
 
     // A refused request changes nothing, and neither does one that is answered octets.
@@ -152,20 +157,26 @@ pub fn answer<K: Keeper>(
 
     // What a pull asks changes nothing either, even where memory runs out. What a synchronisation
     // is replied can be read back from its text.
-    ensures pulled { IsPull (form_of instance.old.admin (request_data word request.now)) →
+    ensures pulled { IsPull (form_at (host_of instance.old) word request.now) →
         StaysHeld instance.old.held instance.new.held }
-    ensures sound { IsSync (form_of instance.old.admin (request_data word request.now)) →
+    ensures sound { IsSync (form_at (host_of instance.old) word request.now) →
         IfOk result IsSound }
     ensures silent { instance.old.held ≡ None → instance.new.held ≡ None }
     ensures cause { HasCause instance.old.faults instance.new.faults
         (IsOkAnd result (λ reply. stop_in reply ≡ by_keeper)) }
     ensures name { instance.new.name ≡ instance.old.name }
-    ensures admin { instance.new.admin ≡ instance.old.admin }
+
+    // What a site administrator makes is put, and nothing else changes the administration. Where
+    // memory runs out for the text it is as it was.
+    ensures admin { IfOk result (λ reply. instance.new.admin
+        ≡ admin_after (form_at (host_of instance.old) word request.now) instance.old.admin reply) }
+    ensures unchanged { IfOk result (λ reply. CHANGE_TEXT < length (reply_text reply)) →
+        instance.new.admin ≡ instance.old.admin }
 {
     match read(alloc, routes, instance, word, request) {
         Ok((caller, command)) => {
             let planned = plan(alloc, instance, now, &caller, command);
-            tell(text, alloc, instance, planned)
+            tell_planned(text, alloc, instance, planned)
         }
         Err(fault) => told(text, alloc, refused(alloc, fault)),
     }

@@ -11,21 +11,24 @@ ghost use Rattle.misp_model.specs.declared.ask.Ask.TheVariants as asks;
 ghost use Rattle.misp_model.specs.declared.change.Change.TheVariants as changes;
 ghost use Rattle.misp_api.specs.Commands.{AsksBuilt};
 ghost use Rattle.misp_api.specs.GroupList.{groups_in};
-ghost use Rattle.misp_api.specs.Request.{Gives, ask_command, groups_command, share_command, path_ask, body_command, event_in, index_in, search_in, event_edit_in, attribute_edit_in, object_edit_in, parts_in, tag_in, untag_in, proposal_in, judgement_in, sighting_in, package_in, wanted_in, command_of};
+ghost use Rattle.misp_api.specs.Request.{Gives, ask_command, groups_command, share_command, admin_command, managing_command, path_ask, body_command, event_in, index_in, search_in, event_edit_in, attribute_edit_in, object_edit_in, parts_in, tag_in, untag_in, proposal_in, judgement_in, sighting_in, package_in, wanted_in, command_of};
 
 use crate::command::Command;
 use crate::group_list::read_groups;
+use crate::path_kind::AdminRoute;
 use crate::query::PageQuery;
 use crate::request::{AskFault, fault};
 use crate::route::Route;
+use misp_admins::AdminAsk;
 use misp_elem::{DecodeFault, Place};
 use misp_fields::Need;
 use misp_format::{
-    FormatFault, PartForm, read_attribute_edit, read_event, read_event_edit, read_filter,
-    read_group_text, read_json, read_judgement, read_object_edit, read_parts, read_proposal,
-    read_sighting, read_tag,
+    FormatFault, PartForm, read_attribute_edit, read_auth_key, read_event, read_event_edit,
+    read_filter, read_group_text, read_json, read_judgement, read_object_edit, read_organisation,
+    read_parts, read_proposal, read_revoked, read_server, read_server_edit, read_sighting,
+    read_tag,
 };
-use misp_ids::{ElemId, EventId, Items, Text};
+use misp_ids::{ElemId, EventId, InstId, Items, Text};
 use misp_model::{Ask, AttributePlace, Change, ElementPlace, NewTag, Parts, TaggedPlace};
 use misp_package::read_package;
 use misp_wanted::read_wanted;
@@ -246,6 +249,25 @@ fn share_command(alloc: Global, add: bool, body: &[u8]) -> Result<Command, Forma
     Ok(Command::Shares { add, group })
 }
 
+// What a site administrator asks by a body.
+fn managing_command(
+    alloc: Global,
+    here: &InstId,
+    route: AdminRoute,
+    body: &[u8],
+) -> Result<Command, FormatFault>
+    ensures { rows.Gives result (managing_command here.now route body.now) }
+{
+    let ask = match route {
+        AdminRoute::AddOrganisation => AdminAsk::AddOrg(read_organisation(alloc, body)?),
+        AdminRoute::AddAuthKey => AdminAsk::AddKey(read_auth_key(alloc, body)?),
+        AdminRoute::RevokeAuthKey => AdminAsk::RevokeKey(read_revoked(alloc, body)?),
+        AdminRoute::AddServer => AdminAsk::AddLink(read_server(alloc, here, body)?),
+        AdminRoute::EditServer => AdminAsk::EditLink(read_server_edit(alloc, body)?),
+    };
+    Ok(Command::Manages(ask))
+}
+
 // The place of an attribute as that of an element.
 fn element_place(place: &AttributePlace) -> ElementPlace
     ensures { result ≡ place.now }
@@ -312,11 +334,12 @@ fn path_ask(route: &Route) -> Option<Ask>
 // What another request is by its query or its body, by its route.
 fn body_command(
     alloc: Global,
+    here: &InstId,
     route: Route,
     body: &[u8],
     word: u128,
 ) -> Result<Command, FormatFault>
-    ensures { rows.Gives result (body_command route body.now word) }
+    ensures { rows.Gives result (body_command here.now route body.now word) }
 {
     match route {
         Route::AddEvent => event_in(alloc, body, word),
@@ -342,23 +365,26 @@ fn body_command(
         Route::TakePart => package_in(alloc, body),
         Route::AddGroup => share_command(alloc, true, body),
         Route::EditGroup => share_command(alloc, false, body),
+        Route::Admin(asked) => managing_command(alloc, here, asked, body),
         _ => groups_command(alloc, body),
     }
 }
 
-/// What a request is. Elements without an identifier get those that are made of `word`.
+/// What a request to this instance is. Elements without an identifier get those that are made of
+/// `word`.
 pub fn read_command(
     alloc: Global,
+    here: &InstId,
     route: Route,
     body: &[u8],
     word: u128,
 ) -> Result<Command, AskFault>
-    ensures command { Gives result (command_of route body.now word) }
+    ensures command { Gives result (command_of here.now route body.now word) }
     ensures built { IfOk result AsksBuilt }
 {
     match path_ask(&route) {
         Some(ask) => Ok(Command::Asks(ask)),
-        None => match body_command(alloc, route, body, word) {
+        None => match body_command(alloc, here, route, body, word) {
             Ok(command) => Ok(command),
             Err(stopped) => Err(fault(alloc, stopped)),
         },

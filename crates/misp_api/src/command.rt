@@ -1,5 +1,6 @@
 //! What requests are.
 
+use misp_admins::AdminAsk;
 use misp_groups::Group;
 use misp_ids::Items;
 use misp_model::Ask;
@@ -12,4 +13,6 @@ pub enum Command {
     TakesGroups(Items<Group>),
     /// Adds a group, or edits the one of its name.
     Shares { add: bool, group: Group },
+    /// What a site administrator asks.
+    Manages(AdminAsk),
 }

@@ -6,6 +6,7 @@ ghost use Rattle.misp_http.specs.Reading.{IsRead};
 ghost use Rattle.misp_http.specs.declared.request.Read.{Read as WasRead};
 ghost use Rattle.misp_http.specs.declared.request.ReadEnd.{ReadEnd as NotRead};
 ghost use Rattle.misp_core.specs.Sound.{IsSound, IsWorded};
+ghost use Rattle.misp_core.specs.Standing.{host_of};
 ghost use Rattle.misp_core.specs.Text.{http_text, reply_text};
 ghost use Rattle.misp_api.specs.Answering.{IsPull, IsSync};
 ghost use Rattle.misp_api.specs.Exchange.{IsExchanged, IsLeftSo};
@@ -45,13 +46,14 @@ fn answer_to<K: Keeper>(
     ensures text { IfOk result (λ reply. text.new.items ≡ text.old.items ++ reply_text reply) }
     ensures answered { IfOk result (IsAnswered now word read.now instance.old instance.new) }
     ensures unwritten { OnErr result (StaysHeld instance.old.held instance.new.held) }
-    ensures sound { IsSync (read_form instance.old.admin word read.now) → IfOk result IsSound }
-    ensures still { IsPull (read_form instance.old.admin word read.now) →
+    ensures sound { IsSync (read_form (host_of instance.old) word read.now) → IfOk result IsSound }
+    ensures still { IsPull (read_form (host_of instance.old) word read.now) →
         StaysHeld instance.old.held instance.new.held }
     ensures silent { instance.old.held ≡ None → instance.new.held ≡ None }
     ensures later { instance.old.faults ≤ instance.new.faults }
     ensures name { instance.new.name ≡ instance.old.name }
-    ensures admin { instance.new.admin ≡ instance.old.admin }
+    ensures admin { IsSync (read_form (host_of instance.old) word read.now) →
+        instance.new.admin ≡ instance.old.admin }
 {
     match read {
         Read::Request(request) => answer(text, alloc, routes, instance, now, word, request),
@@ -99,13 +101,14 @@ fn reply_to_read<K: Keeper>(
     ensures answered { IfOk result (λ bytes.
         IsExchanged now word read.now instance.old instance.new bytes.items) }
     ensures left { OnErr result (WhereReported instance.old.held instance.new.held
-        (IsLeftSo now (read_form instance.old.admin word read.now) instance.old)) }
-    ensures still { IsPull (read_form instance.old.admin word read.now) →
+        (IsLeftSo now (read_form (host_of instance.old) word read.now) instance.old)) }
+    ensures still { IsPull (read_form (host_of instance.old) word read.now) →
         StaysHeld instance.old.held instance.new.held }
     ensures silent { instance.old.held ≡ None → instance.new.held ≡ None }
     ensures later { instance.old.faults ≤ instance.new.faults }
     ensures name { instance.new.name ≡ instance.old.name }
-    ensures admin { instance.new.admin ≡ instance.old.admin }
+    ensures admin { IsSync (read_form (host_of instance.old) word read.now) →
+        instance.new.admin ≡ instance.old.admin }
 {
     let close = closes(read);
     let mut text = Vec::new(alloc);
@@ -143,17 +146,21 @@ pub fn exchange<K: Keeper>(
     // Where memory runs out, what is held is as it was, or what some reply to the request leaves.
     ensures left { (read : WasRead) (left : Option (List ℕ)) → IsRead bytes.items (Ok read) left
         → OnErr result (WhereReported instance.old.held instance.new.held
-        (IsLeftSo now (read_form instance.old.admin word read) instance.old)) }
+        (IsLeftSo now (read_form (host_of instance.old) word read) instance.old)) }
 
     // What a pull asks and what is refused by its form changes nothing that is held, even where
     // memory runs out. A keeper that reports nothing reports nothing then.
     ensures still { (read : WasRead) (left : Option (List ℕ)) → IsRead bytes.items (Ok read) left
-        → IsPull (read_form instance.old.admin word read)
+        → IsPull (read_form (host_of instance.old) word read)
         → StaysHeld instance.old.held instance.new.held }
     ensures silent { instance.old.held ≡ None → instance.new.held ≡ None }
     ensures later { instance.old.faults ≤ instance.new.faults }
     ensures name { instance.new.name ≡ instance.old.name }
-    ensures admin { instance.new.admin ≡ instance.old.admin }
+
+    // What a synchronisation asks leaves the administration as it is.
+    ensures admin { (read : WasRead) (left : Option (List ℕ)) → IsRead bytes.items (Ok read) left
+        → IsSync (read_form (host_of instance.old) word read)
+        → instance.new.admin ≡ instance.old.admin }
 {
     match read_bytes(alloc, bytes) {
         Ok(read) => reply_to_read(alloc, routes, instance, now, word, &read),

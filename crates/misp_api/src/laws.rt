@@ -16,9 +16,9 @@ ghost use Rattle.misp_api.specs.Sending.{read_form};
 pub fn a_call_comes_to_what_is_stated()
     ensures comes { (host : Host) (now word : ℕ) (key : List ℕ) (call : Call) (seen : Seen)
         → IsCallable key call → list_all is_byte (body_of call) ≡ true
-        → replied host now (read_form host.admin word (read_of_call key call)) seen
+        → replied host now (read_form host word (read_of_call key call)) seen
         ≡ called host now key call seen }
     ensures asked { (host : Host) (word : ℕ) (key : List ℕ) (call : Call)
         → IsCallable key call → list_all is_byte (body_of call) ≡ true
-        → IsSync (read_form host.admin word (read_of_call key call)) }
+        → IsSync (read_form host word (read_of_call key call)) }
 {}

@@ -1,5 +1,15 @@
 //! What paths are for, by their patterns.
 
+/// What a site administrator asks for.
+#[derive(Clone, Copy, Drop)]
+pub enum AdminRoute {
+    AddOrganisation,
+    AddAuthKey,
+    RevokeAuthKey,
+    AddServer,
+    EditServer,
+}
+
 /// What a path is for, whatever identifiers it ends with.
 #[derive(Clone, Copy, Drop)]
 pub enum PathKind {
@@ -34,11 +44,12 @@ pub enum PathKind {
     SyncManifest,
     SyncRows,
     TakePart,
+    Admin(AdminRoute),
 }
 
 /// The patterns of paths, each with what it is for. A name in braces is an identifier, or the
 /// number of a part.
-pub(crate) const PATHS: [(&str, PathKind); 42] = [
+pub(crate) const PATHS: [(&str, PathKind); 47] = [
     ("/events/view/{event}", PathKind::ViewEvent),
     ("/events/view/{event}/{owner}", PathKind::ViewEvent),
     ("/events/index", PathKind::Index),
@@ -105,4 +116,15 @@ pub(crate) const PATHS: [(&str, PathKind); 42] = [
     ("/sync/manifest", PathKind::SyncManifest),
     ("/sync/rows", PathKind::SyncRows),
     ("/sync/part", PathKind::TakePart),
+    (
+        "/admin/organisations/add",
+        PathKind::Admin(AdminRoute::AddOrganisation),
+    ),
+    ("/admin/keys/add", PathKind::Admin(AdminRoute::AddAuthKey)),
+    (
+        "/admin/keys/revoke",
+        PathKind::Admin(AdminRoute::RevokeAuthKey),
+    ),
+    ("/admin/links/add", PathKind::Admin(AdminRoute::AddServer)),
+    ("/admin/links/edit", PathKind::Admin(AdminRoute::EditServer)),
 ];

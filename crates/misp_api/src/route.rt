@@ -3,10 +3,10 @@
 ghost use Rattle.std.specs.Prelude.{◌≡◌};
 ghost use Rattle.misp_api.specs.Path.{ids_of};
 ghost use Rattle.misp_api.specs.declared.route.Route.TheVariants as routes;
-ghost use Rattle.misp_api.specs.Route.{path_of, query_of, with_query, event_in, object_in, reference_in, attribute_in, tagged_in, copy_in, parent_in, alone, element_route, route_with, route_by, part_route, route_as, at_method, method_of};
+ghost use Rattle.misp_api.specs.Route.{path_of, query_of, with_query, event_in, object_in, reference_in, attribute_in, tagged_in, copy_in, parent_in, alone, element_route, event_route, route_with, route_by, part_route, route_as, at_method, method_of};
 
 use crate::path_ids::{PathIds, ids_of};
-use crate::path_kind::PathKind;
+use crate::path_kind::{AdminRoute, PathKind};
 use crate::path_part::part_of;
 use crate::query::{PageQuery, page_query};
 use misp_elem::Place;
@@ -65,6 +65,8 @@ pub enum Route {
     TakePart,
     /// Groups that are handed in.
     TakeGroups,
+    /// What a site administrator asks for.
+    Admin(AdminRoute),
 }
 
 /// What stands before the first `?`.
@@ -214,23 +216,11 @@ fn element_route(kind: PathKind, ids: PathIds) -> Option<Route>
     }
 }
 
-// Of paths of any kind.
-fn route_with(kind: PathKind, ids: PathIds) -> Option<Route>
-    ensures { result ≡ route_with kind ids }
+// Of paths of a kind that is for an event, or for what stands in one.
+fn event_route(kind: PathKind, ids: PathIds) -> Option<Route>
+    ensures { result ≡ event_route kind ids }
 {
     match kind {
-        PathKind::AddEvent => alone(Route::AddEvent, ids),
-        PathKind::Index => alone(Route::Index(page_query("")), ids),
-        PathKind::SearchEvents => alone(Route::SearchEvents, ids),
-        PathKind::SearchAttributes => alone(Route::SearchAttributes, ids),
-        PathKind::Groups => alone(Route::Groups, ids),
-        PathKind::AddGroup => alone(Route::AddGroup, ids),
-        PathKind::EditGroup => alone(Route::EditGroup, ids),
-        PathKind::SyncGroups => alone(Route::SyncGroups, ids),
-        PathKind::SyncEvents => alone(Route::SyncEvents, ids),
-        PathKind::SyncManifest => alone(Route::SyncManifest, ids),
-        PathKind::SyncRows => alone(Route::SyncRows, ids),
-        PathKind::TakePart => alone(Route::TakePart, ids),
         PathKind::ViewEvent => {
             let (event, owner) = copy_in(ids)?;
             Some(Route::ViewEvent(event, owner))
@@ -261,6 +251,27 @@ fn route_with(kind: PathKind, ids: PathIds) -> Option<Route>
     }
 }
 
+// Of paths of any kind.
+fn route_with(kind: PathKind, ids: PathIds) -> Option<Route>
+    ensures { result ≡ route_with kind ids }
+{
+    match kind {
+        PathKind::AddEvent => alone(Route::AddEvent, ids),
+        PathKind::Index => alone(Route::Index(page_query("")), ids),
+        PathKind::SearchEvents => alone(Route::SearchEvents, ids),
+        PathKind::SearchAttributes => alone(Route::SearchAttributes, ids),
+        PathKind::Groups => alone(Route::Groups, ids),
+        PathKind::AddGroup => alone(Route::AddGroup, ids),
+        PathKind::EditGroup => alone(Route::EditGroup, ids),
+        PathKind::SyncGroups => alone(Route::SyncGroups, ids),
+        PathKind::SyncEvents => alone(Route::SyncEvents, ids),
+        PathKind::SyncManifest => alone(Route::SyncManifest, ids),
+        PathKind::SyncRows => alone(Route::SyncRows, ids),
+        PathKind::TakePart => alone(Route::TakePart, ids),
+        _ => event_route(kind, ids),
+    }
+}
+
 // Of paths that end with identifiers alone.
 fn route_by(path: &str, kind: PathKind) -> Option<Route>
     ensures { result ≡ route_by kind (ids_of path.now) }
@@ -285,6 +296,7 @@ pub(crate) fn route_as(path: &str, kind: PathKind) -> Option<Route>
 {
     match kind {
         PathKind::SyncPart => part_route(path),
+        PathKind::Admin(route) => Some(Route::Admin(route)),
         _ => route_by(path, kind),
     }
 }

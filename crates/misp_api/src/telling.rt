@@ -44,11 +44,11 @@ pub(crate) fn told(text: &mut Vec<u8>, alloc: Global, reply: Reply) -> Result<Re
     }
 }
 
-// The most bytes in the text of the refusal of what a keeper stopped.
-const STOP_TEXT: usize = 47;
+/// The most bytes in the text of the refusal of what a keeper stopped.
+pub(crate) const STOP_TEXT: usize = 47;
 
-// The text of the refusal of what a keeper stopped.
-fn stop_text(stop: KeeperFault) -> &'static str
+/// The text of the refusal of what a keeper stopped.
+pub(crate) fn stop_text(stop: KeeperFault) -> &'static str
     ensures text { result.now ≡ reply_text (refused_by (rule_of_stop stop)) }
     ensures short { length result.now ≤ STOP_TEXT }
 {
@@ -58,8 +58,8 @@ fn stop_text(stop: KeeperFault) -> &'static str
     }
 }
 
-// Writes a text in place of what is after the start. It takes no memory.
-fn take_back(text: &mut Vec<u8>, start: usize, instead: &[u8])
+/// Writes a text in place of what is after the start. It takes no memory.
+pub(crate) fn take_back(text: &mut Vec<u8>, start: usize, instead: &[u8])
     requires start { start ≤ vec_len text.old }
     requires room { start + length instead.now < vec_capacity text.old }
     ensures text { text.new.items ≡ take start text.old.items ++ instead.now }
@@ -89,8 +89,12 @@ fn put_change(text: &mut Vec<u8>, alloc: Global, reply: &Reply) -> Result<(), No
     Ok(text.reserve(STOP_TEXT + 1)?)
 }
 
-// Writes an answer to a change, with room for what may take its place.
-fn write_answer(text: &mut Vec<u8>, alloc: Global, answer: Answer) -> Result<Reply, NoMemory>
+/// Writes an answer to a change, with room for what may take its place.
+pub(crate) fn write_answer(
+    text: &mut Vec<u8>,
+    alloc: Global,
+    answer: Answer,
+) -> Result<Reply, NoMemory>
     ensures reply { IfOk result (λ reply. reply ≡ Answered.Ok answer) }
     ensures text { OnOk result
         (text.new.items ≡ text.old.items ++ reply_text (Answered.Ok answer)) }

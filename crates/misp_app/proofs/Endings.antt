@@ -14,7 +14,7 @@ use Rattle.misp_app.specs.Checking.{EndsCheck, ok_line}
 use Rattle.misp_app.specs.Ends.{IsFaultEnd, IsHostEnd, IsPutEnd, IsSyncEnd}
 use Rattle.misp_app.specs.Source.{described, host_named, net_status, source_of, status_of}
 use Rattle.misp_app.specs.Status.{EndsAs, Wrote, status_after}
-use Rattle.misp_app.specs.Synchronising.{Dialled, EndsSync, HasSyncLine, HasSynced, IsCutSync, peer_address}
+use Rattle.misp_app.specs.Synchronising.{Dialled, EndsSync, HasSyncLine, HasSynced, IsCutSync}
 use Rattle.misp_app.specs.declared.status.Status.{Status}
 
 -- ---- by what the source decides
@@ -165,9 +165,9 @@ module _ (asked : SyncData) (old new : List KeeperState) (before after : Dialled
   any (Some left) = read_any (described left)
 
   pub sync_ended : (status : Status) (source : Option (List ℕ))
-      → (HasSyncLine status → OfNamed source (λ host net. HasSynced host asked (peer_address host asked.link net) old new before after written behind status))
-      → (status ≡ Status.OutOfMemory → OfNamed source (λ host net. IsCutSync host asked (peer_address host asked.link net) old new before after))
-      → OfNamed source (λ host net. EndsSync status host asked (peer_address host asked.link net) old new before after written behind)
+      → (HasSyncLine status → OfNamed source (λ host net. HasSynced host asked net.instances old new before after written behind status))
+      → (status ≡ Status.OutOfMemory → OfNamed source (λ host net. IsCutSync host asked net.instances old new before after))
+      → OfNamed source (λ host net. EndsSync status host asked net.instances old new before after written behind)
   sync_ended Status.Done source line cut = line tt
   sync_ended Status.Stopped source line cut = line tt
   sync_ended Status.WriteFault source line cut = line tt

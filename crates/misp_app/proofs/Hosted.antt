@@ -1,15 +1,18 @@
 -- An instance that is served, or none where memory ran out before.
 use Rattle.std.proofs.Common.{◌≡◌, ◌<◌, ◌≤◌, ◌+◌, ℕ, zero, suc, List, [], ◌∷◌, length, take, drop, drop-drop, Option, Some, None, Ok, Err, IfSome, IfOk, refl, sym, ◌∙◌, ap, subst, arith}
+use Rattle.misp_outside.specs.Held.{Held}
+use Rattle.misp_outside.specs.KeeperState.{state}
 use Rattle.misp_outside.specs.Wires.{Connection}
 use Rattle.misp_http.proofs.Sending.{appends_none}
 use Rattle.misp_effects.specs.KeeperStates.{AreKept}
-use Rattle.misp_core.specs.Prelude.{Host, KeeperState, Standing}
+use Rattle.misp_core.specs.Prelude.{Host, KeeperState, Standing, Tell, host_of}
 use Rattle.misp_script.specs.Faults.{Reading}
-use Rattle.misp_net.specs.Prelude.{Description}
+use Rattle.misp_net.specs.Opening.{opened_hosts}
+use Rattle.misp_net.specs.Prelude.{Description, Tables, host_at}
 use Rattle.misp_net.specs.declared.places.NetFault.{NetFault}
 use Rattle.misp_net.proofs.Openings.{kept_or_opened}
 use Rattle.misp_app.specs.Ends.{IsReadEnd}
-use Rattle.misp_app.specs.Hosting.{HasLinesServed, HasServed, IsReady}
+use Rattle.misp_app.specs.Hosting.{HasLinesServed, HasServed, IsReady, OpensAs}
 use Rattle.misp_app.specs.Source.{described, host_named}
 use Rattle.misp_app.specs.Status.{HasKeepers, status_after}
 use Rattle.misp_app.specs.Limits.{least_keepers}
@@ -26,6 +29,27 @@ drop_more (suc k) a b some same =
     let one : 1 + k ≡ suc k = omega arith in
     subst (λ n. drop n a ≡ drop n b) one (sym (drop-drop k 1 a) ∙ ap (drop k) same ∙ drop-drop k 1 b)
 
+-- ---- an instance as it opens
+
+-- a host over a keeper that reports this
+abbrev opened_over : Host → Option Held → Host
+opened_over host None = host
+opened_over host (Some held) = host_at 0 (opened_hosts (host ∷ []) (held ∷ []))
+
+abbrev instance_over : Host → Option Held → ℕ → Standing
+instance_over host held faults = record { name = host.name; admin = (opened_over host held).admin; held = held; faults = faults }
+
+made_over : (host : Host) (held : Option Held) (faults : ℕ) (tables : Tables) → Tell (state held faults ∷ []) tables → host_of (instance_over host held faults) ∷ [] ≡ opened_hosts (host ∷ []) tables
+made_over host held faults [] tell = absurd cc
+made_over host held faults (now ∷ tables) tell =
+    let is : held ≡ Some now = cc in
+    rw is refl
+
+opens_as : (host : Host) (held : Option Held) (faults : ℕ) → OpensAs host (instance_over host held faults)
+opens_as host held faults = record { names = refl; made = λ tables tell all. made_over host held faults tables tell }
+
+-- ---- no connection was served
+
 module _ (time count word : ℕ) (back coming : List Connection) (now next : Option ℕ) (given left : Option (List Connection)) (before : Option (List ℕ))
     (ready : IsReady time word back coming now next given left) where
   -- no connection was served, over a keeper that tells what it told
@@ -33,12 +57,12 @@ module _ (time count word : ℕ) (back coming : List Connection) (now next : Opt
       → HasServed host time count word back coming old (take 1 new) next given left before before Status.OutOfMemory
   none_served host old [] some kept = absurd (omega (arith, some))
   none_served host old (s ∷ new) some kept =
-      let i : Standing = record { name = host.name; admin = host.admin; held = s.held; faults = s.faults } in
+      let i : Standing = instance_over host s.held s.faults in
       record {
         start = i;
         end = i;
         how = Err faults.OutOfMemory;
-        host_is = refl;
+        host_is = opens_as host s.held s.faults;
         begun = kept_or_opened _ _ kept;
         opened = λ more. absurd (more refl);
         closed = refl;

@@ -6,8 +6,8 @@ use Rattle.misp_script.specs.Source.{script_part}
 use Rattle.misp_effects.proofs.KeeperStates.{all_kept}
 use Rattle.misp_store.specs.Sharing.{WereSound}
 use Rattle.misp_net.specs.Carrying.{Carried}
-use Rattle.misp_net.specs.Opening.{IsStoppedBy, opened_states}
-use Rattle.misp_net.specs.Prelude.{AreDistinct, Description, KeeperState, described_hosts, lines_of}
+use Rattle.misp_net.specs.Opening.{AreOpened, IsStoppedBy, opened_states}
+use Rattle.misp_net.specs.Prelude.{AreDistinct, Description, Host, KeeperState, described_hosts, lines_of}
 use Rattle.misp_net.specs.Promise.{IsNetRun}
 use Rattle.misp_net.specs.declared.places.NetFault.{NetFault}
 use Rattle.misp_net.proofs.Openings.{kept_or_opened}
@@ -21,11 +21,12 @@ use Rattle.misp_app.specs.declared.status.Status.{Status}
 module _ (tells : List ℕ → List ℕ) (net : Description) (script : List ℕ) (old new : List KeeperState) (before after : Carried) (written behind : Option (List ℕ)) where
   -- its lines were run, and what tells of them was written so
   pub ran_ends : (lines : List ℕ) (status : Status) → AreDistinct (described_hosts net) → WereSound (take (length net.instances) old) (take (length net.instances) new)
-      → IsNetRun (described_hosts net) (lines_of (directory_of net) script) (opened_states (take (length net.instances) old)) (take (length net.instances) new) before after lines
+      → ((hosts : List Host) × AreOpened (described_hosts net) (opened_states (take (length net.instances) old)) (take (length net.instances) new) hosts
+      × IsNetRun hosts (lines_of (directory_of net) script) (opened_states (take (length net.instances) old)) (take (length net.instances) new) before after lines)
       → IsPutEnd status → (Writes status → Wrote status written behind (tells lines)) → EndsTold tells status net script old new before after written behind
-  ran_ends lines Status.Done distinct sound ran end wrote = record { lines = lines; distinct = distinct; sound = sound; ran = ran; written = wrote tt }
-  ran_ends lines Status.WriteFault distinct sound ran end wrote = record { lines = lines; distinct = distinct; sound = sound; ran = ran; written = wrote tt }
-  ran_ends lines Status.OutOfMemory distinct sound ran end wrote = inr (all_ran _ _ _ _ before after lines ran.run)
+  ran_ends lines Status.Done distinct sound ran end wrote = record { lines = lines; distinct = distinct; sound = sound; hosts = ran.0; opened = ran.1; ran = ran.2; written = wrote tt }
+  ran_ends lines Status.WriteFault distinct sound ran end wrote = record { lines = lines; distinct = distinct; sound = sound; hosts = ran.0; opened = ran.1; ran = ran.2; written = wrote tt }
+  ran_ends lines Status.OutOfMemory distinct sound ran end wrote = inr (ran.0, ran.1, all_ran _ _ _ _ before after lines ran.2.run)
   ran_ends lines Status.Stopped distinct sound ran end wrote = tt
   ran_ends lines Status.Usage distinct sound ran end wrote = tt
   ran_ends lines Status.ReadFault distinct sound ran end wrote = tt

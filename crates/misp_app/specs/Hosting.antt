@@ -4,7 +4,7 @@ use Rattle.misp_outside.specs.Wires.{Connection}
 use Rattle.misp_effects.specs.KeeperStates.{AreKept}
 use Rattle.misp_store.specs.Sharing.{WereSound}
 use Rattle.misp_core.specs.Prelude.{Host, KeeperState, Standing, host_of}
-use Rattle.misp_net.specs.Opening.{AreKeptOrOpened, opened_states}
+use Rattle.misp_net.specs.Opening.{AreKeptOrOpened, AreOpened, opened_states}
 use Rattle.misp_net.specs.Running.{state_of}
 use Rattle.misp_app.specs.Serving.{IsTold, Served}
 use Rattle.misp_app.specs.declared.serving.ServeFault.{ServeFault}
@@ -36,6 +36,11 @@ HasLinesServed DoorFault = Unit {0}
 HasLinesServed OutOfMemory = Unit {0}
 HasLinesServed status = ⊥
 
+-- it is this host, with what its keeper holds of what was made there
+abbrev pub OpensAs : Host → Standing → Type 0
+OpensAs host start =
+    AreOpened (host ∷ []) (state_of start ∷ []) (state_of start ∷ []) (host_of start ∷ [])
+
 -- An instance of this host was opened over the keeper, and served so many connections of those that
 -- were to come, or as many as door, sink and memory allowed. Then its keeper was put back. It is
 -- opened only where every row that the keeper holds decodes, where it reports.
@@ -45,7 +50,7 @@ pub record HasServed (host : Host) (time count word : ℕ) (back coming : List C
   pub start : Standing
   pub end : Standing
   pub how : Result (Unit {0}) ServeFault
-  pub host_is : host_of start ≡ host
+  pub host_is : OpensAs host start
   pub begun : AreKeptOrOpened old (state_of start ∷ [])
   pub opened : status ≢ OutOfMemory → AreKept (opened_states old) (state_of start ∷ [])
   pub closed : new ≡ state_of end ∷ []

@@ -6,8 +6,8 @@ use Rattle.misp_generated.specs.Summary.{summary_text}
 use Rattle.misp_script.specs.Directory.{directory_of}
 use Rattle.misp_store.specs.Sharing.{WereSound}
 use Rattle.misp_net.specs.Carrying.{Carried}
-use Rattle.misp_net.specs.Opening.{IsCutShort, opened_states}
-use Rattle.misp_net.specs.Prelude.{AreDistinct, Description, KeeperState, described_hosts, lines_of}
+use Rattle.misp_net.specs.Opening.{AreOpened, IsCutShort, opened_states}
+use Rattle.misp_net.specs.Prelude.{AreDistinct, Description, Host, KeeperState, described_hosts, lines_of}
 use Rattle.misp_net.specs.Promise.{IsNetRun}
 use Rattle.misp_app.specs.declared.running.Shown.{Shown}
 use Rattle.misp_app.specs.declared.status.Status.{Status}
@@ -30,7 +30,11 @@ pub record HasRun (net : Description) (script : List ℕ) (old new : List Keeper
   pub distinct : AreDistinct (described_hosts net)
   -- every row that the keepers held decodes
   pub sound : WereSound (take (length net.instances) old) (take (length net.instances) new)
-  pub ran : IsNetRun (described_hosts net) (lines_of (directory_of net) script)
+  -- the instances as they opened
+  pub hosts : List Host
+  pub opened : AreOpened (described_hosts net) (opened_states (take (length net.instances) old))
+      (take (length net.instances) new) hosts
+  pub ran : IsNetRun hosts (lines_of (directory_of net) script)
       (opened_states (take (length net.instances) old)) (take (length net.instances) new)
       before after lines
   pub written : Writes lines

@@ -18,7 +18,7 @@ ghost use Rattle.misp_app.specs.Limits.{source_limit, least_keepers};
 ghost use Rattle.misp_app.specs.Net.{EndsGenerated, EndsRun};
 ghost use Rattle.misp_app.specs.Source.{described, source_of, status_of, IsTold, IsUnsound, HasFailed, OthersStay, HoldNothing, host_named};
 ghost use Rattle.misp_app.specs.Status.{EndsAs, Finishes, IsStill, IsUnasked, IsUnopened, HasDial, HasDoor, HasKeepers, HasScript, TellsFault, WritesNothing, Wrote};
-ghost use Rattle.misp_app.specs.Synchronising.{EndsSync, HasSyncLine, HasSynced, IsCutSync, dialled, peer_address};
+ghost use Rattle.misp_app.specs.Synchronising.{EndsSync, HasSyncLine, HasSynced, IsCutSync, dialled};
 
 use crate::checking::check_source;
 use crate::hosting::serve_source;
@@ -87,7 +87,7 @@ pub fn run<S: Source, W: Sink, K: Keeper, C: Carry, D: Door, L: Dial, T: Clock>(
     ensures synced { (asked : SyncData) → command_of words.now ≡ Some (Sync asked) →
         IfSome (S.left source.old) (λ left. IfOk (described left) (λ net.
         IfSome (host_named asked.name net) (λ host.
-        EndsSync result host asked (peer_address host asked.link net)
+        EndsSync result host asked net.instances
         (take 1 (map K.state keepers.old.items)) (take 1 (map K.state keepers.new.items))
         (dialled (L.asks dial.old) (L.faults dial.old))
         (dialled (L.asks dial.new) (L.faults dial.new))
@@ -223,7 +223,7 @@ fn run_command<S: Source, W: Sink, K: Keeper, C: Carry, D: Door, L: Dial, T: Clo
         command_of words.now ≡ Some (Sync asked) → HasSyncLine result →
         IfSome (S.left source.old) (λ left. IfOk (described left) (λ net.
         IfSome (host_named asked.name net) (λ host.
-        HasSynced host asked (peer_address host asked.link net)
+        HasSynced host asked net.instances
         (take 1 (map K.state keepers.old.items)) (take 1 (map K.state keepers.new.items))
         (dialled (L.asks dial.old) (L.faults dial.old))
         (dialled (L.asks dial.new) (L.faults dial.new))
@@ -233,7 +233,7 @@ fn run_command<S: Source, W: Sink, K: Keeper, C: Carry, D: Door, L: Dial, T: Clo
         result ≡ Status.OutOfMemory →
         IfSome (S.left source.old) (λ left. IfOk (described left) (λ net.
         IfSome (host_named asked.name net) (λ host.
-        IsCutSync host asked (peer_address host asked.link net)
+        IsCutSync host asked net.instances
         (take 1 (map K.state keepers.old.items)) (take 1 (map K.state keepers.new.items))
         (dialled (L.asks dial.old) (L.faults dial.old))
         (dialled (L.asks dial.new) (L.faults dial.new))))) }

@@ -1,104 +1,110 @@
 //! Synchronises an instance of the description of a source over one of its links.
 
-ghost use Rattle.std.specs.Prelude.{◌≡◌, ◌≤◌, ◌<◌, IfOk, IfSome, IsSome, option_map, length, map, take, drop, vec_len, true};
+ghost use Rattle.std.specs.Prelude.{◌≡◌, ◌≤◌, ◌<◌, ℕ, List, IfOk, IfSome, IsSome, option_map, length, map, take, drop, vec_len, true};
 ghost use Rattle.misp_outside.specs.Causes.{Rose};
 ghost use Rattle.misp_effects.specs.KeeperStates.{AreKept, OneFailed};
-ghost use Rattle.misp_script.specs.Directory.{directory_of};
+ghost use Rattle.misp_orgs.specs.Admin.{link_of};
+ghost use Rattle.misp_protocol.specs.Counts.{no_count};
+ghost use Rattle.misp_sync.specs.declared.reply.SyncReply.TheVariants as replies;
 ghost use Rattle.misp_store.specs.Sharing.{may_be_unsound};
 ghost use Rattle.misp_net.specs.Hosts.{described_host};
 ghost use Rattle.misp_net.specs.SyncText.{synced_line};
 ghost use Rattle.misp_app.specs.Ends.{IsNetSynced, IsSourceSynced, IsSyncEnd, IsTellEnd};
 ghost use Rattle.misp_app.specs.Source.{HasFailed, IsTold, IsUnsound, OthersStay, described, host_named, net_status, served_status};
 ghost use Rattle.misp_app.specs.Status.{EndsAs, IsSilent, IsStill, IsUnasked, IsUnopened, TellsFault, Wrote};
-ghost use Rattle.misp_app.specs.Synchronising.{EndsBy, HasSyncLine, HasSynced, IsCutSync, SyncsOver, address_at, address_named, dialled, peer_address};
+ghost use Rattle.misp_app.specs.Synchronising.{EndsBy, HasSyncLine, HasSynced, IsCutSync, SyncsOver, address_beside, dialled, entry_beside, peer_address};
 ghost use Rattle.misp_words.specs.Words.{Sync, sync_data};
 
 use crate::Status;
 use crate::fault::{put, tell_fault};
 use misp_core::Instance;
-use misp_ids::{InstId, NoMemory, Text};
+use misp_ids::{InstId, NoMemory};
 use misp_net::{close_first, open_first, put_synced_line};
 use misp_outside::{Dial, Keeper, Sink};
-use misp_script::{DescFault, Description, Directory, Entry, read_description, split_source};
-use misp_sync::{SyncReply, synchronise_at};
+use misp_protocol::{Cause, SyncCount};
+use misp_script::{DescFault, Description, Entry, read_description, split_source};
+use misp_sync::{SyncReply, synchronise_at, usable};
 use misp_words::SyncWords;
 use std::alloc::Global;
 
-// The address of the instance of a place.
-fn address_at(net: &Description, place: usize) -> &str
-    ensures { result.now ≡ address_at net.now place }
+// The instance of a name, other than the one that asks.
+fn entry_beside<'a>(here: &InstId, entries: &'a [Entry], name: &InstId) -> Option<&'a Entry>
+    ensures { option_map (λ entry. entry.now) result
+        ≡ entry_beside here.now entries.now name.now }
 {
-    match net.instances.as_slice().get(place) {
-        Some(entry) => entry.address.as_str(),
-        None => "",
+    let (here, name) = (here.text(), name.text());
+    entries.iter().find(|entry| entry.name.text() == name && entry.name.text() != here)
+}
+
+// Its address.
+fn address_beside<'a>(here: &InstId, entries: &'a [Entry], name: &InstId) -> Option<&'a str>
+    ensures { option_map (λ address. address.now) result
+        ≡ address_beside here.now entries.now name.now }
+{
+    match entry_beside(here, entries, name) {
+        Some(entry) => Some(entry.address.as_str()),
+        None => None,
     }
 }
 
-// The address of the instance of a name, or nothing where there is none.
-fn address_named<'a>(net: &'a Description, directory: &Directory, name: &InstId) -> &'a str
-    requires { directory.now ≡ directory_of net.now }
-    ensures { result.now ≡ address_named name.now net.now }
-{
-    match directory.place_of(name.text().as_bytes()) {
-        Some(place) => address_at(net, place),
-        None => "",
-    }
-}
-
-// The address of the peer of a link of an instance, or nothing where the link is not there.
-fn address_over<'a>(
-    net: &'a Description,
-    directory: &Directory,
-    entry: &Entry,
-    link: &InstId,
-) -> &'a str
-    requires { directory.now ≡ directory_of net.now }
-    ensures { result.now ≡ peer_address (described_host entry.now) link.now net.now }
-{
-    match entry.admin.link(link) {
-        Some(link) => address_named(net, directory, &link.peer),
-        None => "",
-    }
-}
-
-// The instance that the words name, where there is one, and the address of the peer of the link
-// that they name, or nothing where it has no such link.
-#[tactic(auto, using(crate::proofs::Synchronised::host_there))]
-fn entry_with_address(
+// The instance that the words name, where there is one, and the others.
+#[tactic(auto, using(crate::proofs::Synchronised::host_there, crate::proofs::Synchronised::found_beside))]
+fn entry_and_others(
     alloc: Global,
     net: Description,
     words: &SyncWords,
-) -> Result<Option<(Entry, Text)>, NoMemory>
+) -> Result<Option<(Entry, Vec<Entry>)>, NoMemory>
     ensures host { IfOk result (λ found.
         option_map (λ f. described_host f.0) found ≡ host_named words.now.name net) }
-    ensures address { IfOk result (λ found. IfSome found (λ f.
-        f.1 ≡ peer_address (described_host f.0) words.now.link net)) }
+    ensures others { IfOk result (λ found. IfSome found (λ f. (name : List ℕ) →
+        address_beside f.0.name f.1.items name
+        ≡ address_beside f.0.name net.instances name)) }
     ensures some { IfOk result (λ found. IsSome found → 0 < length net.instances) }
 {
     let directory = net.directory(alloc)?;
     let Some(place) = directory.place_of(words.name.text().as_bytes()) else {
         return Ok(None);
     };
-    let entry = &net.instances.as_slice()[place];
-    let address = address_over(&net, &directory, entry, &words.link);
-    let address = Text::of(String::from_str(alloc, address)?);
     let mut entries = net.instances.into_vec();
-    Ok(Some((entries.remove(place), address)))
+    let entry = entries.remove(place);
+    Ok(Some((entry, entries)))
 }
 
-// Synchronises over a link, as the words say.
+// Refuses a synchronisation with nobody.
+fn refused(cause: Cause) -> SyncReply
+    ensures { result ≡ replies.Stopped no_count cause }
+{
+    SyncReply::Stopped {
+        count: SyncCount::none(),
+        cause,
+    }
+}
+
+// Synchronises over a link, as the words say, with its peer among the other instances.
 fn sync_over<K: Keeper, L: Dial>(
     alloc: Global,
     instance: &mut Instance<K>,
     words: &SyncWords,
-    address: &str,
+    others: &[Entry],
     dial: &mut L,
 ) -> SyncReply
-    ensures { SyncsOver (sync_data words.now) address.now instance.old instance.new
+    ensures { SyncsOver (sync_data words.now)
+        (peer_address instance.old.name others.now
+        (link_of instance.old.admin.links words.now.link))
+        instance.old instance.new
         (dialled (L.asks dial.old) (L.faults dial.old))
         (dialled (L.asks dial.new) (L.faults dial.new)) result }
 {
-    synchronise_at(alloc, instance, words.direction, &words.link, dial, address)
+    let link = match usable(instance, &words.link) {
+        Ok(link) => link,
+        Err(cause) => return refused(cause),
+    };
+    match address_beside(instance.name(), others, &link.peer) {
+        Some(address) => {
+            synchronise_at(alloc, instance, words.direction, &words.link, dial, address)
+        }
+        None => refused(Cause::NoPeer),
+    }
 }
 
 // Writes the line of a synchronisation, and answers how the run ends.
@@ -123,25 +129,25 @@ fn tell_reply<W: Sink>(alloc: Global, sink: &mut W, reply: &SyncReply) -> Status
     }
 }
 
-// Synchronises an instance that is opened over the first keeper with a peer at this address.
+// Synchronises an instance that is opened over the first keeper with a peer among the others.
 fn sync_entry<K: Keeper, L: Dial, W: Sink>(
     alloc: Global,
     entry: Entry,
     words: &SyncWords,
-    address: &str,
+    others: &[Entry],
     sink: &mut W,
     keepers: &mut Vec<K>,
     dial: &mut L,
 ) -> Status
     requires { 0 < vec_len keepers.old }
     ensures synced { HasSyncLine result →
-        HasSynced (described_host entry) (sync_data words.now) address.now
+        HasSynced (described_host entry) (sync_data words.now) others.now
         (take 1 (map K.state keepers.old.items)) (take 1 (map K.state keepers.new.items))
         (dialled (L.asks dial.old) (L.faults dial.old))
         (dialled (L.asks dial.new) (L.faults dial.new))
         (W.written sink.old) (W.written sink.new) result }
     ensures cut { result ≡ Status.OutOfMemory →
-        IsCutSync (described_host entry) (sync_data words.now) address.now
+        IsCutSync (described_host entry) (sync_data words.now) others.now
         (take 1 (map K.state keepers.old.items)) (take 1 (map K.state keepers.new.items))
         (dialled (L.asks dial.old) (L.faults dial.old))
         (dialled (L.asks dial.new) (L.faults dial.new)) }
@@ -164,7 +170,7 @@ fn sync_entry<K: Keeper, L: Dial, W: Sink>(
         Ok(instance) => instance,
         Err(fault) => return Status::from(fault),
     };
-    let reply = sync_over(alloc, &mut instance, words, address, dial);
+    let reply = sync_over(alloc, &mut instance, words, others, dial);
     close_first(instance, keepers);
     tell_reply(alloc, sink, &reply)
 }
@@ -181,14 +187,14 @@ fn sync_net<K: Keeper, L: Dial, W: Sink>(
     requires { 0 < vec_len keepers.old }
     ensures synced { HasSyncLine result →
         IfSome (host_named words.now.name net) (λ host.
-        HasSynced host (sync_data words.now) (peer_address host words.now.link net)
+        HasSynced host (sync_data words.now) net.instances
         (take 1 (map K.state keepers.old.items)) (take 1 (map K.state keepers.new.items))
         (dialled (L.asks dial.old) (L.faults dial.old))
         (dialled (L.asks dial.new) (L.faults dial.new))
         (W.written sink.old) (W.written sink.new) result) }
     ensures cut { result ≡ Status.OutOfMemory →
         IfSome (host_named words.now.name net) (λ host.
-        IsCutSync host (sync_data words.now) (peer_address host words.now.link net)
+        IsCutSync host (sync_data words.now) net.instances
         (take 1 (map K.state keepers.old.items)) (take 1 (map K.state keepers.new.items))
         (dialled (L.asks dial.old) (L.faults dial.old))
         (dialled (L.asks dial.new) (L.faults dial.new))) }
@@ -210,10 +216,8 @@ fn sync_net<K: Keeper, L: Dial, W: Sink>(
     ensures places { vec_len keepers.new ≡ vec_len keepers.old }
     ensures still { IsStill result → keepers.new.items ≡ keepers.old.items }
 {
-    match entry_with_address(alloc, net, words) {
-        Ok(Some((entry, address))) => {
-            sync_entry(alloc, entry, words, address.as_str(), sink, keepers, dial)
-        }
+    match entry_and_others(alloc, net, words) {
+        Ok(Some((entry, others))) => sync_entry(alloc, entry, words, &others, sink, keepers, dial),
         Ok(None) => Status::NoSuchInstance,
         Err(_) => Status::OutOfMemory,
     }
@@ -232,14 +236,14 @@ pub(crate) fn sync_source<K: Keeper, L: Dial, W: Sink>(
     requires { 0 < vec_len keepers.old }
     ensures synced { HasSyncLine result →
         IfOk (described bytes.now) (λ net. IfSome (host_named words.now.name net) (λ host.
-        HasSynced host (sync_data words.now) (peer_address host words.now.link net)
+        HasSynced host (sync_data words.now) net.instances
         (take 1 (map K.state keepers.old.items)) (take 1 (map K.state keepers.new.items))
         (dialled (L.asks dial.old) (L.faults dial.old))
         (dialled (L.asks dial.new) (L.faults dial.new))
         (W.written sink.old) (W.written sink.new) result)) }
     ensures cut { result ≡ Status.OutOfMemory →
         IfOk (described bytes.now) (λ net. IfSome (host_named words.now.name net) (λ host.
-        IsCutSync host (sync_data words.now) (peer_address host words.now.link net)
+        IsCutSync host (sync_data words.now) net.instances
         (take 1 (map K.state keepers.old.items)) (take 1 (map K.state keepers.new.items))
         (dialled (L.asks dial.old) (L.faults dial.old))
         (dialled (L.asks dial.new) (L.faults dial.new)))) }

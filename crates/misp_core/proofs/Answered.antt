@@ -41,7 +41,7 @@ module _ (host : Host) (now : ℕ) (it : Asked) where
   unread_planned groups (Some held) fault why may holds names plans =
       plans (requested host now it (seen_in held))
       (is_unread (seen_in held) fault may
-      (subst (λ (gs : List Group). NamesFault (rows_read (bare_scene host now it.0 gs) it.1 (seen_in held).rows) fault) (sym (ap or_none holds)) names))
+      (subst (λ (gs : List Group). NamesFault (rows_read (bare_scene host now it.0 gs) it.1 (seen_in held).rows) fault) (sym (ap or_none holds.are)) names))
 
   -- the scene for an ask, with the partner of the caller's key where it is one of a pull
   abbrev scene_where : List Group → Bool → Scene
@@ -58,7 +58,7 @@ module _ (host : Host) (now : ℕ) (it : Asked) where
   pub over_found : (held : Held) (groups : List Group) (rows : List Row) → HoldsGroups (Some held) groups → rows_read (bare_scene host now it.0 groups) it.1 (seen_in held).rows ≡ Ok rows
       → asked_where host now it (seen_in held) ≡ asked_over host now it groups (Ok rows)
   over_found held groups rows holds found =
-      (λ i. asked_over host now it (ap or_none holds i) (rows_read (bare_scene host now it.0 (ap or_none holds i)) it.1 (seen_in held).rows))
+      (λ i. asked_over host now it (ap or_none holds.are i) (rows_read (bare_scene host now it.0 (ap or_none holds.are i)) it.1 (seen_in held).rows))
       ∙ ap (asked_over host now it groups) found
 
   -- what is permitted is planned over the rows that it reads, with the groups that are held
@@ -83,7 +83,7 @@ not_both true yes_ no_ = absurd cc
 not_both false yes_ no_ = absurd cc
 
 -- just so, and the keeper is as it was
-pub just_barred : (i : Standing) (ask : Ask) (no : NoPlan) → Plans (Err no) (refused (forbidden ask)) → IsBarred (forbidden ask) i i (Err no)
+pub just_barred : (i : Standing) (ask : Ask) (no : NoPlan) → Plans (Err no) (refused (forbidden ask)) → IsBarred {A = Plan} (forbidden ask) i i (Err no)
 just_barred i ask (NoPlan.Refused refusal) plans =
     let just : Reply.Refused refusal ≡ Reply.Refused (forbidden ask) = sym (ap (λ (e : Effect Reply). e.reply) plans.is) in
     let same : refusal ≡ forbidden ask = cc in
@@ -94,13 +94,13 @@ just_barred i ask NoPlan.NoMemory plans = record { just = inr refl; still = refl
 -- ---- faults of reading
 
 -- a keeper's fault is told of a keeper's fault alone
-pub told_of_keeper : (fault : LoadFault) (why : NoPlan) → TellsFault fault why → stop_planned (Err why) ≡ by_keeper → fault ≡ LoadFault.KeeperFault
+pub told_of_keeper : (fault : LoadFault) (why : NoPlan) → TellsFault fault why → stop_planned {A = Plan} (Err why) ≡ by_keeper → fault ≡ LoadFault.KeeperFault
 told_of_keeper LoadFault.KeeperFault why told is = refl
 told_of_keeper (LoadFault.BadRow name) why told is = absurd (asks_none (Err why) (refused (bad_row name)) told is)
 told_of_keeper LoadFault.NoMemory why told is =
-    let none : stop_planned (Err NoPlan.NoMemory) ≡ by_keeper = subst (λ (w : NoPlan). stop_planned (Err w) ≡ by_keeper) told is in
+    let none : stop_planned {A = Plan} (Err NoPlan.NoMemory) ≡ by_keeper = subst (λ (w : NoPlan). stop_planned {A = Plan} (Err w) ≡ by_keeper) told is in
     absurd cc
 
 -- and it is told of each
-pub keeper_told : (fault : LoadFault) (why : NoPlan) → TellsFault fault why → fault ≡ LoadFault.KeeperFault → stop_planned (Err why) ≡ by_keeper
-keeper_told fault why told is = ap (λ (w : NoPlan). stop_planned (Err w)) (subst (λ (f : LoadFault). TellsFault f why) is told)
+pub keeper_told : (fault : LoadFault) (why : NoPlan) → TellsFault fault why → fault ≡ LoadFault.KeeperFault → stop_planned {A = Plan} (Err why) ≡ by_keeper
+keeper_told fault why told is = ap (λ (w : NoPlan). stop_planned {A = Plan} (Err w)) (subst (λ (f : LoadFault). TellsFault f why) is told)

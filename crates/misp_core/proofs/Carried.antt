@@ -1,18 +1,18 @@
 -- What is done where a plan is carried out.
-use Rattle.std.proofs.Common.{◌≡◌, false, true, List, [], ◌∷◌, refl, ap, sym, subst, ◌∙◌, map, Option, Some, None, Result, Ok, Err, IfSome, OnOk, OnErr}
+use Rattle.std.proofs.Common.{◌≡◌, false, true, List, [], ◌∷◌, refl, ap, sym, subst, ◌∙◌, map, Option, Some, None, Result, Ok, Err, IfSome, is_ok}
 use Rattle.misp_outside.specs.Reporting.{StaysHeld, WhereReported}
-use Rattle.misp_outside.proofs.Reporting.{reported_so}
-use Rattle.misp_effects.specs.Prelude.{AdminRow, put_admins, put_groups, with_batch}
+use Rattle.misp_outside.proofs.Reporting.{known_so, known_then, reported_so}
+use Rattle.misp_admin_rows.specs.Rows.{item_rows}
+use Rattle.misp_effects.specs.Prelude.{put_admins, put_groups, with_batch}
 use Rattle.misp_effects.specs.Effect.{effect}
-use Rattle.misp_store.specs.Prelude.{AllByRecursion, AreRows, Batch, Effect, Group, Held, Here, IsGroup, KeeperFault, Stop, groups_in, spelled}
-use Rattle.misp_store.specs.Sharing.{HoldsGroups, group_row, has_groups_alone, AreStorable}
-use Rattle.misp_store.proofs.GroupRows.{group_put}
+use Rattle.misp_store.specs.Prelude.{AllByRecursion, AreRows, Batch, Effect, Group, Held, Here, IsGroup, KeeperFault, Stop, spelled}
+use Rattle.misp_store.specs.Sharing.{HasGroups, HasSoundAdmin, HoldsGroups, group_row, AreStorable}
 use Rattle.misp_core.specs.Prelude.{Answer, AreReadable, Did, IsPlanned, Plan, Plans, Reply, left, put_batches, refused_by}
 use Rattle.misp_core.specs.Effects.{by_keeper, rule_of_stop}
 use Rattle.misp_core.specs.Planning.{batch_of, batches_of, rows_put, unplanned, stop_planned}
 use Rattle.misp_core.specs.declared.planning.Batch.{Batch as Put}
 use Rattle.misp_core.specs.declared.planning.NoPlan.{NoPlan}
-use Rattle.misp_core.proofs.Reported.{groups_still}
+use Rattle.misp_core.proofs.AdminPut.{HasAdmin, PutsGroups, groups_put}
 use Rattle.misp_effects.specs.Effect as effects
 
 -- a call over a keeper that may not report what it holds
@@ -87,34 +87,25 @@ settled_did p put e old new plans some are =
     reported_so old new (λ held now. now ≡ with_batch (spelled (batch_of put)) held) (λ held now. Did e held (Reply.Ok p.answer) now)
     (λ held now is.
     went_one e p.answer (batch_of put ∷ []) held now (plans.is ∙ ap (λ (b : Option Put). effect (Reply.Ok p.answer) (batches_of b)) some) is
-    (record { rows = subst (λ (b : Option Put). AreRows (rows_put b)) some plans.are_rows; groups = are_groups put.groups are }, tt))
+    (record { rows = subst (λ (b : Option Put). AreRows (rows_put b)) some plans.are_rows; groups = are_groups put.groups are; items = tt }, tt))
 
 -- ---- the groups beside
 
-groups_put : (gs : List Group) → AreStorable gs → (rows : List AdminRow) (groups : List Group) → groups_in rows ≡ Ok groups
-    → groups_in (put_admins (map group_row gs) rows) ≡ Ok (put_groups groups gs)
-unfolding put_admins put_groups
-groups_put [] are rows groups e = e
-groups_put (g ∷ gs) are rows groups e = groups_put gs are.1 _ _ (group_put g are.0.read rows groups e)
-
-groups_beside : (put : Put) (old new : Option Held) (groups kept : List Group) → AreStorable put.groups → IsPutThere put old new
-    → kept ≡ put_groups groups put.groups → HoldsGroups old groups → HoldsGroups new kept
+groups_now : PutsGroups → (put : Put) (held : Held) (groups : List Group) → AreStorable put.groups → HasGroups held groups → HasGroups (with_batch (spelled (batch_of put)) held) (put_groups groups put.groups)
 unfolding with_batch
-groups_beside put None None groups kept are is same holds = tt
-groups_beside put None (Some now) groups kept are is same holds = absurd is
-groups_beside put (Some held) None groups kept are is same holds = tt
-groups_beside put (Some held) (Some now) groups kept are is same holds =
-    subst (λ (h : Held). HoldsGroups (Some h) kept) (sym is)
-    (subst (λ gs. groups_in (put_admins (map group_row put.groups) held.admin) ≡ Ok gs) (sym same) (groups_put put.groups are held.admin groups holds))
+groups_now puts put held groups are has =
+    let new : HasAdmin (put_admins (map group_row put.groups) held.admin) (put_groups groups put.groups) (item_rows held.admin) =
+    groups_put puts put.groups (are_groups put.groups are) held.admin groups (item_rows held.admin) (record { order = has.order; groups_are = has.are; items_are = refl }) in
+    record { order = new.order; are = new.groups_are }
 
--- they are beside whether the batch was put or not
-pub still_beside : {E : Type 0} (result : Result (Unit {0}) E) (put : Put) (old new : Option Held) (groups kept : List Group) → OnOk result (AreStorable put.groups)
-    → OnOk result (IsPutThere put old new) → OnOk result (kept ≡ put_groups groups put.groups)
-    → OnErr result (StaysHeld old new) → OnErr result (kept ≡ groups) → HoldsGroups old groups → HoldsGroups new kept
-still_beside (Ok done) put old new groups kept are is same stays none holds = groups_beside put old new groups kept are is same holds
-still_beside (Err stop) put old new groups kept are is same stays none holds = groups_still old new kept stays (subst (HoldsGroups old) (sym none) holds)
+-- they are beside once the batch is put
+pub groups_beside : PutsGroups → (put : Put) (old new : Option Held) (groups kept : List Group) → AreStorable put.groups → IsPutThere put old new
+    → kept ≡ put_groups groups put.groups → HoldsGroups old groups → HoldsGroups new kept
+groups_beside puts put old new groups kept are is same holds =
+    subst (HoldsGroups new) (sym same)
+    (known_then old new (λ held now. now ≡ with_batch (spelled (batch_of put)) held) (λ held. HasGroups held groups) (λ held. HasGroups held (put_groups groups put.groups))
+    (λ held now put_is has. subst (λ (h : Held). HasGroups h (put_groups groups put.groups)) (sym put_is) (groups_now puts put held groups are has)) is holds)
 
--- where the groups are known that are held, every row of the administration is one
-pub sound_held : (held : Option Held) (known : List Group) → HoldsGroups held known → IfSome held (λ h. has_groups_alone h ≡ true)
-sound_held None known holds = tt
-sound_held (Some held) known holds = rw holds refl
+-- where the groups are known that are held, every row of the administration is a group or an item
+pub sound_held : (held : Option Held) (known : List Group) → HoldsGroups held known → IfSome held HasSoundAdmin
+sound_held held known holds = known_so held (λ h. HasGroups h known) HasSoundAdmin (λ h has. record { order = has.order; read = ap is_ok has.are }) holds

@@ -4,22 +4,23 @@ use Rattle.misp_outside.specs.Held.{put_rows, put_admins, with_batch}
 use Rattle.misp_groups.specs.Changes.{count_taken, take_group, take_groups, takes_group}
 use Rattle.misp_groups.specs.Groups.{by_name}
 use Rattle.misp_groups.proofs.Sorted.{sorted_put, all_put}
-use Rattle.misp_effects.specs.Prelude.{AdminRow, put_group, put_groups}
+use Rattle.misp_admins.specs.declared.item.Item.{Item}
+use Rattle.misp_effects.specs.Prelude.{put_group, put_groups}
 use Rattle.misp_orgs.specs.Roles.{permits}
 use Rattle.misp_orgs.specs.declared.role.Perm.{Perm}
 use Rattle.misp_model.specs.Permission.{no_permission}
 use Rattle.misp_history.specs.Acts.{Net}
 use Rattle.misp_history.proofs.Steps.{with_groups_here, with_groups_elsewhere}
 use Rattle.misp_store.specs.Sharing.{group_row}
-use Rattle.misp_store.proofs.GroupRows.{AreReadBack, group_again, group_put}
-use Rattle.misp_core.specs.Prelude.{AllByRecursion, Answer, AreReadable, Caller, Effect, Group, Held, Host, Inst, IsGroup, IsStrictlySortedBy, Keeps, Plans, Refusal, Reply, Stamp, Standing, World, groups_in, groups_of, left, put_batches, refused, same_inst, spelled, step}
+use Rattle.misp_core.specs.Prelude.{AllByRecursion, Answer, AreReadable, Caller, Effect, Group, Held, Host, Inst, IsGroup, IsStrictlySortedBy, Keeps, Plans, Refusal, Reply, Stamp, Standing, World, groups_of, left, put_batches, refused, same_inst, spelled, step}
 use Rattle.misp_core.specs.HandedGroups.{act_handing, group_batches, groups_handed}
 use Rattle.misp_core.specs.HandedGroups as spec
 use Rattle.misp_core.specs.Planning.{IsBarred}
 use Rattle.misp_core.specs.Taking.{groups_taken}
 use Rattle.misp_core.specs.declared.planning.NoPlan.{NoPlan}
 use Rattle.misp_core.specs.declared.planning.Plan.{Plan}
-use Rattle.misp_core.proofs.Keeping.{groups_there}
+use Rattle.misp_core.proofs.AdminPut.{PutsGroups, groups_put}
+use Rattle.misp_core.proofs.Keeping.{admin_there, groups_there}
 use Rattle.misp_core.proofs.KeepingGroups.{keeps_groups, same_apart}
 use Rattle.misp_core.proofs.TakenGroups.{groups_after}
 
@@ -77,12 +78,6 @@ unfolding put_groups
 sorted_puts [] groups up = up
 sorted_puts (g ∷ gs) groups up = sorted_puts gs (put_group g groups) (sorted_put g groups up)
 
-groups_back : AreReadBack → (gs : List Group) → AllByRecursion IsGroup gs → (rows : List AdminRow) (groups : List Group) → groups_in rows ≡ Ok groups
-    → groups_in (put_admins (map group_row gs) rows) ≡ Ok (put_groups groups gs)
-unfolding put_admins put_groups
-groups_back back [] are rows groups e = e
-groups_back back (g ∷ gs) are rows groups e = groups_back back gs are.1 _ _ (group_put g (group_again back g are.0) rows groups e)
-
 -- groups that are put in their batch
 groups_left : (gs : List Group) (held : Held) → put_batches (map spelled (group_batches gs)) held ≡ record held { admin = put_admins (map group_row gs) held.admin }
 unfolding with_batch put_rows put_admins
@@ -112,7 +107,12 @@ module _ (net : Net) (n : ℕ) (w : World) (host : Host) (now : Stamp) (caller :
   unfolding step
   log_stays = refl
 
-  -- and so do the groups elsewhere
+  -- nothing is made
+  pub made_stays : after.made ≡ w.made
+  unfolding step
+  made_stays = refl
+
+  -- the groups elsewhere stay
   pub groups_apart : (j : Inst) → same_inst host.name j ≡ false → after.groups j ≡ w.groups j
   unfolding step
   groups_apart j apart = with_groups_elsewhere w.groups host.name j (take_groups (w.groups host.name) coming) (same_apart host.name j apart)
@@ -121,7 +121,7 @@ module _ (net : Net) (n : ℕ) (w : World) (host : Host) (now : Stamp) (caller :
   unfolding step
   groups_here = with_groups_here w.groups host.name (take_groups (w.groups host.name) coming)
 
-  module _ (back : AreReadBack) (held : Held) (may : permits caller.role Perm.Sync ≡ true) (keeps : Keeps host.name w held) where
+  module _ (puts : PutsGroups) (held : Held) (may : permits caller.role Perm.Sync ≡ true) (keeps : Keeps host.name w held) where
     abbrev taken : List Group
     taken = groups_taken (w.groups host.name) coming
 
@@ -131,8 +131,9 @@ module _ (net : Net) (n : ℕ) (w : World) (host : Host) (now : Stamp) (caller :
     put_there : AllByRecursion IsGroup taken → Keeps host.name after with_taken
     put_there are =
         keeps_groups host.name w after held (put_groups (w.groups host.name) taken) keeps log_stays (groups_here ∙ sym (groups_after (w.groups host.name) coming))
+        (ap (λ (made : Inst → List Item). made host.name) made_stays)
         (all_puts taken (w.groups host.name) are keeps.are_groups) (sorted_puts taken (w.groups host.name) keeps.ascend)
-        with_taken refl (groups_back back taken are held.admin (w.groups host.name) keeps.groups)
+        with_taken refl (groups_put puts taken are held.admin (w.groups host.name) _ (admin_there host.name w held keeps))
 
     by_taken : AreReadable (spec.groups_put taken).batches → Keeps host.name after (left spelled (spec.groups_put taken) held)
     by_taken fits = subst (Keeps host.name after) (sym (groups_left taken held)) (put_there (groups_fit taken fits))

@@ -2,6 +2,8 @@
 use Rattle.std.proofs.Common.{◌≡◌, ℕ, List, [], ◌∷◌, ◌++◌, Bool, true, false, ltb, refl, sym, ap, subst, ◌∙◌, map, cond, Ok, inl, inr}
 use Rattle.std.proofs.lemmas.Bool.{cases_Bool}
 use Rattle.misp_outside.specs.Held.{rows_of, rows_named, put_rows, put_admins, with_batch}
+use Rattle.misp_admins.specs.declared.item.Item.{Item}
+use Rattle.misp_admin_rows.specs.Rows.{item_row}
 use Rattle.misp_groups.specs.Groups.{by_name}
 use Rattle.misp_model.proofs.Prelude.{AreRows, brings, event_rows, is_accepted, put_all, uid}
 use Rattle.misp_model.specs.Machine.{hands_in}
@@ -23,26 +25,29 @@ use Rattle.misp_store.specs.Sharing.{or_none}
 use Rattle.misp_store.specs.declared.reach.Reach.{Reach}
 use Rattle.misp_store.proofs.HeldRows.{rows_again, rows_of_event, rows_kept, rows_put, rows_put_held}
 use Rattle.misp_core.specs.Prelude.{AllByRecursion, AreReadable, Ask, Asked, Effect, EventId, Group, Held, Host, Inst, IsBuilt, IsGroup, IsStrictlySortedBy, Keeps, OrgId, Reply, Row, Scene, World, asked_over, asked_where}
-use Rattle.misp_core.specs.Prelude.{groups_in, groups_of, left, list_all, put_batches, same_inst, seen_in, spelled, step, tables, writes_in}
+use Rattle.misp_core.specs.Prelude.{groups_of, left, list_all, put_batches, same_inst, seen_in, spelled, step, tables, writes_in}
 use Rattle.misp_core.specs.Effects.{row_batches, asked}
 use Rattle.misp_core.specs.Answers.{bare_scene, rows_brought}
 use Rattle.misp_core.specs.Keeping.{caller_at, act_at}
 use Rattle.misp_store.proofs.NamedLooked.{looked_held, named_looked, named_looked_kept}
 use Rattle.misp_history.proofs.AsNew.{tables_are_tables}
 use Rattle.misp_core.specs.Reading.{rows_read}
+use Rattle.misp_core.proofs.AdminPut.{HasAdmin}
 use Rattle.misp_core.proofs.HandedRows.{handed_table, newer_rows, taken_known}
 use Rattle.misp_core.proofs.Alike.{rows_of_name, named_rows_kept, table_within, read_alike, asked_as}
 use Rattle.misp_history.specs.Acts as model
 
--- a keeper that holds these rows and groups keeps an instance that has them
-pub keeps_by : (here : Inst) (v : World) (held : Held) (rows : List Row) (gs : List Group) → tables v.log here ≡ rows → v.groups here ≡ gs
-    → held.rows ≡ map raw_row rows → AreRows rows → groups_in held.admin ≡ Ok gs → AllByRecursion IsGroup gs → IsStrictlySortedBy by_name gs → Keeps here v held
-keeps_by here v held rows gs log groups held_rows are_rows held_groups are_groups ascend = record {
+-- a keeper that holds these rows, these groups and these items keeps an instance that has them
+pub keeps_by : (here : Inst) (v : World) (held : Held) (rows : List Row) (gs : List Group) (items : List Item) → tables v.log here ≡ rows → v.groups here ≡ gs → v.made here ≡ items
+    → held.rows ≡ map raw_row rows → AreRows rows → HasAdmin held.admin gs (put_admins (map item_row items) []) → AllByRecursion IsGroup gs → IsStrictlySortedBy by_name gs → Keeps here v held
+keeps_by here v held rows gs items log groups made held_rows are_rows has are_groups ascend = record {
   rows = held_rows ∙ ap (map raw_row) (sym log);
   are_rows = subst AreRows (sym log) are_rows;
-  groups = held_groups ∙ ap Ok (sym groups);
+  groups = has.groups_are ∙ ap Ok (sym groups);
   are_groups = subst (AllByRecursion IsGroup) (sym groups) are_groups;
   ascend = subst (IsStrictlySortedBy by_name) (sym groups) ascend;
+  made = has.items_are ∙ ap (λ (is : List Item). put_admins (map item_row is) []) (sym made);
+  in_order = has.order;
 }
 
 module _ (here : Inst) (w : World) (held : Held) (keeps : Keeps here w held) where
@@ -66,6 +71,10 @@ module _ (here : Inst) (w : World) (held : Held) (keeps : Keeps here w held) whe
       ap (λ raws. rows_in (rows_of e raws)) keeps.rows
       ∙ ap rows_in (rows_of_event e (tables w.log here))
       ∙ rows_again _ (rows_kept e (tables w.log here) keeps.are_rows)
+
+  -- the administration that is held is that of the instance
+  pub admin_there : HasAdmin held.admin (w.groups here) (put_admins (map item_row (w.made here)) [])
+  admin_there = record { order = keeps.in_order; groups_are = keeps.groups; items_are = keeps.made }
 
   -- the groups that are held are those of the instance
   pub groups_there : groups_of held ≡ w.groups here
@@ -157,6 +166,11 @@ module _ (net : Net) (n : ℕ) (w : World) (host : Host) (now : ℕ) (it : Asked
   unfolding step model.asked
   same_groups = refl
 
+  -- and makes nothing
+  pub same_made : after.made ≡ w.made
+  unfolding step model.asked
+  same_made = refl
+
   -- the keeper holds the tables after it, where what is written is put
   rows_there : (held : Held) → IsBuilt it.1 → list_all (λ v. ltb v.act n) w.log ≡ true → Keeps host.name w held → AreReadable (row_batches (writes_in there it.1))
       → Keeps host.name after (put_batches (map spelled (row_batches (writes_in there it.1))) held)
@@ -165,9 +179,10 @@ module _ (net : Net) (n : ℕ) (w : World) (host : Host) (now : ℕ) (it : Asked
       let are : AreRows rows = rows_fit rows fits in
       let left_is : tables after.log host.name ≡ put_all rows (tables w.log host.name) = tables_left built older in
       subst (Keeps host.name after) (sym (rows_left rows held))
-      (keeps_by host.name after (record held { rows = put_rows (map raw_row rows) held.rows }) _ _ left_is (ap (λ (groups : Inst → List Group). groups host.name) same_groups)
+      (keeps_by host.name after (record held { rows = put_rows (map raw_row rows) held.rows }) _ (w.groups host.name) (w.made host.name) left_is
+      (ap (λ (groups : Inst → List Group). groups host.name) same_groups) (ap (λ (made : Inst → List Item). made host.name) same_made)
       (ap (put_rows (map raw_row rows)) keeps.rows ∙ rows_put_held rows (tables w.log host.name) are keeps.are_rows) (rows_put rows (tables w.log host.name) are keeps.are_rows)
-      keeps.groups keeps.are_groups keeps.ascend)
+      (admin_there host.name w held keeps) keeps.are_groups keeps.ascend)
 
   -- and so where what the request comes to is left
   pub left_there : (held : Held) → IsBuilt it.1 → list_all (λ v. ltb v.act n) w.log ≡ true → Keeps host.name w held → AreReadable (asked_where host now it (seen_in held)).batches

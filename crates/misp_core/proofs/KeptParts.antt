@@ -106,4 +106,4 @@ module _ (host : Host) where
     where
       one : StaysOrIsPacked (seeing (scene_at host moment by groups) rows) by ask old new → IfSome new (AnswersAhead host (Some h))
       one (inl same) = subst (λ o. IfSome o (AnswersAhead host (Some h))) (sym same) answers
-      one (inr packed) = packed_answers h groups rows moment by holds ask new may found packed
+      one (inr packed) = packed_answers h groups rows moment by holds.are ask new may found packed

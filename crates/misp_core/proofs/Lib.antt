@@ -1,3 +1,4 @@
+pub mod AdminPut
 pub mod Alike
 pub mod AlikeTaken
 pub mod Answered
@@ -15,6 +16,7 @@ pub mod KeptLandings
 pub mod KeptParts
 pub mod Listed
 pub mod LooksThen
+pub mod Managed
 pub mod Numbered
 pub mod OpenedWhole
 pub mod OtherEvents

@@ -118,7 +118,7 @@ module _ (i : Inst) (w : OrgId) (p : Package) (l : Landing) (groups : List Group
     (count : ℕ) (counts : (i : Inst) (w : OrgId) (rows : List Row) → IsLanding l i w p.event rows → count ≡ length (package_taken i rows groups w p)) where
   takes_one : (h now : Held) → HoldsGroups (Some h) groups → (is : IsOwnLanding i (Some h) w p.event l) → now ≡ with_rows (package_taken i is.rows groups w p) h → TakesOf i w p count h now
   takes_one h now holds is are =
-      let known : groups ≡ groups_of h = sym (ap or_none holds) in
+      let known : groups ≡ groups_of h = sym (ap or_none holds.are) in
       record {
         rows = is.rows;
         read = is.own;

@@ -1,8 +1,11 @@
 -- An instance in a network: whose act a request is, and what its keeper holds of the history.
-use Rattle.std.specs.Prelude.{◌≡◌, ℕ, map, Bool, Ok}
+use Rattle.std.specs.Prelude.{◌≡◌, ℕ, true, [], map, Bool, Ok}
+use Rattle.misp_lists.specs.Order.{ascend}
 use Rattle.misp_ids.specs.Same.{Inst}
 use Rattle.misp_groups.specs.Prelude.{IsStrictlySortedBy, OrgId, Stamp, by_name}
 use Rattle.misp_orgs.specs.Keys.{CallerFields as Caller}
+use Rattle.misp_admin_rows.specs.Rows.{item_row, item_rows}
+use Rattle.misp_outside.specs.Held.{admin_before, put_admins}
 use Rattle.misp_history.specs.History.{tables}
 use Rattle.misp_store.specs.Prelude.{Admin, AllByRecursion, AreRows, Group, Held, IsGroup, groups_in}
 use Rattle.misp_store.specs.Raw.{raw_row}
@@ -26,11 +29,13 @@ act_at host now it =
 abbrev pub act_of : Inst → Stamp → OrgId → Bool → Group → model.Act
 act_of here now by add g = record { at = here; now = now; command = model.Administers by add g }
 
--- the keeper holds the tables of the instance and its groups, as bytes; the groups are in the order
--- of their names
+-- the keeper holds the tables of the instance, its groups and what was made there, as bytes, of each
+-- that was made the row of the last time; the groups are in the order of their names
 pub record Keeps (here : Inst) (w : model.World) (held : Held) : Type 0 where
   pub rows : held.rows ≡ map raw_row (tables w.log here)
   pub are_rows : AreRows (tables w.log here)
   pub groups : groups_in held.admin ≡ Ok (w.groups here)
   pub are_groups : AllByRecursion IsGroup (w.groups here)
+  pub made : item_rows held.admin ≡ put_admins (map item_row (w.made here)) []
+  pub in_order : ascend admin_before held.admin ≡ true
   pub ascend : IsStrictlySortedBy by_name (w.groups here)

@@ -11,6 +11,7 @@ pub mod Handing
 pub mod Keeping
 pub mod KeptLanding
 pub mod Listing
+pub mod Managing
 pub mod Partners
 pub mod Planning
 pub mod Prelude

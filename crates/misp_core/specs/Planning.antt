@@ -56,12 +56,12 @@ unplanned NoPlan.KeeperFault = refused_by RuleName.KeeperFault
 unplanned NoPlan.NoMemory = refused_by RuleName.NoMemory
 
 -- the stop that is told where nothing is planned
-abbrev pub stop_planned : Result Plan NoPlan → Option Stop
+abbrev pub stop_planned : {A : Type 0} → Result A NoPlan → Option Stop
 stop_planned (Ok p) = None
 stop_planned (Err why) = stop_in (unplanned why)
 
 -- nothing is planned but this refusal, unless memory ran out; and the instance stands as it stood
-pub record IsBarred (refusal : Refusal) (old new : Standing)
-    (planned : Result Plan NoPlan) : Type 0 where
+pub record IsBarred {A : Type 0} (refusal : Refusal) (old new : Standing)
+    (planned : Result A NoPlan) : Type 0 where
   pub just : (planned ≡ Err (NoPlan.Refused refusal)) ⊎ (planned ≡ Err NoPlan.NoMemory)
   pub still : new ≡ old

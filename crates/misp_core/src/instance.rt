@@ -5,9 +5,12 @@ ghost use Rattle.std.specs.List.{AllByRecursion};
 ghost use Rattle.misp_outside.specs.Causes.{HasCause, StaysUnless};
 ghost use Rattle.misp_outside.specs.Reporting.{StaysHeld, WhereReported};
 ghost use Rattle.misp_outside.specs.Held.{with_batch};
-ghost use Rattle.misp_store.specs.Sharing.{groups_of, has_groups_alone, AreStorable};
+ghost use Rattle.misp_store.specs.Sharing.{groups_of, AreStorable, HasSoundAdmin};
 ghost use Rattle.misp_store.specs.Renewing.{opened, renewed};
 ghost use Rattle.misp_store.specs.Batches.{spelled};
+ghost use Rattle.misp_admins.specs.Made.{IsItem, put_item, with_items};
+ghost use Rattle.misp_admin_rows.specs.Rows.{items_in};
+ghost use Rattle.misp_effects.specs.Batches.{item_batch};
 ghost use Rattle.misp_store.specs.Seen.{seen_in};
 ghost use Rattle.misp_core.specs.Answers.{IsBuilt};
 ghost use Rattle.misp_core.specs.Standing.{host_of};
@@ -40,6 +43,7 @@ use crate::answering::forbidden;
 use crate::callers::keys_are_owned;
 use crate::handing_in::plan_groups;
 use crate::kept_landing::settle_beside;
+use crate::managing::settle_item;
 use crate::opening::load_whole;
 use crate::planning::{Batch, NoPlan, Plan};
 use crate::pulling::carrying;
@@ -50,6 +54,7 @@ use crate::synced::OwnRows;
 use crate::taking::take_part;
 use crate::taking_groups::take_groups;
 use crate::wanting::wanted_keys;
+use misp_admins::Item;
 use misp_elem::Key;
 use misp_groups::{Group, Groups};
 use misp_ids::{ApiKey, EventId, InstId, NoMemory, OrgId, Stamp, Way};
@@ -96,9 +101,10 @@ impl<K: Keeper> Model for Instance<K> {
 }
 
 impl<K: Keeper> Instance<K> {
-    /// An instance of this name and administration over a keeper, of which it reads the groups and
-    /// every row, and puts the rows of the first form anew in the second. A keeper over which none
-    /// is opened comes back as it was.
+    /// An instance of this name over a keeper, of which it reads the groups, the items and every
+    /// row, and puts the rows of the first form anew in the second. What is held of an organisation,
+    /// a key or a link stands in place of what was described of it. A keeper over which none is
+    /// opened comes back as it was.
     pub fn open(
         alloc: Global,
         name: InstId,
@@ -106,7 +112,8 @@ impl<K: Keeper> Instance<K> {
         keeper: K,
     ) -> Result<Instance<K>, (LoadFault, K)>
         ensures name { IfOk result (λ instance. instance.name ≡ name) }
-        ensures admin { IfOk result (λ instance. instance.admin ≡ admin) }
+        ensures admin { IfOk result (λ instance. IfSome instance.held (λ held.
+            instance.admin ≡ with_items admin (items_in held.admin))) }
         ensures renewed { IfOk result (λ instance. WhereReported (K.state keeper).held
             instance.held (λ held new. new ≡ renewed held)) }
 
@@ -125,8 +132,8 @@ impl<K: Keeper> Instance<K> {
             (K.state e.1).faults (e.0 ≡ faults.KeeperFault)) }
     {
         let mut keeper = keeper;
-        match load_whole(&mut keeper, alloc) {
-            Ok(groups) => Ok(Instance {
+        match load_whole(&mut keeper, alloc, admin) {
+            Ok((groups, admin)) => Ok(Instance {
                 name,
                 admin,
                 groups,
@@ -147,6 +154,20 @@ impl<K: Keeper> Instance<K> {
         self.keeper
     }
 
+    /// The name of the instance.
+    pub fn name(&self) -> &InstId
+        ensures { result.now ≡ self.now.name }
+    {
+        &self.name
+    }
+
+    /// What is set up there.
+    pub(crate) fn setup(&self) -> &Admin
+        ensures { result.now ≡ self.now.admin }
+    {
+        &self.admin
+    }
+
     /// Who asks with a key here.
     pub fn who(&self, key: &ApiKey) -> Option<Caller>
         ensures { result ≡ who_of self.now.admin key.now }
@@ -161,9 +182,10 @@ impl<K: Keeper> Instance<K> {
         self.admin.link(name)
     }
 
-    /// Shows what holds of every instance: the rows of its administration are groups.
-    pub fn holds_groups_alone(&self)
-        ensures { IfSome self.now.held (λ held. has_groups_alone held ≡ true) }
+    /// Shows what holds of every instance: the rows of its administration ascend, and each is a
+    /// group or an item.
+    pub fn holds_sound_rows(&self)
+        ensures { IfSome self.now.held HasSoundAdmin }
     {
         let _groups = &self.groups;
     }
@@ -289,6 +311,28 @@ impl<K: Keeper> Instance<K> {
             alloc,
             put,
         )
+    }
+
+    /// Takes all memory for an item, and puts it; or puts nothing.
+    pub fn manage(&mut self, alloc: Global, item: Item) -> Result<(), KeeperFault>
+        ensures put { OnOk result (WhereReported self.old.held self.new.held
+            (λ held new. new ≡ with_batch (spelled (item_batch item)) held)) }
+
+        // Its row can be read back.
+        ensures fits { OnOk result (IsItem item) }
+        ensures admin { OnOk result (self.new.admin ≡ put_item item self.old.admin) }
+        ensures err { OnErr result (StaysHeld self.old.held self.new.held) }
+        ensures same { OnErr result (self.new.admin ≡ self.old.admin) }
+        ensures cause { HasCause self.old.faults self.new.faults
+            (result ≡ Err KeeperFault.Failed) }
+        ensures stays { StaysUnless self.old.faults self.new.faults
+            (result ≡ Err KeeperFault.Failed) }
+        ensures name { self.new.name ≡ self.old.name }
+    {
+        self.ahead = None; // It is packed for the names of before.
+        self.landed = None;
+        self.synced = None;
+        settle_item(&mut self.keeper, &mut self.admin, alloc, item)
     }
 
     /// The keys of a package of an event of which an organisation wants the rows, in their order.

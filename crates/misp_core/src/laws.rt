@@ -32,7 +32,7 @@ ghost use Rattle.misp_core.specs.declared.reply.Answer.{Answer};
 ghost use Rattle.misp_core.specs.declared.reply.Reply.{Reply};
 ghost use Rattle.misp_core.specs.Keeping.{Keeps, act_at, act_of, caller_at};
 
-use misp_format::a_group_is_read_from_its_text;
+use misp_store::groups_are_held_as_their_rows;
 
 /// What a request comes to does not depend on the number of its act.
 pub fn a_request_is_replied_without_its_number()
@@ -49,7 +49,7 @@ pub fn a_refused_request_writes_nothing()
 
 /// Where a keeper holds the tables and groups of its instance, a request comes to what the history
 /// says. Where that is of earlier acts, the keeper afterwards holds what it is to hold after the
-/// act. No tables elsewhere and no groups change.
+/// act. No tables elsewhere and no groups change, and nothing is made.
 pub fn an_instance_answers_by_the_history()
     ensures told { (n : ℕ) (w : World) (host : Host) (now : ℕ) (it : Asked) (held : Held) →
         IsBuilt it.1 → Keeps host.name w held →
@@ -65,11 +65,13 @@ pub fn an_instance_answers_by_the_history()
         tables (step net n w (act_at host now it)).log j ≡ tables w.log j }
     ensures groups { (net : Net) (n : ℕ) (w : World) (host : Host) (now : ℕ) (it : Asked) →
         (step net n w (act_at host now it)).groups ≡ w.groups }
+    ensures made { (net : Net) (n : ℕ) (w : World) (host : Host) (now : ℕ) (it : Asked) →
+        (step net n w (act_at host now it)).made ≡ w.made }
 {}
 
 /// Where a keeper holds the groups of its instance, an administration comes to what the history
 /// says, and is refused where the history leaves the groups as they are. The keeper afterwards
-/// holds the groups after the act. No tables and no groups elsewhere change.
+/// holds the groups after the act. No tables and no groups elsewhere change, and nothing is made.
 pub fn an_instance_is_administered_by_the_history()
     ensures told { (here : Inst) (w : World) (now : Stamp) (by : OrgId) (add : Bool) (g : Group)
         (held : Held) → Keeps here w held →
@@ -84,17 +86,19 @@ pub fn an_instance_is_administered_by_the_history()
     ensures elsewhere { (net : Net) (n : ℕ) (here : Inst) (w : World) (now : Stamp) (by : OrgId)
         (add : Bool) (g : Group) (j : Inst) → same_inst here j ≡ false →
         (step net n w (act_of here now by add g)).groups j ≡ w.groups j }
+    ensures made { (net : Net) (n : ℕ) (here : Inst) (w : World) (now : Stamp) (by : OrgId)
+        (add : Bool) (g : Group) → (step net n w (act_of here now by add g)).made ≡ w.made }
     ensures fails { (here : Inst) (w : World) (by : OrgId) (add : Bool) (g : Group)
         (held : Held) → Keeps here w held →
         is_some (why_not add (groups_of held) by g.id)
         ≡ administration_fails by add g (w.groups here) }
 {
-    a_group_is_read_from_its_text();
+    groups_are_held_as_their_rows();
 }
 
 /// Where a keeper holds the groups of its instance, groups that a caller hands in come to what the
 /// history says, which counts those that are taken. The keeper afterwards holds the groups after
-/// the act. No tables and no groups elsewhere change.
+/// the act. No tables and no groups elsewhere change, and nothing is made.
 pub fn groups_are_handed_in_by_the_history()
     ensures told { (here : Inst) (w : World) (caller : Caller) (coming : List Group)
         (held : Held) → Keeps here w held → groups_handed caller coming (groups_of held)
@@ -115,6 +119,9 @@ pub fn groups_are_handed_in_by_the_history()
     ensures elsewhere { (net : Net) (n : ℕ) (w : World) (host : Host) (now : Stamp)
         (caller : Caller) (coming : List Group) (j : Inst) → same_inst host.name j ≡ false →
         (step net n w (act_handing host now caller coming)).groups j ≡ w.groups j }
+    ensures made { (net : Net) (n : ℕ) (w : World) (host : Host) (now : Stamp)
+        (caller : Caller) (coming : List Group) →
+        (step net n w (act_handing host now caller coming)).made ≡ w.made }
 {
-    a_group_is_read_from_its_text();
+    groups_are_held_as_their_rows();
 }

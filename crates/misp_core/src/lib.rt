@@ -14,6 +14,7 @@ mod instance;
 mod kept_landing;
 mod laws;
 mod listing;
+mod managing;
 mod manifest;
 mod naming;
 mod opening;
@@ -39,6 +40,7 @@ pub use laws::{
     an_instance_answers_by_the_history, an_instance_is_administered_by_the_history,
     groups_are_handed_in_by_the_history,
 };
+pub use managing::items_are_made_by_the_history;
 pub use misp_store::LoadFault;
 pub use planning::{Batch, NoPlan, Plan};
 pub use reply::{Answer, EventParts, Hits, Reply};

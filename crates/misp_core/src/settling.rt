@@ -6,14 +6,14 @@ ghost use Rattle.misp_outside.specs.Causes.{HasCause, StaysUnless};
 ghost use Rattle.misp_outside.specs.Reporting.{StaysHeld, WhereReported};
 ghost use Rattle.misp_outside.specs.Held.{with_batch};
 ghost use Rattle.misp_groups.specs.Groups.{put_groups};
-ghost use Rattle.misp_store.specs.Sharing.{AreStorable};
+ghost use Rattle.misp_store.specs.Sharing.{AreStorable, HoldsGroups};
 ghost use Rattle.misp_store.specs.Batches.{spelled};
 ghost use Rattle.misp_core.specs.Planning.{batch_of};
 
 use crate::planning::Batch;
 use misp_groups::{Group, Groups, Room};
 use misp_outside::{Keeper, KeeperFault};
-use misp_store::spell;
+use misp_store::{groups_are_held_as_their_rows, spell};
 use std::alloc::Global;
 
 // Puts one group after another.
@@ -39,11 +39,14 @@ pub(crate) fn settle<K: Keeper>(
     ensures storable { OnOk result (AreStorable put.groups) }
     ensures err { OnErr result (StaysHeld (K.state keeper.old).held (K.state keeper.new).held) }
     ensures same { OnErr result (groups.new ≡ groups.old) }
+    ensures beside { HoldsGroups (K.state keeper.old).held groups.old →
+        HoldsGroups (K.state keeper.new).held groups.new }
     ensures cause { HasCause (K.state keeper.old).faults (K.state keeper.new).faults
         (result ≡ Err KeeperFault.Failed) }
     ensures stays { StaysUnless (K.state keeper.old).faults (K.state keeper.new).faults
         (result ≡ Err KeeperFault.Failed) }
 {
+    groups_are_held_as_their_rows();
     let raw = spell(alloc, put.rows.as_slice(), put.groups.as_slice())?;
     let more = put.groups.into_vec();
     let mut room = groups.with_room(alloc, more.len())?;

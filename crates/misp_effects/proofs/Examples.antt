@@ -125,7 +125,7 @@ faults_of_the_second = refl
 
 -- the batch that both put is readable
 both_are_readable : IsReadable (one 1)
-both_are_readable = record { rows = (is_tombstone 1 (omega arith), tt); groups = tt }
+both_are_readable = record { rows = (is_tombstone 1 (omega arith), tt); groups = tt; items = tt }
 
 -- two keepers that hold the row
 abbrev full : Tables

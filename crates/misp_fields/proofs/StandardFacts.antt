@@ -19,8 +19,8 @@ pub known_numbers : (number_of (number (unsigned 7)) ≡ Ok 7)
     × (number_of (boolean true) ≡ Err Need.Number) × (number_of null ≡ Err Need.Number)
 known_numbers = (refl, refl, refl, refl)
 
-pub known_words : map need_words (Need.Text ∷ Need.Digit 7 ∷ Need.Part 2 ∷ Need.Row ∷ [])
-    ≡ codes "text" ∷ (codes "digit " ++ decimal 7) ∷ (codes "part " ++ decimal 2) ∷ codes "row" ∷ []
+pub known_words : map need_words (Need.Text ∷ Need.Key ∷ Need.Digit 7 ∷ Need.Part 2 ∷ Need.Row ∷ [])
+    ≡ codes "text" ∷ codes "key" ∷ (codes "digit " ++ decimal 7) ∷ (codes "part " ++ decimal 2) ∷ codes "row" ∷ []
 unfolding need_words
 known_words = refl
 

@@ -16,6 +16,7 @@ need_words Need.Colour = codes "colour"
 need_words Need.Present = codes "present"
 need_words Need.Object = codes "object"
 need_words Need.Range = codes "range"
+need_words Need.Key = codes "key"
 need_words Need.Short = codes "short"
 need_words Need.Length = codes "length"
 need_words (Need.Digit place) = codes "digit " ++ decimal place

@@ -23,6 +23,8 @@ pub enum Need {
     Object,
     /// A number or a name among those that are stated, or a text that is not empty.
     Range,
+    /// A text that is a key of the API.
+    Key,
     /// Texts that together are no longer than the limit.
     Short,
     /// A value of the length that its type has.
@@ -53,6 +55,7 @@ pub fn write_need(out: &mut String, need: Need) -> Result<(), AllocError>
         Need::Present => out.push_str("present"),
         Need::Object => out.push_str("object"),
         Need::Range => out.push_str("range"),
+        Need::Key => out.push_str("key"),
         Need::Short => out.push_str("short"),
         Need::Length => out.push_str("length"),
         Need::Digit(place) => write!(out, "digit {place}"),

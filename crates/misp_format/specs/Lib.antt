@@ -1,3 +1,4 @@
+pub mod Administering
 pub mod Body
 pub mod Brought
 pub mod Edits

@@ -2,6 +2,7 @@
 
 mod attribute;
 mod attribute_edit;
+mod auth_key;
 mod edit;
 mod elements;
 mod event;
@@ -15,16 +16,19 @@ mod label;
 mod members;
 mod object;
 mod object_edit;
+mod organisation;
 mod parts;
 mod path;
 mod proposal;
 mod readers;
 mod reference;
 mod seen;
+mod server;
 mod sighting;
 mod tag;
 
 pub use attribute_edit::read_attribute_edit;
+pub use auth_key::{read_auth_key, read_revoked};
 pub use event::read_event;
 pub use event_edit::read_event_edit;
 pub use filter::read_filter;
@@ -33,6 +37,8 @@ pub use group_text::{a_group_is_read_from_its_text, read_group_text};
 pub use json_text::read_json;
 pub use judgement::read_judgement;
 pub use object_edit::read_object_edit;
+pub use organisation::read_organisation;
 pub use parts::{PartForm, read_parts, read_tag};
 pub use proposal::read_proposal;
+pub use server::{read_server, read_server_edit};
 pub use sighting::read_sighting;

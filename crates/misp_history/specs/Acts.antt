@@ -9,7 +9,7 @@ use Rattle.misp_model.specs.Answers.{Taken, Other}
 use Rattle.misp_model.specs.Scene.{Partner}
 use Rattle.misp_history.specs.Passing.{Route, passing, moved}
 use Rattle.misp_history.specs.History.{tables}
-use Rattle.misp_admins.specs.Made.{Item}
+use Rattle.misp_admins.specs.declared.item.Item.{Item}
 
 -- who asks, and the instance that the key is for, with the way there
 pub record Caller : Type 0 where

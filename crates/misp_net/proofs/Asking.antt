@@ -64,12 +64,12 @@ eqb_same n = elim (eqb_tells n n) [
 
 -- ---- choices
 
-place_from : (place peer : ℕ) (alone : Bool) → (if alone then Err Cause.NoLink else Ok place) ≡ Ok peer → (place ≡ peer) × (alone ≡ false)
+place_from : (place peer : ℕ) (alone : Bool) → (if alone then Err Cause.NoPeer else Ok place) ≡ Ok peer → (place ≡ peer) × (alone ≡ false)
 place_from place peer true is = cc
 place_from place peer false is = (let same : place ≡ peer = cc in same, refl)
 
-none_from : (place : ℕ) (why : Cause) (alone : Bool) → (if alone then Err Cause.NoLink else Ok place) ≡ Err why → (Cause.NoLink ≡ why) × (alone ≡ true)
-none_from place why true is = (let same : Cause.NoLink ≡ why = cc in same, refl)
+none_from : (place : ℕ) (why : Cause) (alone : Bool) → (if alone then Err Cause.NoPeer else Ok place) ≡ Err why → (Cause.NoPeer ≡ why) × (alone ≡ true)
+none_from place why true is = (let same : Cause.NoPeer ≡ why = cc in same, refl)
 none_from place why false is = cc
 
 peer_from : (on : Bool) (asked : Result ℕ Cause) (peer : ℕ) → (if on then asked else Err Cause.LinkOff) ≡ Ok peer → (on ≡ true) × (asked ≡ Ok peer)
@@ -89,8 +89,8 @@ module _ (hosts : List Host) (at : ℕ) (link : Link) where
       (sym other.0 ∙ rw is refl, subst (λ p. eqb p at ≡ false) other.0 other.1)
 
   -- and else there is no other instance
-  pub asked_none : (why : Cause) (found : Option ℕ) → place_named hosts link.peer ≡ found → asked_at at found ≡ Err why → (Cause.NoLink ≡ why) × (eqb (peer_place hosts at (Some link)) at ≡ true)
-  asked_none why None is asked = (let same : Cause.NoLink ≡ why = cc in same, rw is (eqb_same at))
+  pub asked_none : (why : Cause) (found : Option ℕ) → place_named hosts link.peer ≡ found → asked_at at found ≡ Err why → (Cause.NoPeer ≡ why) × (eqb (peer_place hosts at (Some link)) at ≡ true)
+  asked_none why None is asked = (let same : Cause.NoPeer ≡ why = cc in same, rw is (eqb_same at))
   asked_none why (Some place) is asked = let alone = none_from place why (eqb place at) asked in (alone.0, rw is alone.1)
 
 -- the peer is the other instance

@@ -1,5 +1,5 @@
 -- What a peer of the same process is asked comes to what is stated of the call.
-use Rattle.std.proofs.Common.{◌≡◌, ◌<◌, ◌^◌, ℕ, Bool, true, false, List, ◌++◌, codes, length, refl, ◌∙◌, ap, subst, arith, inl, inr, Option, Some, Result, Ok, Err, IfOk, IfSome, OnErr, drop_at, length-append, if◌then◌else◌}
+use Rattle.std.proofs.Common.{◌≡◌, ◌<◌, ◌^◌, ℕ, Bool, true, false, List, ◌++◌, codes, length, refl, ◌∙◌, ap, subst, arith, inl, inr, Some, Result, Ok, Err, IfOk, IfSome, OnErr, drop_at, length-append, if◌then◌else◌}
 use Rattle.std.specs.List.{list_all}
 use Rattle.std.specs.Prelude.{MatchResult, ◌⊎◌}
 use Rattle.misp_outside.specs.Reporting.{WhereReported}
@@ -9,7 +9,7 @@ use Rattle.misp_http.specs.Texts.{authorization_line, connection_line, content_l
 use Rattle.misp_http.specs.declared.fault.Fault.TheVariants.{BadHead}
 use Rattle.misp_http.specs.declared.fault.HeadFault.TheVariants.{LongBody}
 use Rattle.misp_http.specs.declared.request.Read.TheVariants as reads
-use Rattle.misp_store.specs.Sharing.{has_groups_alone}
+use Rattle.misp_store.specs.Sharing.{HasSoundAdmin}
 use Rattle.misp_core.specs.Prelude.{Did, Effect, Held, Seen, Standing, host_of, seen_in}
 use Rattle.misp_core.specs.Text.{http_text}
 use Rattle.misp_core.specs.declared.reply.Reply.{Reply}
@@ -50,9 +50,9 @@ closing key call false = refl
 -- ---- what it comes to
 
 module _ (key : List ℕ) (call : Call) (now word : ℕ) (old new : Standing)
-    (comes : (seen : Seen) → replied (host_of old) now (read_form old.admin word (read_of_call key call)) seen ≡ called (host_of old) now key call seen)
-    (asked : IsSync (read_form old.admin word (read_of_call key call))) (groups : IfSome old.held (λ held. has_groups_alone held ≡ true)) (owners : HasOwners (host_of old)) where
-  as_called : (held : Held) (reply : Reply) (left : Held) → IsReplied (host_of old) now (read_form old.admin word (read_of_call key call)) held reply left
+    (comes : (seen : Seen) → replied (host_of old) now (read_form (host_of old) word (read_of_call key call)) seen ≡ called (host_of old) now key call seen)
+    (asked : IsSync (read_form (host_of old) word (read_of_call key call))) (groups : IfSome old.held HasSoundAdmin) (owners : HasOwners (host_of old)) where
+  as_called : (held : Held) (reply : Reply) (left : Held) → IsReplied (host_of old) now (read_form (host_of old) word (read_of_call key call)) held reply left
       → Did (called (host_of old) now key call (seen_in held)) held reply left
   as_called held reply left did = subst (λ (x : Effect Reply). Did x held reply left) (comes (seen_in held)) did
 
@@ -71,13 +71,13 @@ module _ (key : List ℕ) (call : Call) (now word : ℕ) (old new : Standing)
   }
 
   -- or it may have done it
-  left_by : (held left : Held) → IsLeftSo now (read_form old.admin word (read_of_call key call)) old held left
+  left_by : (held left : Held) → IsLeftSo now (read_form (host_of old) word (read_of_call key call)) old held left
       → (left ≡ held) ⊎ ((moment : ℕ) × (reply : Reply) × Did (called (host_of old) moment key call (seen_in held)) held reply left)
   left_by held left (inl same) = inl same
   left_by held left (inr (reply, did)) = inr (now, reply, as_called held reply left did)
 
   pub call_answered : {V E : Type 0} (items : V → List ℕ) (result : Result V E) → IfOk result (λ v. IsExchanged now word (read_of_call key call) old new (items v))
-      → OnErr result (WhereReported old.held new.held (IsLeftSo now (read_form old.admin word (read_of_call key call)) old))
+      → OnErr result (WhereReported old.held new.held (IsLeftSo now (read_form (host_of old) word (read_of_call key call)) old))
       → MatchResult result (λ v. IsAnswered key call old new (items v)) (λ _. MayBeDone key call old new)
   call_answered items (Ok v) exchanged left = answered (items v) exchanged
   call_answered items (Err fault) exchanged left = reported_so old.held new.held _ _ left_by left

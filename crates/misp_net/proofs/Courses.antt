@@ -1,13 +1,14 @@
 -- Acts after acts, and lines after lines.
 use Rattle.std.proofs.Common.{◌≡◌, ℕ, suc, ◌+◌, true, false, eqb, List, [], ◌∷◌, ◌++◌, length, refl, sym, ◌∙◌, ap, subst, inl, inr, arith, append_assoc, append-nil, decimal}
 use Rattle.std.proofs.lemmas.Bool.Decides.{eqb_tells}
-use Rattle.std.proofs.lemmas.List.{map-append}
 use Rattle.misp_effects.specs.Meanings.{Meaning}
 use Rattle.misp_net.proofs.Appending.{more_ran}
-use Rattle.misp_net.specs.Prelude.{Act, AreAmong, AreDone, Done, Host, KeeperState, Line, Output, Ran, Seen, acts_of, meaning, outputs_of, seen_in, spelled, stop_in}
+use Rattle.misp_net.proofs.Walks.{meanings_append, meanings_long}
+use Rattle.misp_net.specs.Prelude.{Act, AreAmong, AreDone, Done, Host, KeeperState, Line, Output, Ran, Seen, acts_of, outputs_of, seen_in, spelled, stop_in}
 use Rattle.misp_net.specs.Acts.{Does, acts_done, outputs_done}
 use Rattle.misp_net.specs.Meaning.{meanings_of, AreAsFormed}
 use Rattle.misp_net.specs.Text.{done_text, line_of, text_from}
+use Rattle.misp_net.specs.Walk.{hosts_after, hosts_left}
 use Rattle.misp_effects.specs.Course as courses
 
 -- ---- acts after acts
@@ -17,16 +18,23 @@ among_append count [] more first last = last
 among_append count (a ∷ acts) more first last = (first.0, among_append count acts more first.1 last)
 
 pub formed_append : (hosts : List Host) (acts more : List Act) (outputs others : List Output) → length outputs ≡ length acts
-    → AreAsFormed hosts acts outputs → AreAsFormed hosts more others → AreAsFormed hosts (acts ++ more) (outputs ++ others)
+    → AreAsFormed hosts acts outputs → AreAsFormed (hosts_left hosts acts outputs) more others → AreAsFormed hosts (acts ++ more) (outputs ++ others)
 formed_append hosts [] more [] others long first last = last
 formed_append hosts [] more (o ∷ outputs) others long first last = absurd (omega (arith, long))
 formed_append hosts (a ∷ acts) more [] others long first last = absurd (omega (arith, long))
-formed_append hosts (a ∷ acts) more (o ∷ outputs) others long first last = (first.0, formed_append hosts acts more outputs others (omega (arith, long)) first.1 last)
+formed_append hosts (a ∷ acts) more (o ∷ outputs) others long first last = (first.0, formed_append (hosts_after hosts a o) acts more outputs others (omega (arith, long)) first.1 last)
 
-pub ran_append : (hosts : List Host) (acts more : List Act) (outputs others : List Output) (old mid new : List KeeperState) → Ran hosts acts old mid outputs → Ran hosts more mid new others → Ran hosts (acts ++ more) old new (outputs ++ others)
+-- one output for each act
+pub ran_long : (hosts : List Host) (acts : List Act) (outputs : List Output) (old new : List KeeperState) → Ran hosts acts old new outputs → length outputs ≡ length acts
+ran_long hosts acts outputs old new ran = ran.each ∙ meanings_long hosts acts outputs
+
+-- the others ran over what the first left
+pub ran_append : (hosts : List Host) (acts more : List Act) (outputs others : List Output) (old mid new : List KeeperState) → Ran hosts acts old mid outputs → Ran (hosts_left hosts acts outputs) more mid new others
+    → Ran hosts (acts ++ more) old new (outputs ++ others)
 ran_append hosts acts more outputs others old mid new first last =
-    subst (λ (ms : List (Meaning Seen Output)). courses.HasRun Seen Output seen_in spelled stop_in ms old new (outputs ++ others)) (sym (map-append (λ a. (meaning hosts a).means) acts more))
-    (more_ran Seen Output seen_in spelled stop_in (meanings_of hosts acts) (meanings_of hosts more) old mid new outputs others first last)
+    subst (λ (ms : List (Meaning Seen Output)). courses.HasRun Seen Output seen_in spelled stop_in ms old new (outputs ++ others))
+    (sym (meanings_append hosts acts more outputs others (ran_long hosts acts outputs old mid first)))
+    (more_ran Seen Output seen_in spelled stop_in (meanings_of hosts acts outputs) (meanings_of (hosts_left hosts acts outputs) more others) old mid new outputs others first last)
 
 -- ---- lines after lines
 

@@ -11,18 +11,19 @@ use Rattle.misp_api.specs.Turn.{Point}
 use Rattle.misp_effects.proofs.KeeperStates.{all_kept}
 use Rattle.misp_dialogue.specs.Parties.{GrowsBy}
 use Rattle.misp_net.proofs.Appending.{one_ran}
-use Rattle.misp_net.specs.Prelude.{Act, AreKept, Bad, Done, Host, IsDone, KeeperState, Line, Nothing, Output, Ran, Replied, Seen, Standing, Unanswered, host_of, hosts_of, meaning, seen_in, spelled, states_of, stop_in}
+use Rattle.misp_net.specs.Prelude.{Act, AreAmong, AreKept, Bad, Done, Host, IsDone, KeeperState, Line, Nothing, Output, Ran, Replied, Seen, Standing, Unanswered, host_of, hosts_of, meaning, seen_in, spelled, states_of, stop_in}
 use Rattle.misp_net.specs.Acts.{Administers, Asks, Does, Idle, IsPlaced, One, Session, Syncs, act, asks_from, outputs_done}
 use Rattle.misp_net.specs.Carrying.{Carried, carried, carry_faults}
 use Rattle.misp_net.specs.Lines.{sync_line}
-use Rattle.misp_net.specs.Meaning.{IsAsFormed}
+use Rattle.misp_net.specs.Meaning.{AreAsFormed, IsAsFormed}
 use Rattle.misp_net.specs.Passing.{IsPassed, IsPassedFor, Trail}
 use Rattle.misp_net.specs.Running.{CutLine, HasSession, IsAct, IsAdministered, IsRequested, RanLine}
 use Rattle.misp_net.specs.Text.{done_text, output_text}
+use Rattle.misp_net.specs.Walk.{hosts_done, hosts_left}
 use Rattle.misp_net.proofs.Carrying.{replies_none, rose_none}
 use Rattle.misp_net.proofs.Growing.{grows_none}
-use Rattle.misp_net.proofs.Turns.{hosts_here, session_done}
-use Rattle.misp_net.proofs.Steps.{one_group, one_read, read_formed, silent_act, turned_output}
+use Rattle.misp_net.proofs.Turns.{session_done}
+use Rattle.misp_net.proofs.Steps.{hosts_answered, hosts_kept, one_group, one_read, read_formed, silent_act, turned_output}
 use Rattle.misp_script.specs.Step as commands
 
 -- ---- where a call ended
@@ -40,11 +41,6 @@ pub always_err : {A E P : Type 0} (r : Result A E) → P → OnErr r P
 always_err (Ok x) holds = tt
 always_err (Err e) holds = holds
 
--- what follows both ways
-pub both_ways : {A E P Q R : Type 0} (r : Result A E) → OnOk r P → OnErr r Q → (P → R) → (Q → R) → R
-both_ways (Ok x) good bad from_good from_bad = from_good good
-both_ways (Err e) good bad from_good from_bad = from_bad bad
-
 -- ---- one act
 
 one_done : (hosts : List Host) (a : Act) (old new : List KeeperState) (output : Output) → IsAct hosts a old new output → IsAsFormed (meaning hosts a).formed output
@@ -61,16 +57,16 @@ idle_done : (hosts : List Host) (time word : ℕ) (output : Output) (old : List 
 idle_done hosts time word output old none formed = one_done hosts (act time word (Idle output)) old old output (silent_act output old none) formed tt
 
 pub nothing_ran : (time word : ℕ) (hosts : List Host) (old : List KeeperState) (before after : List ℕ) (carry : Carried) → after ≡ before ++ output_text Nothing
-    → RanLine hosts (Ok (record { time = time; word = word; command = commands.Nothing })) old old before after carry carry
+    → RanLine hosts hosts (Ok (record { time = time; word = word; command = commands.Nothing })) old old before after carry carry
 nothing_ran time word hosts old before after carry text =
     let d : Done = One (act time word (Idle Nothing)) Nothing in
-    (d, (Nothing, refl), idle_done hosts time word Nothing old refl refl, text, rose_none 0 carry.faults carry.faults refl (omega arith), grows_none carry.passed (IsPassedFor hosts old old d) refl)
+    (d, (Nothing, refl), idle_done hosts time word Nothing old refl refl, refl, text, rose_none 0 carry.faults carry.faults refl (omega arith), grows_none carry.passed (IsPassedFor hosts old old d) refl)
 
 pub bad_ran : (place : ℕ) (hosts : List Host) (old : List KeeperState) (before after : List ℕ) (carry : Carried) → after ≡ before ++ output_text (Bad place)
-    → RanLine hosts (Err (record { place = place })) old old before after carry carry
+    → RanLine hosts hosts (Err (record { place = place })) old old before after carry carry
 bad_ran place hosts old before after carry text =
     let d : Done = One (act 0 0 (Idle (Bad place))) (Bad place) in
-    (d, (Bad place, refl), idle_done hosts 0 0 (Bad place) old refl refl, text, rose_none 0 carry.faults carry.faults refl (omega arith), grows_none carry.passed (IsPassedFor hosts old old d) refl)
+    (d, (Bad place, refl), idle_done hosts 0 0 (Bad place) old refl refl, refl, text, rose_none 0 carry.faults carry.faults refl (omega arith), grows_none carry.passed (IsPassedFor hosts old old d) refl)
 
 -- a synchronisation among all keepers is what its line does
 pub sync_done : (time word : ℕ) (hosts : List Host) (line : SyncData) (old new : List KeeperState) (output : Output) → line.at < length hosts → IsAct hosts (act time word (Syncs line)) old new output
@@ -78,12 +74,12 @@ pub sync_done : (time word : ℕ) (hosts : List Host) (line : SyncData) (old new
 sync_done time word hosts line old new output lt is = ((output, refl), one_done hosts (act time word (Syncs line)) old new output is tt lt)
 
 -- it is written
-pub sync_ran : (time word : ℕ) (hosts : List Host) (line : SyncData) (old new : List KeeperState) (output : Output) (before after : List ℕ) (first last : Carried) → line.at < length hosts
-    → IsAct hosts (act time word (Syncs line)) old new output → after ≡ before ++ output_text output → RoseBy (carry_faults (output ∷ [])) first.faults last.faults
+pub sync_ran : (time word : ℕ) (hosts then : List Host) (line : SyncData) (old new : List KeeperState) (output : Output) (before after : List ℕ) (first last : Carried) → line.at < length hosts
+    → IsAct hosts (act time word (Syncs line)) old new output → then ≡ hosts → after ≡ before ++ output_text output → RoseBy (carry_faults (output ∷ [])) first.faults last.faults
     → GrowsBy first.passed last.passed (IsPassed hosts old new (Syncs line) output)
-    → RanLine hosts (sync_line time word line) old new before after first last
-sync_ran time word hosts line old new output before after first last lt is text rose passed =
-    let (does, done) = sync_done time word hosts line old new output lt is in (One (act time word (Syncs line)) output, does, done, text, rose, passed)
+    → RanLine hosts then (sync_line time word line) old new before after first last
+sync_ran time word hosts then line old new output before after first last lt is same text rose passed =
+    let (does, done) = sync_done time word hosts line old new output lt is in (One (act time word (Syncs line)) output, does, done, same, text, rose, passed)
 
 -- it was done, and is not written
 pub sync_cut : (time word : ℕ) (hosts : List Host) (line : SyncData) (old new : List KeeperState) (output : Output) (first last : Option Trail) → line.at < length hosts → IsAct hosts (act time word (Syncs line)) old new output
@@ -111,12 +107,13 @@ module _ (old : List Standing) (none new : Standing) (now word : ℕ) where
   -- a request of a line
   pub request_ran : (r : RequestData) → r.at < length old → (output : Output) (before after : List ℕ) (carry : Carried) → IsRequested now word r (get_or old r.at none) new output
       → after ≡ before ++ output_text output
-      → RanLine (hosts_of old) (Ok (record { time = now; word = word; command = commands.Request r })) (states_of old) (states_of (set old r.at new)) before after carry carry
+      → RanLine (hosts_of old) (hosts_of (set old r.at new)) (Ok (record { time = now; word = word; command = commands.Request r })) (states_of old) (states_of (set old r.at new)) before after carry carry
   request_ran r lt output before after carry (Ok read, left, whole, is, (reply, output_is, answered)) text = (
     One (act now word (Asks r.at read)) (Replied reply),
     (Ok read, left, whole, is, (Replied reply, refl)),
     one_done (hosts_of old) (act now word (Asks r.at read)) (states_of old) (states_of (set old r.at new)) (Replied reply)
         (one_read now word r.at read old new none reply lt answered) (read_formed now word r.at read old new none reply lt answered) (placed old r.at lt),
+    hosts_answered now word r.at read old new none reply lt answered,
     text ∙ ap (λ o. before ++ output_text o) output_is,
     rose_none _ carry.faults carry.faults (replies_none (reply ∷ [])) (omega arith),
     grows_none carry.passed (IsPassedFor (hosts_of old) (states_of old) (states_of (set old r.at new)) (One (act now word (Asks r.at read)) (Replied reply))) refl,
@@ -127,6 +124,7 @@ module _ (old : List Standing) (none new : Standing) (now word : ℕ) where
         (Err end, left, whole, is, (out, refl)),
         subst (λ all. IsDone (hosts_of old) (One (act now word (Idle out)) out) (states_of old) (states_of all)) (sym (as_it_was old r.at none new new_is))
             (idle_done (hosts_of old) now word out (states_of old) refl refl),
+        ap hosts_of (as_it_was old r.at none new new_is),
         text ∙ ap (λ o. before ++ output_text o) output_is,
         rose_none 0 carry.faults carry.faults refl (omega arith),
         grows_none carry.passed (IsPassedFor (hosts_of old) (states_of old) (states_of (set old r.at new)) (One (act now word (Idle out)) out)) refl,
@@ -134,13 +132,14 @@ module _ (old : List Standing) (none new : Standing) (now word : ℕ) where
 
   -- a group of a line
   pub group_ran : (line : GroupData) → line.at < length old → (output : Output) (before after : List ℕ) (carry : Carried) → IsAdministered now line (get_or old line.at none) new output
-      → after ≡ before ++ output_text output
-      → RanLine (hosts_of old) (Ok (record { time = now; word = word; command = commands.Group line })) (states_of old) (states_of (set old line.at new)) before after carry carry
-  group_ran line lt output before after carry (reply, output_is, did, away, cause) text = (
+      → new.name ≡ (get_or old line.at none).name → new.admin ≡ (get_or old line.at none).admin → after ≡ before ++ output_text output
+      → RanLine (hosts_of old) (hosts_of (set old line.at new)) (Ok (record { time = now; word = word; command = commands.Group line })) (states_of old) (states_of (set old line.at new)) before after carry carry
+  group_ran line lt output before after carry (reply, output_is, did, away, cause) name admin text = (
     One (act now word (Administers line)) (Replied reply),
     (Replied reply, refl),
     one_done (hosts_of old) (act now word (Administers line)) (states_of old) (states_of (set old line.at new)) (Replied reply)
         (one_group now word line old new none reply lt did cause) (turned_output (group_form line.body) (get_or old line.at none) new reply away) (placed old line.at lt),
+    hosts_kept old line.at new none lt name admin,
     text ∙ ap (λ o. before ++ output_text o) output_is,
     rose_none _ carry.faults carry.faults (replies_none (reply ∷ [])) (omega arith),
     grows_none carry.passed (IsPassedFor (hosts_of old) (states_of old) (states_of (set old line.at new)) (One (act now word (Administers line)) (Replied reply))) refl,
@@ -150,37 +149,29 @@ module _ (old : List Standing) (none new : Standing) (now word : ℕ) where
   module _ (r : RawData) (lt : r.at < length old) where
     pub session_ran : (Wrote : List ℕ → Type 0) (carry : Carried) → HasSession now word r (get_or old r.at none) new Wrote
         → (d : Done) × Does (Ok (record { time = now; word = word; command = commands.Raw r })) d
-        × IsDone (hosts_of old) d (states_of old) (states_of (set old r.at new)) × Wrote (done_text d)
+        × IsDone (hosts_of old) d (states_of old) (states_of (set old r.at new)) × (hosts_of (set old r.at new) ≡ hosts_done (hosts_of old) d) × Wrote (done_text d)
         × RoseBy (carry_faults (outputs_done d)) carry.faults carry.faults
         × GrowsBy carry.passed carry.passed (IsPassedFor (hosts_of old) (states_of old) (states_of (set old r.at new)) d)
     session_ran Wrote carry (end, left, next, written, session, no_read, no_write, wrote) =
         let p : Point = record { bytes = r.bytes; instance = get_or old r.at none; word = word; written = [] } in
-        let is = session_done now r.at old none lt p (refl, refl) end left new next written session no_read no_write in (
+        let is = session_done now r.at old none lt p end left new next written session no_read no_write in
+        let acts : List Act = asks_from now word r.at is.reads in
+        let first : set old r.at (get_or old r.at none) ≡ old = set-get_or old r.at none in (
           Session now word r.at is.reads is.replies end.end,
           (is.reads, is.replies, end.end, is.read, refl),
           record {
-            ran = subst (λ all. Ran (hosts_of old) (asks_from now word r.at is.reads) (states_of all) (states_of (set old r.at new)) (map Replied is.replies))
-                (set-get_or old r.at none) is.ran;
-            formed = is.formed;
-            among = is.among;
+            ran = subst (λ (all : List Standing). Ran (hosts_of all) acts (states_of all) (states_of (set old r.at new)) (map Replied is.replies)) first is.ran;
+            formed = subst (λ (all : List Standing). AreAsFormed (hosts_of all) acts (map Replied is.replies)) first is.formed;
+            among = subst (λ (all : List Standing). AreAmong (length (hosts_of all)) acts) first is.among;
           },
+          subst (λ (all : List Standing). hosts_of (set old r.at new) ≡ hosts_left (hosts_of all) acts (map Replied is.replies)) first is.walked,
           subst (λ text. Wrote (end_name end.end ++ 32 ∷ encode_lower text)) is.wrote wrote,
           rose_none _ carry.faults carry.faults (replies_none is.replies) (omega arith),
           grows_none carry.passed (IsPassedFor (hosts_of old) (states_of old) (states_of (set old r.at new)) (Session now word r.at is.reads is.replies end.end)) refl,
         )
 
-    pub session_hosts : (Wrote : List ℕ → Type 0) → HasSession now word r (get_or old r.at none) new Wrote → hosts_of (set old r.at new) ≡ hosts_of old
-    session_hosts Wrote (end, left, next, written, session, no_read, no_write, wrote) =
-        let p : Point = record { bytes = r.bytes; instance = get_or old r.at none; word = word; written = [] } in
-        let is = session_done now r.at old none lt p (refl, refl) end left new next written session no_read no_write in
-        hosts_here now r.at old none lt new is.it
-
     -- it was cut short before it began, or after it had ended
     pub session_cut : (told : Option Trail) → ((new ≡ get_or old r.at none) ⊎ HasSession now word r (get_or old r.at none) new (λ _. ⊤))
         → CutLine (hosts_of old) (Ok (record { time = now; word = word; command = commands.Raw r })) (states_of old) (states_of (set old r.at new)) told told
     session_cut told (inl same) = inl (still_kept old r.at none new same, refl)
-    session_cut told (inr went) = let (d, does, is, wrote, rose, passed) = session_ran (λ text. ⊤) (carried 0 told) went in inr (d, does, is, passed)
-
-    pub cut_hosts : ((new ≡ get_or old r.at none) ⊎ HasSession now word r (get_or old r.at none) new (λ _. ⊤)) → hosts_of (set old r.at new) ≡ hosts_of old
-    cut_hosts (inl same) = ap hosts_of (as_it_was old r.at none new same)
-    cut_hosts (inr went) = session_hosts (λ text. ⊤) went
+    session_cut told (inr went) = let (d, does, is, then, wrote, rose, passed) = session_ran (λ text. ⊤) (carried 0 told) went in inr (d, does, is, passed)

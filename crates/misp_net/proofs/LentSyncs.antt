@@ -11,7 +11,7 @@ use Rattle.misp_effects.specs.KeeperStates.{Lends, state_at}
 use Rattle.misp_core.specs.Prelude.{Held}
 use Rattle.misp_core.specs.Standing.{standing}
 use Rattle.misp_dialogue.specs.Parties.{GrowsBy}
-use Rattle.misp_sync.specs.Directions.{giver, synced_on, taker, telling_on}
+use Rattle.misp_sync.specs.Directions.{synced_on, taker, telling_on}
 use Rattle.misp_sync.specs.Synchronised.{IsTrailOver, told_of}
 use Rattle.misp_sync.specs.declared.reply.SyncReply.{SyncReply}
 use Rattle.misp_net.specs.Hosts.{nobody}

@@ -14,6 +14,7 @@ pub mod Kept
 pub mod Lent
 pub mod LentSyncs
 pub mod LineBytes
+pub mod Made
 pub mod Openings
 pub mod AllSeen
 pub mod Owning
@@ -27,6 +28,8 @@ pub mod Syncs
 pub mod SyncsIdle
 pub mod SyncsTold
 pub mod Telling
+pub mod Tied
 pub mod Turns
 pub mod Unique
+pub mod Walks
 pub mod Directions

@@ -1,11 +1,13 @@
 -- Keepers while instances are opened over them.
-use Rattle.std.proofs.Common.{◌≡◌, ℕ, zero, suc, ◌+◌, ◌≤◌, List, [], ◌∷◌, ◌++◌, true, false, not, ◌&&◌, ◌||◌, map, take, drop, refl, sym, ◌∙◌, ap, subst, inl, inr, arith, append_assoc, Option, Some, None, Result, Ok, Err, IfErr, IfSome, IsOk, is_ok, option_map, take-append-drop, take-take}
+use Rattle.std.proofs.Common.{◌≡◌, ℕ, zero, suc, ◌+◌, ◌≤◌, List, [], ◌∷◌, ◌++◌, true, false, not, ◌&&◌, ◌||◌, map, take, drop, refl, sym, ◌∙◌, ap, subst, inl, inr, arith, append_assoc, Option, Some, None, Result, Ok, Err, IfErr, IfSome, IsOk, is_ok, option_map, slice_index_or, take-append-drop, take-take}
 use Rattle.std.specs.Prelude.{IsErrAnd, ◌⊎◌}
-use Rattle.std.specs.List.{drop-map, take-map}
+use Rattle.std.specs.List.{AllZip, drop-map, take-map}
 use Rattle.std.proofs.lemmas.List.{drop-take, map_push}
 use Rattle.misp_outside.specs.Reporting.{StaysHeld, WhereReported}
-use Rattle.misp_outside.proofs.Reporting.{reported_before, reported_so}
-use Rattle.misp_effects.specs.KeeperStates.{OneFailed}
+use Rattle.misp_outside.proofs.Reporting.{reported_at, reported_before, reported_so}
+use Rattle.misp_admins.specs.Made.{with_items}
+use Rattle.misp_admin_rows.specs.Rows.{items_in, other_rows}
+use Rattle.misp_effects.specs.KeeperStates.{AllReport, OneFailed}
 use Rattle.misp_effects.proofs.KeeperStates.{AreBack, all_kept, first_kept, next_kept}
 use Rattle.misp_effects.proofs.Told.{told_append}
 use Rattle.misp_history.proofs.Prelude.{all_both, and_from}
@@ -13,11 +15,13 @@ use Rattle.misp_store.specs.Loading.{NamesFault}
 use Rattle.misp_store.specs.Raw.{rows_in}
 use Rattle.misp_store.specs.Renewing.{after_groups, after_rows, opened, renewed}
 use Rattle.misp_store.specs.declared.fault.LoadFault.{LoadFault}
-use Rattle.misp_store.specs.Sharing.{WereSound, is_sound, may_be_unsound}
+use Rattle.misp_store.specs.Sharing.{WereSound, all_groups_in, is_sound, may_be_unsound}
 use Rattle.misp_core.specs.Prelude.{Group, Held, KeeperState, Row, Standing, Tell, groups_in, list_all, option_map_or}
-use Rattle.misp_net.specs.Opening.{AreKeptOrOpened, IsCutShort, IsStoppedBy, opened_state, opened_states}
+use Rattle.misp_net.specs.Asking.{names_of}
+use Rattle.misp_net.specs.History.{empty_tables}
+use Rattle.misp_net.specs.Opening.{AreKeptOrOpened, AreOpened, IsCutShort, IsStoppedBy, opened_hosts, opened_state, opened_states}
 use Rattle.misp_net.specs.Passing.{Trail}
-use Rattle.misp_net.specs.Prelude.{AreKept, Host, Line, Tables, nothing_held, state_of, states_of}
+use Rattle.misp_net.specs.Prelude.{AreKept, Host, Line, Tables, host_at, host_of, hosts_of, nothing_held, state_of, states_of}
 use Rattle.misp_net.specs.Running.{fault_of}
 use Rattle.misp_net.specs.declared.places.NetFault.{NetFault}
 
@@ -55,8 +59,11 @@ opened_sound : (held : Held) → IsOk (opened held) → is_sound held ≡ true
 unfolding opened
 opened_sound held ok = groups_sound held (groups_in held.admin) ok
 
-first_tells : (s : KeeperState) (held : Held) (tables : Tables) → Tell (s ∷ []) (held ∷ tables) → s.held ≡ Some held
-first_tells s held tables tell = cc
+first_tells : (s : KeeperState) (old : List KeeperState) (held : Held) (tables : Tables) → Tell (s ∷ old) (held ∷ tables) → s.held ≡ Some held
+first_tells s old held tables tell = cc
+
+others_tell : (s : KeeperState) (old : List KeeperState) (held : Held) (tables : Tables) → Tell (s ∷ old) (held ∷ tables) → Tell old tables
+others_tell s old held tables tell = cc
 
 one_tells : (s : KeeperState) (held : Held) → s.held ≡ Some held → Tell (s ∷ []) (held ∷ [])
 one_tells s held is = ap (λ h. h ∷ []) is
@@ -64,7 +71,7 @@ one_tells s held is = ap (λ h. h ∷ []) is
 pub sound_one : (s i : KeeperState) → WhereReported s.held i.held (λ held now. IsOk (opened held)) → WereSound (s ∷ []) (i ∷ [])
 sound_one s i ok [] tell = absurd cc
 sound_one s i ok (now ∷ after) tell =
-    let was = reported_before s.held i.held _ now ok (first_tells i now after tell) in
+    let was = reported_before s.held i.held _ now ok (first_tells i [] now after tell) in
     (was.0 ∷ [], one_tells s was.0 was.1, and_from _ _ (opened_sound was.0 was.2) refl)
 
 -- and where a row does not, it is not
@@ -92,7 +99,7 @@ bad_row_told LoadFault.NoMemory result s is same bad = absurd (let no_ : NetFaul
 
 -- who holds nothing holds no row that is none
 pub nothing_is_sound : is_sound nothing_held ≡ true
-unfolding nothing_held groups_in rows_in
+unfolding nothing_held groups_in all_groups_in other_rows rows_in
 nothing_is_sound = refl
 
 -- ---- what they hold once instances are open
@@ -165,6 +172,94 @@ back_opened {old} {rest} {front} {behind} {new} {done} back first next same =
     (subst (λ before. AreKeptOrOpened before (front ++ behind)) (take-append-drop done old)
     (both_parts (take done old) front (drop done old) behind (opened_of_them _ _ first)
     (kept_or_opened _ _ (subst (λ r. AreKept r behind) back.left (first_kept 1 rest behind next same)))))
+
+-- ---- which instances are open
+
+-- it has the described name, and what its keeper reports of what was made there
+pub record IsOpenedAs (d : Host) (i : Standing) : Type 0 where
+  pub name : i.name ≡ d.name
+  pub admin : IfSome i.held (λ held. i.admin ≡ with_items d.admin (items_in held.admin))
+
+-- the same of each
+abbrev pub AreOpenedAs : List Host → List Standing → Type 0
+AreOpenedAs described instances = AllZip IsOpenedAs described instances
+
+-- who it is then
+host_opened : (d : Host) (i : Standing) → IsOpenedAs d i → (held : Held) → i.held ≡ Some held → host_of i ≡ record d { admin = with_items d.admin (items_in held.admin) }
+host_opened d i is held same =
+    let made : i.admin ≡ with_items d.admin (items_in held.admin) = subst (λ o. IfSome o (λ h. i.admin ≡ with_items d.admin (items_in h.admin))) same is.admin in
+    λ k. record { name = is.name k; admin = made k }
+
+names_opened : (described : List Host) (instances : List Standing) → AreOpenedAs described instances → names_of (hosts_of instances) ≡ names_of described
+names_opened [] [] are = refl
+names_opened [] (i ∷ instances) are = absurd are
+names_opened (d ∷ described) [] are = absurd are
+names_opened (d ∷ described) (i ∷ instances) are = λ k. are.0.name k ∷ names_opened described instances are.1 k
+
+made_opened : (described : List Host) (instances : List Standing) (tables : Tables) → AreOpenedAs described instances → Tell (states_of instances) tables → hosts_of instances ≡ opened_hosts described tables
+made_opened [] [] tables are tell = refl
+made_opened [] (i ∷ instances) tables are tell = absurd are
+made_opened (d ∷ described) [] tables are tell = absurd are
+made_opened (d ∷ described) (i ∷ instances) [] are tell = absurd cc
+made_opened (d ∷ described) (i ∷ instances) (held ∷ tables) are tell =
+    let own = host_opened d i are.0 held (first_tells (state_of i) (states_of instances) held tables tell) in
+    let others = made_opened described instances tables are.1 (others_tell (state_of i) (states_of instances) held tables tell) in
+    λ k. own k ∷ others k
+
+pub are_opened : (described : List Host) (instances : List Standing) → AreOpenedAs described instances → AreOpened described (states_of instances) (states_of instances) (hosts_of instances)
+are_opened described instances are = record {
+  names = names_opened described instances are;
+  made = λ tables tell report. made_opened described instances tables are tell;
+}
+
+-- one that is open alone
+pub opened_as : (d : Host) (i : Standing) → AreOpened (d ∷ []) (state_of i ∷ []) (state_of i ∷ []) (host_of i ∷ []) → IsOpenedAs d i
+opened_as d i is = record {
+  name = ap (λ (names : List (List ℕ)). slice_index_or names 0 []) is.names;
+  admin = by_held i.held refl;
+}
+  where
+    by_held : (o : Option Held) → i.held ≡ o → IfSome o (λ held. i.admin ≡ with_items d.admin (items_in held.admin))
+    by_held None same = tt
+    by_held (Some held) same =
+        let tell : Tell (state_of i ∷ []) (held ∷ []) = one_tells (state_of i) held same in
+        ap (λ (hosts : List Host). (host_at 0 hosts).admin) (is.made (held ∷ []) tell (held ∷ [], tell))
+
+-- one more
+pub opened_push : (described : List Host) (instances : List Standing) (d : Host) (i : Standing) → AreOpenedAs described instances → IsOpenedAs d i → AreOpenedAs (described ++ d ∷ []) (instances ++ i ∷ [])
+opened_push [] [] d i are is = (is, tt)
+opened_push [] (j ∷ instances) d i are is = absurd are
+opened_push (e ∷ described) [] d i are is = absurd are
+opened_push (e ∷ described) (j ∷ instances) d i are is = (are.0, opened_push described instances d i are.1 is)
+
+all_tell : (s : KeeperState) (old : List KeeperState) (held : Held) (tables : Tables) → s.held ≡ Some held → Tell old tables → Tell (s ∷ old) (held ∷ tables)
+all_tell s old held tables first others = cc
+
+-- who still report report what they did
+pub kept_tells : (old new : List KeeperState) (tables now : Tables) → AreKept old new → Tell old tables → Tell new now → Tell new tables
+kept_tells [] [] tables now kept told tell = told
+kept_tells [] (t ∷ new) tables now kept told tell = absurd kept
+kept_tells (s ∷ old) [] tables now kept told tell = absurd kept
+kept_tells (s ∷ old) (t ∷ new) [] now kept told tell = absurd cc
+kept_tells (s ∷ old) (t ∷ new) (a ∷ tables) [] kept told tell = absurd cc
+kept_tells (s ∷ old) (t ∷ new) (a ∷ tables) (b ∷ now) kept told tell =
+    let held : t.held ≡ Some b = first_tells t new b now tell in
+    let same : b ≡ a = reported_at s.held t.held (λ was is. is ≡ was) a b (first_tells s old a tables told) held kept.0.held in
+    all_tell t new a tables (held ∙ ap Some same)
+    (kept_tells old new tables now kept.1 (others_tell s old a tables told) (others_tell t new b now tell))
+
+-- where nothing was held, nothing was made
+nothing_made : (h : Host) → record h { admin = with_items h.admin (items_in nothing_held.admin) } ≡ h
+unfolding with_items items_in nothing_held
+nothing_made h = refl
+
+empty_opened : (described : List Host) → opened_hosts described (empty_tables described) ≡ described
+empty_opened [] = refl
+empty_opened (h ∷ described) = λ k. nothing_made h k ∷ empty_opened described k
+
+-- so they are those that are described
+pub described_opened : (described : List Host) (old new : List KeeperState) (hosts : List Host) → AreOpened described old new hosts → Tell old (empty_tables described) → AllReport new → hosts ≡ described
+described_opened described old new hosts is empty report = is.made (empty_tables described) empty report ∙ empty_opened described
 
 -- ---- a keeper is put back
 

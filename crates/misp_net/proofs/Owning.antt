@@ -36,6 +36,7 @@ module _ (keep : Key → Bool) (closed : IsClosed keep) (o : OrgId) (hosts : Lis
       ∙ sym (ap (λ (e : Effect Reply). e.reply) (over_seen hosts w at now caller ask))
   own_command w at now caller (Command.TakesGroups coming) same has = refl
   own_command w at now caller (Command.Shares add g) same has = refl
+  own_command w at now caller (Command.Manages ask) same has = refl
 
   pub own_reply : (w : World) (at now : ℕ) (form : Reading Commanded) (caller : Option Caller) → AskedBy caller form → is_asker o (option_map (λ c. c.org) caller) ≡ true → HasKnown o keep w
       → (replied (host_at at hosts) now form (seen_by hosts (cut_world keep w) at)).reply ≡ (replied (host_at at hosts) now form (seen_by hosts w at)).reply

@@ -1,5 +1,5 @@
 -- What passed for lines, one after another.
-use Rattle.std.proofs.Common.{◌≡◌, ℕ, List, [], ◌∷◌, ◌++◌, Bool, true, false, eqb, Option, Some, None, Ok, Err, inl, inr, refl, sym, ◌∙◌, ap, subst}
+use Rattle.std.proofs.Common.{◌≡◌, ℕ, List, [], ◌∷◌, ◌++◌, Bool, true, false, eqb, length, Option, Some, None, Err, inl, inr, refl, sym, ◌∙◌, ap, subst}
 use Rattle.std.proofs.lemmas.Bool.{cases_Bool}
 use Rattle.misp_ids.specs.declared.label.Direction.{Direction}
 use Rattle.misp_orgs.specs.declared.link.Link.{Link}
@@ -22,14 +22,17 @@ use Rattle.misp_sync.specs.OwnAnswers.{own_conduct}
 use Rattle.misp_sync.specs.Synchronised.{IfOn, IsCourse, IsTrailOver, host_in}
 use Rattle.misp_sync.specs.declared.reply.SyncReply.{SyncReply}
 use Rattle.misp_sync.proofs.Conversing.{goes_to, reported_as}
-use Rattle.misp_net.specs.Acts.{Administers, Asks, Deed, Idle, One, Session, Syncs}
+use Rattle.misp_net.specs.Acts.{Administers, Asks, Deed, Idle, One, Session, Syncs, acts_done, outputs_done}
 use Rattle.misp_net.specs.Asking.{asked_at, asked_over, names_of}
 use Rattle.misp_net.specs.Hosts.{host_at}
 use Rattle.misp_net.specs.Links.{link_at, peer_place, place_named, place_of_peer}
 use Rattle.misp_net.specs.Passing.{IsPassed, IsPassedFor, IsSyncPassed, Passes, Trail, UnlessHere, stands_at, told_at}
-use Rattle.misp_net.specs.Prelude.{AreKept, Bad, Done, Host, IsDone, KeeperState, Nothing, Output, SyncData, Replied, Synced, Unanswered}
+use Rattle.misp_net.specs.Prelude.{AreKept, Bad, Done, Host, IsDone, KeeperState, Nothing, Output, SyncData, Replied, Synced, Unanswered, acts_of, outputs_of}
+use Rattle.misp_net.specs.Walk.{hosts_done, hosts_left}
 use Rattle.misp_net.proofs.Asking.{asked_none, bar_from, place_same}
+use Rattle.misp_net.proofs.Courses.{ran_long}
 use Rattle.misp_net.proofs.Growing.{grows_as}
+use Rattle.misp_net.proofs.Walks.{left_append, length_done}
 
 -- ---- a synchronisation with nobody
 
@@ -152,19 +155,42 @@ passes_kept hosts old mid kept (d ∷ dones) new first last (left, between, is, 
   rest,
 )
 
+-- ---- the instances after lines
+
+-- after these lines, one after another
+abbrev pub hosts_over : List Host → List Done → List Host
+hosts_over hosts [] = hosts
+hosts_over hosts (d ∷ dones) = hosts_over (hosts_done hosts d) dones
+
+pub over_push : (hosts : List Host) (dones : List Done) (d : Done) → hosts_over hosts (dones ++ d ∷ []) ≡ hosts_done (hosts_over hosts dones) d
+over_push hosts [] d = refl
+over_push hosts (e ∷ dones) d = over_push (hosts_done hosts e) dones d
+
+pub over_long : (hosts : List Host) (dones : List Done) → length (hosts_over hosts dones) ≡ length hosts
+over_long hosts [] = refl
+over_long hosts (d ∷ dones) = over_long (hosts_done hosts d) dones ∙ length_done hosts d
+
+-- they are those after all of their acts
+pub over_left : (hosts : List Host) (dones : List Done) (old new : List KeeperState) (first last : Option Trail) → Passes hosts dones old new first last
+    → hosts_over hosts dones ≡ hosts_left hosts (acts_of dones) (outputs_of dones)
+over_left hosts [] old new first last passes = refl
+over_left hosts (d ∷ dones) old new first last (left, between, is, grows, rest) =
+    over_left (hosts_done hosts d) dones left new between last rest
+    ∙ sym (left_append hosts (acts_done d) (acts_of dones) (outputs_done d) (outputs_of dones) (ran_long hosts (acts_done d) (outputs_done d) old left is.ran))
+
 -- ---- one line more
 
 -- after these it passes for one more
-pub passes_more : (hosts : List Host) (dones : List Done) (d : Done) (old mid new : List KeeperState) (first next last : Option Trail) → Passes hosts dones old mid first next → IsDone hosts d mid new
-    → GrowsBy next last (IsPassedFor hosts mid new d) → Passes hosts (dones ++ d ∷ []) old new first last
+pub passes_more : (hosts : List Host) (dones : List Done) (d : Done) (old mid new : List KeeperState) (first next last : Option Trail) → Passes hosts dones old mid first next
+    → IsDone (hosts_over hosts dones) d mid new → GrowsBy next last (IsPassedFor (hosts_over hosts dones) mid new d) → Passes hosts (dones ++ d ∷ []) old new first last
 passes_more hosts [] d old mid new first next last (kept, same) is grows =
     passes_kept hosts old mid kept (d ∷ []) new first last (new, last, is, subst (λ told. GrowsBy told last (IsPassedFor hosts mid new d)) same grows, (all_kept new, refl))
 passes_more hosts (e ∷ dones) d old mid new first next last (left, between, was, grew, rest) is grows =
-    (left, between, was, grew, passes_more hosts dones d left mid new between next last rest is grows)
+    (left, between, was, grew, passes_more (hosts_done hosts e) dones d left mid new between next last rest is grows)
 
 -- what follows does nothing
 pub passes_still : (hosts : List Host) (dones : List Done) (old mid new : List KeeperState) (first next last : Option Trail) → Passes hosts dones old mid first next → AreKept mid new → last ≡ next
     → Passes hosts dones old new first last
 passes_still hosts [] old mid new first next last (stay, was) kept same = (kept_then old mid new stay kept, same ∙ was)
 passes_still hosts (d ∷ dones) old mid new first next last (left, between, is, grows, rest) kept same =
-    (left, between, is, grows, passes_still hosts dones left mid new between next last rest kept same)
+    (left, between, is, grows, passes_still (hosts_done hosts d) dones left mid new between next last rest kept same)

@@ -10,11 +10,11 @@ use Rattle.misp_core.specs.Prelude.{Group, Host, Inst, World, same_inst}
 use Rattle.misp_sync.specs.Directions.{route_on}
 use Rattle.misp_net.specs.Prelude.{AreDistinct, host_at}
 use Rattle.misp_net.specs.Hosts.{nobody}
-use Rattle.misp_net.specs.Links.{links_of, peer_place, place_named, place_of_peer, route_at}
+use Rattle.misp_net.specs.Links.{peer_place, place_named, place_of_peer, route_at, routes_of}
 
 -- ---- instances by name
 
-rest_apart : (h : Host) (hosts : List Host) → AreDistinct (h ∷ hosts) → AreDistinct hosts
+pub rest_apart : (h : Host) (hosts : List Host) → AreDistinct (h ∷ hosts) → AreDistinct hosts
 rest_apart h hosts distinct p q p_in q_in same =
     let more : suc p ≡ suc q = distinct (suc p) (suc q) (omega (arith, p_in)) (omega (arith, q_in)) same in omega (arith, more)
 
@@ -51,7 +51,7 @@ peer_inside hosts at (Some link) lt = named_inside hosts at link.peer lt (place_
 
 -- it has the routes of the place of an instance
 pub route_there : (hosts : List Host) (direction : Direction) (at : ℕ) (link : Inst) (w : World) → AreDistinct hosts → at < length hosts
-    → links_of hosts direction (host_at at hosts).name link w.groups w.made ≡ route_at hosts direction at link (w.groups (host_at at hosts).name)
+    → routes_of hosts direction (host_at at hosts).name link w.groups w.made ≡ route_at hosts direction at link (w.groups (host_at at hosts).name)
 route_there hosts direction at link w distinct lt = rw (place_is hosts at distinct lt) refl
 
 -- where the peer is another, that of the synchronisation with it, and else none

@@ -1,6 +1,6 @@
 -- What one instance does is an act among all of them.
 use Rattle.std.proofs.Common.{◌≡◌, ℕ, zero, suc, ◌<◌, Bool, true, false, eqb, List, [], ◌∷◌, ◌++◌, length, get_or, set, Some, None, Result, Ok, Err, inl, inr, refl, sym, ◌∙◌, ap, subst, arith, IfOk, OnOk, if◌then◌else◌}
-use Rattle.std.proofs.lemmas.List.{length-map, get_or-map, set-get_or}
+use Rattle.std.proofs.lemmas.List.{length-map, get_or-map, map-set, set-get_or}
 use Rattle.misp_ids.specs.Refusal.{rule_number}
 use Rattle.misp_outside.specs.Causes.{HasCause}
 use Rattle.misp_outside.specs.Reporting.{WhereReported}
@@ -21,6 +21,7 @@ use Rattle.misp_net.specs.Prelude.{stop_in}
 use Rattle.misp_net.specs.Hosts.{nobody}
 use Rattle.misp_net.specs.Meaning.{asks, silent, turned_away, IsAsFormed}
 use Rattle.misp_net.specs.Text.{output_text}
+use Rattle.misp_net.specs.Walk.{host_after, hosts_after}
 use Rattle.misp_effects.specs.Effect as effects
 use Rattle.misp_core.specs.Effects as core
 use Rattle.misp_net.specs.Running as lines
@@ -53,9 +54,19 @@ pub one_read : (time word at : ℕ) (read : Read) (old : List Standing) (new non
     → lines.IsAct (hosts_of old) (act time word (Asks at read)) (states_of old) (states_of (set old at new)) (Replied reply)
 one_read time word at read old new none reply lt answered =
     let host : host_at at (hosts_of old) ≡ host_of (get_or old at none) = get_or-map host_of old at none nobody lt in
-    instance_act at (replied (host_at at (hosts_of old)) time (read_form (host_at at (hosts_of old)).admin word read)) old new none reply lt
-    (subst (λ (h : Host). WhereReported (get_or old at none).held new.held (λ held left. IsReplied h time (read_form h.admin word read) held reply left)) (sym host) answered.replied)
+    instance_act at (replied (host_at at (hosts_of old)) time (read_form (host_at at (hosts_of old)) word read)) old new none reply lt
+    (subst (λ (h : Host). WhereReported (get_or old at none).held new.held (λ held left. IsReplied h time (read_form h word read) held reply left)) (sym host) answered.replied)
     answered.cause
+
+-- the one that was asked is another then, and the others are as they were
+pub hosts_answered : (time word at : ℕ) (read : Read) (old : List Standing) (new none : Standing) (reply : Reply) → at < length old
+    → IsAnswered time word read (get_or old at none) new reply
+    → hosts_of (set old at new) ≡ hosts_after (hosts_of old) (act time word (Asks at read)) (Replied reply)
+hosts_answered time word at read old new none reply lt answered =
+    let host : host_at at (hosts_of old) ≡ host_of (get_or old at none) = get_or-map host_of old at none nobody lt in
+    let now : host_of new ≡ host_after (host_of (get_or old at none)) word read reply = λ i. record { name = answered.name i; admin = answered.admin i } in
+    map-set host_of old at new
+    ∙ ap (set (hosts_of old) at) (now ∙ ap (λ (h : Host). host_after h word read reply) (sym host))
 
 -- a line of a group
 pub one_group : (time word : ℕ) (line : GroupData) (old : List Standing) (new none : Standing) (reply : Reply) → line.at < length old
@@ -75,8 +86,8 @@ pub read_formed : (time word at : ℕ) (read : Read) (old : List Standing) (new 
     → IsAsFormed (meaning (hosts_of old) (act time word (Asks at read))).formed (Replied reply)
 read_formed time word at read old new none reply lt answered =
     let host : host_at at (hosts_of old) ≡ host_of (get_or old at none) = get_or-map host_of old at none nobody lt in
-    turned_output (read_form (host_at at (hosts_of old)).admin word read) (get_or old at none) new reply
-    (subst (λ (h : Host). TurnsAway (read_form h.admin word read) (get_or old at none) new reply) (sym host) answered.formed)
+    turned_output (read_form (host_at at (hosts_of old)) word read) (get_or old at none) new reply
+    (subst (λ (h : Host). TurnsAway (read_form h word read) (get_or old at none) new reply) (sym host) answered.formed)
 
 pub hosts_kept : (old : List Standing) (place : ℕ) (new none : Standing) → place < length old
     → new.name ≡ (get_or old place none).name → new.admin ≡ (get_or old place none).admin → hosts_of (set old place new) ≡ hosts_of old

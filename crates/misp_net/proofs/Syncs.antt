@@ -119,7 +119,7 @@ lent_synced hosts time word line old new reply lt peer_lt other lends =
 barred_there : (hosts : List Host) (line : SyncData) (own there : Seen) (why : Cause) → bar_of (link_at hosts line.at line.link) ≡ Some why
     → synced_at hosts line own there ≡ effects.effect (replies.Stopped no_count why) []
 barred_there hosts line own there why bar = elim (cases_Bool (eqb (place_of_peer hosts line.at line.link) line.at)) [
-  | inl alone ↦ synced_alone hosts line own there alone ∙ ap (λ b. effects.effect (replies.Stopped no_count (unwrap_or b Cause.NoLink)) []) bar
+  | inl alone ↦ synced_alone hosts line own there alone ∙ ap (λ b. effects.effect (replies.Stopped no_count (unwrap_or b Cause.NoPeer)) []) bar
   | inr other ↦
       synced_there hosts line own there other
       ∙ bar_comes line.direction (host_at line.at hosts) line.link (host_at (place_of_peer hosts line.at line.link) hosts) own there (link_at hosts line.at line.link) why refl bar
@@ -166,7 +166,7 @@ module _ (hosts : List Host) (time word : ℕ) (line : SyncData) (old : List Kee
 
   -- a link whose peer is no other instance
   pub alone_act : eqb (place_of_peer hosts line.at line.link) line.at ≡ true → bar_of (link_at hosts line.at line.link) ≡ None
-      → lines.IsAct hosts (act time word (Syncs line)) old old (Synced (replies.Stopped no_count Cause.NoLink))
+      → lines.IsAct hosts (act time word (Syncs line)) old old (Synced (replies.Stopped no_count Cause.NoPeer))
   alone_act alone bar =
-      nothing_synced (replies.Stopped no_count Cause.NoLink) refl
-      (λ own there. synced_alone hosts line own there alone ∙ ap (λ b. effects.effect (replies.Stopped no_count (unwrap_or b Cause.NoLink)) []) bar)
+      nothing_synced (replies.Stopped no_count Cause.NoPeer) refl
+      (λ own there. synced_alone hosts line own there alone ∙ ap (λ b. effects.effect (replies.Stopped no_count (unwrap_or b Cause.NoPeer)) []) bar)

@@ -16,16 +16,18 @@ use Rattle.misp_core.specs.Prelude.{AreReadable, Held, Host, Inst, Keeps, World,
 use Rattle.misp_sync.specs.Directions.{route_on, synced_on, taker, telling_on}
 use Rattle.misp_sync.specs.History.{applied, sync_act}
 use Rattle.misp_sync.specs.declared.reply.SyncReply.{SyncReply}
-use Rattle.misp_net.specs.Prelude.{AreDistinct, Effect, Outcome, Stopped, SyncData, Synced, Tables, Went, held_at, host_at, links_of, seen_in, step}
-use Rattle.misp_net.specs.Links.{link_at, place_of_peer, synced_at}
+use Rattle.misp_net.specs.Prelude.{AreDistinct, Effect, Outcome, Stopped, SyncData, Synced, Tables, Went, held_at, host_at, seen_in, step}
+use Rattle.misp_net.specs.Links.{link_at, place_of_peer, routes_of, synced_at}
 use Rattle.misp_net.specs.Meaning.{sync_telling, syncing}
 use Rattle.misp_net.specs.History.{IsHistory, seen_by}
 use Rattle.misp_net.proofs.Peers.{no_route, peer_inside, route_apart, route_there}
 use Rattle.misp_net.proofs.SyncLaw.{AreSyncLaws}
 use Rattle.misp_net.proofs.Syncs.{synced_alone, synced_there}
 use Rattle.misp_net.proofs.Telling.{as_before, one_left, still}
+use Rattle.misp_net.proofs.Made.{none_made}
 use Rattle.misp_net.proofs.Directions.{taker_has, taker_of}
 use Rattle.misp_effects.specs.Run as runs
+use Rattle.misp_history.specs.Acts as model
 
 -- ---- the numbers of acts
 
@@ -122,14 +124,14 @@ module _ (law : AreSyncLaws) (hosts : List Host) (distinct : AreDistinct hosts) 
   sync_told outcome = ap (λ (e : Effect SyncReply). (under (sync_telling line.direction) outcome (shown Synced e)).reply) same_sync
 
   abbrev next : ℕ → Outcome → World
-  next now outcome = step_partly (links_of hosts) n w (sync_act line.direction here.name now line.link) (applied outcome)
+  next now outcome = step_partly (routes_of hosts) n w (sync_act line.direction here.name now line.link) (applied outcome)
 
   -- without another instance as its peer it leaves all as it was
   left_alone : (now : ℕ) (outcome : Outcome) → eqb peer line.at ≡ true
       → IsHistory hosts (suc n) (next now outcome) (runs.tables_after seen_in spelled outcome (syncing hosts line) old)
   left_alone now outcome alone =
       as_before hosts distinct n w old history _ _
-      (sync_still line.direction (links_of hosts) n now w here.name line.link outcome
+      (sync_still line.direction (routes_of hosts) n now w here.name line.link outcome
       (route_there hosts line.direction line.at line.link w distinct lt ∙ no_route hosts line.direction line.at line.link (w.groups here.name) alone))
       (ap (slice_set old into)
       (none_left line.direction outcome (synced_at hosts line (seen_in (held_at line.at old)) (seen_in (held_at peer old))) (held_at into old)
@@ -144,7 +146,7 @@ module _ (law : AreSyncLaws) (hosts : List Host) (distinct : AreDistinct hosts) 
     abbrev taken : Held
     taken = left spelled (under (telling_on line.direction) outcome whole) (taker line.direction (held_at line.at old) (held_at peer old))
 
-    routed : links_of hosts line.direction here.name line.link w.groups w.made ≡ route_on line.direction here line.link there (w.groups here.name)
+    routed : routes_of hosts line.direction here.name line.link w.groups w.made ≡ route_on line.direction here line.link there (w.groups here.name)
     routed = route_there hosts line.direction line.at line.link w distinct lt ∙ route_apart hosts line.direction line.at line.link (w.groups here.name) other
 
     into_is : host_at into hosts ≡ taker line.direction here there
@@ -155,14 +157,16 @@ module _ (law : AreSyncLaws) (hosts : List Host) (distinct : AreDistinct hosts) 
     left_apart fits =
         one_left hosts distinct n w old history into (taker_has (λ place. place < length hosts) line.direction line.at peer lt inside) (next now outcome) taken
         (subst (λ (h : Host). Keeps h.name (next now outcome) taken) (sym into_is)
-        ((law line.direction).left (links_of hosts) n now w here there line.link (held_at line.at old) (held_at peer old) outcome
+        ((law line.direction).left (routes_of hosts) n now w here there line.link (held_at line.at old) (held_at peer old) outcome
         (history.each line.at lt) (history.each peer inside) routed fits))
         (λ j away.
-        let apart : same_inst (taker line.direction here there).name j ≡ false = subst (λ (h : Host). same_inst h.name j ≡ false) into_is away in (
-          (law line.direction).elsewhere (links_of hosts) n now w here there line.link j outcome routed apart,
-          (law line.direction).groups (links_of hosts) n now w here there line.link j outcome routed apart,
-        ))
-        (sync_below line.direction (links_of hosts) n now w here.name line.link outcome history.earlier)
+        let apart : same_inst (taker line.direction here there).name j ≡ false = subst (λ (h : Host). same_inst h.name j ≡ false) into_is away in
+        record {
+          log = (law line.direction).elsewhere (routes_of hosts) n now w here there line.link j outcome routed apart;
+          groups = (law line.direction).groups (routes_of hosts) n now w here there line.link j outcome routed apart;
+          made = ap (λ made. made j) (none_made (routes_of hosts) n w here.name now (model.Syncs line.direction line.link) tt outcome);
+        })
+        (sync_below line.direction (routes_of hosts) n now w here.name line.link outcome history.earlier)
 
     left_other : AreReadable (effect_in seen_in outcome (syncing hosts line) old).batches
         → IsHistory hosts (suc n) (next now outcome) (runs.tables_after seen_in spelled outcome (syncing hosts line) old)

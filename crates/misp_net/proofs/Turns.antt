@@ -19,8 +19,10 @@ use Rattle.misp_net.specs.Prelude.{Act, AreAmong, Host, Output, Ran, Replied, Re
 use Rattle.misp_net.specs.Acts.{AreRead, Asks, EndsHere, act, asks_from}
 use Rattle.misp_net.specs.Meaning.{AreAsFormed, IsAsFormed, meaning}
 use Rattle.misp_net.specs.Text.{replies_text}
+use Rattle.misp_net.specs.Walk.{hosts_after, hosts_left}
 use Rattle.misp_net.proofs.Courses.{formed_append, ran_append}
-use Rattle.misp_net.proofs.Steps.{hosts_kept, one_read, read_formed}
+use Rattle.misp_net.proofs.Steps.{hosts_answered, one_read, read_formed}
+use Rattle.misp_net.proofs.Walks.{left_append}
 
 -- ---- requests after requests
 
@@ -64,37 +66,27 @@ module _ (now at : ℕ) (base : List Standing) (none : Standing) (lt : at < leng
   abbrev here : Standing → List Standing
   here x = set base at x
 
-  -- it is the one that it was
-  abbrev IsIt : Standing → Type 0
-  IsIt x = (x.name ≡ (get_or base at none).name) × (x.admin ≡ (get_or base at none).admin)
-
   there : (x : Standing) → get_or (here x) at none ≡ x
   there x = get_or-set_same base at x none lt
 
-  pub hosts_here : (x : Standing) → IsIt x → hosts_of (here x) ≡ hosts_of base
-  hosts_here x is = hosts_kept base at x none lt is.0 is.1
+  within : (x : Standing) → at < length (here x)
+  within x = omega (arith, lt, length-set base at x)
 
-  module _ (word : ℕ) (read : Read) (x y : Standing) (reply : Reply) (it : IsIt x) (answered : IsAnswered now word read x y reply) where
+  module _ (word : ℕ) (read : Read) (x y : Standing) (reply : Reply) (answered : IsAnswered now word read x y reply) where
     before : IsAnswered now word read (get_or (here x) at none) y reply
     before = subst (λ i. IsAnswered now word read i y reply) (sym (there x)) answered
 
-    within : at < length (here x)
-    within = omega (arith, lt, length-set base at x)
-
-    pub still_it : IsIt y
-    still_it = (answered.name ∙ it.0, answered.admin ∙ it.1)
-
-    pub read_ran : Ran (hosts_of base) (act now word (Asks at read) ∷ []) (states_of (here x)) (states_of (here y)) (Replied reply ∷ [])
+    pub read_ran : Ran (hosts_of (here x)) (act now word (Asks at read) ∷ []) (states_of (here x)) (states_of (here y)) (Replied reply ∷ [])
     read_ran =
-        subst (λ (hosts : List Host). Ran hosts (act now word (Asks at read) ∷ []) (states_of (here x)) (states_of (here y)) (Replied reply ∷ [])) (hosts_here x it)
-        (subst (λ (after : List Standing). Ran (hosts_of (here x)) (act now word (Asks at read) ∷ []) (states_of (here x)) (states_of after) (Replied reply ∷ [])) (set-set base at x y)
+        subst (λ (after : List Standing). Ran (hosts_of (here x)) (act now word (Asks at read) ∷ []) (states_of (here x)) (states_of after) (Replied reply ∷ [])) (set-set base at x y)
         (one_ran Seen Output seen_in spelled stop_in (meaning (hosts_of (here x)) (act now word (Asks at read))).means (states_of (here x)) _ (Replied reply)
-        (one_read now word at read (here x) y none reply within before)))
+        (one_read now word at read (here x) y none reply (within x) before))
 
-    pub read_as_formed : IsAsFormed (meaning (hosts_of base) (act now word (Asks at read))).formed (Replied reply)
-    read_as_formed =
-        subst (λ (hosts : List Host). IsAsFormed (meaning hosts (act now word (Asks at read))).formed (Replied reply)) (hosts_here x it)
-        (read_formed now word at read (here x) y none reply within before)
+    pub read_as_formed : IsAsFormed (meaning (hosts_of (here x)) (act now word (Asks at read))).formed (Replied reply)
+    read_as_formed = read_formed now word at read (here x) y none reply (within x) before
+
+    pub read_walked : hosts_of (here y) ≡ hosts_after (hosts_of (here x)) (act now word (Asks at read)) (Replied reply)
+    read_walked = ap hosts_of (sym (set-set base at x y)) ∙ hosts_answered now word at read (here x) y none reply (within x) before
 
   -- what came of so many requests of a session
   pub record Partly (p : Point) (n : ℕ) (instance : Standing) (word : ℕ) (written : List ℕ) (goes_on : List Read → End → Type 0) : Type 0 where
@@ -103,13 +95,17 @@ module _ (now at : ℕ) (base : List Standing) (none : Standing) (lt : at < leng
     pub long : length reads ≡ n
     pub each : length replies ≡ length reads
     pub word_is : word ≡ word_behind reads p.word
-    pub ran : Ran (hosts_of base) (asks_from now p.word at reads) (states_of (here p.instance)) (states_of (here instance)) (map Replied replies)
-    pub formed : AreAsFormed (hosts_of base) (asks_from now p.word at reads) (map Replied replies)
-    pub it : IsIt instance
+    pub ran : Ran (hosts_of (here p.instance)) (asks_from now p.word at reads) (states_of (here p.instance)) (states_of (here instance)) (map Replied replies)
+    pub formed : AreAsFormed (hosts_of (here p.instance)) (asks_from now p.word at reads) (map Replied replies)
+    pub walked : hosts_of (here instance) ≡ hosts_left (hosts_of (here p.instance)) (asks_from now p.word at reads) (map Replied replies)
     pub wrote : written ≡ p.written ++ replies_text 0 reads replies
     pub read : (later : List Read) (end : End) → goes_on later end → AreRead 0 p.bytes (reads ++ later) end
 
-  module _ (p : Point) (start : IsIt p.instance) where
+  module _ (p : Point) where
+    -- all of them at its start
+    abbrev first : List Host
+    first = hosts_of (here p.instance)
+
     none_yet : Partly p 0 p.instance p.word p.written (λ later end. AreRead 0 p.bytes later end)
     none_yet = record {
       reads = [];
@@ -119,7 +115,7 @@ module _ (now at : ℕ) (base : List Standing) (none : Standing) (lt : at < leng
       word_is = refl;
       ran = no_lines Seen Output seen_in spelled stop_in (states_of (here p.instance));
       formed = tt;
-      it = start;
+      walked = refl;
       wrote = sym (append-nil p.written);
       read = λ later end all. all;
     }
@@ -133,12 +129,15 @@ module _ (now at : ℕ) (base : List Standing) (none : Standing) (lt : at < leng
       one_more goes_on follows =
           let reads = so_far.reads in
           let replies = so_far.replies in
+          let acts : List Act = asks_from now p.word at reads in
+          let told : List Output = map Replied replies in
           let next : q.word ≡ word_behind reads p.word = so_far.word_is in
           let a : Act = act now (word_behind reads p.word) (Asks at read) in
           let answered : IsAnswered now (word_behind reads p.word) read q.instance instance reply = subst (λ w. IsAnswered now w read q.instance instance reply) next answers.answered in
-          let outputs : map Replied (replies ++ reply ∷ []) ≡ map Replied replies ++ Replied reply ∷ [] = map-append Replied replies (reply ∷ []) in
+          let pushed : asks_from now p.word at (reads ++ read ∷ []) ≡ acts ++ a ∷ [] = asks_push now p.word at reads read in
+          let outputs : map Replied (replies ++ reply ∷ []) ≡ told ++ Replied reply ∷ [] = map-append Replied replies (reply ∷ []) in
           let count : n ≡ 0 + length reads = omega (arith, so_far.long) in
-          let long : length (map Replied replies) ≡ length (asks_from now p.word at reads) = length-map replies Replied ∙ so_far.each ∙ sym (asks_long now p.word at reads) in
+          let long : length told ≡ length acts = length-map replies Replied ∙ so_far.each ∙ sym (asks_long now p.word at reads) in
           record {
             reads = reads ++ read ∷ [];
             replies = replies ++ reply ∷ [];
@@ -146,16 +145,22 @@ module _ (now at : ℕ) (base : List Standing) (none : Standing) (lt : at < leng
             each = omega (arith, so_far.each, length-append reads (read ∷ []), length-append replies (reply ∷ []));
             word_is = ap (next_word read) next ∙ sym (word_push reads read p.word);
             ran =
-                subst (λ acts. Ran (hosts_of base) acts (states_of (here p.instance)) (states_of (here instance)) (map Replied (replies ++ reply ∷ []))) (sym (asks_push now p.word at reads read))
-                (subst (λ os. Ran (hosts_of base) (asks_from now p.word at reads ++ a ∷ []) (states_of (here p.instance)) (states_of (here instance)) os) (sym outputs)
-                (ran_append (hosts_of base) (asks_from now p.word at reads) (a ∷ []) (map Replied replies) (Replied reply ∷ []) _ _ _ so_far.ran
-                (read_ran (word_behind reads p.word) read q.instance instance reply so_far.it answered)));
+                subst (λ done. Ran first done (states_of (here p.instance)) (states_of (here instance)) (map Replied (replies ++ reply ∷ []))) (sym pushed)
+                (subst (λ os. Ran first (acts ++ a ∷ []) (states_of (here p.instance)) (states_of (here instance)) os) (sym outputs)
+                (ran_append first acts (a ∷ []) told (Replied reply ∷ []) _ _ _ so_far.ran
+                (subst (λ (hosts : List Host). Ran hosts (a ∷ []) (states_of (here q.instance)) (states_of (here instance)) (Replied reply ∷ [])) so_far.walked
+                (read_ran (word_behind reads p.word) read q.instance instance reply answered))));
             formed =
-                subst (λ acts. AreAsFormed (hosts_of base) acts (map Replied (replies ++ reply ∷ []))) (sym (asks_push now p.word at reads read))
-                (subst (λ os. AreAsFormed (hosts_of base) (asks_from now p.word at reads ++ a ∷ []) os) (sym outputs)
-                (formed_append (hosts_of base) (asks_from now p.word at reads) (a ∷ []) (map Replied replies) (Replied reply ∷ []) long so_far.formed
-                (read_as_formed (word_behind reads p.word) read q.instance instance reply so_far.it answered, tt)));
-            it = still_it (word_behind reads p.word) read q.instance instance reply so_far.it answered;
+                subst (λ done. AreAsFormed first done (map Replied (replies ++ reply ∷ []))) (sym pushed)
+                (subst (λ os. AreAsFormed first (acts ++ a ∷ []) os) (sym outputs)
+                (formed_append first acts (a ∷ []) told (Replied reply ∷ []) long so_far.formed
+                (subst (λ (hosts : List Host). AreAsFormed hosts (a ∷ []) (Replied reply ∷ [])) so_far.walked
+                (read_as_formed (word_behind reads p.word) read q.instance instance reply answered, tt))));
+            walked =
+                read_walked (word_behind reads p.word) read q.instance instance reply answered
+                ∙ ap (λ (hosts : List Host). hosts_after hosts a (Replied reply)) so_far.walked
+                ∙ sym (left_append first acts (a ∷ []) told (Replied reply ∷ []) long)
+                ∙ sym (λ i. hosts_left first (pushed i) (outputs i));
             wrote =
                 ap (λ text. text ++ http_text reply close) so_far.wrote
                 ∙ append_assoc p.written (replies_text 0 reads replies) (http_text reply close)
@@ -188,10 +193,10 @@ module _ (now at : ℕ) (base : List Standing) (none : Standing) (lt : at < leng
       pub reads : List Read
       pub replies : List Reply
       pub read : AreRead 0 p.bytes reads end
-      pub ran : Ran (hosts_of base) (asks_from now p.word at reads) (states_of (here p.instance)) (states_of (here instance)) (map Replied replies)
-      pub formed : AreAsFormed (hosts_of base) (asks_from now p.word at reads) (map Replied replies)
-      pub among : AreAmong (length (hosts_of base)) (asks_from now p.word at reads)
-      pub it : IsIt instance
+      pub ran : Ran first (asks_from now p.word at reads) (states_of (here p.instance)) (states_of (here instance)) (map Replied replies)
+      pub formed : AreAsFormed first (asks_from now p.word at reads) (map Replied replies)
+      pub among : AreAmong (length first) (asks_from now p.word at reads)
+      pub walked : hosts_of (here instance) ≡ hosts_left first (asks_from now p.word at reads) (map Replied replies)
       pub wrote : written ≡ p.written ++ replies_text 0 reads replies
 
     -- where no more is read
@@ -202,8 +207,8 @@ module _ (now at : ℕ) (base : List Standing) (none : Standing) (lt : at < leng
       read = subst (λ all. AreRead 0 p.bytes all end) (append-nil so_far.reads) (so_far.read [] end over);
       ran = so_far.ran;
       formed = so_far.formed;
-      among = asks_among (length (hosts_of base)) now p.word at so_far.reads (omega (arith, lt, length-map base host_of));
-      it = so_far.it;
+      among = asks_among (length first) now p.word at so_far.reads (omega (arith, within p.instance, length-map (here p.instance) host_of));
+      walked = so_far.walked;
       wrote = so_far.wrote;
     }
 

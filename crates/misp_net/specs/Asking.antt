@@ -11,8 +11,8 @@ names_of hosts = map (λ (host : Host). host.name) hosts
 
 -- the instance of this place, where it is another than that of the line
 abbrev pub asked_at : ℕ → Option ℕ → Result ℕ Cause
-asked_at at None = Err Cause.NoLink
-asked_at at (Some peer) = if peer == at then Err Cause.NoLink else Ok peer
+asked_at at None = Err Cause.NoPeer
+asked_at at (Some peer) = if peer == at then Err Cause.NoPeer else Ok peer
 
 -- over this link the place of the peer, or why the synchronisation is refused
 abbrev pub asked_over : List Roster → ℕ → Option Link → Result ℕ Cause

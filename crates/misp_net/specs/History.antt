@@ -5,10 +5,10 @@ use Rattle.misp_outside.specs.Held.{nothing_held}
 use Rattle.misp_effects.specs.KeeperStates.{Tables, held_at}
 use Rattle.misp_effects.specs.Run.{effect_of}
 use Rattle.misp_history.specs.Outcomes.{step_partly}
-use Rattle.misp_core.specs.Prelude.{Host, Keeps, OrgId, Outcome, Seen, World, list_all, same_inst, tables}
+use Rattle.misp_core.specs.Prelude.{Host, Keeps, OrgId, Outcome, Seen, World, list_all, same_inst, step, tables}
 use Rattle.misp_sync.specs.History.{applied}
 use Rattle.misp_net.specs.declared.line.Output.{Output}
-use Rattle.misp_net.specs.Hosts.{host_at}
+use Rattle.misp_net.specs.Hosts.{host_at, hosts_in}
 use Rattle.misp_net.specs.Acts.{Act}
 use Rattle.misp_net.specs.Links.{links_of}
 use Rattle.misp_net.specs.Meaning.{meaning}
@@ -19,20 +19,25 @@ use Rattle.misp_history.specs.Acts as model
 abbrev pub act_in : List Host → Act → model.Act
 act_in hosts act = (meaning hosts act).act
 
-abbrev pub acts_in : List Host → List Act → List model.Act
-acts_in hosts acts = map (act_in hosts) acts
+-- these acts, the first being the n-th, where nothing stops them: each by the instances of its
+-- moment
+abbrev pub acts_in : ℕ → List Host → World → List Act → List model.Act
+acts_in n described w [] = []
+acts_in n described w (act ∷ acts) =
+    let a : model.Act = act_in (hosts_in described w) act in
+    a ∷ acts_in (suc n) described (step (links_of described) n w a) acts
 
 -- the state after the n-th act
 abbrev pub world_after : Outcome → ℕ → List Host → World → Act → World
-world_after outcome n hosts w act =
-    step_partly (links_of hosts) n w (act_in hosts act) (applied outcome)
+world_after outcome n described w act =
+    step_partly (links_of described) n w (act_in (hosts_in described w) act) (applied outcome)
 
 -- the state after these acts, the first being the n-th
 abbrev pub world_left : ℕ → List Host → World → List Act → List Outcome → World
-world_left n hosts w [] outcomes = w
-world_left n hosts w (act ∷ acts) [] = w
-world_left n hosts w (act ∷ acts) (outcome ∷ outcomes) =
-    world_left (suc n) hosts (world_after outcome n hosts w act) acts outcomes
+world_left n described w [] outcomes = w
+world_left n described w (act ∷ acts) [] = w
+world_left n described w (act ∷ acts) (outcome ∷ outcomes) =
+    world_left (suc n) described (world_after outcome n described w act) acts outcomes
 
 -- ---- what the history says of an act: the same meaning, of what the history shows
 
@@ -43,17 +48,17 @@ seen_by hosts w place = record {
   rows = λ reach. Ok (tables w.log (host_at place hosts).name);
 }
 
--- what an act puts out
+-- what an act puts out, these being the instances of its moment
 abbrev pub told_output : Outcome → List Host → World → Act → Output
 told_output outcome hosts w act =
     (effect_of outcome (meaning hosts act).means (seen_by hosts w)).reply
 
 abbrev pub told_outputs : ℕ → List Host → World → List Act → List Outcome → List Output
-told_outputs n hosts w [] outcomes = []
-told_outputs n hosts w (act ∷ acts) [] = []
-told_outputs n hosts w (act ∷ acts) (outcome ∷ outcomes) =
-    told_output outcome hosts w act
-    ∷ told_outputs (suc n) hosts (world_after outcome n hosts w act) acts outcomes
+told_outputs n described w [] outcomes = []
+told_outputs n described w (act ∷ acts) [] = []
+told_outputs n described w (act ∷ acts) (outcome ∷ outcomes) =
+    told_output outcome (hosts_in described w) w act
+    ∷ told_outputs (suc n) described (world_after outcome n described w act) acts outcomes
 
 -- ---- what the keepers hold of it
 
@@ -67,8 +72,8 @@ AreDistinct hosts =
 abbrev pub empty_tables : List Host → Tables
 empty_tables hosts = map (λ host. nothing_held) hosts
 
--- each keeper holds the tables and the groups of its instance after the first n acts, and nothing
--- else
+-- each keeper holds the tables and the groups of its instance after the first n acts, what was made
+-- there, and nothing else
 pub record IsHistory (hosts : List Host) (n : ℕ) (w : World) (tables : Tables) : Type 0 where
   pub long : length tables ≡ length hosts
   pub each : (place : ℕ) → place < length hosts

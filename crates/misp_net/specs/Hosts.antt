@@ -2,6 +2,10 @@
 use Rattle.std.specs.Prelude.{ℕ, List, [], map, slice_index_or}
 use Rattle.misp_script.specs.declared.description.Description.{Description}
 use Rattle.misp_script.specs.declared.description.Entry.{Entry}
+use Rattle.misp_ids.specs.Same.{Inst}
+use Rattle.misp_admins.specs.Made.{with_items}
+use Rattle.misp_admins.specs.declared.item.Item.{Item}
+use Rattle.misp_history.specs.Acts.{World}
 use Rattle.misp_core.specs.Standing.{Host}
 
 abbrev pub described_host : Entry → Host
@@ -18,4 +22,13 @@ nobody = record { name = []; admin = record { orgs = []; keys = []; links = [] }
 abbrev pub host_at : ℕ → List Host → Host
 host_at place hosts = slice_index_or hosts place nobody
 
--- ---- what they hold
+-- ---- what requests make of their administration
+
+-- the described instances with what was made at each
+abbrev pub hosts_made : List Host → (Inst → List Item) → List Host
+hosts_made described made =
+    map (λ (h : Host). record h { admin = with_items h.admin (made h.name) }) described
+
+-- the same in this state of the history
+abbrev pub hosts_in : List Host → World → List Host
+hosts_in described w = hosts_made described w.made

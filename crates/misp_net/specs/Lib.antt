@@ -15,3 +15,4 @@ pub mod Run
 pub mod Running
 pub mod SyncText
 pub mod Text
+pub mod Walk

@@ -16,7 +16,7 @@ use Rattle.misp_sync.specs.Causes.{bar_of}
 use Rattle.misp_sync.specs.Directions.{route_on, synced_on}
 use Rattle.misp_sync.specs.declared.reply.SyncReply.{SyncReply}
 use Rattle.misp_sync.specs.declared.reply.SyncReply.TheVariants as replies
-use Rattle.misp_net.specs.Hosts.{host_at}
+use Rattle.misp_net.specs.Hosts.{host_at, hosts_made}
 
 -- the place of the first instance of this name
 abbrev pub place_named : List Host → Inst → Option ℕ
@@ -37,10 +37,9 @@ place_of_peer hosts at link = peer_place hosts at (link_at hosts at link)
 
 -- ---- synchronisations
 
--- without another instance as its peer it is refused: as its link bars it, or as that of a link
--- that is not there
+-- without another instance as its peer it is refused: as its link bars it, or since there is no peer
 abbrev pub unsynced : Option Link → Effect SyncReply
-unsynced link = effect (replies.Stopped no_count (unwrap_or (bar_of link) Cause.NoLink)) []
+unsynced link = effect (replies.Stopped no_count (unwrap_or (bar_of link) Cause.NoPeer)) []
 
 -- what a synchronisation of a line comes to: what is seen at its place, and at the peer
 abbrev pub synced_at : List Host → SyncData → Seen → Seen → Effect SyncReply
@@ -58,7 +57,12 @@ route_at hosts direction at link groups =
     if peer == at then None
     else route_on direction (host_at at hosts) link (host_at peer hosts) groups
 
--- each instance pulls and pushes over its links
-abbrev pub links_of : List Host → Net
-links_of hosts direction here link groups made =
+-- each of these instances pulls and pushes over its links
+abbrev pub routes_of : List Host → Net
+routes_of hosts direction here link groups made =
     option_map_or (λ at. route_at hosts direction at link (groups here)) (place_named hosts here) None
+
+-- each described instance over its links as requests made them
+abbrev pub links_of : List Host → Net
+links_of described direction here link groups made =
+    routes_of (hosts_made described made) direction here link groups made

@@ -11,6 +11,7 @@ use Rattle.misp_net.specs.Acts.{Deed, Done, Syncs}
 use Rattle.misp_net.specs.Hosts.{host_at}
 use Rattle.misp_net.specs.Links.{link_at, place_of_peer}
 use Rattle.misp_net.specs.Run.{IsDone}
+use Rattle.misp_net.specs.Walk.{hosts_done}
 use Rattle.misp_net.specs.declared.line.Output.{Output}
 use Rattle.misp_net.specs.declared.line.Output.TheVariants.{Synced}
 
@@ -66,4 +67,4 @@ Passes hosts [] old new before after = AreKept old new × (after ≡ before)
 Passes hosts (d ∷ dones) old new before after =
     (left : List KeeperState) × (between : Option Trail) × IsDone hosts d old left
     × GrowsBy before between (IsPassedFor hosts old left d)
-    × Passes hosts dones left new between after
+    × Passes (hosts_done hosts d) dones left new between after

@@ -25,7 +25,7 @@ tables_after outcome hosts act tables =
 -- tells.
 abbrev pub Ran : List Host → List Act → List KeeperState → List KeeperState → List Output → Type 0
 Ran hosts acts old new outputs =
-    courses.HasRun Seen Output seen_in spelled stop_in (meanings_of hosts acts) old new outputs
+    courses.HasRun Seen Output seen_in spelled stop_in (meanings_of hosts acts outputs) old new outputs
 
 -- It was done so, each act over one of the instances. Over every keeper an act whose form says what
 -- it puts out puts that out.

@@ -35,6 +35,7 @@ use Rattle.misp_net.specs.Meaning.{meaning, stop_in}
 use Rattle.misp_net.specs.Passing.{IsPassedFor, Trail}
 use Rattle.misp_net.specs.Run.{IsDone}
 use Rattle.misp_net.specs.Text.{done_text}
+use Rattle.misp_net.specs.Walk.{hosts_done}
 use Rattle.misp_net.specs.declared.line.Output.{Output}
 use Rattle.misp_net.specs.declared.line.Output.TheVariants.{Replied, Unanswered}
 use Rattle.misp_net.specs.declared.places.NetFault.{NetFault}
@@ -112,12 +113,14 @@ pub record IsSynced (hosts : List Host) (line : SyncData) (reply : SyncReply)
 
 -- ---- lines
 
--- A line was run over the instances, and wrote this behind what was there. The count of the faults
--- of what carries rose by at least as many as its outputs tell, and what is stated passed.
-abbrev pub RanLine : List Host → Line → List KeeperState → List KeeperState
+-- A line was run over the instances, which are these then, and wrote this behind what was there. The
+-- count of the faults of what carries rose by at least as many as its outputs tell, and what is
+-- stated passed.
+abbrev pub RanLine : List Host → List Host → Line → List KeeperState → List KeeperState
     → List ℕ → List ℕ → Carried → Carried → Type 0
-RanLine hosts line old new before after carry left =
-    (d : Done) × Does line d × IsDone hosts d old new × (after ≡ before ++ done_text d)
+RanLine hosts then line old new before after carry left =
+    (d : Done) × Does line d × IsDone hosts d old new × (then ≡ hosts_done hosts d)
+    × (after ≡ before ++ done_text d)
     × RoseBy (carry_faults (outputs_done d)) carry.faults left.faults
     × GrowsBy carry.passed left.passed (IsPassedFor hosts old new d)
 

@@ -27,6 +27,7 @@ body_name Body.Taken = codes "taken"
 abbrev pub words_of : Cause → Refusal
 words_of Cause.NoLink = bare RuleName.NoLink
 words_of Cause.LinkOff = bare RuleName.LinkOff
+words_of Cause.NoPeer = bare RuleName.NoPeer
 words_of (Cause.Refused status rule) =
     record { name = RuleName.PeerRefused; place = decimal status ++ 32 ∷ decimal rule }
 words_of (Cause.Garbled kind) =

@@ -12,7 +12,7 @@ mod sessions;
 mod synced;
 mod syncing;
 
-pub use laws::a_script_has_one_list_of_acts;
+pub use laws::{a_script_has_one_list_of_acts, empty_keepers_open_as_described};
 pub use lending::sync_between;
 pub use line::Output;
 pub use net::run_net;

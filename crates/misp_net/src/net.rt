@@ -1,6 +1,6 @@
 //! The run of a script.
 
-ghost use Rattle.std.specs.Prelude.{◌≡◌, ◌<◌, ◌≤◌, ◌++◌, true, Ok, IfOk, IfErr, OnOk, OnErr, length, map, take, drop, vec_len, vec_capacity};
+ghost use Rattle.std.specs.Prelude.{◌≡◌, ◌<◌, ◌≤◌, ◌++◌, List, true, Ok, IfOk, IfErr, OnOk, OnErr, length, map, take, drop, vec_len, vec_capacity};
 ghost use Rattle.misp_outside.specs.Causes.{RoseBy};
 ghost use Rattle.misp_outside.specs.Reporting.{StaysHeld};
 ghost use Rattle.misp_script.specs.Directory.{directory_of, roster_names};
@@ -15,9 +15,11 @@ ghost use Rattle.misp_net.specs.Running.{hosts_of, states_of, CutLine, IsAdminis
 ghost use Rattle.misp_net.specs.Lines.{lines_of};
 ghost use Rattle.misp_store.specs.Sharing.{WereSound};
 ghost use Rattle.misp_dialogue.specs.Parties.{GrowsBy};
-ghost use Rattle.misp_net.specs.Opening.{AreKeptOrOpened, IsStoppedBy, IsUnopened, opened_states};
+ghost use Rattle.misp_net.specs.Opening.{AreKeptOrOpened, AreOpened, IsStoppedBy, IsUnopened, opened_states};
 ghost use Rattle.misp_net.specs.Run.{IsDone};
 ghost use Rattle.misp_net.specs.Text.{output_text, line_of};
+ghost use Rattle.misp_net.specs.Walk.{hosts_done};
+ghost use Rattle.misp_core.specs.Standing.{Host};
 ghost use Rattle.misp_net.specs.Promise.{HasRun, IsCut, IsNetRun};
 
 use crate::line::{Output, put_bad, put_front, put_nothing, show};
@@ -27,10 +29,10 @@ use crate::sessions::put_raw;
 use crate::syncing::put_sync;
 use misp_api::{GroupRequest, Routes, administer};
 use misp_core::Instance;
-use misp_format::a_group_is_read_from_its_text;
 use misp_ids::{NoMemory, Stamp};
 use misp_outside::{Carry, Keeper};
 use misp_script::{Command, Description, Directory, GroupLine, Step, read_line, split_line};
+use misp_store::{groups_are_held_as_their_rows, items_are_held_beside_the_groups};
 use misp_sync::{an_instance_pulls_by_the_history, an_instance_pushes_by_the_history};
 use std::alloc::Global;
 
@@ -85,7 +87,8 @@ fn run_step<K: Keeper, C: Carry>(
     requires placed { IsPlaced (vec_len instances.old) (command_data step.now.command) }
     requires names { roster_names directory.now ≡ names_of (hosts_of instances.old.items) }
     ensures ran { OnOk result
-        (RanLine (hosts_of instances.old.items) (Ok (step_data step.now))
+        (RanLine (hosts_of instances.old.items) (hosts_of instances.new.items)
+        (Ok (step_data step.now))
         (states_of instances.old.items) (states_of instances.new.items)
         lines.old.items lines.new.items
         (carried (C.faults carry.old) (C.passed carry.old))
@@ -95,7 +98,7 @@ fn run_step<K: Keeper, C: Carry>(
         (CutLine (hosts_of instances.old.items) (Ok (step_data step.now))
         (states_of instances.old.items) (states_of instances.new.items)
         (C.passed carry.old) (C.passed carry.new)) }
-    ensures hosts { hosts_of instances.new.items ≡ hosts_of instances.old.items }
+    ensures places { vec_len instances.new ≡ vec_len instances.old }
     ensures later { C.faults carry.old ≤ C.faults carry.new }
 {
     match step.command {
@@ -134,7 +137,8 @@ fn run_line<K: Keeper, C: Carry>(
 ) -> Result<(), NoMemory>
     requires { roster_names directory.now ≡ names_of (hosts_of instances.old.items) }
     ensures ran { OnOk result
-        (RanLine (hosts_of instances.old.items) (step_of directory.now line.now)
+        (RanLine (hosts_of instances.old.items) (hosts_of instances.new.items)
+        (step_of directory.now line.now)
         (states_of instances.old.items) (states_of instances.new.items)
         lines.old.items lines.new.items
         (carried (C.faults carry.old) (C.passed carry.old))
@@ -144,7 +148,7 @@ fn run_line<K: Keeper, C: Carry>(
         (CutLine (hosts_of instances.old.items) (step_of directory.now line.now)
         (states_of instances.old.items) (states_of instances.new.items)
         (C.passed carry.old) (C.passed carry.new)) }
-    ensures hosts { hosts_of instances.new.items ≡ hosts_of instances.old.items }
+    ensures places { vec_len instances.new ≡ vec_len instances.old }
     ensures later { C.faults carry.old ≤ C.faults carry.new }
 {
     match read_line(line, directory) {
@@ -168,6 +172,7 @@ fn put_line<K: Keeper, C: Carry>(
     ensures ran { OnOk result ((d : Done) × Does (step_of directory.now line.now) d
         × IsDone (hosts_of instances.old.items) d (states_of instances.old.items)
         (states_of instances.new.items)
+        × (hosts_of instances.new.items ≡ hosts_done (hosts_of instances.old.items) d)
         × (lines.new.items ≡ lines.old.items ++ line_of number d)
         × RoseBy (carry_faults (outputs_done d)) (C.faults carry.old) (C.faults carry.new)
         × GrowsBy (C.passed carry.old) (C.passed carry.new)
@@ -177,7 +182,7 @@ fn put_line<K: Keeper, C: Carry>(
         (CutLine (hosts_of instances.old.items) (step_of directory.now line.now)
         (states_of instances.old.items) (states_of instances.new.items)
         (C.passed carry.old) (C.passed carry.new)) }
-    ensures hosts { hosts_of instances.new.items ≡ hosts_of instances.old.items }
+    ensures places { vec_len instances.new ≡ vec_len instances.old }
     ensures later { C.faults carry.old ≤ C.faults carry.new }
 {
     put_front(lines, alloc, number)?;
@@ -233,11 +238,14 @@ pub fn run_net<K: Keeper, C: Carry>(
 ) -> Result<Vec<u8>, NetFault>
     requires { length net.instances ≤ vec_len keepers.old }
 
-    // THE headline. Each reply is the stated function of its line and of what is held, each keeper
-    // holds the newest versions, and what an organisation was never granted changes none of its
-    // replies: all of one run, whose text this is.
-    ensures ran { IfOk result (λ lines.
-        IsNetRun (described_hosts net) (lines_of (directory_of net) script.now)
+    // THE headline, of the instances as they open. Each reply is the stated function of its line
+    // and of what is held, each keeper holds the newest versions, and what an organisation was
+    // never granted changes none of its replies: all of one run, whose text this is.
+    ensures ran { IfOk result (λ lines. (hosts : List Host)
+        × AreOpened (described_hosts net)
+        (opened_states (take (length net.instances) (map K.state keepers.old.items)))
+        (take (length net.instances) (map K.state keepers.new.items)) hosts
+        × IsNetRun hosts (lines_of (directory_of net) script.now)
         (opened_states (take (length net.instances) (map K.state keepers.old.items)))
         (take (length net.instances) (map K.state keepers.new.items))
         (carried (C.faults carry.old) (C.passed carry.old))
@@ -266,9 +274,10 @@ pub fn run_net<K: Keeper, C: Carry>(
     ensures others { drop (length net.instances) (map K.state keepers.new.items)
         ≡ drop (length net.instances) (map K.state keepers.old.items) }
 {
-    // A group that is held is read again as it was, and a synchronisation leaves what the history
-    // says of it.
-    a_group_is_read_from_its_text();
+    // Groups and items are held as their rows, and a synchronisation leaves what the history says
+    // of it.
+    groups_are_held_as_their_rows();
+    items_are_held_beside_the_groups();
     an_instance_pulls_by_the_history();
     an_instance_pushes_by_the_history();
     let directory = net.directory(alloc)?;

@@ -6,7 +6,9 @@ ghost use Rattle.misp_outside.specs.Reporting.{WhereReported};
 ghost use Rattle.misp_http.specs.Reading.{IsRead};
 ghost use Rattle.misp_http.specs.declared.request.Read.{Read as WasRead};
 ghost use Rattle.misp_api.specs.Exchange.{IsExchanged, IsLeftSo};
+ghost use Rattle.misp_api.specs.Answering.{IsSync};
 ghost use Rattle.misp_api.specs.Sending.{read_form};
+ghost use Rattle.misp_core.specs.Standing.{host_of};
 ghost use Rattle.misp_dialogue.specs.Parties.{GrowsBy};
 ghost use Rattle.misp_sync.specs.Wire.{IsSameHost, IsUnanswered};
 
@@ -61,10 +63,13 @@ impl<'a, K: Keeper, C: Carry> OverCarry<'a, K, C> {
         // Where no reply comes, what is held is as it was, or what some reply leaves.
         ensures left { (read : WasRead) → IsRead bytes.now (Ok read) (Some []) →
             OnErr result (WhereReported self.old.peer.now.held self.new.peer.now.held
-            (IsLeftSo self.old.now (read_form self.old.peer.now.admin self.old.word read)
+            (IsLeftSo self.old.now (read_form (host_of self.old.peer.now) self.old.word read)
             self.old.peer.now)) }
 
-        ensures same { IsSameHost self.old.peer.now self.new.peer.now }
+        // What a synchronisation asks leaves the instance what it was.
+        ensures same { (read : WasRead) → IsRead bytes.now (Ok read) (Some []) →
+            IsSync (read_form (host_of self.old.peer.now) self.old.word read) →
+            IsSameHost self.old.peer.now self.new.peer.now }
         ensures silent { self.old.peer.now.held ≡ None → self.new.peer.now.held ≡ None }
         ensures later { self.old.peer.now.faults ≤ self.new.peer.now.faults }
         ensures told { GrowsBy (C.passed self.old.carry.now) (C.passed self.new.carry.now)
@@ -96,7 +101,7 @@ impl<K: Keeper, C: Carry> Wire for OverCarry<'_, K, C> {
     ghost faults = { λ w. C.faults w.carry.now };
 
     fn ask(&mut self, alloc: Global, bytes: &[u8]) -> Result<Vec<u8>, WireFault> {
-        self.peer.holds_groups_alone();
+        self.peer.holds_sound_rows();
         self.peer.has_owners();
         a_call_is_read_back();
         a_call_comes_to_what_is_stated();

@@ -4,7 +4,7 @@ ghost use Rattle.std.specs.Prelude.{◌≡◌, ◌+◌, ◌<◌, ◌≤◌, [], 
 ghost use Rattle.misp_effects.specs.KeeperStates.{AreKept, OneFailed};
 ghost use Rattle.misp_core.specs.Standing.{host_of};
 ghost use Rattle.misp_net.specs.Hosts.{described_host};
-ghost use Rattle.misp_net.specs.Opening.{AreKeptOrOpened, opened_states};
+ghost use Rattle.misp_net.specs.Opening.{AreKeptOrOpened, AreOpened, opened_states};
 ghost use Rattle.misp_net.specs.Running.{hosts_of, state_of, states_of, fault_of};
 ghost use Rattle.misp_store.specs.Sharing.{WereSound, may_be_unsound};
 
@@ -19,7 +19,7 @@ use std::alloc::{AllocError, Global};
 pub enum NetFault {
     /// A keeper failed while an instance was opened.
     KeeperFault,
-    /// A row does not decode, or one of the administration is no group.
+    /// A row does not decode, or one of the administration is neither a group nor an item.
     BadRow,
     NoMemory,
 }
@@ -62,7 +62,8 @@ pub fn open_first<K: Keeper>(
     entry: Entry,
 ) -> Result<Instance<K>, NetFault>
     requires { 0 < vec_len keepers.old }
-    ensures host { IfOk result (λ instance. host_of instance ≡ described_host entry) }
+    ensures host { IfOk result (λ instance. AreOpened (described_host entry ∷ [])
+        (state_of instance ∷ []) (state_of instance ∷ []) (host_of instance ∷ [])) }
     ensures opened { IfOk result (λ instance. AreKept
         (opened_states (take 1 (map K.state keepers.old.items))) (state_of instance ∷ [])) }
     ensures sound { IfOk result (λ instance.
@@ -99,8 +100,8 @@ pub(crate) fn open_all<K: Keeper>(
     entries: Vec<Entry>,
 ) -> Result<Vec<Instance<K>>, NetFault>
     requires { vec_len entries ≤ vec_len keepers.old }
-    ensures hosts { IfOk result (λ instances.
-        hosts_of instances.items ≡ map described_host entries.items) }
+    ensures hosts { IfOk result (λ instances. AreOpened (map described_host entries.items)
+        (states_of instances.items) (states_of instances.items) (hosts_of instances.items)) }
     ensures opened { IfOk result (λ instances. AreKept
         (opened_states (take (vec_len entries) (map K.state keepers.old.items)))
         (states_of instances.items)) }

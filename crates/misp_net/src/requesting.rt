@@ -50,7 +50,6 @@ pub(crate) fn put_request<K: Keeper>(
     ensures kept { OnErr result (StaysHeld instance.old.held instance.new.held) }
     ensures later { instance.old.faults ≤ instance.new.faults }
     ensures name { instance.new.name ≡ instance.old.name }
-    ensures admin { instance.new.admin ≡ instance.old.admin }
 {
     match request_read(alloc, line) {
         Ok(Read::Request(request)) => {

@@ -55,6 +55,7 @@ fn words(alloc: Global, cause: &Cause) -> Result<Refusal, NoMemory>
     Ok(match cause {
         Cause::NoLink => Refusal::bare(alloc, RuleName::NoLink),
         Cause::LinkOff => Refusal::bare(alloc, RuleName::LinkOff),
+        Cause::NoPeer => Refusal::bare(alloc, RuleName::NoPeer),
         Cause::Refused { status, rule } => {
             placed(RuleName::PeerRefused, numbers(alloc, *status, *rule)?)
         }

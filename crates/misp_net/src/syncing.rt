@@ -43,7 +43,7 @@ fn asked<K: Keeper>(
     let link = usable(instance, &line.link)?;
     match directory.place_of(link.peer.text().as_bytes()) {
         Some(peer) if peer != line.at => Ok(peer),
-        _ => Err(Cause::NoLink),
+        _ => Err(Cause::NoPeer),
     }
 }
 
@@ -139,7 +139,7 @@ pub(crate) fn put_sync<K: Keeper, C: Carry>(
 ) -> Result<(), NoMemory>
     requires inside { line.now.at < vec_len instances.old }
     requires names { roster_names directory.now ≡ names_of (hosts_of instances.old.items) }
-    ensures ran { OnOk result (RanLine (hosts_of instances.old.items)
+    ensures ran { OnOk result (RanLine (hosts_of instances.old.items) (hosts_of instances.new.items)
         (sync_line now word (sync_data line.now))
         (states_of instances.old.items) (states_of instances.new.items)
         lines.old.items lines.new.items

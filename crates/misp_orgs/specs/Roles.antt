@@ -1,5 +1,5 @@
 -- What roles permit.
-use Rattle.std.specs.Prelude.{ℕ, Bool, true, false, List, codes}
+use Rattle.std.specs.Prelude.{ℕ, Bool, true, false, List, codes, bytes_eq, Option, Some, None, if◌then◌else◌}
 use Rattle.misp_orgs.specs.declared.role.Role.{Role}
 use Rattle.misp_orgs.specs.declared.role.Perm.{Perm}
 
@@ -29,6 +29,17 @@ permits Role.Sync Perm.Publish = true
 permits Role.Sync Perm.Sync = true
 permits Role.SiteAdmin Perm.Admin = true
 permits role perm = false
+
+-- the role of this name
+abbrev pub role_named : List ℕ → Option Role
+role_named text =
+    if bytes_eq text (codes "reader") then Some Role.Reader
+    else if bytes_eq text (codes "user") then Some Role.User
+    else if bytes_eq text (codes "publisher") then Some Role.Publisher
+    else if bytes_eq text (codes "orgadmin") then Some Role.OrgAdmin
+    else if bytes_eq text (codes "sync") then Some Role.Sync
+    else if bytes_eq text (codes "siteadmin") then Some Role.SiteAdmin
+    else None
 
 -- the role of a key with which another instance asks
 abbrev pub is_sync : Role → Bool

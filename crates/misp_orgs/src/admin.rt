@@ -2,7 +2,7 @@
 
 ghost use Rattle.std.specs.Prelude.{◌≡◌, ◌≤◌, length, option_map, IfOk, IfSome, OnOk};
 ghost use Rattle.std.specs.List.Sorted.{IsStrictlySortedBy};
-ghost use Rattle.misp_orgs.specs.Org.{name_limit, org_of, name_of};
+ghost use Rattle.misp_orgs.specs.Org.{name_limit, org_of, name_of, has_org, has_org_name};
 ghost use Rattle.misp_lists.specs.Order.{sorted_by};
 ghost use Rattle.misp_orgs.specs.Admin.{by_uuid, by_key, by_name, AreDistinct, admin_of, record_of, who_of, link_of};
 
@@ -119,6 +119,13 @@ impl Admin {
         }
     }
 
+    /// The record of a key, revoked or not.
+    pub fn record(&self, key: &ApiKey) -> Option<&KeyRecord>
+        ensures { option_map (λ k. k.now) result ≡ record_of self.now.keys key.now }
+    {
+        record_of(self.keys.as_slice(), key)
+    }
+
     /// The link of a name.
     pub fn link(&self, name: &InstId) -> Option<&Link>
         ensures { option_map (λ link. link.now) result ≡ link_of self.now.links name.now }
@@ -135,5 +142,22 @@ impl Admin {
             Some(org) => Some(org.name.as_str()),
             None => None,
         }
+    }
+
+    /// Whether the organisation is known.
+    pub fn is_known(&self, org: &OrgId) -> bool
+        ensures { result ≡ has_org self.now.orgs org.now }
+    {
+        org_of(self.orgs.as_slice(), org).is_some()
+    }
+
+    /// Whether an organisation has this name. Looks at each of them.
+    pub fn is_named(&self, name: &str) -> bool
+        ensures { result ≡ has_org_name self.now.orgs name.now }
+    {
+        self.orgs
+            .as_slice()
+            .iter()
+            .any(|org| org.name.as_str() == name)
     }
 }

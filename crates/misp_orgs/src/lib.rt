@@ -10,5 +10,5 @@ mod role;
 pub use admin::Admin;
 pub use key::{Caller, KeyRecord};
 pub use link::Link;
-pub use org::{NAME_LIMIT, Org, is_short};
+pub use org::{NAME_LIMIT, Org, is_org_name, is_short};
 pub use role::{Perm, Role, may};

@@ -1,7 +1,10 @@
 //! Organisations.
 
-ghost use Rattle.std.specs.Prelude.{◌≡◌, length, nat_le};
-ghost use Rattle.misp_orgs.specs.Org.{name_limit};
+ghost use Rattle.std.specs.Prelude.{◌≡◌, ◌≤◌, length, nat_le};
+ghost use Rattle.std.specs.List.{list_any};
+ghost use Rattle.std.specs.Str.{chars};
+ghost use Rattle.std.specs.Char.{is_control};
+ghost use Rattle.misp_orgs.specs.Org.{name_limit, is_org_name};
 
 use misp_ids::{OrgId, Text};
 use std::alloc::AllocError;
@@ -16,6 +19,19 @@ pub fn is_short(name: &str) -> bool
     ensures limit { NAME_LIMIT ≡ name_limit }
 {
     name.len() <= NAME_LIMIT
+}
+
+fn has_control(text: &str) -> bool
+    ensures { result ≡ list_any is_control (chars text.now) }
+{
+    text.chars().any(|c| c.is_control())
+}
+
+/// A text can be an organisation's name.
+pub fn is_org_name(text: &str) -> bool
+    ensures { result ≡ is_org_name text.now }
+{
+    !text.is_empty() && is_short(text) && !has_control(text)
 }
 
 /// An organisation and its name.

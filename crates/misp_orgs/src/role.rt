@@ -1,7 +1,7 @@
 //! Roles, and what they permit.
 
 ghost use Rattle.std.specs.Prelude.{◌≡◌};
-ghost use Rattle.misp_orgs.specs.Roles.{permits, perm_name};
+ghost use Rattle.misp_orgs.specs.Roles.{permits, perm_name, role_named};
 
 /// In which role a key asks.
 #[derive(Clone, Copy, PartialEq, Eq)]
@@ -13,6 +13,29 @@ pub enum Role {
     /// For the synchronisation with another instance.
     Sync,
     SiteAdmin,
+}
+
+impl Role {
+    /// The role of this name.
+    pub fn named(text: &str) -> Option<Role>
+        ensures { result ≡ role_named text.now }
+    {
+        if text == "reader" {
+            Some(Role::Reader)
+        } else if text == "user" {
+            Some(Role::User)
+        } else if text == "publisher" {
+            Some(Role::Publisher)
+        } else if text == "orgadmin" {
+            Some(Role::OrgAdmin)
+        } else if text == "sync" {
+            Some(Role::Sync)
+        } else if text == "siteadmin" {
+            Some(Role::SiteAdmin)
+        } else {
+            None
+        }
+    }
 }
 
 /// What a role permits.

@@ -17,6 +17,7 @@ use Rattle.misp_protocol.specs.declared.request.Request.{Request}
 abbrev pub IsGarbled : Cause → Type 0
 IsGarbled Cause.NoLink = ⊥
 IsGarbled Cause.LinkOff = ⊥
+IsGarbled Cause.NoPeer = ⊥
 IsGarbled (Cause.Refused status rule) = ⊥
 IsGarbled (Cause.Garbled kind) = Unit {0}
 IsGarbled Cause.Link = ⊥

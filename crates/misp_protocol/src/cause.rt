@@ -19,6 +19,8 @@ pub enum Cause {
     /// The instance has no link of this name.
     NoLink,
     LinkOff,
+    /// The peer of the link is none of the other instances.
+    NoPeer,
     /// The peer refused a request with this status, and by the rule of this number.
     Refused { status: u16, rule: u64 },
     /// A reply has not the form of what was asked.

@@ -1,6 +1,5 @@
 -- THE TABLES of a description: the members of each, in the order in which they are read.
-use Rattle.std.specs.Prelude.{ℕ, ◌==◌, ◌&&◌, Bool, not, nat_le, nat_lt, List, [], ◌∷◌, ◌++◌, length, codes, bytes_eq, find, Option, Some, None, option_map, is_some, true, false, Ok, if◌then◌else◌, chars}
-use Rattle.std.specs.Char.{is_control}
+use Rattle.std.specs.Prelude.{ℕ, ◌==◌, ◌&&◌, Bool, not, List, [], ◌∷◌, ◌++◌, length, codes, bytes_eq, find, Option, Some, None, option_map, is_some, true, false, Ok, if◌then◌else◌}
 use Rattle.toml.specs.Data.{Data}
 use Rattle.misp_lists.specs.Prelude.{list_any, option_map_or}
 use Rattle.misp_ids.specs.declared.uid.Uid.{Uid}
@@ -8,7 +7,8 @@ use Rattle.misp_ids.specs.declared.uid.OrgId.{OrgId}
 use Rattle.misp_ids.specs.Uid.{read_uid}
 use Rattle.misp_ids.specs.Names.{is_inst_name, is_api_key}
 use Rattle.misp_orgs.specs.declared.role.Role.{Role}
-use Rattle.misp_orgs.specs.Org.{name_limit, OrgFields}
+use Rattle.misp_orgs.specs.Org.{OrgFields, is_org_name}
+use Rattle.misp_orgs.specs.Roles.{role_named}
 use Rattle.misp_script.specs.declared.description.Host.{Host}
 use Rattle.misp_script.specs.declared.description.HostKey.{HostKey}
 use Rattle.misp_script.specs.declared.description.HostLink.{HostLink}
@@ -17,12 +17,6 @@ use Rattle.misp_script.specs.Faults.{Reading, ◌>>=◌}
 use Rattle.misp_script.specs.Entries.{Body, entry_of, has, text_in, text_at, text_or_none_at, flag_or_at, said, refused_if, no_other}
 
 -- ---- organisations
-
--- 1 to 64 bytes, and no control character
-abbrev pub is_org_name : List ℕ → Bool
-is_org_name text =
-    nat_lt 0 (length text) && nat_le (length text) name_limit
-    && not (list_any is_control (chars text))
 
 abbrev pub org_name_of : List ℕ → Option (List ℕ)
 org_name_of text = if is_org_name text then Some text else None
@@ -125,16 +119,6 @@ internal_at hosts it at peer = do
 abbrev pub key_of : List ℕ → Option (List ℕ)
 key_of text = if is_api_key text then Some text else None
 
-abbrev pub role_of : List ℕ → Option Role
-role_of text =
-    if bytes_eq text (codes "reader") then Some Role.Reader
-    else if bytes_eq text (codes "user") then Some Role.User
-    else if bytes_eq text (codes "publisher") then Some Role.Publisher
-    else if bytes_eq text (codes "orgadmin") then Some Role.OrgAdmin
-    else if bytes_eq text (codes "sync") then Some Role.Sync
-    else if bytes_eq text (codes "siteadmin") then Some Role.SiteAdmin
-    else None
-
 -- the instance of this name
 abbrev pub host_of : List Host → List ℕ → Option (List ℕ)
 host_of hosts text = option_map (λ h. h.name) (find (λ h. bytes_eq h.name text) hosts)
@@ -151,7 +135,7 @@ abbrev pub api_key_at : Body → Reading (List ℕ)
 api_key_at it = text_at it (codes "key") >>= λ text. said it (codes "key") DescNeed.Key (key_of text)
 
 abbrev pub role_at : Body → Reading Role
-role_at it = text_at it (codes "role") >>= λ text. said it (codes "role") DescNeed.Role (role_of text)
+role_at it = text_at it (codes "role") >>= λ text. said it (codes "role") DescNeed.Role (role_named text)
 
 abbrev pub no_partner_at : Body → Reading (Option (List ℕ))
 no_partner_at it =

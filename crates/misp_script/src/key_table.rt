@@ -5,7 +5,7 @@ ghost use Rattle.toml.specs.View.{view};
 ghost use Rattle.misp_script.specs.Faults.{Gives};
 ghost use Rattle.misp_script.specs.Seen.{Shows, body_of};
 ghost use Rattle.misp_script.specs.Entries.{each};
-ghost use Rattle.misp_script.specs.Tables.{role_of, has_key, known_host_at, api_key_at, role_at, no_partner_at, partner_at, not_internal_at, key_internal_at, key_at, next_key};
+ghost use Rattle.misp_script.specs.Tables.{has_key, known_host_at, api_key_at, role_at, no_partner_at, partner_at, not_internal_at, key_internal_at, key_at, next_key};
 
 use crate::description::HostKey;
 use crate::fault::{DescFault, DescNeed};
@@ -77,26 +77,6 @@ impl HostKeys {
     }
 }
 
-fn role_of(text: &str) -> Option<Role>
-    ensures { result ≡ role_of text.now }
-{
-    if text == "reader" {
-        Some(Role::Reader)
-    } else if text == "user" {
-        Some(Role::User)
-    } else if text == "publisher" {
-        Some(Role::Publisher)
-    } else if text == "orgadmin" {
-        Some(Role::OrgAdmin)
-    } else if text == "sync" {
-        Some(Role::Sync)
-    } else if text == "siteadmin" {
-        Some(Role::SiteAdmin)
-    } else {
-        None
-    }
-}
-
 pub(crate) fn known_host(hosts: &HostList, it: &Listed<'_>, name: &str) -> Result<InstId, DescFault>
     ensures { Gives result (known_host_at hosts.now (body_of it.now) name.now) }
 {
@@ -115,7 +95,7 @@ fn role(it: &Listed<'_>) -> Result<Role, DescFault>
     ensures { Gives result (role_at (body_of it.now)) }
 {
     let text = it.text("role")?;
-    it.said("role", DescNeed::Role, role_of(text))
+    it.said("role", DescNeed::Role, Role::named(text))
 }
 
 fn no_partner(it: &Listed<'_>) -> Result<Option<InstId>, DescFault>

@@ -1,22 +1,20 @@
 //! The list `org`.
 
 ghost use Rattle.std.specs.Prelude.{◌≡◌, ◌≤◌, ◌&&◌, ◌==◌, [], ◌∷◌, ◌++◌, Ok, List, length, map, IfOk, IfErr, OnOk};
-ghost use Rattle.misp_orgs.specs.Org.{name_limit, OrgFields};
+ghost use Rattle.misp_orgs.specs.Org.{name_limit, OrgFields, is_org_name};
 ghost use Rattle.misp_script.specs.declared.fault.DescFault.TheVariants.{NoMemory};
 ghost use Rattle.misp_script.specs.Known.{NamesOrgs};
 ghost use Rattle.std.specs.List.{list_any};
-ghost use Rattle.std.specs.Str.{chars};
-ghost use Rattle.std.specs.Char.{is_control};
 ghost use Rattle.toml.specs.View.{view};
 ghost use Rattle.misp_script.specs.Faults.{Gives};
 ghost use Rattle.misp_script.specs.Seen.{Shows, body_of};
 ghost use Rattle.misp_script.specs.Entries.{each};
-ghost use Rattle.misp_script.specs.Tables.{is_org_name, org_named, has_name, has_number, org_name_at, uuid_at, org_at, next_org, known_org_at, known_org_or_none_at};
+ghost use Rattle.misp_script.specs.Tables.{org_named, has_name, has_number, org_name_at, uuid_at, org_at, next_org, known_org_at, known_org_or_none_at};
 
 use crate::fault::{DescFault, DescNeed};
 use crate::listed::Listed;
 use misp_ids::{OrgId, Text, Uid};
-use misp_orgs::{Org, is_short};
+use misp_orgs::{Org, is_org_name};
 use std::alloc::Global;
 use std::collections::{BTreeMap, BTreeSet};
 use std::marker::Model;
@@ -112,18 +110,6 @@ impl OrgList {
             numbers,
         })
     }
-}
-
-fn has_control(text: &str) -> bool
-    ensures { result ≡ list_any is_control (chars text.now) }
-{
-    text.chars().any(|c| c.is_control())
-}
-
-fn is_org_name(text: &str) -> bool
-    ensures { result ≡ is_org_name text.now }
-{
-    !text.is_empty() && is_short(text) && !has_control(text)
 }
 
 fn org_name<'a>(it: &Listed<'a>) -> Result<&'a str, DescFault>

@@ -17,7 +17,7 @@ use Rattle.misp_format.specs.Prelude.{IsGroup, group_in_text, uncarried}
 use Rattle.misp_format.specs.WholeGroup.{group_text}
 use Rattle.misp_model.proofs.Prelude.{AllByRecursion, Group, GroupId, IsUid, and_from, and_parts, bytes_eq-Decides, is_eq-slice_cmp, list_all, nat_tests, ordering_then, put, put_group, slice_cmp, uid}
 use Rattle.misp_store.specs.Raw.{onto}
-use Rattle.misp_store.specs.Sharing.{carried_flag, group_name, group_row, flagged, group_told, is_id, is_row_of, group_where, group_in, groups_in, HoldsGroups}
+use Rattle.misp_store.specs.Sharing.{carried_flag, group_name, group_row, flagged, group_told, is_id, is_row_of, group_where, group_in, all_groups_in}
 use Rattle.misp_store.specs.Decoding.{put_onto}
 
 -- ---- names
@@ -95,19 +95,19 @@ unfolding is_row_of
 read_id g is = id_is g.id (and_parts _ _ (told_by (group_row g) g is)).0
 
 -- what is held of such groups is read as those groups
-read_again : (gs : List Group) → AreRead gs → groups_in (map group_row gs) ≡ Ok gs
-unfolding groups_in
+read_again : (gs : List Group) → AreRead gs → all_groups_in (map group_row gs) ≡ Ok gs
+unfolding all_groups_in
 read_again [] are = refl
 read_again (g ∷ gs) are =
-    ap (λ found. onto (group_row g).name found (groups_in (map group_row gs))) are.0 ∙ ap (onto (group_row g).name (Some g)) (read_again gs are.1)
+    ap (λ found. onto (group_row g).name found (all_groups_in (map group_row gs))) are.0 ∙ ap (onto (group_row g).name (Some g)) (read_again gs are.1)
 
 -- the rows are those of groups that are read
 record WereRead (rows : List AdminRow) (gs : List Group) : Type 0 where
   rows_are : rows ≡ map group_row gs
   read : AreRead gs
 
-first_read : (row : AdminRow) (rows : List AdminRow) (gs : List Group) → ((hs : List Group) → groups_in rows ≡ Ok hs → WereRead rows hs)
-    → (found : Option Group) (others : Result (List Group) (List ℕ)) → group_in row ≡ found → groups_in rows ≡ others → onto row.name found others ≡ Ok gs → WereRead (row ∷ rows) gs
+first_read : (row : AdminRow) (rows : List AdminRow) (gs : List Group) → ((hs : List Group) → all_groups_in rows ≡ Ok hs → WereRead rows hs)
+    → (found : Option Group) (others : Result (List Group) (List ℕ)) → group_in row ≡ found → all_groups_in rows ≡ others → onto row.name found others ≡ Ok gs → WereRead (row ∷ rows) gs
 first_read row rows gs rest None others f o e = absurd cc
 first_read row rows gs rest (Some g) (Err name) f o e = absurd cc
 first_read row rows gs rest (Some g) (Ok hs) f o e =
@@ -119,13 +119,13 @@ first_read row rows gs rest (Some g) (Ok hs) f o e =
       read = (subst (λ (r : AdminRow). group_in r ≡ Some g) is f, were.read);
     })
 
-were_read : (rows : List AdminRow) (gs : List Group) → groups_in rows ≡ Ok gs → WereRead rows gs
-unfolding groups_in
+were_read : (rows : List AdminRow) (gs : List Group) → all_groups_in rows ≡ Ok gs → WereRead rows gs
+unfolding all_groups_in
 were_read [] gs e = let all : [] ≡ gs = cc in subst (WereRead []) all (record { rows_are = refl; read = tt })
-were_read (row ∷ rows) gs e = first_read row rows gs (were_read rows) (group_in row) (groups_in rows) refl refl e
+were_read (row ∷ rows) gs e = first_read row rows gs (were_read rows) (group_in row) (all_groups_in rows) refl refl e
 
 -- nothing else is read as groups
-pub only_rows : (rows : List AdminRow) (gs : List Group) → groups_in rows ≡ Ok gs → rows ≡ map group_row gs
+pub only_rows : (rows : List AdminRow) (gs : List Group) → all_groups_in rows ≡ Ok gs → rows ≡ map group_row gs
 only_rows rows gs e = (were_read rows gs e).rows_are
 
 -- ---- putting
@@ -154,15 +154,15 @@ module _ (g : Group) (is : IsRead g) where
   placed_read (h ∷ hs) are = chosen_read (group_before g.id h.id) (g ∷ h ∷ hs) (h ∷ put (λ a b. group_before a.id b.id) g hs) (is, are) (are.0, placed_read hs are.1)
 
   -- the row of a group is put where the group is
-  pub group_put : (rows : List AdminRow) (gs : List Group) → groups_in rows ≡ Ok gs → groups_in (put_admin (group_row g) rows) ≡ Ok (put_group g gs)
+  pub group_put : (rows : List AdminRow) (gs : List Group) → all_groups_in rows ≡ Ok gs → all_groups_in (put_admin (group_row g) rows) ≡ Ok (put_group g gs)
   unfolding put_admin put_group
   group_put rows gs e =
       let were : WereRead rows gs = were_read rows gs e in
       let others : List Group = filter (λ h. not (same_group h.id g.id)) gs in
       let read : AreRead others = filtered_read (λ h. not (same_group h.id g.id)) gs were.read in
-      ap (λ rs. groups_in (put_admin (group_row g) rs)) were.rows_are
-      ∙ ap (λ rs. groups_in (put admin_before (group_row g) rs)) (others_held gs were.read)
-      ∙ ap groups_in (place_held others read)
+      ap (λ rs. all_groups_in (put_admin (group_row g) rs)) were.rows_are
+      ∙ ap (λ rs. all_groups_in (put admin_before (group_row g) rs)) (others_held gs were.read)
+      ∙ ap all_groups_in (place_held others read)
       ∙ read_again _ (placed_read others read)
 
 -- ---- in order
@@ -184,15 +184,15 @@ ascended (g ∷ gs) are e =
     let parts = and_parts _ _ e in
     (all_behind g gs are.0 are.1 parts.0, ascended gs are.1 parts.1)
 
-put_in_order : (rows : List AdminRow) (groups : List Group) (read : Result (List Group) (List ℕ)) → ascend admin_before rows ≡ true → groups_in rows ≡ read → put_onto [] read ≡ Ok groups → read ≡ Ok groups
+put_in_order : (rows : List AdminRow) (groups : List Group) (read : Result (List Group) (List ℕ)) → ascend admin_before rows ≡ true → all_groups_in rows ≡ read → put_onto [] read ≡ Ok groups → read ≡ Ok groups
 put_in_order rows groups (Err name) up r e = absurd cc
 put_in_order rows groups (Ok gs) up r e =
     let were : WereRead rows gs = were_read rows gs r in
     sym (ap Ok (in_order_again gs (ascended gs were.read (sym (ap (ascend admin_before) were.rows_are) ∙ up)))) ∙ e
 
 -- groups that are put in their places in the order of their rows are those of the rows
-pub in_their_order : (rows : List AdminRow) (groups : List Group) → ascend admin_before rows ≡ true → put_onto [] (groups_in rows) ≡ Ok groups → groups_in rows ≡ Ok groups
-in_their_order rows groups up e = put_in_order rows groups (groups_in rows) up refl e
+pub in_their_order : (rows : List AdminRow) (groups : List Group) → ascend admin_before rows ≡ true → put_onto [] (all_groups_in rows) ≡ Ok groups → all_groups_in rows ≡ Ok groups
+in_their_order rows groups up e = put_in_order rows groups (all_groups_in rows) up refl e
 
 -- ---- groups that are groups
 
@@ -232,7 +232,7 @@ module _ (back : AreReadBack) where
   groups_read (g ∷ gs) are = (group_again g are.0, groups_read gs are.1)
 
   -- what is held of groups is read as those groups
-  pub groups_again : (gs : List Group) → AllByRecursion IsGroup gs → groups_in (map group_row gs) ≡ Ok gs
+  pub groups_again : (gs : List Group) → AllByRecursion IsGroup gs → all_groups_in (map group_row gs) ≡ Ok gs
   groups_again gs are = read_again gs (groups_read gs are)
 
 -- a row that is that of a group, by its parts
@@ -242,37 +242,3 @@ row_told row own g same is e told =
     told
     ∙ ap (λ (o : AdminRow). same_admin row o && bytes_eq row.bytes o.bytes) e
     ∙ ap (λ b. b && (same_admin row (group_row g) && bytes_eq row.bytes (group_row g).bytes)) (sym (id_fits g.id (is.creator, is.uuid)))
-
--- ---- one after another
-
--- with one group more
-put_more : (groups : List Group) (row : AdminRow) (g : Group) (others : Result (List Group) (List ℕ)) → put_onto groups (onto row.name (Some g) others) ≡ put_onto (put_group g groups) others
-unfolding put_groups
-put_more groups row g (Ok hs) = refl
-put_more groups row g (Err name) = refl
-
-module _ (rows : List AdminRow) (i : ℕ) (groups : List Group) (total : Result (List Group) (List ℕ)) (so_far : put_onto groups (groups_in (drop i rows)) ≡ total) where
-  put_next : (row : AdminRow) (g : Group) (put : List Group) → i < length rows → row ≡ get_or rows i row → group_in row ≡ Some g → put ≡ put_group g groups → put_onto put (groups_in (drop (i + 1) rows)) ≡ total
-  unfolding groups_in
-  put_next row g put l is told e =
-      ap (λ gs. put_onto gs (groups_in (drop (i + 1) rows))) e
-      ∙ sym (put_more groups row g (groups_in (drop (i + 1) rows)))
-      ∙ ap (λ found. put_onto groups (onto row.name found (groups_in (drop (i + 1) rows)))) (sym told)
-      ∙ ap (λ rs. put_onto groups (groups_in rs)) (ap (λ (r : AdminRow). r ∷ drop (i + 1) rows) is ∙ sym (drop_more rows i row l))
-      ∙ so_far
-
-  -- the same, where what is put is what the row tells
-  pub put_told : (row : AdminRow) (found : Option Group) (put : List Group) → Some put ≡ option_map (λ g. put_group g groups) found → group_in row ≡ found → i < length rows → row ≡ get_or rows i row
-      → put_onto put (groups_in (drop (i + 1) rows)) ≡ total
-  put_told row None put e told l is = absurd cc
-  put_told row (Some g) put e told l is = let same : put ≡ put_group g groups = cc in put_next row g put l is told same
-
-  pub put_all_done : length rows ≤ i → total ≡ Ok groups
-  unfolding groups_in put_groups
-  put_all_done l = sym so_far ∙ ap (λ rs. put_onto groups (groups_in rs)) (drop_of_length-le rows l)
-
--- what a keeper tells of the groups, where they are put one after another
-pub held_in_order : (held : Option Held) (rows : List AdminRow) (groups : List Group) → IfSome held (λ told. rows ≡ told.admin) → IfSome held (λ told. IsTrue (ascend admin_before rows))
-    → put_onto [] (groups_in rows) ≡ Ok groups → HoldsGroups held groups
-held_in_order None rows groups found up e = tt
-held_in_order (Some told) rows groups found up e = subst (λ rs. groups_in rs ≡ Ok groups) found (in_their_order rows groups up e)

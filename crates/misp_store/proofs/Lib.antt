@@ -1,5 +1,7 @@
 pub mod HeldRows
 pub mod GroupRows
+pub mod AdminRows
+pub mod BesideItems
 pub mod TableRows
 pub mod OwnerRows
 pub mod RowNames

@@ -7,7 +7,7 @@ use Rattle.misp_effects.specs.Prelude.{Group, RawRow, Row}
 use Rattle.misp_store.specs.Loading.{NamesFault}
 use Rattle.misp_store.specs.Raw.{rows_in}
 use Rattle.misp_store.specs.Renewing.{after_groups, after_rows, is_old, opened, put_anew, renewed, renewed_row}
-use Rattle.misp_store.specs.Sharing.{HoldsGroups, groups_in}
+use Rattle.misp_store.specs.Sharing.{HasGroups, HoldsGroups, groups_in}
 use Rattle.misp_store.specs.declared.fault.LoadFault.{LoadFault}
 use Rattle.misp_store.proofs.Renewed.{anew_many}
 
@@ -47,7 +47,7 @@ unfolding renewed
 groups_renewed None None groups put holds = tt
 groups_renewed None (Some now) groups put holds = absurd put
 groups_renewed (Some told) None groups put holds = tt
-groups_renewed (Some told) (Some now) groups put holds = ap (λ (h : Held). groups_in h.admin) put ∙ holds
+groups_renewed (Some told) (Some now) groups put holds = subst (λ h. HasGroups h groups) (sym put) (record { order = holds.order; are = holds.are })
 
 rows_after : (held : Held) (read : Result (List Row) (List ℕ)) → IsOk read → IsOk (after_rows held read)
 rows_after held (Ok rows) ok = refl
@@ -59,9 +59,9 @@ unfolding opened
 both_read None None groups holds rows = tt
 both_read None (Some now) groups holds rows = absurd rows
 both_read (Some told) None groups holds rows = tt
-both_read (Some told) (Some now) groups holds rows = subst (λ read. IsOk (after_groups told read)) (sym holds) (rows_after told (rows_in told.rows) rows)
+both_read (Some told) (Some now) groups holds rows = subst (λ read. IsOk (after_groups told read)) (sym holds.are) (rows_after told (rows_in told.rows) rows)
 
--- a row of the administration is no group
+-- a row of the administration is neither a group nor an item
 pub group_bad : (held : Option Held) (fault : LoadFault) → IfSome held (λ h. NamesFault (groups_in h.admin) fault) → IfSome held (λ h. NamesFault (opened h) fault)
 unfolding opened
 group_bad None fault bad = tt
@@ -73,6 +73,6 @@ group_bad (Some held) LoadFault.NoMemory bad = tt
 pub row_bad : (held : Option Held) (groups : List Group) (fault : LoadFault) → HoldsGroups held groups → IfSome held (λ h. NamesFault (rows_in h.rows) fault) → IfSome held (λ h. NamesFault (opened h) fault)
 unfolding opened
 row_bad None groups fault holds bad = tt
-row_bad (Some held) groups (LoadFault.BadRow name) holds bad = ap (after_groups held) holds ∙ ap (after_rows held) bad
+row_bad (Some held) groups (LoadFault.BadRow name) holds bad = ap (after_groups held) holds.are ∙ ap (after_rows held) bad
 row_bad (Some held) groups LoadFault.KeeperFault holds bad = tt
 row_bad (Some held) groups LoadFault.NoMemory holds bad = tt

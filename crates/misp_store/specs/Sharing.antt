@@ -1,8 +1,10 @@
 -- Sharing groups as a keeper holds them, among the rows of its administration.
-use Rattle.std.specs.Prelude.{◌≡◌, ℕ, ◌^◌, Bool, true, false, ltb, ◌==◌, ◌&&◌, cond, List, [], ◌∷◌, ◌++◌, Result, Ok, Err, bytes_eq, option_map, not, is_ok, Option, None, Some}
+use Rattle.std.specs.Prelude.{◌≡◌, ℕ, ◌^◌, Bool, true, false, ltb, ◌==◌, ◌&&◌, cond, List, [], ◌∷◌, ◌++◌, Result, Ok, Err, bytes_eq, option_map, not, is_ok, Option, None, Some, IfSome}
 use Rattle.std.specs.Result.{result_ok}
+use Rattle.misp_lists.specs.Order.{ascend}
 use Rattle.misp_lists.specs.Prelude.{list_all, list_any, option_map_or}
-use Rattle.misp_outside.specs.Held.{same_admin}
+use Rattle.misp_outside.specs.Held.{admin_before, same_admin}
+use Rattle.misp_admin_rows.specs.Rows.{other_rows}
 use Rattle.misp_format.specs.Prelude.{AllByRecursion, GroupId, IsGroup, group_in_text}
 use Rattle.misp_effects.specs.Prelude.{AdminRow, Group, Held, KeeperState, uid}
 use Rattle.misp_format.specs.WholeGroup.{group_text}
@@ -61,10 +63,14 @@ group_where row (Some g) = cond (is_row_of row g) (Some g) None
 unfoldable pub group_in : AdminRow → Option Group
 group_in row = group_where row (group_told row.bytes)
 
--- all the groups, or the name of the first row that is none
+-- all these rows are groups: they, or the name of the first row that is none
+unfoldable pub all_groups_in : List AdminRow → Result (List Group) (List ℕ)
+all_groups_in [] = Ok []
+all_groups_in (row ∷ rows) = onto row.name (group_in row) (all_groups_in rows)
+
+-- all the groups, or the name of the first row that is neither a group nor an item
 unfoldable pub groups_in : List AdminRow → Result (List Group) (List ℕ)
-groups_in [] = Ok []
-groups_in (row ∷ rows) = onto row.name (group_in row) (groups_in rows)
+groups_in rows = all_groups_in (other_rows rows)
 
 -- it is a group, and its row is read as it
 pub record IsStorable (g : Group) : Type 0 where
@@ -75,36 +81,45 @@ pub record IsStorable (g : Group) : Type 0 where
 abbrev pub AreStorable : List Group → Type 0
 AreStorable groups = AllByRecursion IsStorable groups
 
--- these groups, or none where a row is none
+-- these groups, or none where they are not read
 abbrev pub or_none : Result (List Group) (List ℕ) → List Group
 or_none (Ok groups) = groups
 or_none (Err name) = []
 
--- the groups that are held, or none where a row of the administration is none
+-- the groups that are held, or none where a row of the administration does not decode
 abbrev pub groups_of : Held → List Group
 groups_of held = or_none (groups_in held.admin)
 
 -- ---- keeping
 
+-- its rows of the administration ascend, and these are its groups
+pub record HasGroups (held : Held) (groups : List Group) : Type 0 where
+  pub order : ascend admin_before held.admin ≡ true
+  pub are : groups_in held.admin ≡ Ok groups
+
 -- where the keeper reports what it holds, it holds these groups
 abbrev pub HoldsGroups : Option Held → List Group → Type 0
-HoldsGroups None groups = Unit {0}
-HoldsGroups (Some held) groups = groups_in held.admin ≡ Ok groups
+HoldsGroups held groups = IfSome held (λ h. HasGroups h groups)
 
 -- ---- what keepers report
 
--- every row of the administration is a group
-abbrev pub has_groups_alone : Held → Bool
-has_groups_alone held = is_ok (groups_in held.admin)
+-- every row of the administration is a group or an item
+abbrev pub has_sound_admin : Held → Bool
+has_sound_admin held = is_ok (groups_in held.admin)
 
--- every row of the administration is a group, and every row is read
+-- the same, and the rows of the administration ascend
+pub record HasSoundAdmin (held : Held) : Type 0 where
+  pub order : ascend admin_before held.admin ≡ true
+  pub read : has_sound_admin held ≡ true
+
+-- every row of the administration is a group or an item, and every row is read
 abbrev pub is_sound : Held → Bool
-is_sound held = has_groups_alone held && is_ok (rows_in held.rows)
+is_sound held = has_sound_admin held && is_ok (rows_in held.rows)
 
 -- the same of all keepers, where they report what they hold in the end
 abbrev pub WereSound : List KeeperState → List KeeperState → Type 0
 WereSound old new = WhereTold old new (λ before after. list_all is_sound before ≡ true)
 
--- as far as the keepers report, a row of the administration is no group, or a row is not read
+-- as far as the keepers report, a row does not decode
 abbrev pub may_be_unsound : List KeeperState → Bool
 may_be_unsound old = list_any (λ held. option_map_or (λ h. not (is_sound h)) held true) (told old)

@@ -1,7 +1,8 @@
-//! What a keeper holds: rows and groups as bytes, how they are read within a reach, and how they
-//! are put.
+//! What a keeper holds: rows, groups and items as bytes, how they are read within a reach, and how
+//! they are put.
 #![tactic(auto)]
 
+mod administration;
 mod batches;
 mod fault;
 mod laws;
@@ -16,10 +17,13 @@ mod seeking;
 mod sharing;
 mod uuids_sought;
 
-pub use batches::spell;
+pub use administration::{HeldAdmin, load_admin};
+pub use batches::{spell, spell_item};
 pub use fault::LoadFault;
-pub use laws::{groups_are_held_as_their_rows, rows_are_held_as_their_bytes};
-pub use loading::{load, load_groups};
+pub use laws::{
+    groups_are_held_as_their_rows, items_are_held_beside_the_groups, rows_are_held_as_their_bytes,
+};
+pub use loading::load;
 pub use looking::{at_shown, beside};
 pub use reach::Reach;
 pub use renewing::renew;

@@ -1,4 +1,4 @@
-//! Rows and groups, as they are loaded from a keeper.
+//! Rows, as they are loaded from a keeper.
 
 ghost use Rattle.std.specs.Prelude.{◌≡◌, Ok, Err, IfOk, IfErr, IfSome, IsTrue};
 ghost use Rattle.misp_model.specs.View.{IsTable};
@@ -9,15 +9,12 @@ ghost use Rattle.misp_outside.specs.Held.{comes_before};
 ghost use Rattle.misp_store.specs.Loading.{NamesFault};
 ghost use Rattle.misp_store.specs.Seeking.{IsInOrder};
 ghost use Rattle.misp_store.specs.Seen.{rows_within, seen_in};
-ghost use Rattle.misp_store.specs.Sharing.{HoldsGroups, groups_in};
 
 use crate::fault::LoadFault;
 use crate::reach::Reach;
 use crate::rows::decode_rows;
 use crate::seeking::seek;
-use crate::sharing::decode_groups;
 use misp_elem::Row;
-use misp_groups::Groups;
 use misp_outside::{Keeper, KeeperFault, RawRow};
 use std::alloc::Global;
 
@@ -69,19 +66,4 @@ pub fn load<K: Keeper>(keeper: &mut K, alloc: Global, reach: &Reach) -> Result<V
 {
     let held = held_within(keeper, alloc, reach)?;
     Ok(decode_rows(alloc, &held)?)
-}
-
-/// The groups that the keeper holds.
-pub fn load_groups<K: Keeper>(keeper: &mut K, alloc: Global) -> Result<Groups, LoadFault>
-    ensures ok { IfOk result (HoldsGroups (K.state keeper.new).held) }
-    ensures bad { IfErr result (λ fault.
-        IfSome (K.state keeper.new).held (λ held. NamesFault (groups_in held.admin) fault)) }
-    ensures held { StaysHeld (K.state keeper.old).held (K.state keeper.new).held }
-    ensures cause { HasCause (K.state keeper.old).faults (K.state keeper.new).faults
-        (result ≡ Err LoadFault.KeeperFault) }
-    ensures stays { StaysUnless (K.state keeper.old).faults (K.state keeper.new).faults
-        (result ≡ Err LoadFault.KeeperFault) }
-{
-    let rows = keeper.load_admin(alloc)?;
-    Ok(decode_groups(alloc, &rows)?)
 }

@@ -1,10 +1,10 @@
 //! Sharing groups as a keeper holds them.
 
-ghost use Rattle.std.specs.Prelude.{◌≡◌, ◌&&◌, Some, None, Ok, [], map, option_map, IfOk, IfErr, OnOk, IsErr, bytes_eq};
+ghost use Rattle.std.specs.Prelude.{◌≡◌, ◌&&◌, Some, None, map, option_map, IfOk, IfErr, OnOk, IsErr, bytes_eq};
 ghost use Rattle.misp_outside.specs.Held.{same_admin};
 ghost use Rattle.misp_groups.specs.Changes.{put_group};
-ghost use Rattle.misp_store.specs.Sharing.{group_name, group_row, group_told, is_row_of, group_in, groups_in, IsStorable, AreStorable};
-ghost use Rattle.misp_store.specs.Decoding.{put_onto, IsNoGroup, NamesBadGroup};
+ghost use Rattle.misp_store.specs.Sharing.{group_name, group_row, group_told, is_row_of, group_in, IsStorable, AreStorable};
+ghost use Rattle.misp_store.specs.Decoding.{IsNoGroup};
 
 use crate::fault::RowFault;
 use misp_format::{FormatFault, read_group_text, write_group};
@@ -134,8 +134,8 @@ fn decode_group(alloc: Global, row: &AdminRow) -> Result<Group, RowFault>
     }
 }
 
-// Puts the group that is held there in its place.
-fn put_held(alloc: Global, groups: &mut Groups, row: &AdminRow) -> Result<(), RowFault>
+/// Puts the group that is held there in its place.
+pub(crate) fn put_held(alloc: Global, groups: &mut Groups, row: &AdminRow) -> Result<(), RowFault>
     ensures ok { OnOk result (Some groups.new
         ≡ option_map (λ group. put_group group groups.old) (group_in row.now)) }
     ensures bad { IfErr result (IsNoGroup row.now) }
@@ -143,17 +143,4 @@ fn put_held(alloc: Global, groups: &mut Groups, row: &AdminRow) -> Result<(), Ro
     let group = decode_group(alloc, row)?;
     drop(groups.put(group)?);
     Ok(())
-}
-
-/// The groups that are held there, each put in its place, or the first row that is none.
-#[tactic(auto, unfolding(crate::specs::Sharing::groups_in))]
-pub(crate) fn decode_groups(alloc: Global, rows: &[AdminRow]) -> Result<Groups, RowFault>
-    ensures ok { IfOk result (λ groups. put_onto [] (groups_in rows.now) ≡ Ok groups) }
-    ensures bad { IfErr result (NamesBadGroup (groups_in rows.now)) }
-{
-    let mut groups = Groups::new(alloc);
-    for row in rows {
-        put_held(alloc, &mut groups, row)?;
-    }
-    Ok(groups)
 }

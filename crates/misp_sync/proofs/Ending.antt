@@ -98,6 +98,7 @@ refused_is status rule stop = one (status == 503 && rule == 26) (status == 507 &
 cause_of : (cause : Cause) (stop : Stop) → stop_by cause ≡ Some stop → cause ≡ stop_cause stop
 cause_of Cause.NoLink stop is = absurd cc
 cause_of Cause.LinkOff stop is = absurd cc
+cause_of Cause.NoPeer stop is = absurd cc
 cause_of (Cause.Refused status rule) stop is = refused_is status rule stop is
 cause_of (Cause.Garbled kind) stop is = absurd cc
 cause_of Cause.Link stop is = ap stop_cause (some_same Stop.Carry stop is)

@@ -22,7 +22,8 @@ use Rattle.misp_store.specs.Raw.{rows_in}
 use Rattle.misp_store.specs.Sharing.{or_none}
 use Rattle.misp_store.specs.declared.reach.Reach.{Reach}
 use Rattle.misp_store.proofs.HeldRows.{rows_again}
-use Rattle.misp_store.proofs.GroupRows.{AreReadBack}
+use Rattle.misp_outside.specs.declared.row.AdminRow.{AdminRow}
+use Rattle.misp_admin_rows.specs.Rows.{item_rows}
 use Rattle.misp_core.specs.Prelude.{Ask, Caller, Held, Host, Seen, forbidden, groups_of, scene_at, seen_in}
 use Rattle.misp_core.specs.Taking.{groups_taken}
 use Rattle.misp_core.proofs.Arriving.{arriving_apart}
@@ -40,7 +41,7 @@ use Rattle.misp_history.proofs.Handed.{arriving_handed}
 use Rattle.misp_sync.proofs.Listed.{events_listed, sent_handed}
 use Rattle.misp_sync.proofs.OwnRows.{own_read, rows_tell}
 use Rattle.misp_sync.proofs.Parts.{as_batches}
-use Rattle.misp_sync.proofs.Stands.{batch_stands, parts_stand}
+use Rattle.misp_sync.proofs.Stands.{Stands, batch_stands, parts_stand}
 
 -- ---- rows that nothing comes of
 
@@ -157,28 +158,30 @@ module _ (here : Inst) (w : OrgId) (peer : Host) (caller : Caller) (own : Held) 
   abbrev first : Batch
   first = batch [] (groups_taken groups sent)
 
-  module _ (back : AreReadBack) where
-    put_then : AreReadable (first ∷ as_batches brings) → Holds (merged here mine later coming) later (put_batches (map spelled (first ∷ as_batches brings)) own)
-    unfolding put_all
-    put_then fits =
-        let groups_put : Holds mine later (with_batch (spelled first) own) = subst (λ gs. Holds mine gs (with_batch (spelled first) own)) (taken_put groups sent) (batch_stands back first mine groups own fits.0 can.holds) in
-        subst (λ rs. Holds rs later (put_batches (map spelled (first ∷ as_batches brings)) own)) brings_merged (parts_stand back brings mine later (with_batch (spelled first) own) fits.1 groups_put)
+  put_then : AreReadable (first ∷ as_batches brings) → Holds (merged here mine later coming) later (put_batches (map spelled (first ∷ as_batches brings)) own)
+  unfolding put_all
+  put_then fits =
+      let items : List AdminRow = item_rows own.admin in
+      let groups_put : Stands mine later items (with_batch (spelled first) own) =
+      subst (λ gs. Stands mine gs items (with_batch (spelled first) own)) (taken_put groups sent)
+      (batch_stands [] (groups_taken groups sent) mine groups items own fits.0 (record { holds = can.holds; items_are = refl })) in
+      subst (λ rs. Holds rs later (put_batches (map spelled (first ∷ as_batches brings)) own)) brings_merged (parts_stand brings mine later items (with_batch (spelled first) own) fits.1 groups_put).holds
 
-    pub pull_leaves : AreReadable (pulled_by here w peer (Some caller) (seen_in own) there).batches
-        → Holds (merged here mine later coming) later (left spelled (pulled_by here w peer (Some caller) (seen_in own) there) own)
-    pull_leaves fits =
-        subst (λ (e : Effect (Option Cause)). Holds (merged here mine later coming) later (left spelled e own)) (sym pulled_is)
-        (put_then (subst (λ (e : Effect (Option Cause)). AreReadable e.batches) pulled_is fits))
+  pub pull_leaves : AreReadable (pulled_by here w peer (Some caller) (seen_in own) there).batches
+      → Holds (merged here mine later coming) later (left spelled (pulled_by here w peer (Some caller) (seen_in own) there) own)
+  pull_leaves fits =
+      subst (λ (e : Effect (Option Cause)). Holds (merged here mine later coming) later (left spelled e own)) (sym pulled_is)
+      (put_then (subst (λ (e : Effect (Option Cause)). AreReadable e.batches) pulled_is fits))
 
-    -- the holder's own rows of an event then
-    pub event_leaves : AreReadable (pulled_by here w peer (Some caller) (seen_in own) there).batches → (e : EventId) (before : List Row) → (seen_in own).rows (Reach.Own w e) ≡ Ok before
-        → (seen_in (left spelled (pulled_by here w peer (Some caller) (seen_in own) there) own)).rows (Reach.Own w e) ≡ Ok (merged here before later (event_rows e coming))
-    event_leaves fits e before read =
-        let all : Holds (merged here mine later coming) later (left spelled (pulled_by here w peer (Some caller) (seen_in own) there) own) = pull_leaves fits in
-        let named : (Row → Bool) = λ r. same_event (event_of r.key) e && starts_with nat_eq (name_bytes r) (uid w.0) in
-        let were : filter named mine ≡ before = ap rows_or_none (sym (own_read w e mine own can.holds.rows_are can.holds.are_rows) ∙ read) in
-        own_read w e (merged here mine later coming) (left spelled (pulled_by here w peer (Some caller) (seen_in own) there) own) all.rows_are all.are_rows
-        ∙ ap Ok (merged_cut here w later mine coming comes.table comes.owned own_sorted e ∙ ap (λ rs. merged here rs later (event_rows e coming)) were)
+  -- the holder's own rows of an event then
+  pub event_leaves : AreReadable (pulled_by here w peer (Some caller) (seen_in own) there).batches → (e : EventId) (before : List Row) → (seen_in own).rows (Reach.Own w e) ≡ Ok before
+      → (seen_in (left spelled (pulled_by here w peer (Some caller) (seen_in own) there) own)).rows (Reach.Own w e) ≡ Ok (merged here before later (event_rows e coming))
+  event_leaves fits e before read =
+      let all : Holds (merged here mine later coming) later (left spelled (pulled_by here w peer (Some caller) (seen_in own) there) own) = pull_leaves fits in
+      let named : (Row → Bool) = λ r. same_event (event_of r.key) e && starts_with nat_eq (name_bytes r) (uid w.0) in
+      let were : filter named mine ≡ before = ap rows_or_none (sym (own_read w e mine own can.holds.rows_are can.holds.are_rows) ∙ read) in
+      own_read w e (merged here mine later coming) (left spelled (pulled_by here w peer (Some caller) (seen_in own) there) own) all.rows_are all.are_rows
+      ∙ ap Ok (merged_cut here w later mine coming comes.table comes.owned own_sorted e ∙ ap (λ rs. merged here rs later (event_rows e coming)) were)
 
 -- ---- what is seen then
 

@@ -29,7 +29,7 @@ use Rattle.misp_model.proofs.Prelude.{EventId, Group, Row, Scene, event_of, even
 use Rattle.misp_model.specs.Manifests.{only_of, pulled_manifest}
 use Rattle.misp_model.specs.Packing.{is_own}
 use Rattle.misp_model.specs.Pulling.{pulled_events, pulled_packages, pulled_rows}
-use Rattle.misp_store.specs.Sharing.{has_groups_alone}
+use Rattle.misp_store.specs.Sharing.{HasSoundAdmin}
 use Rattle.misp_store.specs.declared.reach.Reach.{Reach}
 use Rattle.misp_core.proofs.PulledEvents.{some_package}
 use Rattle.misp_core.specs.Answers.{bad_row}
@@ -147,11 +147,11 @@ module _ (here peer : Host) (link : Link) (own there : Held) (owner : IsUid link
       passes = groups_answered peer link.key there caller who may;
       taken = refl;
       few = few_groups (groups_of own) gs;
-      fits = λ are. record { rows = tt; groups = taken_are (groups_of own) gs are };
+      fits = λ are. record { rows = tt; groups = taken_are (groups_of own) gs are; items = tt };
       counts = refl;
     }
 
-    known_after : has_groups_alone own ≡ true → AllByRecursion IsGroup gs → groups_of after ≡ known
+    known_after : HasSoundAdmin own → AllByRecursion IsGroup gs → groups_of after ≡ known
     known_after alone are = groups_then own gs alone (taken_are (groups_of own) gs are)
 
     untouched : (x : Sent) → IsUntouched here link owner source there (seen_in own) after x
@@ -202,7 +202,7 @@ module _ (here peer : Host) (link : Link) (own there : Held) (owner : IsUid link
           (all_unmap (λ (e : EventId × ℕ). (e.0, pulled_packages scene e.0)) (λ (x : Sent). IsManifestEvent (said x)) (pulled_events scene)
           (all_unmap said IsManifestEvent sent are)))
 
-      parts_come : has_groups_alone own ≡ true → AllByRecursion IsGroup gs → IsListed (parts_listed (pulled_manifest scene))
+      parts_come : HasSoundAdmin own → AllByRecursion IsGroup gs → IsListed (parts_listed (pulled_manifest scene))
           → PartsCome source taker batching there after (parts_listed (pulled_manifest scene))
           (events_taken here.name link.holder known (seen_in own) sent).batches (events_taken here.name link.holder known (seen_in own) sent).reply
       parts_come alone are is =
@@ -219,7 +219,7 @@ module _ (here peer : Host) (link : Link) (own there : Held) (owner : IsUid link
     abbrev counted_groups : Tally
     counted_groups = batching.tally no_tally groups
 
-    rows_take : (read : Result (List Row) (List ℕ)) → (seen_in there).rows Reach.All ≡ read → IsTally counted_groups → has_groups_alone own ≡ true → AllByRecursion IsGroup gs
+    rows_take : (read : Result (List Row) (List ℕ)) → (seen_in there).rows Reach.All ≡ read → IsTally counted_groups → HasSoundAdmin own → AllByRecursion IsGroup gs
         → Takes source taker batching (listing Direction.Pull counted_groups) there after counted_groups (coming read).batches (coming read).reply
     rows_take (Ok rows) is fine alone are =
         asked source taker batching counted_groups Request.Manifest (listed Direction.Pull counted_groups) (Answer.Manifest (parts_listed (pulled_manifest (scene rows is)))) there after

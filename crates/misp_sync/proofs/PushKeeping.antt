@@ -17,7 +17,6 @@ use Rattle.misp_history.specs.Merging.{arrives}
 use Rattle.misp_history.specs.Outcomes.{step_partly}
 use Rattle.misp_store.specs.Batches.{spelled}
 use Rattle.misp_store.specs.Raw.{rows_in}
-use Rattle.misp_store.proofs.GroupRows.{AreReadBack}
 use Rattle.misp_store.proofs.HeldRows.{rows_again, rows_filtered, rows_of_event}
 use Rattle.misp_core.specs.Prelude.{Caller, Host, Keeps, Seen, seen_in}
 use Rattle.misp_core.specs.Pulling.{carries_to}
@@ -93,13 +92,13 @@ push_told w here peer link own there keeps peers =
 -- ---- what it leaves
 
 -- the keeper of the peer holds what it is to hold after the act, whatever stopped it
-pub push_left : AreReadBack → (net : Net) (n now : ℕ) (w : World) (here peer : Host) (link : Inst) (own there : Held) (outcome : Outcome) → Keeps here.name w own → Keeps peer.name w there
+pub push_left : (net : Net) (n now : ℕ) (w : World) (here peer : Host) (link : Inst) (own there : Held) (outcome : Outcome) → Keeps here.name w own → Keeps peer.name w there
     → net Direction.Push here.name link w.groups w.made ≡ push_route_of here link peer (w.groups here.name) → AreReadable (under push_telling outcome (pushed here link peer (seen_in own) (seen_in there))).batches
     → Keeps peer.name (step_partly net n w (push_act here.name now link) (applied outcome)) (left spelled (under push_telling outcome (pushed here link peer (seen_in own) (seen_in there))) there)
 unfolding pushed
-push_left back net n now w here peer link own there outcome keeps peers e =
+push_left net n now w here peer link own there outcome keeps peers e =
     let found : Option Link = link_of here.admin.links link in
-    left_under back net n now w Direction.Push here.name link peer.name here.name there outcome (push_route_of here link peer (w.groups here.name))
+    left_under net n now w Direction.Push here.name link peer.name here.name there outcome (push_route_of here link peer (w.groups here.name))
     (pushed_over here.name found peer (seen_in own) (seen_in there)).batches (under push_telling outcome (pushed here link peer (seen_in own) (seen_in there))).batches peers keeps.are_rows e
     (push_between here.name peer found (w.groups here.name))
     (push_comes here.name peer w keeps.are_rows (seen_in own) (seen_in there) (held_shows w here.name peer own there keeps peers) found)

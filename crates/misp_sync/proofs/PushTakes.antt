@@ -173,7 +173,7 @@ module _ (here peer : Host) (link : Link) (own there : Held) where
             passes = refl;
             taken = groups_answered peer link.key there caller who gs short may ∙ ap (λ held. Ok (Answer.Taken (length new), held)) (groups_put_so new there);
             few = few_new peer link.key there caller who gs short;
-            fits = λ are. record { rows = tt; groups = taken_are (groups_of there) (map uncarried gs) (uncarried_are gs are) };
+            fits = λ are. record { rows = tt; groups = taken_are (groups_of there) (map uncarried gs) (uncarried_are gs are); items = tt };
             counts = refl;
           };
           come = λ holds are. lists holds are ((seen_in own).rows Reach.All) refl;

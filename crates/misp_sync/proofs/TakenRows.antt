@@ -104,7 +104,7 @@ rows_are_taken kb held p w (row ∷ rows) answers few ours = record {
     refl,
     refl,
     λ ask. (
-      record { rows = are_rows w p.event (row ∷ rows) (ours ask); groups = tt },
+      record { rows = are_rows w p.event (row ∷ rows) (ours ask); groups = tt; items = tt },
       λ n is. counted_so n p.event row rows is (ours ask).0.2,
     ),
   );

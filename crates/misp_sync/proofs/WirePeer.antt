@@ -1,7 +1,7 @@
 -- What is reported of the peer of a wire that was asked.
 use Rattle.std.proofs.Common.{◌≡◌, ◌<◌, ◌^◌, ℕ, true, List, length, Option, None, Some, Result, Ok, Err, refl, sym, subst, ◌∙◌, inl, inr, arith}
 use Rattle.misp_outside.specs.Causes.{HasCause}
-use Rattle.misp_store.specs.Sharing.{has_groups_alone}
+use Rattle.misp_store.specs.Sharing.{HasSoundAdmin}
 use Rattle.misp_core.specs.Prelude.{Did, Held, Standing, host_of, seen_in}
 use Rattle.misp_outside.specs.Reporting.{WhereReported}
 use Rattle.misp_dialogue.specs.Parties.{IsErrBy, IsReply}
@@ -52,7 +52,7 @@ module _ (key : List ℕ) (call : Call) (callable : IsCallable key call) (q : Re
           let suits = suits_did (host_of old) a.now key call callable.call_is held a.reply left did in
           tells_alone call a.reply a.sound a.worded suits (body_short a.reply bytes a.bytes_are small) result (subst (λ b. IsToldBy call b result) a.bytes_are by)
 
-      replies : IsReadAs (Some call) bytes result → (held left : Held) → CameTo held left × (has_groups_alone held ≡ true) → Replies held left
+      replies : IsReadAs (Some call) bytes result → (held left : Held) → CameTo held left × (HasSoundAdmin held) → Replies held left
       replies (inl memory) held left did =
           subst (λ r. Leaves (host_of old) key call q is held r left) (sym memory)
           (leaves_lost (host_of old) key call q is held Cause.NoMemory a.reply left (inr refl) (done (host_of old) a.now key call held a.reply left did.0))
@@ -61,7 +61,7 @@ module _ (key : List ℕ) (call : Call) (callable : IsCallable key call) (q : Re
           (done (host_of old) a.now key call held a.reply left did.0)
 
       ends : IsReadAs (Some call) bytes result → WhereReported old.held new.held Replies
-      ends reads = reported_so old.held new.held _ Replies (replies reads) (known_with old.held new.held CameTo (λ held. has_groups_alone held ≡ true) a.replied a.groups)
+      ends reads = reported_so old.held new.held _ Replies (replies reads) (known_with old.held new.held CameTo HasSoundAdmin a.replied a.groups)
 
   rose_of : (old new : Standing) (result : Result Answer Cause) (bytes : List ℕ) → length bytes < 2 ^ 63 → (a : IsAnswered key call old new bytes) → IsReadAs (Some call) bytes result
       → HasCause old.faults new.faults (IsErrBy (λ cause. cause ≡ Cause.Refused 503 26) result)

@@ -1,11 +1,12 @@
 -- What the laws of synchronisations speak of.
 use Rattle.std.specs.Prelude.{◌≡◌, true, not, List, [], ◌∷◌, Contains, None, Ok, Option, Some, filter, flat_map, map}
 use Rattle.std.specs.List.{AllByRecursion, list_any}
-use Rattle.misp_lists.specs.Order.{in_order}
+use Rattle.misp_lists.specs.Order.{ascend, in_order}
 use Rattle.misp_levels.specs.Levels.{landed}
 use Rattle.misp_elem.specs.Row.{AreRows}
 use Rattle.misp_groups.specs.Groups.{by_name}
 use Rattle.misp_groups.specs.Prelude.{IsStrictlySortedBy}
+use Rattle.misp_outside.specs.Held.{admin_before}
 use Rattle.misp_manifest.specs.declared.wanted.WantedFields.{WantedFields as Wanted}
 use Rattle.misp_orgs.specs.declared.link.Link.{Link}
 use Rattle.misp_model.specs.Packing.{arrived}
@@ -29,12 +30,14 @@ use Rattle.misp_sync.specs.Pulled.{events_sent, groups_sent}
 
 -- ---- what is held
 
--- a keeper holds these rows, in their order, and these groups, in the order of their names
+-- a keeper holds these rows, in their order, and these groups, in the order of their names; and its
+-- rows of the administration ascend
 pub record Holds (rows : List Row) (groups : List Group) (held : Held) : Type 0 where
   pub rows_are : held.rows ≡ map raw_row rows
   pub are_rows : AreRows rows
   pub groups_are : groups_in held.admin ≡ Ok groups
   pub are_groups : AllByRecursion IsGroup groups
+  pub order : ascend admin_before held.admin ≡ true
   pub ascend : IsStrictlySortedBy by_name groups
 
 -- of these rows those of which no other comes of the same owner and key

@@ -5,7 +5,7 @@ use Rattle.misp_manifest.specs.declared.wanted.WantedFields.{WantedFields}
 use Rattle.misp_orgs.specs.declared.link.Link.{Link}
 use Rattle.misp_effects.specs.Batches.{Batch, IsReadable}
 use Rattle.misp_outside.specs.Held.{with_batch}
-use Rattle.misp_store.specs.Sharing.{has_groups_alone}
+use Rattle.misp_store.specs.Sharing.{HasSoundAdmin}
 use Rattle.misp_store.specs.declared.fault.LoadFault.{LoadFault}
 use Rattle.misp_store.specs.declared.reach.Reach.{Reach}
 use Rattle.misp_core.specs.Prelude.{EventId, Held, Host, Row, Standing, groups_of, host_of, seen_in, spelled}
@@ -82,7 +82,7 @@ abbrev pub own_conduct : Host × Link → Conduct Held Request Answer Cause
 own_conduct s = record {
   IsAskable = IsAskable;
   IsSound = IsSoundAnswer;
-  IsHeld = λ held. has_groups_alone held ≡ true;
+  IsHeld = HasSoundAdmin;
   answer = own_answer s.0 s.1;
   text = λ request. [];
   IsUnsent = λ request cause. ⊥;

@@ -4,7 +4,7 @@ use Rattle.misp_ids.specs.Uid.{IsUid}
 use Rattle.misp_orgs.specs.Admin.{who_of}
 use Rattle.misp_outside.specs.Causes.{HasCause}
 use Rattle.misp_outside.specs.Reporting.{WhereReported}
-use Rattle.misp_store.specs.Sharing.{has_groups_alone}
+use Rattle.misp_store.specs.Sharing.{HasSoundAdmin}
 use Rattle.misp_core.specs.Effects.{by_keeper}
 use Rattle.misp_core.specs.Prelude.{Caller, Did, Held, Host, Standing, host_of, seen_in, stop_in}
 use Rattle.misp_core.specs.Sound.{IsSound, IsWorded}
@@ -42,8 +42,8 @@ pub record IsSamePeer (old new : Standing) : Type 0 where
 -- ---- what it does
 
 -- It replied so to a call of this key, at some moment, and these are the bytes. Where it reports
--- what it holds, the reply and what it holds then are the stated function of that, and all rows of
--- its administration were groups.
+-- what it holds, the reply and what it holds then are the stated function of that, and the rows of its
+-- administration ascended, each a group or an item.
 pub record IsAnswered (key : List ℕ) (call : Call) (old new : Standing) (bytes : List ℕ)
     : Type 0 where
   pub now : ℕ
@@ -51,7 +51,7 @@ pub record IsAnswered (key : List ℕ) (call : Call) (old new : Standing) (bytes
   pub bytes_are : bytes ≡ http_text reply true
   pub replied : WhereReported old.held new.held
       (λ held left. Did (called (host_of old) now key call (seen_in held)) held reply left)
-  pub groups : IfSome old.held (λ held. has_groups_alone held ≡ true)
+  pub groups : IfSome old.held HasSoundAdmin
   pub owners : HasOwners (host_of old)
   pub sound : IsSound reply
   pub worded : IsWorded reply

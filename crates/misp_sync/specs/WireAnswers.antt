@@ -1,7 +1,7 @@
 -- How a peer answers over a wire what it is asked in a synchronisation.
 use Rattle.std.specs.Prelude.{◌≡◌, ◌⊎◌, ℕ, true, List, [], Option, None, Some, Result, Ok, Err, IfSome}
 use Rattle.misp_effects.specs.Effect.{left}
-use Rattle.misp_store.specs.Sharing.{has_groups_alone}
+use Rattle.misp_store.specs.Sharing.{HasSoundAdmin}
 use Rattle.misp_core.specs.Prelude.{Effect, Held, Host, Standing, seen_in, spelled}
 use Rattle.misp_core.specs.declared.reply.Reply.{Reply}
 use Rattle.misp_client.specs.Answers.{IsToldBy}
@@ -64,16 +64,17 @@ IsPeerStop cause = (cause ≡ Cause.Refused 503 26) ⊎ (cause ≡ Cause.Refused
 abbrev pub IsCutShort : Cause → Type 0
 IsCutShort cause = (cause ≡ Cause.Link) ⊎ (cause ≡ Cause.NoMemory)
 
--- all rows of the administration there are groups, and each key of a peer of this process is of an
--- organisation
+-- the rows of the administration there ascend, each a group or an item, and each key of a peer of this
+-- process is of an organisation
 pub record IsPeerHeld (host : Option Host) (held : Held) : Type 0 where
-  pub groups : has_groups_alone held ≡ true
+  pub groups : HasSoundAdmin held
   pub owners : IfSome host HasOwners
 
 -- a wire says nothing of a link or of the own keeper
 abbrev pub IsWireCause : Cause → Type 0
 IsWireCause Cause.NoLink = ⊥
 IsWireCause Cause.LinkOff = ⊥
+IsWireCause Cause.NoPeer = ⊥
 IsWireCause Cause.Keeper = ⊥
 IsWireCause (Cause.BadRow name) = ⊥
 IsWireCause cause = Unit {0}

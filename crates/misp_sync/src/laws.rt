@@ -55,8 +55,6 @@ ghost use Rattle.misp_sync.specs.Synchronised.{IsCourse};
 ghost use Rattle.misp_sync.specs.WireAnswers.{wire_conduct};
 ghost use Rattle.misp_sync.specs.declared.reply.SyncReply.{SyncReply};
 
-use misp_format::a_group_is_read_from_its_text;
-
 /// Where the keepers of two instances hold their tables and groups, a pull of the one from the
 /// other comes to what the history says. Whatever stopped it, its keeper holds afterwards what it
 /// is to hold after the act. No tables and no groups elsewhere change, and nothing that was made of
@@ -89,9 +87,7 @@ pub fn an_instance_pulls_by_the_history()
         ≡ w.groups j }
     ensures made { (net : Net) (n now : ℕ) (w : World) (here link : Inst) (outcome : Outcome) →
         (step_partly net n w (pull_act here now link) (applied outcome)).made ≡ w.made }
-{
-    a_group_is_read_from_its_text();
-}
+{}
 
 /// Where the keepers of two instances hold their tables and groups, a push of the one to the other
 /// comes to what the history says. Whatever stopped it, the keeper of the other holds afterwards
@@ -128,9 +124,7 @@ pub fn an_instance_pushes_by_the_history()
         ≡ w.groups j }
     ensures made { (net : Net) (n now : ℕ) (w : World) (here link : Inst) (outcome : Outcome) →
         (step_partly net n w (push_act here now link) (applied outcome)).made ≡ w.made }
-{
-    a_group_is_read_from_its_text();
-}
+{}
 
 /// A pull of what is there already takes nothing: where no group that passes is new, and merging
 /// the packages of each event that passes leaves the holder's rows of it what they are. It puts the
@@ -182,9 +176,7 @@ pub fn a_pull_leaves_what_was_held_and_what_passes()
     ensures seen { (rows : List Row) (groups : List Group) (held : Held) →
         Holds rows groups held →
         ((seen_in held).rows Reach.All ≡ Ok rows) × ((seen_in held).groups ≡ groups) }
-{
-    a_group_is_read_from_its_text();
-}
+{}
 
 /// Every row of a package that is sent is a row there as it arrives, and that row is granted to the
 /// organisation for which it passes: in a pull to that of the key, which has a partner, and in a

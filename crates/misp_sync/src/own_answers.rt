@@ -40,7 +40,7 @@ pub(crate) fn groups<K: Keeper>(
 ) -> Result<Answer, Cause>
     ensures { IsAsked link.now requests.Groups instance.old result instance.new }
 {
-    instance.holds_groups_alone();
+    instance.holds_sound_rows();
     match instance.carrying_groups(alloc, &link.push_org, &link.peer) {
         Ok(groups) => Ok(Answer::Groups(Items::of(groups))),
         Err(NoMemory) => Err(Cause::NoMemory),
@@ -66,7 +66,7 @@ pub(crate) fn packages<K: Keeper>(
 ) -> Result<Answer, Cause>
     ensures { IsAsked link.now requests.Packages instance.old result instance.new }
 {
-    instance.holds_groups_alone();
+    instance.holds_sound_rows();
     match instance.pushed_packages(alloc, way_over(link), &link.push_org, &link.peer) {
         Ok(packages) => Ok(Answer::Packages(Items::of(packages))),
         Err(fault) => Err(unread(fault)),
@@ -93,7 +93,7 @@ pub(crate) fn take_groups<K: Keeper>(
     ensures { IsAsked link.now (requests.TakeGroups groups) instance.old result instance.new }
 {
     are_groups(groups.as_slice());
-    instance.holds_groups_alone();
+    instance.holds_sound_rows();
     match instance.take_groups(alloc, groups.into_vec()) {
         Ok(taken) => Ok(Answer::Taken(taken)),
         Err(KeeperFault::Failed) => Err(Cause::Keeper),
@@ -127,7 +127,7 @@ pub(crate) fn missing<K: Keeper>(
 ) -> Result<Answer, Cause>
     ensures { IsAsked link.now (requests.Missing part.now) instance.old result instance.new }
 {
-    instance.holds_groups_alone();
+    instance.holds_sound_rows();
     let fields = part.get();
     match instance.wanted(alloc, &link.holder, &fields.event, fields.keys.as_slice()) {
         Ok(keys) => Ok(Answer::Wanted(wanted_list(part, keys))),
@@ -144,7 +144,7 @@ pub(crate) fn take_part<K: Keeper>(
 ) -> Result<Answer, Cause>
     ensures { IsAsked link.now (requests.TakePart coming.now) instance.old result instance.new }
 {
-    instance.holds_groups_alone();
+    instance.holds_sound_rows();
     let _fields = coming.get();
     match instance.take_part(alloc, &link.holder, coming) {
         Ok(taken) => Ok(Answer::Taken(taken)),

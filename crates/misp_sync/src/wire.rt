@@ -35,7 +35,10 @@ pub trait Wire {
             bytes.now ≡ call_text key call → Meet (peer self.old) (peer self.new) (λ old new.
             MatchResult result (λ reply. IsAnswered key call old new reply.items)
             (λ _. MayBeDone key call old new)) }
-        ensures same { Meet (peer self.old) (peer self.new) IsSamePeer }
+
+        // A call leaves the peer the instance that it was.
+        ensures same { (key : List ℕ) (call : Call) → IsCallable key call →
+            bytes.now ≡ call_text key call → Meet (peer self.old) (peer self.new) IsSamePeer }
 
         // The request is reported, and after it the reply; where it fails, the request at most.
         ensures told { GrowsBy (trail self.old) (trail self.new) (λ more. MatchResult result

@@ -1,11 +1,12 @@
-//! What the edits of events, attributes and objects have alike. What is absent stays as it is.
+//! Members that may be absent, as edits and searches have them.
 
-ghost use Rattle.std.specs.Prelude.{◌≡◌, true, IfOk, IfSome};
+ghost use Rattle.std.specs.Prelude.{◌≡◌, true, IfOk, IfSome, option_map};
 ghost use Rattle.std.specs.Str.{is_utf8};
 ghost use Rattle.misp_elem.specs.Row.{IsLabel};
-ghost use Rattle.misp_fields.specs.Fields.{text_of, stamp_of};
+ghost use Rattle.misp_fields.specs.Fields.{text_of, flag_of, stamp_of, uuid_of};
 ghost use Rattle.misp_model.specs.Edit.{IsGiven, given_size};
 ghost use Rattle.misp_format.specs.Edits.{given_row, given_label_at};
+ghost use Rattle.misp_format.specs.Filters.{org_of};
 ghost use Rattle.misp_format.specs.Members.{body_of};
 ghost use Rattle.misp_format.specs.Rows.{Gives};
 
@@ -13,7 +14,7 @@ use crate::fault::FormatFault;
 use crate::reading::label::label;
 use crate::reading::members::Members;
 use misp_fields::{self as fields, member};
-use misp_ids::{Label, Stamp, Text};
+use misp_ids::{Label, OrgId, Stamp, Text, Uid};
 
 pub(crate) fn given_text(it: &Members<'_>, name: &str) -> Result<Option<Text>, FormatFault>
     ensures gives { Gives result (given_row (body_of it.now) name.now text_of) }
@@ -43,6 +44,33 @@ pub(crate) fn given_stamp(it: &Members<'_>, name: &str) -> Result<Option<Stamp>,
     match member(it.value, name) {
         Some(value) => Ok(Some(it.kept(name, fields::stamp(value))?)),
         None => Ok(None),
+    }
+}
+
+pub(crate) fn given_flag(it: &Members<'_>, name: &str) -> Result<Option<bool>, FormatFault>
+    ensures { Gives result (given_row (body_of it.now) name.now flag_of) }
+{
+    match member(it.value, name) {
+        Some(_) => Ok(Some(it.flag(name, false)?)),
+        None => Ok(None),
+    }
+}
+
+pub(crate) fn given_uuid(it: &Members<'_>, name: &str) -> Result<Option<Uid>, FormatFault>
+    ensures { Gives result (given_row (body_of it.now) name.now uuid_of) }
+{
+    match member(it.value, name) {
+        Some(_) => Ok(Some(it.needed_uuid(name)?)),
+        None => Ok(None),
+    }
+}
+
+pub(crate) fn org_of(uuid: Option<Uid>) -> Option<OrgId>
+    ensures { result ≡ option_map org_of uuid }
+{
+    match uuid {
+        Some(uuid) => Some(OrgId(uuid)),
+        None => None,
     }
 }
 

@@ -1,42 +1,24 @@
 //! What a body searches for.
 
-ghost use Rattle.std.specs.Prelude.{◌≡◌, ◌≤◌, ◌++◌, [], Ok, IfOk, codes, map, option_map};
+ghost use Rattle.std.specs.Prelude.{◌≡◌, ◌≤◌, ◌++◌, [], Ok, IfOk, codes, map};
 ghost use Rattle.serde_json.specs.View.{view, items_of};
-ghost use Rattle.misp_fields.specs.Fields.{date_text_of, flag_of, uuid_of};
+ghost use Rattle.misp_fields.specs.Fields.{date_text_of};
 ghost use Rattle.misp_format.specs.Edits.{given_row};
-ghost use Rattle.misp_format.specs.Filters.{category_named, filter_at, given_names_at, names_at, next_name, org_of, text_in};
+ghost use Rattle.misp_format.specs.Filters.{category_named, filter_at, given_names_at, names_at, next_name, text_in};
 ghost use Rattle.misp_format.specs.Members.{body_of, path_text};
 ghost use Rattle.misp_format.specs.Readers.{number_within};
 ghost use Rattle.misp_format.specs.Rows.{Gives, Shows, each, row};
 
 use crate::fault::FormatFault;
 use crate::kinds::named_category;
-use crate::reading::edit::{given_stamp, given_text};
+use crate::reading::edit::{given_flag, given_stamp, given_text, given_uuid, org_of};
 use crate::reading::members::Members;
 use crate::reading::path::Path;
 use misp_fields::{self as fields, Need, member};
-use misp_ids::{Items, OrgId, Text, Uid};
+use misp_ids::{Items, Text};
 use misp_search::{Filter, Page};
 use serde_json::Value;
 use std::alloc::Global;
-
-fn given_flag(it: &Members<'_>, name: &str) -> Result<Option<bool>, FormatFault>
-    ensures { Gives result (given_row (body_of it.now) name.now flag_of) }
-{
-    match member(it.value, name) {
-        Some(_) => Ok(Some(it.flag(name, false)?)),
-        None => Ok(None),
-    }
-}
-
-fn given_uuid(it: &Members<'_>, name: &str) -> Result<Option<Uid>, FormatFault>
-    ensures { Gives result (given_row (body_of it.now) name.now uuid_of) }
-{
-    match member(it.value, name) {
-        Some(_) => Ok(Some(it.needed_uuid(name)?)),
-        None => Ok(None),
-    }
-}
 
 fn given_date(it: &Members<'_>, name: &str) -> Result<Option<Text>, FormatFault>
     ensures { Gives result (given_row (body_of it.now) name.now date_text_of) }
@@ -134,15 +116,6 @@ fn number(it: &Members<'_>, name: &str, most: u64, absent: u64) -> Result<u64, F
             Err(need) => it.refused(name, need),
         },
         None => Ok(absent),
-    }
-}
-
-fn org_of(uuid: Option<Uid>) -> Option<OrgId>
-    ensures { result ≡ option_map org_of uuid }
-{
-    match uuid {
-        Some(uuid) => Some(OrgId(uuid)),
-        None => None,
     }
 }
 

@@ -7,6 +7,7 @@ ghost use Rattle.misp_fields.specs.declared.need.Need.TheVariants as needs;
 ghost use Rattle.misp_fields.specs.Fields.{text_of, number_of, flag_of, uuid_of, optional_uuid_of, moment_of, list_of};
 ghost use Rattle.misp_format.specs.declared.fault.FormatFault.TheVariants as faults;
 ghost use Rattle.misp_format.specs.Path.{member_path};
+ghost use Rattle.misp_format.specs.Administering.{api_key_of};
 ghost use Rattle.misp_format.specs.Members.{path_text, body_of};
 ghost use Rattle.misp_format.specs.Elements.{unless_long};
 ghost use Rattle.misp_format.specs.Readers.{number_within, is_long, text_within, some_text_of, inst_name_of};
@@ -14,10 +15,10 @@ ghost use Rattle.misp_format.specs.Rows.{Gives, Shows, row, must_be, at, body_at
 
 use crate::fault::FormatFault;
 use crate::reading::path::Path;
-use crate::reading::readers::{inst_name, number_within};
+use crate::reading::readers::{api_key, inst_name, number_within};
 use misp_elem::{Moment, Shared};
 use misp_fields::{self as fields, Need, member};
-use misp_ids::{InstId, Text, Uid};
+use misp_ids::{ApiKey, InstId, Text, Uid};
 use serde_json::Value;
 use std::alloc::Global;
 
@@ -261,6 +262,16 @@ impl<'a> Members<'a> {
     {
         match member(self.value, name) {
             Some(value) => self.kept(name, inst_name(value)),
+            None => self.refused(name, Need::Present),
+        }
+    }
+
+    /// A key, which may not be absent.
+    pub(crate) fn api_key(&self, name: &str) -> Result<ApiKey, FormatFault>
+        ensures { Gives result (row (body_of self.now) name.now api_key_of must_be) }
+    {
+        match member(self.value, name) {
+            Some(value) => self.kept(name, api_key(value)),
             None => self.refused(name, Need::Present),
         }
     }

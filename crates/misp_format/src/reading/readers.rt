@@ -2,10 +2,11 @@
 
 ghost use Rattle.std.specs.Prelude.{◌≡◌};
 ghost use Rattle.serde_json.specs.View.{view};
+ghost use Rattle.misp_format.specs.Administering.{api_key_of};
 ghost use Rattle.misp_format.specs.Readers.{within, number_within, inst_name_of, is_file};
 
 use misp_fields::{self as fields, Need};
-use misp_ids::InstId;
+use misp_ids::{ApiKey, InstId};
 use serde_json::Value;
 
 /// The number, where it is one of the stated ones.
@@ -31,6 +32,15 @@ pub(crate) fn inst_name(value: &Value) -> Result<InstId, Need>
 {
     match fields::text(value) {
         Ok(text) => InstId::read(text).ok_or(Need::Range),
+        Err(need) => Err(need),
+    }
+}
+
+pub(crate) fn api_key(value: &Value) -> Result<ApiKey, Need>
+    ensures { result ≡ api_key_of (view value.now) }
+{
+    match fields::text(value) {
+        Ok(text) => ApiKey::read(text).ok_or(Need::Key),
         Err(need) => Err(need),
     }
 }

@@ -1,7 +1,7 @@
 use Rattle.std.proofs.Common.{None, ◌≡◌, ◌≤◌, sym, subst, refl}
 use Rattle.misp_ids.specs.declared.stamp.TheConstants.{LAST_SECOND}
 use Rattle.misp_outside.proofs.Reporting.{stays_same}
-use Rattle.misp_core.specs.Prelude.{Effect, Held, administered, groups_of, stop_in}
+use Rattle.misp_core.specs.Prelude.{Effect, Held, IsPlanned, administered, groups_of, stop_in}
 use Rattle.misp_core.specs.declared.reply.Reply.{Reply}
 use Rattle.misp_api.specs.Administering.{group_form, FormFits}
 use Rattle.misp_api.proofs.Turning.{not_turned, turned_by_fault}
@@ -15,7 +15,7 @@ returns-in-Ok-clause-replied g c =
     let comes : Held → Effect Reply = λ held. administered c.args.now c.args.request.now.by c.args.request.now.add c.in-Ok.group (groups_of held) in
     of_reply c.tell.result
     (λ reply done. by_instance c.args.now _ _ _ _ reply i.held _ c.in-Ok.ensures.read done)
-    (done_there c.tell.result comes c.plan_group-planned.result i.held _ _ (stays_same i.held i.held refl) c.tell.ensures.silent (planned_there i.held comes _ c.plan_group-planned.ensures.planned)
+    (done_there (IsPlanned c.plan_group-planned.result) c.tell.result comes i.held _ _ (stays_same i.held i.held refl) c.tell.ensures.silent (planned_there i.held comes _ c.plan_group-planned.ensures.planned)
     c.tell.ensures.done)
 
 pub returns-in-Ok-clause-fits : goal.returns-in-Ok-clause-fits

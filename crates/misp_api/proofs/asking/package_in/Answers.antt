@@ -1,6 +1,6 @@
 use Rattle.std.proofs.Common.{ap, arith}
 use Rattle.misp_api.specs.Request.{ask_command}
-use Rattle.misp_api.proofs.Handed.{found, not_found}
+use Rattle.misp_api.proofs.Handed.{found}
 use Rattle.misp_api.proofs.asking.package_in.Goals as goal
 
 pub returns-in-Ok : goal.returns-in-Ok

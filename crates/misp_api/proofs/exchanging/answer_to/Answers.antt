@@ -1,6 +1,7 @@
 use Rattle.std.proofs.Common.{refl}
 use Rattle.misp_outside.proofs.Reporting.{stays_same}
 use Rattle.misp_api.proofs.Exchanges.{unless_told}
+use Rattle.misp_api.proofs.Managed.{sync_stays}
 use Rattle.misp_api.proofs.Outgoing.{where_full}
 use Rattle.misp_api.proofs.exchanging.answer_to.Goals as goal
 

@@ -1,5 +1,6 @@
 use Rattle.std.proofs.Common.{sym, subst}
 use Rattle.misp_core.specs.Sound.{IsSound}
+use Rattle.misp_core.specs.Standing.{host_of}
 use Rattle.misp_api.specs.Sending.{IsAnswered, read_form}
 use Rattle.misp_api.proofs.Exchanges.{exchanged, left_alone, left_replied}
 use Rattle.misp_api.proofs.Outgoing.{where_full}
@@ -16,10 +17,10 @@ returns-clause-answered g c =
 pub returns-in_err-reply-clause-left : goal.returns-in_err-reply-clause-left
 returns-in_err-reply-clause-left g c =
     where_full c.from_residual.result
-    (left_alone c.args.now (read_form c.args.instance.now.admin c.args.word c.args.read.now) c.args.instance.now c.args.instance.now.held c.answer_to.new.instance.held c.in_err-reply.ensures.unwritten)
+    (left_alone c.args.now (read_form (host_of c.args.instance.now) c.args.word c.args.read.now) c.args.instance.now c.args.instance.now.held c.answer_to.new.instance.held c.in_err-reply.ensures.unwritten)
 
 -- or no bytes
 pub returns-clause-left : goal.returns-clause-left
 returns-clause-left g c =
     where_full c.bytes_of.result
-    (left_replied c.args.now (read_form c.args.instance.now.admin c.args.word c.args.read.now) c.args.instance.now c.args.instance.now.held c.answer_to.new.instance.held c.in_ok-reply.reply c.in_ok-reply.ensures.answered.replied)
+    (left_replied c.args.now (read_form (host_of c.args.instance.now) c.args.word c.args.read.now) c.args.instance.now c.args.instance.now.held c.answer_to.new.instance.held c.in_ok-reply.reply c.in_ok-reply.ensures.answered.replied)

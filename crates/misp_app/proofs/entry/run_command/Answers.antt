@@ -15,7 +15,7 @@ use Rattle.misp_app.proofs.Finishing.{of_left, of_source, status_read}
 use Rattle.misp_net.proofs.Openings.{kept_or_opened}
 use Rattle.misp_app.proofs.Hosted.{none_read, one_keeper, served_here, serves_unchecked, unread_memory, words_read}
 use Rattle.misp_app.proofs.Netted.{read_ended, unread}
-use Rattle.misp_app.specs.Synchronising.{HasSynced, IsCutSync, dialled, peer_address}
+use Rattle.misp_app.specs.Synchronising.{HasSynced, IsCutSync, dialled}
 use Rattle.misp_app.proofs.Synchronised.{no_line_read, not_read, sync_read, synced_here, syncs_unchecked}
 use Rattle.misp_app.specs.declared.status.Status.{Status}
 use Rattle.misp_app.proofs.entry.run_command.Goals as goal
@@ -105,7 +105,7 @@ returns-in-Sync-clause-synced g c = λ asked is has.
     let news = map g.K.Keeper.state c.sync_source.new.keepers.items in
     synced_here (g.S.Source.left c.args.source.now) c.in-Ok-source_bytes.bytes.items c.deref-in-Sync.result.now asked (sync_data c.in-Sync.words)
     (λ (d : SyncData) (net : Description). IfSome (host_named d.name net) (λ host.
-    HasSynced host d (peer_address host d.link net) (take 1 olds) (take 1 news)
+    HasSynced host d net.instances (take 1 olds) (take 1 news)
     (dialled (g.L.Dial.asks c.args.dial.now) (g.L.Dial.faults c.args.dial.now)) (dialled (g.L.Dial.asks c.sync_source.new.dial) (g.L.Dial.faults c.sync_source.new.dial))
     (g.W.Sink.written c.args.sink.now) (g.W.Sink.written c.sync_source.new.sink) c.sync_source.result))
     (rw c.in-Sync.is at c.in-Ok-source_bytes.ensures.bytes) c.deref-in-Sync.ensures.value (sync_read _ asked c.in-Ok.command.now c.in-Sync.words is c.in-Ok.ensures.read c.in-Sync.is)
@@ -117,7 +117,7 @@ returns-in-Sync-clause-cut_synced g c = λ asked is out.
     let news = map g.K.Keeper.state c.sync_source.new.keepers.items in
     synced_here (g.S.Source.left c.args.source.now) c.in-Ok-source_bytes.bytes.items c.deref-in-Sync.result.now asked (sync_data c.in-Sync.words)
     (λ (d : SyncData) (net : Description). IfSome (host_named d.name net) (λ host.
-    IsCutSync host d (peer_address host d.link net) (take 1 olds) (take 1 news)
+    IsCutSync host d net.instances (take 1 olds) (take 1 news)
     (dialled (g.L.Dial.asks c.args.dial.now) (g.L.Dial.faults c.args.dial.now)) (dialled (g.L.Dial.asks c.sync_source.new.dial) (g.L.Dial.faults c.sync_source.new.dial))))
     (rw c.in-Sync.is at c.in-Ok-source_bytes.ensures.bytes) c.deref-in-Sync.ensures.value (sync_read _ asked c.in-Ok.command.now c.in-Sync.words is c.in-Ok.ensures.read c.in-Sync.is)
     (c.sync_source.ensures.cut out)

@@ -1,16 +1,5 @@
-use Rattle.misp_core.proofs.Carried.{still_beside}
 use Rattle.misp_core.proofs.KeptLandings.{lands_taken, none_lands}
 use Rattle.misp_core.proofs.kept_landing.settle_beside.Goals as goal
-
-pub returns-in-Ok-clause-groups : goal.returns-in-Ok-clause-groups
-returns-in-Ok-clause-groups g c = λ holds.
-    still_beside c.settle.result c.args.put _ _ _ _
-    c.settle.ensures.storable c.settle.ensures.put c.settle.ensures.groups c.settle.ensures.err c.settle.ensures.same holds
-
-pub returns-in-Err-clause-groups : goal.returns-in-Err-clause-groups
-returns-in-Err-clause-groups g c = λ holds.
-    still_beside c.settle.result c.args.put _ _ _ _
-    c.settle.ensures.storable c.settle.ensures.put c.settle.ensures.groups c.settle.ensures.err c.settle.ensures.same holds
 
 pub returns-in-Ok-clause-landed : goal.returns-in-Ok-clause-landed
 returns-in-Ok-clause-landed g c = λ here lands.

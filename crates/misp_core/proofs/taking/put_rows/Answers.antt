@@ -1,5 +1,4 @@
 use Rattle.std.proofs.Common.{ap, arith, length}
-use Rattle.misp_core.proofs.Carried.{still_beside}
 use Rattle.misp_core.proofs.TakenRows.{groups_stay, none_put_held}
 use Rattle.misp_core.proofs.taking.put_rows.Goals as goal
 
@@ -8,8 +7,3 @@ returns-in_default-clause-put g c = none_put_held (g.K.Keeper.state c.args.keepe
 
 pub returns-clause-groups : goal.returns-clause-groups
 returns-clause-groups g c = groups_stay c.settle.result c.rows_alone.result _ _ _ c.rows_alone.ensures c.settle.ensures.groups c.settle.ensures.same
-
-pub returns-clause-beside : goal.returns-clause-beside
-returns-clause-beside g c = λ holds.
-    still_beside c.settle.result c.rows_alone.result _ _ _ _
-    c.settle.ensures.storable c.settle.ensures.put c.settle.ensures.groups c.settle.ensures.err c.settle.ensures.same holds

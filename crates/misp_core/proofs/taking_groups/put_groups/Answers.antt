@@ -1,7 +1,6 @@
 use Rattle.std.proofs.Common.{◌∙◌, ap, sym}
 use Rattle.misp_effects.specs.Prelude.{put_groups}
 use Rattle.misp_store.proofs.Storable.{none_put}
-use Rattle.misp_core.proofs.Carried.{still_beside}
 use Rattle.misp_core.proofs.TakenGroups.{no_groups_held, no_more}
 use Rattle.misp_core.proofs.taking_groups.put_groups.Goals as goal
 
@@ -11,8 +10,3 @@ returns-in_default-clause-put g c = no_groups_held (g.K.Keeper.state c.args.keep
 pub returns-in_default-clause-groups : goal.returns-in_default-clause-groups
 returns-in_default-clause-groups g c =
     sym (ap (put_groups c.args.groups.now) (sym c.as_slice.ensures.value ∙ no_more _ c.in_default.len_below) ∙ none_put c.args.groups.now)
-
-pub returns-clause-beside : goal.returns-clause-beside
-returns-clause-beside g c = λ holds.
-    still_beside c.settle.result c.groups_alone.result _ _ _ _
-    c.settle.ensures.storable c.settle.ensures.put c.settle.ensures.groups c.settle.ensures.err c.settle.ensures.same holds

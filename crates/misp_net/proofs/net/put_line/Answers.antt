@@ -6,9 +6,9 @@ use Rattle.misp_net.proofs.net.put_line.Goals as goal
 
 pub returns-clause-ran : goal.returns-clause-ran
 returns-clause-ran g c =
-    let (d, does, is, text, rose, passed) = c.in_ok-run_line.ensures.ran in
+    let (d, does, is, walked, text, rose, passed) = c.in_ok-run_line.ensures.ran in
     let pushed : c.push.new.self.items ≡ c.run_line.new.lines.items ++ 10 ∷ [] = rw c.unwrap.ensures at c.push.ensures.items in
-    (d, does, is, line_put c.args.number d _ _ _ _ c.in_ok-put_front.ensures text pushed, rose, passed)
+    (d, does, is, walked, line_put c.args.number d _ _ _ _ c.in_ok-put_front.ensures text pushed, rose, passed)
 
 -- nothing was run
 pub returns-in_err-put_front-clause-cut : goal.returns-in_err-put_front-clause-cut

@@ -1,4 +1,4 @@
-use Rattle.std.proofs.Common.{◌≡◌, ◌<◌, ◌++◌, ℕ, Ok, inl, refl, subst}
+use Rattle.std.proofs.Common.{◌≡◌, ◌<◌, ◌++◌, ℕ, Ok, inl, refl, subst, arith}
 use Rattle.misp_script.specs.declared.step.Command.{Command}
 use Rattle.misp_script.specs.declared.step.RequestLine.{RequestLine}
 use Rattle.misp_script.specs.declared.step.SyncLine.{SyncLine}
@@ -8,8 +8,8 @@ use Rattle.misp_script.specs.Step.{IsPlaced, request_data, raw_data, group_data,
 use Rattle.misp_effects.proofs.KeeperStates.{kept_set}
 use Rattle.misp_net.specs.Prelude.{hosts_of, state_of, states_of}
 use Rattle.misp_net.specs.Carrying.{carried}
-use Rattle.misp_net.proofs.Doing.{always_err, both_ways, cut_first, cut_hosts, group_ran, nothing_ran, on_err, on_ok, request_ran, session_cut, session_hosts, session_ran}
-use Rattle.misp_net.proofs.Steps.{hosts_kept}
+use Rattle.misp_net.proofs.Doing.{always_err, cut_first, group_ran, nothing_ran, on_err, on_ok, request_ran, session_cut, session_ran}
+use Rattle.misp_net.proofs.Steps.{hosts_long}
 use Rattle.misp_net.proofs.net.run_step.Goals as goal
 
 -- ---- no instance is asked
@@ -34,12 +34,6 @@ returns-in_ok-put_request-in-Request-clause-ran g c =
     (request_within _ _ _ _ c.requires.placed c.in-Request.is c.args.instances.now.ok.0) c.in_ok-put_request-in-Request.field-0 _ _ (carried (g.C.Carry.faults c.args.carry.now) (g.C.Carry.passed c.args.carry.now))
     (rw (← c.index_mut-instance.ensures.value) c.in_ok-put_request-in-Request.ensures.requested) c.in_ok-put_request-in-Request.ensures.text)
 
-pub returns-in_ok-put_request-in-Request-clause-hosts : goal.returns-in_ok-put_request-in-Request-clause-hosts
-returns-in_ok-put_request-in-Request-clause-hosts g c =
-    hosts_kept c.args.instances.now.items c.in-Request.request.at c.put_request.new.instance c.index_mut-instance.result.now
-    (request_within _ _ _ _ c.requires.placed c.in-Request.is c.args.instances.now.ok.0)
-    (rw (← c.index_mut-instance.ensures.value) c.in_ok-put_request-in-Request.ensures.name) (rw (← c.index_mut-instance.ensures.value) c.in_ok-put_request-in-Request.ensures.admin)
-
 -- its reply was not written, and nothing was put
 pub returns-in_err-put_request-in-Request-clause-cut : goal.returns-in_err-put_request-in-Request-clause-cut
 returns-in_err-put_request-in-Request-clause-cut g c =
@@ -50,12 +44,6 @@ returns-in_err-put_request-in-Request-clause-cut g c =
           (rw (← c.index_mut-instance.ensures.value) c.in_err-put_request-in-Request.ensures.kept) (rw (← c.index_mut-instance.ensures.value) c.in_err-put_request-in-Request.ensures.later),
       refl,
     ))
-
-pub returns-in_err-put_request-in-Request-clause-hosts : goal.returns-in_err-put_request-in-Request-clause-hosts
-returns-in_err-put_request-in-Request-clause-hosts g c =
-    hosts_kept c.args.instances.now.items c.in-Request.request.at c.put_request.new.instance c.index_mut-instance.result.now
-    (request_within _ _ _ _ c.requires.placed c.in-Request.is c.args.instances.now.ok.0)
-    (rw (← c.index_mut-instance.ensures.value) c.in_err-put_request-in-Request.ensures.name) (rw (← c.index_mut-instance.ensures.value) c.in_err-put_request-in-Request.ensures.admin)
 
 -- ---- a session
 
@@ -81,17 +69,6 @@ returns-in-Raw-clause-cut g c =
     (raw_within _ _ _ _ c.requires.placed c.in-Raw.is c.args.instances.now.ok.0) (g.C.Carry.passed c.args.carry.now) (rw (← c.index_mut-instance-in-Raw.ensures.value) went))
     c.put_raw.ensures.cut)
 
-pub returns-in-Raw-clause-hosts : goal.returns-in-Raw-clause-hosts
-returns-in-Raw-clause-hosts g c =
-    let lt = raw_within _ _ _ _ c.requires.placed c.in-Raw.is c.args.instances.now.ok.0 in
-    both_ways c.put_raw.result c.put_raw.ensures.text c.put_raw.ensures.cut
-    (λ went.
-    session_hosts c.args.instances.now.items c.index_mut-instance-in-Raw.result.now c.put_raw.new.instance c.args.step.now.time c.args.step.now.word (raw_data c.in-Raw.raw)
-    lt (λ text. c.put_raw.new.lines.items ≡ c.args.lines.now.items ++ text) (rw (← c.index_mut-instance-in-Raw.ensures.value) went))
-    (λ went.
-    cut_hosts c.args.instances.now.items c.index_mut-instance-in-Raw.result.now c.put_raw.new.instance c.args.step.now.time c.args.step.now.word (raw_data c.in-Raw.raw)
-    lt (rw (← c.index_mut-instance-in-Raw.ensures.value) went))
-
 -- ---- a group
 
 group_within : (count long : ℕ) (d : Command) (line : GroupLine) → IsPlaced count (command_data d) → d ≡ Command.Group line → count ≡ long → line.at < long
@@ -102,13 +79,9 @@ returns-in_ok-put_group-in-Group-clause-ran g c =
     rw c.in-Group.is
     (group_ran c.args.instances.now.items c.index_mut-instance-in-Group.result.now c.put_group.new.instance c.args.step.now.time c.args.step.now.word (group_data c.in-Group.group)
     (group_within _ _ _ _ c.requires.placed c.in-Group.is c.args.instances.now.ok.0) c.in_ok-put_group-in-Group.field-0 _ _ (carried (g.C.Carry.faults c.args.carry.now) (g.C.Carry.passed c.args.carry.now))
-    (rw (← c.index_mut-instance-in-Group.ensures.value) c.in_ok-put_group-in-Group.ensures.administered) c.in_ok-put_group-in-Group.ensures.text)
-
-pub returns-in_ok-put_group-in-Group-clause-hosts : goal.returns-in_ok-put_group-in-Group-clause-hosts
-returns-in_ok-put_group-in-Group-clause-hosts g c =
-    hosts_kept c.args.instances.now.items c.in-Group.group.at c.put_group.new.instance c.index_mut-instance-in-Group.result.now
-    (group_within _ _ _ _ c.requires.placed c.in-Group.is c.args.instances.now.ok.0)
+    (rw (← c.index_mut-instance-in-Group.ensures.value) c.in_ok-put_group-in-Group.ensures.administered)
     (rw (← c.index_mut-instance-in-Group.ensures.value) c.in_ok-put_group-in-Group.ensures.name) (rw (← c.index_mut-instance-in-Group.ensures.value) c.in_ok-put_group-in-Group.ensures.admin)
+    c.in_ok-put_group-in-Group.ensures.text)
 
 pub returns-in_err-put_group-in-Group-clause-cut : goal.returns-in_err-put_group-in-Group-clause-cut
 returns-in_err-put_group-in-Group-clause-cut g c =
@@ -119,12 +92,6 @@ returns-in_err-put_group-in-Group-clause-cut g c =
           (rw (← c.index_mut-instance-in-Group.ensures.value) c.in_err-put_group-in-Group.ensures.kept) (rw (← c.index_mut-instance-in-Group.ensures.value) c.in_err-put_group-in-Group.ensures.later),
       refl,
     ))
-
-pub returns-in_err-put_group-in-Group-clause-hosts : goal.returns-in_err-put_group-in-Group-clause-hosts
-returns-in_err-put_group-in-Group-clause-hosts g c =
-    hosts_kept c.args.instances.now.items c.in-Group.group.at c.put_group.new.instance c.index_mut-instance-in-Group.result.now
-    (group_within _ _ _ _ c.requires.placed c.in-Group.is c.args.instances.now.ok.0)
-    (rw (← c.index_mut-instance-in-Group.ensures.value) c.in_err-put_group-in-Group.ensures.name) (rw (← c.index_mut-instance-in-Group.ensures.value) c.in_err-put_group-in-Group.ensures.admin)
 
 -- ---- a synchronisation
 
@@ -139,3 +106,7 @@ returns-in-Sync-clause-ran g c = rw c.in-Sync.is c.put_sync.ensures.ran
 
 pub returns-in-Sync-clause-cut : goal.returns-in-Sync-clause-cut
 returns-in-Sync-clause-cut g c = rw c.in-Sync.is c.put_sync.ensures.cut
+
+pub returns-in-Sync-clause-places : goal.returns-in-Sync-clause-places
+returns-in-Sync-clause-places g c =
+    omega (arith, hosts_long c.args.instances.now.items c.put_sync.new.instances.items c.put_sync.ensures.hosts, c.put_sync.new.instances.ok.0, c.args.instances.now.ok.0)

@@ -1,11 +1,11 @@
-use Rattle.std.proofs.Common.{rules, ◌≡◌, ◌+◌, [], ◌∷◌, ◌++◌, map, drop, vec_len, length, Err, sym, ◌∙◌, ap, arith, length-append, drop-drop}
-use Rattle.std.proofs.lemmas.List.{length-map, length_push, map_push}
+use Rattle.std.proofs.Common.{rules, ◌≡◌, ◌+◌, [], ◌∷◌, ◌++◌, map, drop, vec_len, length, List, Err, sym, ◌∙◌, ap, subst, arith, length-append, drop-drop}
+use Rattle.std.proofs.lemmas.List.{length-map, length_push, map-id, map_push}
 use Rattle.std.proofs.lemmas.Iterator.Adapters.{YieldsList-from_vec}
 use Rattle.std.proofs.lemmas.Iterator.Consumers.{YieldsList-turn, YieldsList-end}
 use Rattle.misp_effects.proofs.KeeperStates.{AreBack, all_kept, back_others, back_failed, back_told}
 use Rattle.misp_net.specs.declared.places.NetFault.{NetFault}
-use Rattle.misp_net.specs.Prelude.{described_host, host_of, hosts_of, state_of, states_of}
-use Rattle.misp_net.proofs.Openings.{back_opened, if_err, kept_or_opened, next_opened, sound_next}
+use Rattle.misp_net.specs.Prelude.{Host, described_host, state_of, states_of}
+use Rattle.misp_net.proofs.Openings.{AreOpenedAs, are_opened, back_opened, if_err, kept_or_opened, next_opened, opened_as, opened_push, sound_next}
 use Rattle.misp_net.proofs.places.open_all.Given.{Over}
 use Rattle.misp_net.proofs.places.open_all.Goals as goal
 
@@ -23,10 +23,10 @@ loop-entry-preserved g c =
     let split : states_of c.push.new.self.items ≡ states_of before ++ state_of one ∷ [] = ap states_of items ∙ map_push state_of before one in
     record {
       hosts =
-          ap hosts_of items
-          ∙ map_push host_of before one
-          ∙ (λ i. c.loop-entry.invariant.hosts i ++ c.in-Ok.ensures.host i ∷ [])
-          ∙ sym (map_push described_host c.loop-entry.yielded c.in-Some.entry);
+          subst (λ now. AreOpenedAs (map described_host (c.loop-entry.yielded ++ c.in-Some.entry ∷ [])) now) (sym items)
+          (subst (λ (described : List Host). AreOpenedAs described (before ++ one ∷ [])) (sym (map_push described_host c.loop-entry.yielded c.in-Some.entry))
+          (opened_push (map described_host c.loop-entry.yielded) before (described_host c.in-Some.entry) one c.loop-entry.invariant.hosts
+          (opened_as (described_host c.in-Some.entry) one c.in-Ok.ensures.host)));
       opened =
           rw (split, more)
           (next_opened (length c.loop-entry.yielded) olds (states_of before) _ (state_of one) c.loop-entry.invariant.rest c.loop-entry.invariant.opened c.in-Ok.ensures.opened);
@@ -94,6 +94,13 @@ returns-in-Err-clause-places g c =
     )
 
 -- ---- all are opened
+
+pub returns-clause-hosts : goal.returns-clause-hosts
+returns-clause-hosts g c =
+    let road = YieldsList-from_vec {s = c.into_iter-entry-iterator.result} c.args.entries.items (search rules) (search rules) in
+    let ends = YieldsList-end road c.loop-entry.yielded c.loop-entry.entry-iterator c.loop-entry.yielded_by c.next.result c.next.new.self c.in-None.is c.next.ensures.steps in
+    are_opened (map described_host c.args.entries.items) c.loop-entry.instances.items
+    (subst (λ all. AreOpenedAs (map described_host all) c.loop-entry.instances.items) (sym (map-id c.loop-entry.yielded) ∙ ends.0) c.loop-entry.invariant.hosts)
 
 pub returns-clause-sound : goal.returns-clause-sound
 returns-clause-sound g c =

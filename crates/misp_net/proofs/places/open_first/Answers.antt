@@ -1,7 +1,7 @@
-use Rattle.std.proofs.Common.{◌≡◌}
+use Rattle.std.proofs.Common.{◌≡◌, [], ◌∷◌}
 use Rattle.misp_net.specs.declared.places.NetFault.{NetFault}
-use Rattle.misp_net.specs.Running.{state_of}
-use Rattle.misp_net.proofs.Openings.{bad_row_told, opened_one, sound_one}
+use Rattle.misp_net.specs.Prelude.{described_host, state_of}
+use Rattle.misp_net.proofs.Openings.{are_opened, bad_row_told, opened_one, sound_one}
 use Rattle.misp_net.proofs.places.open_first.Goals as goal
 
 pub returns-in-Ok-clause-sound : goal.returns-in-Ok-clause-sound
@@ -10,6 +10,10 @@ returns-in-Ok-clause-sound g c = rw c.take_first.ensures.first (sound_one (g.K.K
 pub returns-in-Ok-clause-opened : goal.returns-in-Ok-clause-opened
 returns-in-Ok-clause-opened g c =
     rw c.take_first.ensures.first (opened_one (g.K.Keeper.state c.take_first.result) (state_of c.in-Ok.instance) c.in-Ok.ensures.renewed c.in-Ok.ensures.count)
+
+pub returns-in-Ok-clause-host : goal.returns-in-Ok-clause-host
+returns-in-Ok-clause-host g c =
+    are_opened (described_host c.args.entry ∷ []) (c.in-Ok.instance ∷ []) (record { name = c.in-Ok.ensures.name; admin = c.in-Ok.ensures.admin }, tt)
 
 pub returns-clause-bad_row : goal.returns-clause-bad_row
 returns-clause-bad_row g c = λ is.

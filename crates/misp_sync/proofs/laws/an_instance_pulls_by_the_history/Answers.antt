@@ -8,7 +8,7 @@ use Rattle.misp_sync.proofs.laws.an_instance_pulls_by_the_history.Goals as goal
 pub returns : goal.returns
 returns c = record {
   told = told_there;
-  left = left_there c.a_group_is_read_from_its_text.ensures;
+  left = left_there;
   elsewhere = tables_elsewhere;
   groups = groups_elsewhere;
   made = λ net n now w here link outcome. made_after w net n now Direction.Pull here link outcome;

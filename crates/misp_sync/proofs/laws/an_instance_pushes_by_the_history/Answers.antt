@@ -7,7 +7,7 @@ use Rattle.misp_sync.proofs.laws.an_instance_pushes_by_the_history.Goals as goal
 pub returns : goal.returns
 returns c = record {
   told = push_told;
-  left = push_left c.a_group_is_read_from_its_text.ensures;
+  left = push_left;
   elsewhere = push_tables;
   groups = push_groups;
   made = λ net n now w here link outcome. made_after w net n now Direction.Push here link outcome;

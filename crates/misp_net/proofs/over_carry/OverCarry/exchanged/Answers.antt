@@ -3,6 +3,7 @@ use Rattle.std.proofs.lemmas.Result.{err_from_is_err_and}
 use Rattle.misp_outside.proofs.Reporting.{stays_same}
 use Rattle.misp_http.specs.Reading.{IsRead}
 use Rattle.misp_http.specs.declared.request.Read.{Read}
+use Rattle.misp_core.specs.Standing.{host_of}
 use Rattle.misp_api.specs.Exchange.{IsExchanged}
 use Rattle.misp_api.specs.Sending.{read_form}
 use Rattle.misp_api.proofs.Exchanges.{left_alone, left_replied}
@@ -35,7 +36,7 @@ returns-in-Ok-clause-answered g c = λ read is.
 pub returns-in_err-sent-clause-left : goal.returns-in_err-sent-clause-left
 returns-in_err-sent-clause-left g c = λ read is.
     let now = c.args.self.now in
-    where_full c.from_residual.result (left_alone now.now (read_form now.peer.now.admin now.word read) now.peer.now now.peer.now.held now.peer.now.held (stays_same now.peer.now.held now.peer.now.held refl))
+    where_full c.from_residual.result (left_alone now.now (read_form (host_of now.peer.now) now.word read) now.peer.now now.peer.now.held now.peer.now.held (stays_same now.peer.now.held now.peer.now.held refl))
 
 pub returns-in-Err-clause-left : goal.returns-in-Err-clause-left
 returns-in-Err-clause-left g c = λ read is.
@@ -47,7 +48,24 @@ returns-in-Ok-clause-left g c = λ read is.
     let sent = came c.in_ok-sent.sent.items c.args.bytes.now read c.in_ok-sent.ensures.bytes is in
     let e = c.in-Ok.ensures.answered read (Some []) sent in
     where_full c.pass-in-Ok.result
-    (left_replied now.now (read_form now.peer.now.admin now.word read) now.peer.now now.peer.now.held c.exchange-replied.new.instance.held e.reply e.answered.replied)
+    (left_replied now.now (read_form (host_of now.peer.now) now.word read) now.peer.now now.peer.now.held c.exchange-replied.new.instance.held e.reply e.answered.replied)
+
+-- ---- what a synchronisation asks changes neither name nor administration
+
+pub returns-in_err-sent-clause-same : goal.returns-in_err-sent-clause-same
+returns-in_err-sent-clause-same g c = λ read is sync. record { name = refl; admin = refl }
+
+pub returns-in-Err-clause-same : goal.returns-in-Err-clause-same
+returns-in-Err-clause-same g c = λ read is sync. record {
+  name = c.exchange-replied.ensures.name;
+  admin = c.exchange-replied.ensures.admin read (Some []) (came c.in_ok-sent.sent.items c.args.bytes.now read c.in_ok-sent.ensures.bytes is) sync;
+}
+
+pub returns-in-Ok-clause-same : goal.returns-in-Ok-clause-same
+returns-in-Ok-clause-same g c = λ read is sync. record {
+  name = c.exchange-replied.ensures.name;
+  admin = c.exchange-replied.ensures.admin read (Some []) (came c.in_ok-sent.sent.items c.args.bytes.now read c.in_ok-sent.ensures.bytes is) sync;
+}
 
 -- ---- what passed
 

@@ -1,0 +1,5 @@
+pub mod Fields
+pub mod ItemRows
+pub mod Putting
+pub mod Texts
+pub mod StandardFacts
