@@ -25,6 +25,11 @@ PROPOSAL = (f'{{"uuid":"{world.PROPOSAL_NEW}","type":"AS","category":"Other","to
             f'"value":"as64496","comment":"c"}}')
 SIGHTING = f'{{"uuid":"{world.PROPOSAL_NEW}","type":"1","date_sighting":"1700000000","source":"s"}}'
 
+KEY = (f'{{"AuthKey":{{"authkey":"{"K" * 40}","org":"{world.BETA}","role":"sync",'
+       f'"partner":"b"}}}}')
+LINK = (f'{{"name":"up","peer":"b","key":"{world.S}","holder":"{world.ALPHA}",'
+        f'"push_org":"{world.BETA}","on":false}}')
+
 EVENT, FIRST, OBJECT = world.EVENT, world.FIRST, world.OBJECT
 REQUESTS = [
     (world.A, "/events/add", world.WHOLE_EVENT.replace(EVENT, world.NEW)),
@@ -53,6 +58,11 @@ REQUESTS = [
     (world.M, "/sharing_groups/add", world.WHOLE_GROUP.replace(world.GROUP, world.GROUP_NEW)),
     (world.M, "/sharing_groups/edit", world.WHOLE_GROUP),
     (world.S, "/sync/groups", f"[{world.WHOLE_GROUP.replace(world.ALPHA, world.BETA)}]"),
+    (world.W, "/admin/organisations/add", f'{{"Organisation":{{"uuid":"{world.NEW}","name":"Delta"}}}}'),
+    (world.W, "/admin/keys/add", KEY),
+    (world.W, "/admin/keys/revoke", f'{{"authkey":"{world.G}"}}'),
+    (world.W, "/admin/links/add", LINK),
+    (world.W, "/admin/links/edit", LINK),
 ]
 DEPTH = 127  # levels of JSON that are read
 
@@ -103,7 +113,7 @@ class Kind:
         if self.dice.random() < 0.05:
             target = self.dice.choice(REQUESTS)[1]
         if self.dice.random() < 0.05:
-            key = self.dice.choice([world.G, world.S, world.A, "-"])
+            key = self.dice.choice([world.G, world.S, world.A, world.W, "-"])
         return world.req(time, key, "POST", target, body)
 
     def fault_of_json(self, trial):

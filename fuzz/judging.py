@@ -8,7 +8,7 @@ from running import TOP
 
 UUID = r"[0-9a-f]{8}-[0-9a-f]{4}-[0-9a-f]{4}-[0-9a-f]{4}-[0-9a-f]{12}"
 NEEDS = (
-    r"text|number|stamp|flag|list|uuid|date|moment|colour|present|object|range|short|length|row|"
+    r"text|number|stamp|flag|list|uuid|date|moment|colour|present|object|range|key|short|length|row|"
     r"digit \d+|part \d+"
 )
 PLACES = {
@@ -23,8 +23,7 @@ PLACES = {
     24: "head|body|groups|manifest|package|taken",
     28: "([0-9a-f]{2})+",
 }
-NEVER = set(range(33, 39))  # rules that no request is answered by
-NOT_IN_A_SCRIPT = NEVER | {24, 25, 26, 28}
+NOT_IN_A_SCRIPT = {24, 25, 26, 28}  # rules that no line is answered by
 LATEST = 253402300799
 
 

@@ -124,7 +124,7 @@ def fault_of_line(ran):
         return f"writes {ran.written[:200]}"
     if (line[1] == b"200") != (ran.status == 0):
         return f"ends with {ran.status} after {ran.written[:200]}"
-    return judging.fault_of_reply(int(line[1]), line[2], judging.NEVER)
+    return judging.fault_of_reply(int(line[1]), line[2], ())
 
 
 class Kind:

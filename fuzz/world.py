@@ -13,9 +13,9 @@ GROUP, GROUP_NEW = (f"d1000000-0000-4000-8000-00000000000{n}" for n in (1, 2))
 PROPOSAL, PROPOSAL_NEW = (f"f1000000-0000-4000-8000-00000000000{n}" for n in (1, 2))
 REFERENCE = "4e000000-0000-4000-8000-000000000001"
 
-A, B, G, M, R, S, T = (letter * 40 for letter in "ABGMRST")
+A, B, G, M, R, S, T, W = (letter * 40 for letter in "ABGMRSTW")
 KEYS = [("a", A, "Alpha", "publisher"), ("a", B, "Beta", "publisher"), ("a", G, "Gamma", "reader"),
-        ("a", M, "Alpha", "orgadmin"), ("a", S, "Beta", "sync", "b"),
+        ("a", M, "Alpha", "orgadmin"), ("a", W, "Alpha", "siteadmin"), ("a", S, "Beta", "sync", "b"),
         ("b", B, "Beta", "publisher"), ("b", R, "Gamma", "reader"), ("b", S, "Alpha", "sync", "a"),
         ("b", T, "Gamma", "sync", "c"), ("c", G, "Gamma", "publisher")]
 
