@@ -5,6 +5,7 @@ mod dial;
 mod input;
 mod output;
 mod tcp;
+mod timed;
 
 pub use clock::SystemClock;
 pub use dial::{TcpDial, TcpWaiting};

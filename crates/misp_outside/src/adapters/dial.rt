@@ -5,23 +5,23 @@ ghost use Rattle.std.specs.Io.KnownBytes.{Appends};
 ghost use Rattle.std.specs.IoError.{error_kind};
 ghost use Rattle.misp_outside.specs.Causes.{HasCause, StaysUnless};
 
-use super::tcp::WAIT_SECONDS;
+use super::timed::TimedStream;
 use crate::{Dial, WireFault};
 use std::alloc::Global;
 use std::io::{self, ErrorKind, Read, Write};
 use std::net::TcpStream;
-use std::time::Duration;
 
 /// The most bytes of a reply. A longer one is a fault.
 const MOST_BYTES: u64 = 67_108_864;
 
 /// A connection that was asked over, and whose reply is still to be read.
 #[derive(Drop)]
-pub struct TcpWaiting {
-    stream: TcpStream,
+pub struct TcpWaiting<'a> {
+    stream: TimedStream<'a>,
 }
 
-/// A dial over sockets, with a connection for each ask. It tells no asks.
+/// A dial over sockets, with a connection for each ask. It tells no asks. One that is waited for
+/// too long is a fault, as [TimedStream] says.
 #[derive(Drop)]
 pub struct TcpDial<'a> {
     system: &'a HostRuntime,
@@ -38,7 +38,7 @@ impl<'a> TcpDial<'a> {
     }
 
     /// Connects to the address, and sends the bytes.
-    pub fn send(&mut self, address: &str, bytes: &[u8]) -> Result<TcpWaiting, WireFault>
+    pub fn send(&mut self, address: &str, bytes: &[u8]) -> Result<TcpWaiting<'a>, WireFault>
         ensures cause { HasCause (tcp_dial_faults self.old) (tcp_dial_faults self.new)
             (result ≡ Err WireFault.Failed) }
         ensures stays { StaysUnless (tcp_dial_faults self.old) (tcp_dial_faults self.new)
@@ -51,7 +51,7 @@ impl<'a> TcpDial<'a> {
     }
 
     /// Reads the reply to its end, where the peer closes the connection.
-    pub fn receive(&mut self, waiting: TcpWaiting) -> Result<Vec<u8>, WireFault>
+    pub fn receive(&mut self, waiting: TcpWaiting<'a>) -> Result<Vec<u8>, WireFault>
         ensures cause { HasCause (tcp_dial_faults self.old) (tcp_dial_faults self.new)
             (result ≡ Err WireFault.Failed) }
         ensures stays { StaysUnless (tcp_dial_faults self.old) (tcp_dial_faults self.new)
@@ -93,10 +93,8 @@ impl<'a> Dial for TcpDial<'a> {
 }
 
 // Connects, and sends the bytes.
-fn sent(system: &HostRuntime, address: &str, bytes: &[u8]) -> io::Result<TcpWaiting> {
-    let mut stream = TcpStream::connect(system, address)?;
-    stream.set_read_timeout(Some(Duration::from_secs(WAIT_SECONDS)))?;
-    stream.set_write_timeout(Some(Duration::from_secs(WAIT_SECONDS)))?;
+fn sent<'a>(system: &'a HostRuntime, address: &str, bytes: &[u8]) -> io::Result<TcpWaiting<'a>> {
+    let mut stream = TimedStream::new(system, TcpStream::connect(system, address)?);
     send_whole(&mut stream, bytes)?;
     Ok(TcpWaiting { stream })
 }

@@ -3,14 +3,12 @@
 ghost use Rattle.std.specs.Prelude.{◌≡◌, None, false, OnOk, OnErr, IsErr, IsTrue};
 ghost use Rattle.misp_outside.specs.Causes.{HasCause, StaysUnless};
 
+use super::timed::TimedStream;
 use super::{StandardInput, StandardOutput};
 use crate::{Door, DoorFault, NoMemory, Sink, SinkFault, Source, SourceFault};
 use std::io::{self, Read};
-use std::net::{Shutdown, TcpListener, TcpStream};
+use std::net::{Shutdown, TcpListener};
 use std::time::{Duration, Instant};
-
-/// How many seconds a read or a write of a connection may wait. One that waits longer is a fault.
-pub(super) const WAIT_SECONDS: u64 = 30;
 
 /// For how many seconds a connection that was given back is still read.
 const LINGER_SECONDS: u64 = 1;
@@ -18,13 +16,14 @@ const LINGER_SECONDS: u64 = 1;
 /// How often it is read, each time for at most 1024 bytes.
 const LINGER_READS: u32 = 1024;
 
-/// The bytes that come from a socket. It tells nothing of them.
+/// The bytes that come from a socket. It tells nothing of them. One that is waited for too long is
+/// a fault, as [TimedStream] says.
 #[derive(Drop)]
-pub struct TcpSource {
-    input: StandardInput<TcpStream>,
+pub struct TcpSource<'a> {
+    input: StandardInput<TimedStream<'a>>,
 }
 
-impl Source for TcpSource {
+impl<'a> Source for TcpSource<'a> {
     ghost use Rattle.misp_outside.specs.System.{tcp_source_faults};
 
     ghost left = { λ _. None };
@@ -37,13 +36,13 @@ impl Source for TcpSource {
 }
 
 /// The bytes that go to a socket. It tells nothing of them, and never how many more it can take. A
-/// write of no byte where there are some is a fault too.
+/// write of no byte where there are some is a fault too, and so is too long a wait.
 #[derive(Drop)]
-pub struct TcpSink {
-    output: StandardOutput<TcpStream>,
+pub struct TcpSink<'a> {
+    output: StandardOutput<TimedStream<'a>>,
 }
 
-impl Sink for TcpSink {
+impl<'a> Sink for TcpSink<'a> {
     ghost use Rattle.misp_outside.specs.System.{tcp_sink_faults};
 
     ghost written = { λ _. None };
@@ -61,8 +60,8 @@ impl Sink for TcpSink {
     }
 }
 
-/// A door on a socket, which tells nothing of who comes. A connection whose waits cannot be
-/// limited, or of which there is no second end to be had, is a fault of the door.
+/// A door on a socket, which tells nothing of who comes. A connection of which there is no second
+/// end to be had is a fault of the door.
 #[derive(Drop)]
 pub struct TcpDoor<'a> {
     system: &'a HostRuntime,
@@ -86,23 +85,21 @@ impl<'a> TcpDoor<'a> {
         }
     }
 
-    fn ends(&self) -> io::Result<(TcpSource, TcpSink)> {
+    fn ends(&self) -> io::Result<(TcpSource<'a>, TcpSink<'a>)> {
         let (stream, _) = self.listener.accept()?;
-        stream.set_read_timeout(Some(Duration::from_secs(WAIT_SECONDS)))?;
-        stream.set_write_timeout(Some(Duration::from_secs(WAIT_SECONDS)))?;
         let second = stream.try_clone()?;
         Ok((
             TcpSource {
-                input: StandardInput::new(stream),
+                input: StandardInput::new(TimedStream::new(self.system, stream)),
             },
             TcpSink {
-                output: StandardOutput::new(second),
+                output: StandardOutput::new(TimedStream::new(self.system, second)),
             },
         ))
     }
 
     // The ends of the next connection, which is out then. An error is a fault that is counted.
-    fn accepted(&mut self) -> Result<(TcpSource, TcpSink), DoorFault>
+    fn accepted(&mut self) -> Result<(TcpSource<'a>, TcpSink<'a>), DoorFault>
         ensures out { OnOk result (IsTrue (tcp_is_out self.new)) }
         ensures err { OnErr result (tcp_is_out self.new ≡ tcp_is_out self.old) }
         ensures cause { HasCause (tcp_faults self.old) (tcp_faults self.new) (IsErr result) }
@@ -123,8 +120,8 @@ impl<'a> TcpDoor<'a> {
     // Closes the writing side, and reads what the client still sends: the system resets a
     // connection that is closed with unread bytes, and the reply may be lost with it. A wait of 0
     // is an error, and ends it.
-    fn linger(&self, from: TcpSource) -> io::Result<()> {
-        let mut stream = from.input.into_reader();
+    fn linger(&self, from: TcpSource<'a>) -> io::Result<()> {
+        let mut stream = from.input.into_reader().into_stream();
         stream.shutdown(Shutdown::Write)?;
         let most = Duration::from_secs(LINGER_SECONDS);
         let begun = Instant::now(self.system)?;
@@ -143,9 +140,9 @@ impl<'a> TcpDoor<'a> {
 impl<'a> Door for TcpDoor<'a> {
     ghost use Rattle.misp_outside.specs.System.{tcp_is_out, tcp_faults};
 
-    type From = TcpSource;
+    type From = TcpSource<'a>;
 
-    type To = TcpSink;
+    type To = TcpSink<'a>;
 
     ghost coming = { λ _. None };
 
