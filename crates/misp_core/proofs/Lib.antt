@@ -3,7 +3,6 @@ pub mod Alike
 pub mod AlikeTaken
 pub mod Answered
 pub mod Arriving
-pub mod Cached
 pub mod Carried
 pub mod Decisions
 pub mod HandedAsks

@@ -60,31 +60,12 @@ module _ (admin : Admin) (caller : Caller) (ask : AdminAsk) where
   by_role : (may : Bool) → permits caller.role Perm.Admin ≡ may → asked_managed admin caller ask ≡ (if may then managed admin ask else refused (no_permission Perm.Admin))
   by_role may is = ap (λ b. if b then managed admin ask else refused (no_permission Perm.Admin)) is
 
-  -- what no rule is against is made
-  pub item_planned : (item : Item) → permits caller.role Perm.Admin ≡ true → why_not admin ask ≡ None → item_of admin ask ≡ Some item → PlansItem (Ok item) (asked_managed admin caller ask)
-  item_planned item may none is = by_role true may ∙ (λ i. managed_by (none i) (is i))
-
   -- what a rule is against is refused by it
   pub rule_planned : (rule : RuleName) (refusal : Refusal) → permits caller.role Perm.Admin ≡ true → why_not admin ask ≡ Some rule → refusal ≡ bare rule
       → PlansItem (Err (NoPlan.Refused refusal)) (asked_managed admin caller ask)
   rule_planned rule refusal may why is =
       subst (λ (r : Refusal). Refuses r (asked_managed admin caller ask)) (sym is)
       (record { is = by_role true may ∙ ap (λ (w : Option RuleName). managed_by w (item_of admin ask)) why; no_stop = tells_none admin ask rule why })
-
-  -- and what the role does not permit is refused so
-  pub barred_item : (why : NoPlan) → permits caller.role Perm.Admin ≡ false → Plans (Err why) (refused (no_permission Perm.Admin)) → PlansItem (Err why) (asked_managed admin caller ask)
-  barred_item (NoPlan.Refused refusal) not_ plans = subst (λ (e : Effect Reply). Refuses refusal e) (sym (by_role false not_)) plans
-  barred_item NoPlan.KeeperFault not_ plans = plans
-  barred_item NoPlan.NoMemory not_ plans = tt
-
--- nothing is planned but this refusal, unless memory ran out
-pub item_barred : (i : Standing) (refusal : Refusal) (why : NoPlan) → Plans (Err why) (refused refusal) → IsBarred {A = Item} refusal i i (Err why)
-item_barred i refusal (NoPlan.Refused told) plans =
-    let just : Reply.Refused told ≡ Reply.Refused refusal = sym (ap (λ (e : Effect Reply). e.reply) plans.is) in
-    let same : told ≡ refusal = cc in
-    record { just = inl (ap (λ (r : Refusal). Err (NoPlan.Refused r)) same); still = refl }
-item_barred i refusal NoPlan.KeeperFault plans = absurd plans
-item_barred i refusal NoPlan.NoMemory plans = record { just = inr refl; still = refl }
 
 -- no plan tells a fault of a keeper
 pub item_no_fault : (planned : Result Item NoPlan) (e : Effect Reply) → PlansItem planned e → stop_planned planned ≡ by_keeper → ⊥

@@ -1,7 +1,6 @@
 //! What a change comes to over the rows that its caller knows of the event.
 
 ghost use Rattle.std.specs.Prelude.{◌≡◌, None, IfOk, IfErr, Option};
-ghost use Rattle.misp_dates.specs.Dates.{date_of};
 ghost use Rattle.misp_ids.specs.declared.label.Label as labels;
 ghost use Rattle.misp_elem.specs.Row.{AreRows};
 ghost use Rattle.misp_orgs.specs.Admin.{AdminFields};

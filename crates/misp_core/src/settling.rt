@@ -1,4 +1,4 @@
-//! The one place where something is put.
+//! Where rows of events and groups are put.
 
 ghost use Rattle.std.specs.Prelude.{◌≡◌, ◌≤◌, Err, length, OnOk, OnErr};
 ghost use Rattle.misp_groups.specs.declared.group.GroupFields.{GroupFields};

@@ -25,7 +25,7 @@ abbrev pub IsNoGroup : AdminRow → RowFault → Type 0
 IsNoGroup row (RowFault.BadRow name) = (name ≡ row.name) × (group_in row ≡ None)
 IsNoGroup row RowFault.NoMemory = Unit {0}
 
--- the first row that is no group's has this name
+-- the first row of a group that is none has this name
 abbrev pub NamesBadGroup : Result (List Group) (List ℕ) → RowFault → Type 0
 NamesBadGroup read (RowFault.BadRow name) = read ≡ Err name
 NamesBadGroup read RowFault.NoMemory = Unit {0}
