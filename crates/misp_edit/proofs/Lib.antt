@@ -1,5 +1,6 @@
 pub mod ListLemmas
 pub mod UuidLemmas
+pub mod DistinctUuids
 pub mod TargetLemmas
 pub mod ObjectLemmas
 pub mod LateRules

@@ -1,6 +1,6 @@
 -- Uuids that stand twice, without a scene.
 use Rattle.std.specs.Prelude.{ℕ, Bool, eqb, cond, ◌||◌, List, [], ◌∷◌, ◌++◌, Option, Some, None, option_map, map, filter_map}
-use Rattle.misp_model.specs.Prelude.{Draft, ElemId, EventId, Place, ReferenceDraft, Submission, uuid_at}
+use Rattle.misp_model.specs.Prelude.{Draft, ElemId, EventId, Place, ReferenceDraft, Submission, list_any, uuid_at}
 
 -- the uuid of a part, with its place in reading order
 unfoldable pub part_uuid : EventId → Draft → ℕ × ℕ
@@ -14,6 +14,10 @@ reference_uuid target r = option_map (λ t. (r.number, r.uuid.0.0)) (target r.re
 unfoldable pub numbered_in : (ElemId → Option Place) → Submission → List (ℕ × ℕ)
 numbered_in target b =
     map (part_uuid b.event) b.parts ++ filter_map (reference_uuid target) b.references
+
+-- the uuid is one of these
+abbrev pub is_among : List ℕ → ℕ → Bool
+is_among us u = list_any (λ v. eqb v u) us
 
 -- the first of these that is used or stood before
 unfoldable pub clash_in : (ℕ → Bool) → List ℕ → Option ℕ

@@ -1,14 +1,14 @@
 //! Uuids that a body brings twice, or that the caller's copy has.
 
-ghost use Rattle.std.specs.Prelude.{◌≡◌, ℕ, ◌++◌, map, IfOk, OnOk, ◌||◌};
-ghost use Rattle.std.specs.List.{filter_map};
+ghost use Rattle.std.specs.Prelude.{◌≡◌, ◌↔◌, ℕ, true, eqb, ◌++◌, map, IfOk, OnOk, ◌||◌};
+ghost use Rattle.std.specs.List.{IsDistinct, filter_map};
 ghost use Rattle.std.specs.Ordering.{nat_cmp};
 ghost use Rattle.std.specs.BTreeSet.{contains};
 ghost use Rattle.misp_lists.specs.Order.{in_order};
 ghost use Rattle.misp_edit.specs.Adding.{is_read_before};
 ghost use Rattle.misp_edit.specs.Targets.{target_in};
 ghost use Rattle.misp_copies.specs.Uuids.{has_uuid, is_used};
-ghost use Rattle.misp_edit.specs.Uuids.{part_uuid, reference_uuid, numbered_in, clash_in};
+ghost use Rattle.misp_edit.specs.Uuids.{part_uuid, reference_uuid, numbered_in, clash_in, is_among};
 
 use crate::targets::Targets;
 use misp_copies::own_uuid;
@@ -18,12 +18,12 @@ use std::alloc::Global;
 use std::collections::BTreeSet;
 
 // With the uuid in the row, if there is one.
-fn note(used: &mut BTreeSet<u128>, row: &Row, owner: OrgId, event: EventId) -> Result<(), NoMemory>
-    ensures { OnOk result ((u : ℕ) → contains nat_cmp used.new u
-        ≡ (contains nat_cmp used.old u || has_uuid owner event u row.now)) }
+fn note(used: &mut Vec<u128>, row: &Row, owner: OrgId, event: EventId) -> Result<(), NoMemory>
+    ensures { OnOk result ((u : ℕ) → is_among used.new.items u
+        ≡ (is_among used.old.items u || has_uuid owner event u row.now)) }
 {
     if let Some(uuid) = own_uuid(row, owner, event) {
-        used.insert(uuid)?;
+        used.push(uuid)?;
     }
     Ok(())
 }
@@ -35,12 +35,12 @@ fn used_uuids(
     rows: &[Row],
     owner: OrgId,
     event: EventId,
-) -> Result<BTreeSet<u128>, NoMemory>
+) -> Result<Vec<u128>, NoMemory>
     ensures { IfOk result (λ used. (u : ℕ) →
-        contains nat_cmp used u ≡ is_used rows.now owner event u) }
+        is_among used.items u ≡ is_used rows.now owner event u) }
 {
-    let mut used = BTreeSet::new(alloc);
-    used.insert(event.0.0)?;
+    let mut used = Vec::new(alloc);
+    used.push(event.0.0)?;
     for row in rows {
         note(&mut used, row, owner, event)?;
     }
@@ -104,6 +104,37 @@ fn read_uuids(
     Ok(uuids)
 }
 
+// The used uuids, and those of the body.
+fn with_body(alloc: Global, used: &[u128], uuids: &[(u32, u128)]) -> Result<Vec<u128>, NoMemory>
+    ensures { IfOk result (λ all. all.items ≡ used.now ++ map (λ p. p.1) uuids.now) }
+{
+    let all = used
+        .iter()
+        .copied()
+        .chain(uuids.iter().map(|pair| pair.1))
+        .collect(alloc)?;
+    Ok(all)
+}
+
+// Whether no uuid stands twice.
+fn all_differ(mut uuids: Vec<u128>) -> bool
+    ensures { (result ≡ true) ↔ IsDistinct eqb uuids.items }
+{
+    uuids.sort_unstable();
+    uuids.is_sorted_by(|a, b| a < b)
+}
+
+// The uuids as a set.
+fn set_of(alloc: Global, uuids: &[u128]) -> Result<BTreeSet<u128>, NoMemory>
+    ensures { IfOk result (λ set. (u : ℕ) → contains nat_cmp set u ≡ is_among uuids.now u) }
+{
+    let mut set = BTreeSet::new(alloc);
+    for uuid in uuids {
+        set.insert(*uuid)?;
+    }
+    Ok(set)
+}
+
 // The first of these uuids that is used, or that stands before.
 #[tactic(auto, unfolding(crate::specs::Uuids::clash_in))]
 fn first_used(mut used: BTreeSet<u128>, uuids: &[(u32, u128)]) -> Result<Option<u128>, NoMemory>
@@ -116,6 +147,21 @@ fn first_used(mut used: BTreeSet<u128>, uuids: &[(u32, u128)]) -> Result<Option<
         }
     }
     Ok(None)
+}
+
+// The same, where a walk in reading order is taken only if some uuid stands twice.
+fn first_among(
+    alloc: Global,
+    used: &[u128],
+    uuids: &[(u32, u128)],
+) -> Result<Option<u128>, NoMemory>
+    ensures { IfOk result (λ clash.
+        clash ≡ clash_in (is_among used.now) (map (λ p. p.1) uuids.now)) }
+{
+    if all_differ(with_body(alloc, used, uuids)?) {
+        return Ok(None);
+    }
+    first_used(set_of(alloc, used)?, uuids)
 }
 
 // The first uuid of the body that is used, or that stands before.
@@ -132,5 +178,5 @@ pub(crate) fn first_clash(
 {
     let used = used_uuids(alloc, rows, owner, submission.event)?;
     let uuids = read_uuids(alloc, submission, targets)?;
-    first_used(used, uuids.as_slice())
+    first_among(alloc, used.as_slice(), uuids.as_slice())
 }
