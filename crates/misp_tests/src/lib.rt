@@ -2,7 +2,13 @@
 #![tactic(auto)]
 
 #[cfg(test)]
+mod administering;
+#[cfg(test)]
 mod app;
+#[cfg(test)]
+mod failing;
+#[cfg(test)]
+mod halting;
 #[cfg(test)]
 mod lying;
 #[cfg(test)]

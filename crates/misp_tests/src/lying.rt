@@ -6,17 +6,18 @@ use std::alloc::Global;
 use std::process::Abort;
 
 /// Instances a and b. At b is a link to a.
-const NET: &str = "[[org]]\nname = \"Beta\"\nuuid = \"bbbbbbbb-0000-4000-8000-000000000002\"\n\
+pub(super) const NET: &str =
+    "[[org]]\nname = \"Beta\"\nuuid = \"bbbbbbbb-0000-4000-8000-000000000002\"\n\
     [[instance]]\nname = \"a\"\naddress = \"127.0.0.1:8081\"\n\
     [[instance]]\nname = \"b\"\n\
     [[link]]\nname = \"ba\"\nat = \"b\"\nto = \"a\"\n\
     key = \"XXXXXXXXXXXXXXXXXXXXXXXXXXXXXXXXXXXXXXXX\"\nholder = \"Beta\"\npush_org = \"Beta\"\n";
 
 /// No group, with the length of the body before it, as each of these.
-const GROUPS: (&str, &str) = ("2", "5b5d");
+pub(super) const GROUPS: (&str, &str) = ("2", "5b5d");
 
 /// The manifest of an event with one attribute.
-const MANIFEST: (&str, &str) = (
+pub(super) const MANIFEST: (&str, &str) = (
     "108",
     "4d53503200000001e100000000004000800000000000000100000001000000020000001200e1000000000040\
      00800000000000000100000000006553f1010000002200e100000000004000800000000000000102a1000000\
@@ -24,7 +25,7 @@ const MANIFEST: (&str, &str) = (
 );
 
 /// Its package.
-const PART: (&str, &str) = (
+pub(super) const PART: (&str, &str) = (
     "240",
     "4d535031e10000000000400080000000000000010000000000000001000000020000006c0200000000000000\
      00000000000000000000e100000000004000800000000000000100000000006553f101030200000000045761\
@@ -227,14 +228,19 @@ fn reply(rt: &impl Abort, alloc: Global, length: &str, body: &str) -> Vec<u8> {
     bytes
 }
 
-// A dial with these replies.
-fn lying(rt: &impl Abort, alloc: Global, replies: &[(&str, &str)]) -> MemDial {
+/// A dial with these replies, whose ask of this number fails.
+pub(super) fn lying(
+    rt: &impl Abort,
+    alloc: Global,
+    replies: &[(&str, &str)],
+    fails: u64,
+) -> MemDial {
     let mut all = Vec::new(alloc);
     for (length, body) in replies {
         all.push(reply(rt, alloc, length, body))
             .expect(rt, "memory");
     }
-    MemDial::new(alloc, all, Vec::new(alloc))
+    MemDial::new(alloc, all, vec![in alloc; fails].expect(rt, "memory"))
 }
 
 // What a pull over these keepers writes.
@@ -275,7 +281,7 @@ fn a_lying_peer_is_refused_and_what_was_taken_stays(rt: HostRuntime) {
     let alloc = rt.alloc();
     for (replies, text, asked, rows) in &ENDS {
         let mut keepers = empty_keepers(&rt, alloc);
-        let mut dial = lying(&rt, alloc, replies);
+        let mut dial = lying(&rt, alloc, replies, 0);
         let written = pulled(&rt, alloc, &mut keepers, &mut dial);
         assert_eq!(rt; written.as_str(), *text);
         assert_eq!(rt; dial.asks().len(), *asked, "{text}");

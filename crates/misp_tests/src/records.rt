@@ -34,10 +34,10 @@ const NAMES: [(&str, &str); 6] = [
     ("'", "\""),
 ];
 
-type Records = SqliteKeeper<MemStore>;
+pub(super) type Records = SqliteKeeper<MemStore>;
 
-// As many keepers as a run asks for, each over a database of its own that holds nothing.
-fn databases(rt: &impl Abort, alloc: Global) -> Vec<Records> {
+/// As many keepers as a run asks for, each over a database of its own that holds nothing.
+pub(super) fn databases(rt: &impl Abort, alloc: Global) -> Vec<Records> {
     let mut keepers = Vec::new(alloc);
     for _ in 0..KEEPERS {
         let connection = Connection::open_in_memory(alloc).expect(rt, "memory");
@@ -47,8 +47,8 @@ fn databases(rt: &impl Abort, alloc: Global) -> Vec<Records> {
     keepers
 }
 
-// The same keepers, each over its database as it is opened once more.
-fn opened_again(rt: &impl Abort, alloc: Global, keepers: Vec<Records>) -> Vec<Records> {
+/// The same keepers, each over its database as it is opened once more.
+pub(super) fn opened_again(rt: &impl Abort, alloc: Global, keepers: Vec<Records>) -> Vec<Records> {
     let mut again = Vec::new(alloc);
     for keeper in keepers {
         let keeper = SqliteKeeper::open(keeper.into_connection()).expect(rt, "a database");
@@ -57,8 +57,13 @@ fn opened_again(rt: &impl Abort, alloc: Global, keepers: Vec<Records>) -> Vec<Re
     again
 }
 
-// What a run of this source over these keepers writes.
-fn lines<K: Keeper>(rt: &impl Abort, alloc: Global, text: &str, keepers: &mut Vec<K>) -> String {
+/// What a run of this source over these keepers writes.
+pub(super) fn lines<K: Keeper>(
+    rt: &impl Abort,
+    alloc: Global,
+    text: &str,
+    keepers: &mut Vec<K>,
+) -> String {
     let mut carry = carry(alloc);
     let mut door = idle_door(rt, alloc);
     let mut dial = idle_dial(alloc);

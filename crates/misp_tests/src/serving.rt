@@ -1,5 +1,6 @@
 //! Connections that are served, through a door in memory and over sockets.
 
+mod faults;
 mod sockets;
 
 use crate::outside::{carry, idle_dial, ran_from};
@@ -80,10 +81,25 @@ fn connections_are_served_one_after_another(rt: HostRuntime) {
 }
 
 /// Words, how many connections come, the calls of the door that fail, and how it ends.
-const ENDS: [(&str, usize, u64, Status, &str); 5] = [
+const ENDS: [(&str, usize, u64, Status, &str); 8] = [
     ("serve a x 3", 1, 0, Status::Done, "1 Ended 1\n"),
     ("serve a x 1", 2, 0, Status::Done, "1 Ended 1\n"),
     ("serve a x 3", 2, 2, Status::DoorFault, "1 Ended 1\n"),
+    ("serve a x 3", 3, 1, Status::DoorFault, ""),
+    (
+        "serve a x 3",
+        3,
+        3,
+        Status::DoorFault,
+        "1 Ended 1\n2 Ended 1\n",
+    ),
+    (
+        "serve a x 3",
+        3,
+        4,
+        Status::Done,
+        "1 Ended 1\n2 Ended 1\n3 Ended 1\n",
+    ),
     ("serve b x 1", 1, 0, Status::NoSuchInstance, ""),
     ("serve a -x 1", 1, 0, Status::Usage, ""),
 ];

@@ -1,5 +1,7 @@
 //! Synchronisations over a dial in memory.
 
+mod faults;
+
 use crate::outside::{carry, idle_door, ran_from};
 use misp_app::Status;
 use misp_outside::MemDial;

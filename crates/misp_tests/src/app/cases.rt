@@ -3,7 +3,7 @@
 use misp_app::Status;
 
 /// What the names in the texts of the table stand for, in the order in which they are put in.
-pub(super) const NAMES: [(&str, &str); 49] = [
+pub(super) const NAMES: [(&str, &str); 52] = [
     (
         "{net}",
         "[[org]]\nname = 'Alpha'\nuuid = '{oa}'\n[[org]]\nname = 'Beta'\nuuid = '{ob}'\n\
@@ -23,6 +23,11 @@ pub(super) const NAMES: [(&str, &str); 49] = [
     ("{A edits group}", "{step} group-edit a {oa}"),
     ("{A lists}", "{step} req a {ka} GET /sharing_groups/index"),
     ("{B lists}", "{step} req a {kb} GET /sharing_groups/index"),
+    (
+        "{S adds key}",
+        "{step} req a {ks} POST /admin/keys/add {'authkey':'{kd}','org':'{ob}','role':'reader'}",
+    ),
+    ("{D lists}", "{step} req a {kd} GET /sharing_groups/index"),
     ("{step}", "1700000000 00000000000000000000000000000000"),
     (
         "{shared}",
@@ -144,6 +149,7 @@ pub(super) const NAMES: [(&str, &str); 49] = [
     ("{g1}", "91000000-0000-4000-8000-000000000001"),
     ("{ka}", "AAAAAAAAAAAAAAAAAAAAAAAAAAAAAAAAAAAAAAAA"),
     ("{kb}", "BBBBBBBBBBBBBBBBBBBBBBBBBBBBBBBBBBBBBBBB"),
+    ("{kd}", "DDDDDDDDDDDDDDDDDDDDDDDDDDDDDDDDDDDDDDDD"),
     ("{kr}", "RRRRRRRRRRRRRRRRRRRRRRRRRRRRRRRRRRRRRRRR"),
     ("{ks}", "SSSSSSSSSSSSSSSSSSSSSSSSSSSSSSSSSSSSSSSS"),
     ("{ko}", "OOOOOOOOOOOOOOOOOOOOOOOOOOOOOOOOOOOOOOOO"),
@@ -167,7 +173,7 @@ pub(super) struct Case<'a> {
 
 const NONE: [u64; 3] = [0, 0, 0];
 
-pub(super) const CASES: [Case<'static>; 30] = [
+pub(super) const CASES: [Case<'static>; 31] = [
     Case {
         words: "net",
         source: "{net}---\n{A adds} {wave}\n{B views}{e1}\n",
@@ -376,6 +382,16 @@ pub(super) const CASES: [Case<'static>; 30] = [
         fails: [0, 0, 5],
         status: Status::Done,
         written: "1 {no keeper}\n2 {hidden}\n3 {saved}\n",
+        batches: [2, 0, 0, 0],
+    },
+    // A key whose batch failed is not there, and is made by the next request.
+    Case {
+        words: "net",
+        source: "{net}---\n{S adds key}\n{D lists}\n{S adds key}\n{D lists}\n",
+        len: 0,
+        fails: [0, 0, 4],
+        status: Status::Done,
+        written: "1 {no keeper}\n2 {no key}\n3 {taken}\n4 200 []\n",
         batches: [2, 0, 0, 0],
     },
     // A load of the administration that fails, and one of all rows.
