@@ -18,13 +18,13 @@ class Ran:
         self.said = said
 
 
-def run(program, words, source, folder=None):
+def run(program, words, source, folder=None, bound=BOUND):
     """A run of the program with these words, which reads this source."""
     environment = {**os.environ, **SANITIZED}
     try:
         ran = subprocess.run(
             [program, *words], input=source, capture_output=True, cwd=folder, env=environment,
-            timeout=BOUND,
+            timeout=bound,
         )
     except subprocess.TimeoutExpired as late:
         return Ran(None, late.stdout or b"", late.stderr or b"")
