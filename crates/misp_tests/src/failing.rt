@@ -5,7 +5,7 @@ mod script;
 use crate::outside::{carry, idle_dial, idle_door, keepers, ran, ran_over};
 use misp_app::Status;
 use misp_outside::{Keeper, MemKeeper, MemSink, MemSource};
-use script::{NAMES, NETS, SCRIPT};
+use script::{NAMES, NETS, REFUSED, SCRIPT};
 use std::alloc::Global;
 use std::process::Abort;
 use std::test::Fail;
@@ -91,6 +91,17 @@ fn calls(rt: &impl Abort, alloc: Global, text: &str) -> u64 {
 // Whether the line says that a call of the keeper failed.
 fn is_failed(line: &str) -> bool {
     SAYS.iter().any(|says| line.find(*says).is_some())
+}
+
+// How many lines say that something was refused.
+fn refusals(written: &str) -> usize {
+    let mut count = 0usize;
+    for line in written.split('\n') {
+        if line.find("\"rule\":").is_some() {
+            count = count.saturating_add(1);
+        }
+    }
+    count
 }
 
 // The place of the one line that says it, and whether it is a synchronisation.
@@ -206,6 +217,7 @@ fn assert_each(rt: &impl Abort, alloc: Global, net: &str, script: &str, least: u
     assert!(rt; least <= count, "{count} calls");
     let whole = written(rt, alloc, text.as_str());
     drop(text);
+    assert_eq!(rt; refusals(whole.as_str()), REFUSED, "{whole}");
     for fails in 1..count.saturating_add(1) {
         assert_stopped(rt, alloc, net, script, whole.as_str(), fails);
     }

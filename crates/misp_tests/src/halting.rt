@@ -281,7 +281,7 @@ struct States {
     after: Vec<u8>,
 }
 
-fn states(
+fn states_around(
     rt: &impl Abort,
     alloc: Global,
     files: &Disks,
@@ -376,7 +376,7 @@ fn assert_each(
     text: &str,
     fails: u64,
 ) {
-    let states = states(rt, alloc, files, peer, text, fails);
+    let states = states_around(rt, alloc, files, peer, text, fails);
     assert!(rt; states.before.as_slice() != states.after.as_slice());
     for is_log in [true, false] {
         let stops = each_stop(rt, alloc, files, peer, text, &states, is_log);

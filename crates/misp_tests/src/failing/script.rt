@@ -160,3 +160,7 @@ pub(super) const SCRIPT: &str = "{A}/events/add {'uuid':'{e1}','info':'One','dis
      {S}/admin/keys/revoke {'authkey':'{kb}'}\n\
      {B asks}/events/index\n\
      x\n";
+
+/// How many of its lines are refused: the pull over a link that is off, the view of what is deleted,
+/// and the question by a key that is revoked.
+pub(super) const REFUSED: usize = 3;
