@@ -209,12 +209,6 @@ class Model:
             self.known[source] = [line.split(b" ", 1)[1] for line in ran.written.splitlines()]
         return dict(zip(lines, self.known[source]))
 
-    def is_made_up(self, number, lack):
-        """Whether the next line takes what a synchronisation left that was refused. Without it what
-        comes later may be otherwise."""
-        again = [line.split(b" ")[2:] for line in self.lines[number:number + 2]]
-        return len(again) == 2 and again[0] == again[1] and number + 1 not in lack
-
     def judged(self, ran):
         """How a run ended, and why it is a finding, or None."""
         end = end_of(ran.status)
@@ -229,11 +223,10 @@ class Model:
             return end, fault
         lack = [n for n, output in enumerate(told) if is_lacking(self.verbs[n], output)]
         end += f", {'some' if lack else 'no'} line refused"
-        halted = [n for n in lack if self.verbs[n] in SYNCS]
-        lost = min([n for n in halted if not self.is_made_up(n, lack)], default=len(told))
+        is_halted = any(self.verbs[n] in SYNCS for n in lack)
         for number, output in self.outputs(told, lack).items():
             verb = self.verbs[number]
-            if verb in SYNCS and halted or number > lost or are_alike(verb, told[number], output):
+            if verb in SYNCS and is_halted or are_alike(verb, told[number], output):
                 continue
             return end, (f"line {number + 1}, {self.lines[number][:120]}: {told[number][:500]}, and "
                          f"without what was refused in {[n + 1 for n in lack]} {output[:500]}")
