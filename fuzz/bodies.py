@@ -2,6 +2,7 @@
 is refused as such, and what was refused leaves no trace."""
 
 import json
+import math
 
 import judging
 import mutating
@@ -81,7 +82,7 @@ def refuse(name):
 
 def finite(digits):
     """A number that is not too large to be one."""
-    return float(digits) if abs(float(digits)) < 1e308 else refuse(digits)
+    return float(digits) if math.isfinite(float(digits)) else refuse(digits)
 
 
 def is_json(text):

@@ -6,6 +6,7 @@ import re
 import resource
 import shutil
 import subprocess
+import tempfile
 
 import databases
 import judging
@@ -183,12 +184,13 @@ def are_alike(verb, output, other):
 
 
 class Model:
-    """What a script puts out with memory enough, whole and without what was refused of it."""
+    """What a script puts out with memory enough, whole and without what was refused of it. Where a
+    synchronisation was, what follows is as if it had not been only in a script that does it again."""
 
-    def __init__(self, program, words, source):
+    def __init__(self, program, words, source, does_again=False):
         self.program = program
         self.words = words
-        self.source = source
+        self.does_again = does_again
         self.described, self.lines = judging.script_of(source)
         self.verbs = [(line.split(b" ") + [b"", b"", b""])[2] for line in self.lines]
         self.known = {}
@@ -223,10 +225,12 @@ class Model:
             return end, fault
         lack = [n for n, output in enumerate(told) if is_lacking(self.verbs[n], output)]
         end += f", {'some' if lack else 'no'} line refused"
-        is_halted = any(self.verbs[n] in SYNCS for n in lack)
+        halted = min((n for n in lack if self.verbs[n] in SYNCS), default=len(told))
         for number, output in self.outputs(told, lack).items():
             verb = self.verbs[number]
-            if verb in SYNCS and is_halted or are_alike(verb, told[number], output):
+            if number >= halted and (verb in SYNCS or not self.does_again):
+                continue
+            if are_alike(verb, told[number], output):
                 continue
             return end, (f"line {number + 1}, {self.lines[number][:120]}: {told[number][:500]}, and "
                          f"without what was refused in {[n + 1 for n in lack]} {output[:500]}")
@@ -244,17 +248,13 @@ class Pulling:
         self.peer = peers.Honest(peers.replies_of(packages.shared(program)))
         self.source = world.description(self.peer.address)
         self.words = ["sync", "b", "up", "pull"]
-        self.number = 0
         folder = self.folder()
         self.count = count_of(program, self.words, self.source, refusing, room, folder)
         self.rows = self.rows_of(folder)
 
     def folder(self):
         """A new folder for records."""
-        self.number += 1
-        path = os.path.join(self.room, f"records-{self.number}")
-        os.mkdir(path)
-        return path
+        return tempfile.mkdtemp(dir=self.room)
 
     def rows_of(self, folder):
         """The rows of the records in a folder."""

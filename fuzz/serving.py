@@ -125,6 +125,8 @@ class Client:
             head = judging.REPLY.match(self.text)
             if head and len(self.text) >= head.end() + int(head[3]):
                 break
+            # the server waits with a second reply until the first one is acknowledged
+            self.socket.setsockopt(socket.IPPROTO_TCP, socket.TCP_QUICKACK, 1)
             more = self.socket.recv(1 << 18)
             if not more:
                 return None
