@@ -151,6 +151,16 @@ fn calls(rt: &impl Abort, alloc: Global, text: &str, sync: &Exchange) -> [u64; 2
     [before, calls_made(rt, alloc, keepers)]
 }
 
+// Asserts how a synchronisation ended, and what it wrote.
+fn assert_ended(
+    rt: &impl Abort,
+    ended: &(Status, String, usize),
+    want: (Status, &str),
+    fails: u64,
+) {
+    assert_eq!(rt; (ended.0, ended.1.as_str()), want, "call {fails}");
+}
+
 // Asserts how a synchronisation ends whose keeper fails at this call, which is of its opening or
 // after it, and that the next one takes what was left.
 fn assert_stopped(
@@ -162,15 +172,14 @@ fn assert_stopped(
     is_opening: bool,
 ) {
     let mut keepers = prepared(rt, alloc, text, fails);
-    let (status, line, asks) = asked(rt, alloc, sync, &mut keepers, 0);
+    let ended = asked(rt, alloc, sync, &mut keepers, 0);
     if is_opening {
-        assert_eq!(rt; (status, asks), (Status::KeeperFault, 0), "call {fails}");
-        assert_eq!(rt; line.as_str(), "", "call {fails}");
+        assert_ended(rt, &ended, (Status::KeeperFault, ""), fails);
+        assert_eq!(rt; ended.2, 0, "call {fails}");
     } else {
-        assert_eq!(rt; status, Status::Stopped, "call {fails}");
-        assert_eq!(rt; line.as_str(), NO_KEEPER, "call {fails}");
+        assert_ended(rt, &ended, (Status::Stopped, NO_KEEPER), fails);
     }
-    drop(line);
+    drop(ended);
     assert_done(rt, alloc, sync, &mut keepers);
     drop(keepers);
 }
