@@ -3,6 +3,7 @@
 
 mod ask;
 mod deciding;
+mod held_item;
 mod item;
 mod laws;
 mod lists;

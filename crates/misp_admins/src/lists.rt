@@ -4,17 +4,17 @@ ghost use Rattle.std.specs.Prelude.{◌≡◌, ◌<◌, IfOk, IfErr, OnOk, set, 
 ghost use Rattle.std.specs.List.Sorted.{IsStrictlySortedBy, IsSearchInRange};
 ghost use Rattle.misp_orgs.specs.Admin.{IsAdmin, by_uuid, by_key, by_name};
 ghost use Rattle.misp_admins.specs.Made.{put_by, put_item};
-ghost use Rattle.misp_admins.specs.Rooms.{admin_in, HasRoom};
+ghost use Rattle.misp_admins.specs.Rooms.{admin_in, item_in, HasRoom};
 
-use crate::item::Item;
+use crate::held_item::HeldItem;
 use misp_ids::{Items, NoMemory};
-use misp_orgs::{Admin, KeyRecord, Link, Org};
+use misp_orgs::{Admin, HeldKey, Link, Org};
 
 /// The organisations, keys and links of an administration.
 #[derive(Drop)]
 pub(crate) struct Lists {
     pub(crate) orgs: Vec<Org>,
-    pub(crate) keys: Vec<KeyRecord>,
+    pub(crate) keys: Vec<HeldKey>,
     pub(crate) links: Vec<Link>,
 }
 
@@ -40,12 +40,12 @@ fn put_org(orgs: &mut Vec<Org>, org: Org)
     put_at(orgs, at, org);
 }
 
-fn put_key(keys: &mut Vec<KeyRecord>, key: KeyRecord)
+fn put_key(keys: &mut Vec<HeldKey>, key: HeldKey)
     requires ascend { IsStrictlySortedBy by_key keys.old.items }
     requires room { vec_len keys.old < vec_capacity keys.old }
     ensures { keys.new.items ≡ put_by by_key key keys.old.items }
 {
-    let at = keys.binary_search_by(|held| held.key.text().cmp(key.key.text()));
+    let at = keys.binary_search_by(|held| held.record().key.text().cmp(key.record().key.text()));
     put_at(keys, at, key);
 }
 
@@ -71,29 +71,29 @@ impl Lists {
     }
 
     // Takes memory for an item.
-    pub(crate) fn reserve(&mut self, item: &Item) -> Result<(), NoMemory>
+    pub(crate) fn reserve(&mut self, item: &HeldItem) -> Result<(), NoMemory>
         ensures same { admin_in self.new ≡ admin_in self.old }
         ensures room { OnOk result (HasRoom self.new item.now) }
     {
         match item {
-            Item::Org(_) => self.orgs.reserve(1)?,
-            Item::Key(_) => self.keys.reserve(1)?,
-            Item::Link(_) => self.links.reserve(1)?,
+            HeldItem::Org(_) => self.orgs.reserve(1)?,
+            HeldItem::Key(_) => self.keys.reserve(1)?,
+            HeldItem::Link(_) => self.links.reserve(1)?,
         }
         Ok(())
     }
 
     // Puts an item in its place. It takes no memory.
     #[tactic(auto, unfolding(crate::specs::Made::put_item))]
-    pub(crate) fn put(&mut self, item: Item)
+    pub(crate) fn put(&mut self, item: HeldItem)
         requires ascend { IsAdmin (admin_in self.old) }
         requires room { HasRoom self.old item }
-        ensures { admin_in self.new ≡ put_item item (admin_in self.old) }
+        ensures { admin_in self.new ≡ put_item (item_in item) (admin_in self.old) }
     {
         match item {
-            Item::Org(org) => put_org(&mut self.orgs, org),
-            Item::Key(key) => put_key(&mut self.keys, key),
-            Item::Link(link) => put_link(&mut self.links, link),
+            HeldItem::Org(org) => put_org(&mut self.orgs, org),
+            HeldItem::Key(key) => put_key(&mut self.keys, key),
+            HeldItem::Link(link) => put_link(&mut self.links, link),
         }
     }
 

@@ -4,6 +4,7 @@ ghost use Rattle.std.specs.Prelude.{◌≡◌, [], IfOk, OnErr};
 ghost use Rattle.misp_admins.specs.Made.{put_item};
 ghost use Rattle.misp_admins.specs.Rooms.{roomy};
 
+use crate::held_item::HeldItem;
 use crate::item::Item;
 use crate::lists::Lists;
 use misp_ids::{Items, NoMemory};
@@ -18,16 +19,16 @@ use std::mem;
 #[derive(Drop)]
 pub struct Room {
     lists: Lists,
-    item: Item,
+    item: HeldItem,
 }
 
 impl Model for Room {
     ghost use Rattle.misp_orgs.specs.Admin.{IsAdmin};
-    ghost use Rattle.misp_admins.specs.Rooms.{RoomFields, roomy, admin_in, HasRoom};
+    ghost use Rattle.misp_admins.specs.Rooms.{RoomFields, roomy, admin_in, item_in, HasRoom};
 
     ghost Value = { RoomFields };
 
-    ghost view = { λ r. roomy (admin_in r.lists) r.item };
+    ghost view = { λ r. roomy (admin_in r.lists) (item_in r.item) };
 
     ghost invariant = { λ r. IsAdmin (admin_in r.lists) × HasRoom r.lists r.item };
 }
@@ -49,6 +50,7 @@ impl Room {
         ensures ok { IfOk result (λ room. room ≡ roomy admin.old item) }
         ensures err { OnErr result (admin.new ≡ admin.old) }
     {
+        let item = HeldItem::of(alloc, item)?;
         let mut lists = Lists::of(mem::replace(admin, empty(alloc)));
         if let Err(full) = lists.reserve(&item) {
             *admin = lists.into_admin();

@@ -5,7 +5,7 @@ ghost use Rattle.misp_ids.specs.Uid.{IsUid};
 ghost use Rattle.misp_core.specs.Callers.{IsOwned};
 
 use misp_ids::OrgId;
-use misp_orgs::KeyRecord;
+use misp_orgs::HeldKey;
 
 // Shows that this is an identifier.
 fn is_identifier(org: &OrgId)
@@ -16,10 +16,10 @@ fn is_identifier(org: &OrgId)
 
 /// Shows that each of these keys is of an organisation.
 #[tactic(auto, using(crate::proofs::Owners::keys_all))]
-pub(crate) fn keys_are_owned(keys: &[KeyRecord])
+pub(crate) fn keys_are_owned(keys: &[HeldKey])
     ensures { AllByRecursion IsOwned keys.now }
 {
-    for record in keys {
-        is_identifier(&record.org);
+    for held in keys {
+        is_identifier(&held.record().org);
     }
 }

@@ -6,6 +6,7 @@ ghost use Rattle.misp_orgs.specs.Org.{name_limit, org_of, name_of, has_org, has_
 ghost use Rattle.misp_lists.specs.Order.{sorted_by};
 ghost use Rattle.misp_orgs.specs.Admin.{by_uuid, by_key, by_name, AreDistinct, admin_of, record_of, who_of, link_of};
 
+use crate::held_key::HeldKey;
 use crate::key::{Caller, KeyRecord};
 use crate::link::Link;
 use crate::org::Org;
@@ -21,7 +22,7 @@ pub struct Admin {
     /// In ascending order of their identifiers.
     pub orgs: Items<Org>,
     /// In ascending order of the keys.
-    pub keys: Items<KeyRecord>,
+    pub keys: Items<HeldKey>,
     /// In ascending order of their names.
     pub links: Items<Link>,
 }
@@ -46,12 +47,12 @@ fn org_of<'a>(orgs: &'a [Org], uuid: &OrgId) -> Option<&'a Org>
     }
 }
 
-fn record_of<'a>(keys: &'a [KeyRecord], key: &ApiKey) -> Option<&'a KeyRecord>
+fn record_of<'a>(keys: &'a [HeldKey], key: &ApiKey) -> Option<&'a KeyRecord>
     requires { IsStrictlySortedBy by_key keys.now }
     ensures { option_map (λ r. r.now) result ≡ record_of keys.now key.now }
 {
-    match keys.binary_search_by(|record| record.key.text().cmp(key.text())) {
-        Ok(place) => Some(&keys[place]),
+    match keys.binary_search_by(|held| held.record().key.text().cmp(key.text())) {
+        Ok(place) => Some(keys[place].record()),
         Err(_) => None,
     }
 }
@@ -72,10 +73,10 @@ fn sort_orgs(orgs: &mut Vec<Org>) -> Result<(), AllocError>
     orgs.sort_by(|a, b| a.uuid.0.0.cmp(&b.uuid.0.0))
 }
 
-fn sort_keys(keys: &mut Vec<KeyRecord>) -> Result<(), AllocError>
+fn sort_keys(keys: &mut Vec<HeldKey>) -> Result<(), AllocError>
     ensures { OnOk result (keys.new.items ≡ sorted_by by_key keys.old.items) }
 {
-    keys.sort_by(|a, b| a.key.text().cmp(b.key.text()))
+    keys.sort_by(|a, b| a.record().key.text().cmp(b.record().key.text()))
 }
 
 fn sort_links(links: &mut Vec<Link>) -> Result<(), AllocError>
@@ -88,7 +89,7 @@ impl Admin {
     /// What is set up by these lists, which may be in any order.
     pub fn made(
         mut orgs: Vec<Org>,
-        mut keys: Vec<KeyRecord>,
+        mut keys: Vec<HeldKey>,
         mut links: Vec<Link>,
     ) -> Result<Admin, AllocError>
         requires distinct { AreDistinct orgs.items keys.items links.items }

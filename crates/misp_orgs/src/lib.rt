@@ -2,12 +2,14 @@
 #![tactic(auto)]
 
 mod admin;
+mod held_key;
 mod key;
 mod link;
 mod org;
 mod role;
 
 pub use admin::Admin;
+pub use held_key::HeldKey;
 pub use key::{Caller, KeyRecord};
 pub use link::Link;
 pub use org::{NAME_LIMIT, Org, is_org_name, is_short};

@@ -19,7 +19,7 @@ use crate::key_table::keys;
 use crate::link_table::links;
 use crate::org_table::orgs;
 use misp_ids::{InstId, Items};
-use misp_orgs::{Admin, KeyRecord, Link, Org};
+use misp_orgs::{Admin, HeldKey, Link, Org};
 use std::alloc::Global;
 use toml::Table;
 
@@ -34,13 +34,13 @@ fn copied(alloc: Global, orgs: &[Org]) -> Result<Vec<Org>, DescFault>
 }
 
 /// The keys of an instance.
-fn keys_of(alloc: Global, keys: &[HostKey], name: &InstId) -> Result<Vec<KeyRecord>, DescFault>
+fn keys_of(alloc: Global, keys: &[HostKey], name: &InstId) -> Result<Vec<HeldKey>, DescFault>
     ensures { Shows (λ own. own.items) result (Ok (keys_of keys.now name.now)) }
 {
     let mut own = Vec::new(alloc);
     for key in keys {
         if key.at.text() == name.text() {
-            own.push(key.key)?;
+            own.push(HeldKey::of(alloc, key.key)?)?;
         }
     }
     Ok(own)

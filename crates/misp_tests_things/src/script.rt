@@ -36,7 +36,7 @@ const TABLES: [(&str, &str); 6] = [
 // Adds which of its keys and links are internal.
 fn show_internal(rt: &impl Abort, line: &mut String, entry: &Entry) {
     for key in entry.admin.keys.as_slice() {
-        if key.internal {
+        if key.record().internal {
             add(rt, line, " key");
         }
     }

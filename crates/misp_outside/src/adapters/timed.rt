@@ -33,6 +33,8 @@ pub struct TimedStream<'a> {
 
 impl<'a> TimedStream<'a> {
     pub fn new(system: &'a HostRuntime, stream: TcpStream) -> Self {
+        // What is written goes out at once. Where the option is refused, it only comes later.
+        let _ = stream.set_nodelay(true);
         TimedStream {
             system,
             stream,

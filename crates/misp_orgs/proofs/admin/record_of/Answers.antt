@@ -9,7 +9,7 @@ returns-in-Ok c =
     let is =
     searched (λ y. y.key) (slice_cmp nat_cmp) nat_list_cmp_total sought (λ y. bytes_eq y.key sought) (λ y. is_eq-slice_cmp y.key sought) c.args.keys.now c.binary_search_by.result
     c.requires c.binary_search_by.ensures.bound by_order in
-    ap Some c.index-keys-place.is ∙ sym ((rw c.in-Ok.is at is) c.index-keys-place.result)
+    ap Some (c.record.ensures ∙ c.index-keys-place.is) ∙ sym ((rw c.in-Ok.is at is) c.index-keys-place.result)
 
 pub returns-in-Err : goal.returns-in-Err
 returns-in-Err c =
